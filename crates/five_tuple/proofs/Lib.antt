@@ -1,0 +1,5 @@
+pub mod BitFields
+pub mod Parts
+pub mod Numbers
+pub mod Readings
+pub mod RoundTrip

@@ -1,0 +1,4 @@
+pub mod Header
+pub mod Matching
+pub mod Texts
+pub mod Printing

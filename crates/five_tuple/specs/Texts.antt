@@ -1,0 +1,75 @@
+-- The texts of a policy's and a packet's fields, as they are read. An address is four decimal numbers joined by dots
+-- (RFC 4632, section 3.1, writes a block so too); that a number has no sign and no leading zero is our own rule.
+use Rattle.std.specs.Prelude.{ℕ, ◌-◌, ◌*◌, ◌+◌, ◌/◌, ◌^◌, Bool, not, ◌&&◌, ◌==◌, nat_lt, nat_le, if◌then◌else◌, List, [], ◌∷◌, length, slice_index, Option, Some, None, option_map, codes, bytes_eq}
+use Rattle.std.specs.List.{list_all, slice_split}
+use Rattle.std.specs.Char.{is_ascii_digit}
+use Rattle.std.specs.Str.Parse.{digits_value}
+use Rattle.five_tuple.specs.declared.matching.Proto.{Proto}
+use Rattle.five_tuple.specs.declared.matching.Proto.TheVariants.{Any, Is}
+use Rattle.five_tuple.specs.Matching.{AddressBlock, Ports}
+
+-- the first digit is 0 and does not stand alone
+abbrev pub has_leading_zero : List ℕ → Bool
+has_leading_zero text = nat_lt 1 (length text) && slice_index text 0 == 48
+
+-- one digit or more, with no leading zero
+abbrev pub is_number : List ℕ → Bool
+is_number text = nat_lt 0 (length text) && not (has_leading_zero text) && list_all is_ascii_digit text
+
+-- the number that the text writes, if it is at most this much
+unfoldable pub number_up_to : ℕ → List ℕ → Option ℕ
+number_up_to most text = if is_number text && nat_le (digits_value 10 text) most then Some (digits_value 10 text) else None
+
+-- the parts of a text that stand round a byte
+abbrev pub parts_round : ℕ → List ℕ → List (List ℕ)
+parts_round byte text = slice_split (λ b. b == byte) text
+
+abbrev pub address_from : Option ℕ → Option ℕ → Option ℕ → Option ℕ → Option ℕ
+address_from (Some a) (Some b) (Some c) (Some d) = Some (a * 2 ^ 24 + b * 2 ^ 16 + c * 2 ^ 8 + d)
+address_from _ _ _ _ = None
+
+abbrev pub address_of_parts : List (List ℕ) → Option ℕ
+address_of_parts (a ∷ b ∷ c ∷ d ∷ []) = address_from (number_up_to 255 a) (number_up_to 255 b) (number_up_to 255 c) (number_up_to 255 d)
+address_of_parts _ = None
+
+-- four numbers from 0 to 255 joined by dots, the highest byte first
+unfoldable pub address_of : List ℕ → Option ℕ
+address_of text = address_of_parts (parts_round 46 text)
+
+-- the block of this length that the address lies in: the bits past it are cleared
+abbrev pub block_round : ℕ → ℕ → AddressBlock
+block_round address len = record { address = address / 2 ^ (32 - len) * 2 ^ (32 - len); len = len }
+
+abbrev pub block_from : Option ℕ → Option ℕ → Option AddressBlock
+block_from (Some address) (Some len) = Some (block_round address len)
+block_from _ _ = None
+
+abbrev pub block_of_parts : List (List ℕ) → Option AddressBlock
+block_of_parts (address ∷ []) = block_from (address_of address) (Some 32)
+block_of_parts (address ∷ len ∷ []) = block_from (address_of address) (number_up_to 32 len)
+block_of_parts _ = None
+
+-- `any`; an address, a block of its own; an address, a slash and the block's length
+unfoldable pub prefix_of : List ℕ → Option AddressBlock
+prefix_of text = if bytes_eq text (codes "any") then Some (block_round 0 0) else block_of_parts (parts_round 47 text)
+
+abbrev pub ports_from : Option ℕ → Option ℕ → Option Ports
+ports_from (Some low) (Some high) = if nat_le low high then Some (record { low = low; high = high }) else None
+ports_from _ _ = None
+
+abbrev pub ports_of_parts : List (List ℕ) → Option Ports
+ports_of_parts (port ∷ []) = ports_from (number_up_to 65535 port) (number_up_to 65535 port)
+ports_of_parts (low ∷ high ∷ []) = ports_from (number_up_to 65535 low) (number_up_to 65535 high)
+ports_of_parts _ = None
+
+-- `any`; a port; two ports joined by a dash, the first at most the second
+unfoldable pub range_of : List ℕ → Option Ports
+range_of text = if bytes_eq text (codes "any") then Some (record { low = 0; high = 65535 }) else ports_of_parts (parts_round 45 text)
+
+-- a protocol by its name or its assigned number
+unfoldable pub proto_number_of : List ℕ → Option ℕ
+proto_number_of text = if bytes_eq text (codes "icmp") then Some 1 else (if bytes_eq text (codes "tcp") then Some 6 else (if bytes_eq text (codes "udp") then Some 17 else number_up_to 255 text))
+
+-- `any`, or a protocol
+unfoldable pub proto_of : List ℕ → Option Proto
+proto_of text = if bytes_eq text (codes "any") then Some Any else option_map Is (proto_number_of text)

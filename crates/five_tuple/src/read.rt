@@ -1,0 +1,200 @@
+ghost use Rattle.std.specs.Prelude.{◌≡◌, ◌≤◌, ◌<◌, ◌^◌, ◌∷◌, [], ◌==◌, IfSome, MatchOption, position};
+ghost use Rattle.std.specs.List.{slice_split};
+ghost use Rattle.five_tuple.specs.Matching.{IsAddressBlock, IsPortRange, IsProtocol};
+ghost use Rattle.five_tuple.specs.Texts.{address_from, block_round, ports_from, has_leading_zero, number_up_to, address_of, prefix_of, range_of, proto_number_of, proto_of, parts_round};
+
+use crate::matching::{PortRange, Prefix, Proto};
+
+/// The number that the text writes in decimal digits; `None` unless it is a number of at most `most`.
+///
+/// A number has no sign, and a first digit 0 only where it stands alone.
+pub fn read_number(text: &[u8], most: u64) -> Option<u64>
+    ensures value { result ≡ number_up_to most text.now }
+    ensures bound { IfSome result (λ n. n ≤ most) }
+{
+    if text.is_empty() {
+        return None;
+    }
+    if has_leading_zero(text) {
+        return None;
+    }
+    let mut number: u64 = 0;
+    for byte in text {
+        if !byte.is_ascii_digit() {
+            return None;
+        }
+        let digit = u64::from(*byte - b'0');
+        let longer = number.checked_mul(10)?.checked_add(digit)?;
+        if longer > most {
+            return None;
+        }
+        number = longer;
+    }
+    Some(number)
+}
+
+/// Whether the text begins with a zero that does not stand alone.
+fn has_leading_zero(text: &[u8]) -> bool
+    ensures { result ≡ has_leading_zero text.now }
+{
+    text.len() > 1 && text[0] == b'0'
+}
+
+/// The place of the first such byte.
+fn place_of(text: &[u8], byte: u8) -> Option<usize>
+    ensures { result ≡ position (λ b. b == byte) text.now }
+{
+    text.iter().position(|b| *b == byte)
+}
+
+/// What stands before and after the first such byte; `None` where there is none.
+fn cut(text: &[u8], byte: u8) -> Option<(&[u8], &[u8])>
+    ensures { MatchOption result
+        (parts_round byte text.now ≡ text.now ∷ [])
+        (λ r. parts_round byte text.now ≡ r.0.now ∷ parts_round byte r.1.now) }
+{
+    let at = place_of(text, byte)?;
+    Some((&text[..at], &text[at + 1..]))
+}
+
+fn read_byte(text: &[u8]) -> Option<u8>
+    ensures { result ≡ number_up_to 255 text.now }
+{
+    let number = read_number(text, 255)?;
+    Some(number as u8)
+}
+
+fn read_port(text: &[u8]) -> Option<u16>
+    ensures { result ≡ number_up_to 65535 text.now }
+{
+    let number = read_number(text, 65535)?;
+    Some(number as u16)
+}
+
+fn address_from(a: Option<u8>, b: Option<u8>, c: Option<u8>, d: Option<u8>) -> Option<u32>
+    ensures { result ≡ address_from a b c d }
+{
+    let (a, b, c, d) = (a?, b?, c?, d?);
+    Some(u32::from_be_bytes([a, b, c, d]))
+}
+
+/// The address of four numbers from 0 to 255 joined by dots; `None` for any other text.
+#[tactic(auto, unfolding(crate::specs::Texts::address_of))]
+pub fn read_address(text: &[u8]) -> Option<u32>
+    ensures { result ≡ address_of text.now }
+{
+    let (first, rest) = cut(text, b'.')?;
+    let (second, rest) = cut(rest, b'.')?;
+    let (third, fourth) = cut(rest, b'.')?;
+    address_from(
+        read_byte(first),
+        read_byte(second),
+        read_byte(third),
+        read_byte(fourth),
+    )
+}
+
+/// The block of this length that the address lies in.
+fn block_round(address: u32, len: u32) -> Prefix
+    requires { len ≤ 32 }
+    ensures { result ≡ block_round address len }
+{
+    if len == 0 {
+        return Prefix { address: 0, len: 0 };
+    }
+    let free = 32 - len;
+    Prefix {
+        address: (address >> free) << free,
+        len,
+    }
+}
+
+/// The block of addresses that the text names; `None` for a text that names none.
+///
+/// `any` is every address, an address stands for itself alone, and after a slash comes the block's length, at most
+/// 32 (RFC 4632, section 3.1). The address's bits past the length are cleared.
+#[tactic(auto, using(crate::proofs::Readings::block_reads), unfolding(crate::specs::Texts::prefix_of))]
+pub fn read_prefix(text: &[u8]) -> Option<Prefix>
+    ensures value { result ≡ prefix_of text.now }
+    ensures valid { IfSome result IsAddressBlock }
+{
+    if text == b"any".as_slice() {
+        return Some(block_round(0, 0));
+    }
+    match cut(text, b'/') {
+        None => {
+            let address = read_address(text)?;
+            Some(block_round(address, 32))
+        }
+        Some((block, len)) => {
+            let address = read_address(block)?;
+            let len = read_number(len, 32)?;
+            Some(block_round(address, len as u32))
+        }
+    }
+}
+
+fn ports_from(low: Option<u16>, high: Option<u16>) -> Option<PortRange>
+    ensures { result ≡ ports_from low high }
+{
+    let (low, high) = (low?, high?);
+    if low <= high {
+        Some(PortRange { low, high })
+    } else {
+        None
+    }
+}
+
+/// The ports that the text names; `None` for a text that names none.
+///
+/// `any` is every port, a number is one port, and two joined by a dash are the ends, the first at most the second.
+#[tactic(auto, unfolding(crate::specs::Texts::range_of))]
+pub fn read_range(text: &[u8]) -> Option<PortRange>
+    ensures value { result ≡ range_of text.now }
+    ensures valid { IfSome result IsPortRange }
+{
+    if text == b"any".as_slice() {
+        return Some(PortRange {
+            low: 0,
+            high: u16::MAX,
+        });
+    }
+    match cut(text, b'-') {
+        None => {
+            let port = read_port(text);
+            ports_from(port, port)
+        }
+        Some((low, high)) => ports_from(read_port(low), read_port(high)),
+    }
+}
+
+/// The protocol's number: `icmp`, `tcp` and `udp` stand for 1, 6 and 17, and each number from 0 to 255 for itself.
+#[tactic(auto, unfolding(crate::specs::Texts::proto_number_of))]
+pub fn read_proto_number(text: &[u8]) -> Option<u8>
+    ensures value { result ≡ proto_number_of text.now }
+    ensures bound { IfSome result (λ n. n < 2 ^ 8) }
+{
+    if text == b"icmp".as_slice() {
+        return Some(1);
+    }
+    if text == b"tcp".as_slice() {
+        return Some(6);
+    }
+    if text == b"udp".as_slice() {
+        return Some(17);
+    }
+    read_byte(text)
+}
+
+/// Any protocol, written `any`, or one by its name or number.
+#[tactic(auto, unfolding(crate::specs::Texts::proto_of))]
+pub fn read_proto(text: &[u8]) -> Option<Proto>
+    ensures value { result ≡ proto_of text.now }
+    ensures valid { IfSome result IsProtocol }
+{
+    if text == b"any".as_slice() {
+        return Some(Proto::Any);
+    }
+    let number = read_proto_number(text)?;
+    Some(Proto::Is(number))
+}

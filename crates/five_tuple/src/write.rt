@@ -1,0 +1,170 @@
+ghost use Rattle.std.specs.Prelude.{ℕ, ◌≡◌, ◌≤◌, ◌<◌, ◌^◌, Some, decimal, IfOk};
+ghost use Rattle.five_tuple.specs.declared.matching.Proto.{Proto};
+ghost use Rattle.five_tuple.specs.Matching.{AddressBlock, IsAddressBlock, Ports, IsPortRange, IsProtocol};
+ghost use Rattle.five_tuple.specs.Printing.{address_text, fields_text, prefix_text, range_text, proto_number_text, proto_text};
+ghost use Rattle.five_tuple.specs.Texts.{number_up_to, address_of, prefix_of, range_of, proto_number_of, proto_of};
+
+use crate::header::Fields;
+use crate::matching::{PortRange, Prefix, Proto};
+use std::alloc::{AllocError, Global};
+use std::fmt;
+
+/// An IPv4 address, printed as four numbers joined by dots.
+#[derive(Clone, Copy, Debug, PartialEq, Eq)]
+pub struct Address(pub u32);
+
+/// A protocol's number, printed by the name of ICMP, TCP or UDP, and else as the number.
+#[derive(Clone, Copy, Debug, PartialEq, Eq)]
+pub struct Protocol(pub u8);
+
+#[tactic(auto, unfolding(crate::specs::Printing::address_text))]
+impl fmt::Display for Address {
+    ghost output = { λ a. Some (address_text a.0) };
+
+    fn fmt<W: fmt::Write>(&self, f: &mut fmt::Formatter<W>) -> fmt::Result {
+        let [a, b, c, d] = self.0.to_be_bytes();
+        write!(f, "{a}.{b}.{c}.{d}")
+    }
+}
+
+#[tactic(auto, unfolding(crate::specs::Printing::proto_number_text))]
+impl fmt::Display for Protocol {
+    ghost output = { λ p. Some (proto_number_text p.0) };
+
+    fn fmt<W: fmt::Write>(&self, f: &mut fmt::Formatter<W>) -> fmt::Result {
+        match self.0 {
+            1 => write!(f, "icmp"),
+            6 => write!(f, "tcp"),
+            17 => write!(f, "udp"),
+            number => write!(f, "{number}"),
+        }
+    }
+}
+
+/// Printed as `any` where it is every address, else as the address, a slash and the length.
+#[tactic(auto, unfolding(crate::specs::Printing::prefix_text))]
+impl fmt::Display for Prefix {
+    ghost output = { λ p. Some (prefix_text p) };
+
+    fn fmt<W: fmt::Write>(&self, f: &mut fmt::Formatter<W>) -> fmt::Result {
+        let Prefix { address, len } = *self;
+        if len == 0 {
+            write!(f, "any")
+        } else {
+            let address = Address(address);
+            write!(f, "{address}/{len}")
+        }
+    }
+}
+
+/// Printed as `any` where it is every port, as one number where it is one port, else as both ends joined by a dash.
+#[tactic(auto, unfolding(crate::specs::Printing::range_text))]
+impl fmt::Display for PortRange {
+    ghost output = { λ r. Some (range_text r) };
+
+    fn fmt<W: fmt::Write>(&self, f: &mut fmt::Formatter<W>) -> fmt::Result {
+        let PortRange { low, high } = *self;
+        if low == 0 && high == u16::MAX {
+            write!(f, "any")
+        } else if low == high {
+            write!(f, "{low}")
+        } else {
+            write!(f, "{low}-{high}")
+        }
+    }
+}
+
+/// Printed as `any`, or as the protocol's name or number.
+#[tactic(auto, unfolding(crate::specs::Printing::proto_text))]
+impl fmt::Display for Proto {
+    ghost output = { λ p. Some (proto_text p) };
+
+    fn fmt<W: fmt::Write>(&self, f: &mut fmt::Formatter<W>) -> fmt::Result {
+        match self {
+            Proto::Any => write!(f, "any"),
+            Proto::Is(number) => {
+                let protocol = Protocol(*number);
+                write!(f, "{protocol}")
+            }
+        }
+    }
+}
+
+/// Printed as both addresses, both ports and the protocol, separated by blanks.
+#[tactic(auto, unfolding(crate::specs::Printing::fields_text))]
+impl fmt::Display for Fields {
+    ghost output = { λ x. Some (fields_text x) };
+
+    fn fmt<W: fmt::Write>(&self, f: &mut fmt::Formatter<W>) -> fmt::Result {
+        let src = Address(self.src);
+        let dst = Address(self.dst);
+        let sport = self.sport;
+        let dport = self.dport;
+        let proto = Protocol(self.proto);
+        write!(f, "{src} {dst} {sport} {dport} {proto}")
+    }
+}
+
+/// The address as four numbers joined by dots.
+#[tactic(auto, using(crate::proofs::RoundTrip::address_back))]
+pub fn write_address(alloc: Global, address: u32) -> Result<Vec<u8>, AllocError>
+    ensures text { IfOk result (λ t. t.items ≡ address_text address) }
+    ensures read_back { IfOk result (λ t. address_of t.items ≡ Some address) }
+{
+    let text = Address(address).to_string(alloc)?;
+    Ok(text.into_bytes())
+}
+
+/// The block: `any` where it is every address, else its address, a slash and its length.
+#[tactic(auto, using(crate::proofs::RoundTrip::prefix_back))]
+pub fn write_prefix(alloc: Global, prefix: &Prefix) -> Result<Vec<u8>, AllocError>
+    ensures text { IfOk result (λ t. t.items ≡ prefix_text prefix.now) }
+    ensures read_back { IfOk result (λ t. prefix_of t.items ≡ Some prefix.now) }
+{
+    let Prefix {
+        address: _address,
+        len: _len,
+    } = *prefix;
+    let text = prefix.to_string(alloc)?;
+    Ok(text.into_bytes())
+}
+
+/// The range: `any` where it is every port, one number where it is one port, else both ends joined by a dash.
+#[tactic(auto, using(crate::proofs::RoundTrip::range_back))]
+pub fn write_range(alloc: Global, range: &PortRange) -> Result<Vec<u8>, AllocError>
+    ensures text { IfOk result (λ t. t.items ≡ range_text range.now) }
+    ensures read_back { IfOk result (λ t. range_of t.items ≡ Some range.now) }
+{
+    let PortRange {
+        low: _low,
+        high: _high,
+    } = *range;
+    let text = range.to_string(alloc)?;
+    Ok(text.into_bytes())
+}
+
+/// `any`, the name of ICMP, TCP or UDP, or another protocol's number.
+#[tactic(auto, using(crate::proofs::RoundTrip::proto_back), unfolding(crate::specs::Printing::proto_text))]
+pub fn write_proto(alloc: Global, proto: &Proto) -> Result<Vec<u8>, AllocError>
+    ensures text { IfOk result (λ t. t.items ≡ proto_text proto.now) }
+    ensures read_back { IfOk result (λ t. proto_of t.items ≡ Some proto.now) }
+{
+    match proto {
+        Proto::Any => Vec::from_slice(alloc, b"any"),
+        Proto::Is(number) => {
+            let text = Protocol(*number).to_string(alloc)?;
+            Ok(text.into_bytes())
+        }
+    }
+}
+
+/// Each printed form is read back to what it prints: a law on the texts alone.
+#[tactic(auto, using(crate::proofs::RoundTrip::number_back, crate::proofs::RoundTrip::address_back, crate::proofs::RoundTrip::prefix_back, crate::proofs::RoundTrip::range_back, crate::proofs::RoundTrip::proto_number_back, crate::proofs::RoundTrip::proto_back))]
+pub fn printed_forms_are_read_back()
+    ensures number { (most n : ℕ) → n ≤ most → n < 2 ^ 64 → number_up_to most (decimal n) ≡ Some n }
+    ensures address { (a : ℕ) → a < 2 ^ 32 → address_of (address_text a) ≡ Some a }
+    ensures prefix { (p : AddressBlock) → IsAddressBlock p → prefix_of (prefix_text p) ≡ Some p }
+    ensures range { (r : Ports) → IsPortRange r → range_of (range_text r) ≡ Some r }
+    ensures proto_number { (n : ℕ) → n < 2 ^ 8 → proto_number_of (proto_number_text n) ≡ Some n }
+    ensures proto { (p : Proto) → IsProtocol p → proto_of (proto_text p) ≡ Some p }
+{}

@@ -1,0 +1,15 @@
+use Rattle.std.proofs.Common.{ℕ, ◌-◌, length, length-take, length-drop, ap, arith}
+use Rattle.shelf.proofs.Writes.{gained_more}
+use Rattle.shelf.proofs.output.write_whole.Goals as goal
+
+pub loop-written-preserved : goal.loop-written-preserved
+loop-written-preserved g c =
+    let bytes = c.args.bytes.now in
+    let rest = length bytes - c.loop-written.written in
+    let more = gained_more (g.K.Sink.bytes c.args.sink.now) bytes c.loop-written.written rest c.min.result c.in_ok-taken.taken c.in_ok-taken.ensures.within in
+    record {
+      within = omega (arith, c.in_ok-taken.ensures.within, length-take {A = ℕ}, length-drop {A = ℕ});
+      written = cc (more, c.in_ok-taken.ensures.taken);
+      untouched = λ empty. absurd (omega (arith, ap length empty));
+      counts = omega (arith, c.in_ok-taken.ensures.counts);
+    }

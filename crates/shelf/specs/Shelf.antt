@@ -1,0 +1,56 @@
+-- What a source of whole files holds, and what a read of it may answer.
+use Rattle.std.specs.Prelude.{◌≡◌, ◌<◌, ◌≤◌, ℕ, Bool, true, false, List, length, map, find, Option, Some, None, IsSomeAnd, Result, Ok, Err, string_bytes, String, Vec}
+use Rattle.std.specs.Global.{Global}
+use Rattle.std.specs.Option.{option_map}
+use Rattle.std.specs.Str.{bytes_eq}
+use Rattle.shelf.specs.Faults.{CallScript}
+use Rattle.shelf.specs.declared.source.ShelfError.{ShelfError}
+use Rattle.shelf.specs.declared.source.ShelfError.TheVariants.{Failed, NoMemory}
+
+-- files by name: the bytes of each name, and those of the file
+abbrev pub Files : Type 0
+Files = List (List ℕ × List ℕ)
+
+-- what files in memory tell
+abbrev pub told_files : List (String Global × Vec ℕ Global) → Files
+told_files files = map (λ file. (string_bytes file.0, file.1.items)) files
+
+-- the content of the first file of this name
+abbrev pub file_named : Files → List ℕ → Option (List ℕ)
+file_named files name = option_map (λ file. file.1) (find (λ file. bytes_eq file.0 name) files)
+
+-- the file of this name has this content, of at most so many bytes
+abbrev pub HasFile : Files → List ℕ → ℕ → List ℕ → Type 0
+HasFile files name limit content =
+    (file_named files name ≡ Some content) × (length content ≤ limit)
+
+-- there is no file of this name
+abbrev pub LacksFile : Files → List ℕ → Type 0
+LacksFile files name = file_named files name ≡ None
+
+-- the file of this name has more bytes
+abbrev pub HasLongerFile : Files → List ℕ → ℕ → Type 0
+HasLongerFile files name limit =
+    IsSomeAnd (file_named files name) (λ content. limit < length content)
+
+-- the answer is neither a fault nor want of memory
+abbrev pub IsServed : {T : Type 0} → Result T ShelfError → Type 0
+IsServed (Err Failed) = ⊥
+IsServed (Err NoMemory) = ⊥
+IsServed _ = Unit {0}
+
+-- the answer is a fault
+abbrev pub is_fault : {T : Type 0} → Result T ShelfError → Bool
+is_fault (Err Failed) = true
+is_fault _ = false
+
+-- the answer is an error, and not want of memory
+abbrev pub is_refusal : {T : Type 0} → Result T ShelfError → Bool
+is_refusal (Ok content) = false
+is_refusal (Err NoMemory) = false
+is_refusal _ = true
+
+-- files, with the calls that are to fail
+pub record ScriptedFiles : Type 0 where
+  pub files : Files
+  pub script : CallScript

@@ -1,0 +1,193 @@
+//! Files and bytes in memory, with calls that are ordered to fail.
+ghost use Rattle.std.specs.Prelude.{◌≡◌, ◌≤◌, ◌↔◌, ◌++◌, IsTrue, IfOk, OnErr, IsErrOf, Some, [], true, length, min, take};
+ghost use Rattle.shelf.specs.Faults.{script_of, counted, FailsNext, after_call};
+
+use crate::output::{Sink, SinkError};
+use crate::source::{Shelf, ShelfError, copy_named};
+use std::alloc::Global;
+use std::marker::Model;
+
+/// Which calls are to fail, how many there were, and how many faults.
+#[derive(Drop)]
+struct Script {
+    failing: Vec<u64>,
+    calls: u64,
+    faults: u64,
+}
+
+impl Model for Script {
+    ghost use Rattle.shelf.specs.Faults.{CallScript};
+
+    ghost Value = { CallScript };
+
+    ghost view = { λ s. record { failing = s.failing.items; calls = s.calls; faults = s.faults } };
+}
+
+impl Script {
+    fn new(failing: Vec<u64>) -> Self
+        ensures { result ≡ script_of failing.items }
+    {
+        Script {
+            failing,
+            calls: 0,
+            faults: 0,
+        }
+    }
+
+    /// Counts a call, and says whether it is to fail; the count of faults rises where it is.
+    fn begin_call(&mut self) -> bool
+        ensures fails { IsTrue result ↔ FailsNext self.old }
+        ensures after { self.new ≡ after_call self.old result }
+        ensures counts { self.old.faults ≤ self.new.faults }
+    {
+        self.calls = self.calls.saturating_add(1);
+        let fails = self.failing.contains(&self.calls);
+        if fails {
+            self.faults = self.faults.saturating_add(1);
+        }
+        fails
+    }
+
+    /// Raises the count of faults.
+    fn raise(&mut self)
+        ensures after { self.new ≡ record self.old { faults = counted self.old.faults } }
+        ensures counts { self.old.faults ≤ self.new.faults }
+    {
+        self.faults = self.faults.saturating_add(1);
+    }
+}
+
+/// Files in memory, at which the calls fail that its maker listed.
+///
+/// Calls are counted from 1. The count of faults rises at the listed calls, and at no other.
+#[derive(Drop)]
+pub struct MemShelf {
+    alloc: Global,
+    files: Vec<(String, Vec<u8>)>,
+    script: Script,
+}
+
+impl Model for MemShelf {
+    ghost use Rattle.shelf.specs.Shelf.{ScriptedFiles, told_files};
+
+    ghost Value = { ScriptedFiles };
+
+    ghost view = { λ s. record { files = told_files s.files.items; script = s.script } };
+}
+
+impl MemShelf {
+    ghost use Rattle.shelf.specs.Shelf.{told_files};
+
+    /// A shelf of these files, at which the calls with these numbers fail.
+    ///
+    /// Of two files of one name the first counts.
+    pub fn new(alloc: Global, files: Vec<(String, Vec<u8>)>, failing: Vec<u64>) -> Self
+        ensures { result
+            ≡ record { files = told_files files.items; script = script_of failing.items } }
+    {
+        MemShelf {
+            alloc,
+            files,
+            script: Script::new(failing),
+        }
+    }
+}
+
+impl Shelf for MemShelf {
+    ghost use Rattle.shelf.specs.Shelf.{is_fault, HasFile, LacksFile, HasLongerFile, IsServed};
+
+    ghost files = { λ s. Some s.files };
+
+    ghost faults = { λ s. s.script.faults };
+
+    fn read(&mut self, name: &str, limit: u64) -> Result<Vec<u8>, ShelfError>
+        ensures fails { IsErrOf result ShelfError.Failed ↔ FailsNext self.old.script }
+        ensures after { self.new
+            ≡ record self.old { script = after_call self.old.script (is_fault result) } }
+        ensures counts { self.old.script.faults ≤ self.new.script.faults }
+
+        ensures content { IfOk result (λ content.
+            HasFile self.old.files name.now limit content.items) }
+        ensures missing { IsServed result
+            → (IsErrOf result ShelfError.Missing ↔ LacksFile self.old.files name.now) }
+        ensures too_long { IsServed result
+            → (IsErrOf result ShelfError.TooLong ↔ HasLongerFile self.old.files name.now limit) }
+    {
+        if self.script.begin_call() {
+            return Err(ShelfError::Failed);
+        }
+        copy_named(self.alloc, &self.files, name, limit)
+    }
+}
+
+/// Bytes in memory, at which the calls fail that its maker listed.
+///
+/// Calls are counted from 1. The count of faults rises at the listed calls and where a call takes
+/// nothing of a piece that has bytes, and at no other call.
+#[derive(Drop)]
+pub struct MemSink {
+    bytes: Vec<u8>,
+    most: u64,
+    script: Script,
+}
+
+impl Model for MemSink {
+    ghost use Rattle.shelf.specs.Sink.{ScriptedBytes};
+
+    ghost Value = { ScriptedBytes };
+
+    ghost view = { λ s. record { bytes = s.bytes.items; most = s.most; script = s.script } };
+}
+
+impl MemSink {
+    /// An empty sink that takes at most `most` bytes a call, and at which the calls with these
+    /// numbers fail.
+    pub fn new(alloc: Global, most: u64, failing: Vec<u64>) -> Self
+        ensures { result ≡ record { bytes = []; most = most; script = script_of failing.items } }
+    {
+        MemSink {
+            bytes: Vec::new(alloc),
+            most,
+            script: Script::new(failing),
+        }
+    }
+
+    /// The bytes that were written.
+    pub fn bytes(&self) -> &[u8]
+        ensures { result.now ≡ self.now.bytes }
+    {
+        &self.bytes
+    }
+}
+
+impl Sink for MemSink {
+    ghost use Rattle.shelf.specs.Sink.{is_fault};
+
+    ghost bytes = { λ s. Some s.bytes };
+
+    ghost faults = { λ s. s.script.faults };
+
+    ghost takes_memory = { true };
+
+    fn write(&mut self, piece: &[u8]) -> Result<u64, SinkError>
+        ensures fails { IsErrOf result SinkError.Failed ↔ FailsNext self.old.script }
+        ensures most { IfOk result (λ taken. taken ≡ min self.old.most (length piece.now)) }
+        ensures ok { IfOk result (λ taken. self.new.bytes ≡ self.old.bytes ++ take taken piece.now) }
+        ensures err { OnErr result (self.new.bytes ≡ self.old.bytes) }
+        ensures same_most { self.new.most ≡ self.old.most }
+        ensures after { self.new.script
+            ≡ after_call self.old.script (is_fault piece.now result) }
+
+        ensures counts { self.old.script.faults ≤ self.new.script.faults }
+    {
+        if self.script.begin_call() {
+            return Err(SinkError::Failed);
+        }
+        let taken = self.most.min(piece.len() as u64);
+        self.bytes.extend_from_slice(&piece[..taken as usize])?;
+        if taken == 0 && !piece.is_empty() {
+            self.script.raise();
+        }
+        Ok(taken)
+    }
+}
