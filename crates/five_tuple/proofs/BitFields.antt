@@ -45,3 +45,7 @@ header_numbered-number_of h n hs hd hp hq hr e =
     let d : n / 2 ^ 8 % 2 ^ 16 ≡ f.dport = omega arith in
     let g : n % 2 ^ 8 ≡ f.proto = omega arith in
     rw (a, b, c, d, g)
+
+-- the number of the header that a number packs
+pub number_back : (n : ℕ) → n < 2 ^ 104 → number_of (header_numbered n) ≡ n
+number_back n h = omega arith

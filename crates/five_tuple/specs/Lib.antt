@@ -2,3 +2,4 @@ pub mod Header
 pub mod Matching
 pub mod Texts
 pub mod Printing
+pub mod Cover

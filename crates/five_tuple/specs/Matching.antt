@@ -28,6 +28,7 @@ pub record IsPortRange (r : Ports) : Type 0 where
   pub ordered : r.low ≤ r.high
   pub bound : r.high < 2 ^ 16
 
+-- the port is from the low to the high end
 abbrev pub range_matches : Ports → ℕ → Bool
 range_matches r port = nat_le r.low port && nat_le port r.high
 
@@ -36,6 +37,7 @@ abbrev pub IsProtocol : Proto → Type 0
 IsProtocol Any = ⊤
 IsProtocol (Is number) = number < 2 ^ 8
 
+-- any protocol, or the very number
 abbrev pub proto_matches : Proto → ℕ → Bool
 proto_matches Any number = true
 proto_matches (Is this) number = this == number

@@ -22,6 +22,7 @@ range_text r = if r.low == 0 && r.high == 65535 then codes "any" else (if r.low 
 unfoldable pub proto_number_text : ℕ → List ℕ
 proto_number_text n = if n == 1 then codes "icmp" else (if n == 6 then codes "tcp" else (if n == 17 then codes "udp" else decimal n))
 
+-- any protocol, or one
 unfoldable pub proto_text : Proto → List ℕ
 proto_text Any = codes "any"
 proto_text (Is n) = proto_number_text n

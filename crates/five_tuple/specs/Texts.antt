@@ -1,5 +1,6 @@
--- The texts of a policy's and a packet's fields, as they are read. An address is four decimal numbers joined by dots
--- (RFC 4632, section 3.1, writes a block so too); that a number has no sign and no leading zero is our own rule.
+-- The texts of a policy's and a packet's fields, as they are read. An address is in dotted decimal (RFC 1123, section
+-- 2.1), and a block has a slash and its length after it (RFC 4632, section 3.1). That a number has neither sign nor
+-- leading zero, and the words and the dash, are this project's own.
 use Rattle.std.specs.Prelude.{ℕ, ◌-◌, ◌*◌, ◌+◌, ◌/◌, ◌^◌, Bool, not, ◌&&◌, ◌==◌, nat_lt, nat_le, if◌then◌else◌, List, [], ◌∷◌, length, slice_index, Option, Some, None, option_map, codes, bytes_eq}
 use Rattle.std.specs.List.{list_all, slice_split}
 use Rattle.std.specs.Char.{is_ascii_digit}
@@ -24,10 +25,12 @@ number_up_to most text = if is_number text && nat_le (digits_value 10 text) most
 abbrev pub parts_round : ℕ → List ℕ → List (List ℕ)
 parts_round byte text = slice_split (λ b. b == byte) text
 
+-- the address of four bytes, the highest first
 abbrev pub address_from : Option ℕ → Option ℕ → Option ℕ → Option ℕ → Option ℕ
 address_from (Some a) (Some b) (Some c) (Some d) = Some (a * 2 ^ 24 + b * 2 ^ 16 + c * 2 ^ 8 + d)
 address_from _ _ _ _ = None
 
+-- four parts, each a byte
 abbrev pub address_of_parts : List (List ℕ) → Option ℕ
 address_of_parts (a ∷ b ∷ c ∷ d ∷ []) = address_from (number_up_to 255 a) (number_up_to 255 b) (number_up_to 255 c) (number_up_to 255 d)
 address_of_parts _ = None
@@ -40,10 +43,12 @@ address_of text = address_of_parts (parts_round 46 text)
 abbrev pub block_round : ℕ → ℕ → AddressBlock
 block_round address len = record { address = address / 2 ^ (32 - len) * 2 ^ (32 - len); len = len }
 
+-- a block, where both its address and its length can be read
 abbrev pub block_from : Option ℕ → Option ℕ → Option AddressBlock
 block_from (Some address) (Some len) = Some (block_round address len)
 block_from _ _ = None
 
+-- an address alone has length 32
 abbrev pub block_of_parts : List (List ℕ) → Option AddressBlock
 block_of_parts (address ∷ []) = block_from (address_of address) (Some 32)
 block_of_parts (address ∷ len ∷ []) = block_from (address_of address) (number_up_to 32 len)
@@ -53,10 +58,12 @@ block_of_parts _ = None
 unfoldable pub prefix_of : List ℕ → Option AddressBlock
 prefix_of text = if bytes_eq text (codes "any") then Some (block_round 0 0) else block_of_parts (parts_round 47 text)
 
+-- a range, where both ends can be read and stand in order
 abbrev pub ports_from : Option ℕ → Option ℕ → Option Ports
 ports_from (Some low) (Some high) = if nat_le low high then Some (record { low = low; high = high }) else None
 ports_from _ _ = None
 
+-- one port is both ends
 abbrev pub ports_of_parts : List (List ℕ) → Option Ports
 ports_of_parts (port ∷ []) = ports_from (number_up_to 65535 port) (number_up_to 65535 port)
 ports_of_parts (low ∷ high ∷ []) = ports_from (number_up_to 65535 low) (number_up_to 65535 high)
@@ -66,7 +73,7 @@ ports_of_parts _ = None
 unfoldable pub range_of : List ℕ → Option Ports
 range_of text = if bytes_eq text (codes "any") then Some (record { low = 0; high = 65535 }) else ports_of_parts (parts_round 45 text)
 
--- a protocol by its name or its assigned number
+-- a protocol by its name or its assigned number (RFC 791, section 3.1): ICMP is 1, TCP 6 and UDP 17
 unfoldable pub proto_number_of : List ℕ → Option ℕ
 proto_number_of text = if bytes_eq text (codes "icmp") then Some 1 else (if bytes_eq text (codes "tcp") then Some 6 else (if bytes_eq text (codes "udp") then Some 17 else number_up_to 255 text))
 

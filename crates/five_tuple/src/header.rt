@@ -1,4 +1,4 @@
-ghost use Rattle.std.specs.Prelude.{◌≡◌, ◌^◌, ◌<◌};
+ghost use Rattle.std.specs.Prelude.{ℕ, ◌≡◌, ◌^◌, ◌<◌};
 ghost use Rattle.five_tuple.specs.Header.{fields_of, header_numbered, header_of, number_of};
 
 /// The five fields of a packet: IPv4 addresses (RFC 791), ports (RFC 768, RFC 793) and the protocol number.
@@ -62,3 +62,9 @@ impl Header {
             | u128::from(proto)
     }
 }
+
+/// Each number below 2^104 is that of exactly one header: a law on the numbers alone.
+#[tactic(auto, using(crate::proofs::BitFields::number_back))]
+pub fn header_numbers()
+    ensures { (n : ℕ) → n < 2 ^ 104 → number_of (header_numbered n) ≡ n }
+{}

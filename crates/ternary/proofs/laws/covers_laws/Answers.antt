@@ -1,0 +1,13 @@
+use Rattle.ternary.proofs.WordLemmas.{covers_held, covers_reflexive, covers_transitive, covers_antisymmetric, any_covers, covers_exact, covers_full}
+use Rattle.ternary.proofs.laws.covers_laws.Goals as goal
+
+pub returns : goal.returns
+returns c = record {
+  held = covers_held;
+  reflexive = covers_reflexive;
+  transitive = covers_transitive;
+  antisymmetric = covers_antisymmetric;
+  any = any_covers;
+  exact = covers_exact;
+  no_free_bit = covers_full;
+}

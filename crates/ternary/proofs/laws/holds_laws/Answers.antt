@@ -1,0 +1,10 @@
+use Rattle.ternary.proofs.WordLemmas.{holds_decides, holds_value, value_below, same_headers}
+use Rattle.ternary.proofs.laws.holds_laws.Goals as goal
+
+pub returns : goal.returns
+returns c = record {
+  bitwise = holds_decides;
+  value = holds_value;
+  bound = value_below;
+  same = same_headers;
+}

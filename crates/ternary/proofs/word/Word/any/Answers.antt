@@ -1,0 +1,5 @@
+use Rattle.ternary.proofs.WordLemmas.{any_holds}
+use Rattle.ternary.proofs.word.Word.any.Goals as goal
+
+pub returns-clause-all : goal.returns-clause-all
+returns-clause-all c = any_holds

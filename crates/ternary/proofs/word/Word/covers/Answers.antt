@@ -1,0 +1,22 @@
+use Rattle.std.proofs.Common.{◌↔◌, IsTrue, subst, sym}
+use Rattle.ternary.specs.Word.{Includes}
+use Rattle.ternary.proofs.WordLemmas.{covers_masked, covers_unmasked, inclusion}
+use Rattle.ternary.proofs.word.Word.covers.Goals as goal
+
+pub returns-then-self-other-clause-test : goal.returns-then-self-other-clause-test
+returns-then-self-other-clause-test c =
+    rw (← c.self.view_is, ← c.other.view_is) (covers_masked _ _ c.self.invariant c.other.invariant c.if-self-other.true)
+
+pub returns-then-self-other-clause-inclusion : goal.returns-then-self-other-clause-inclusion
+returns-then-self-other-clause-inclusion c =
+    subst (λ t. IsTrue t ↔ Includes c.args.self.now c.args.other.now) (sym (returns-then-self-other-clause-test c))
+    (rw (← c.self.view_is, ← c.other.view_is) (inclusion _ _ c.self.invariant c.other.invariant))
+
+pub returns-else-self-other-clause-test : goal.returns-else-self-other-clause-test
+returns-else-self-other-clause-test c =
+    rw (← c.self.view_is, ← c.other.view_is) (covers_unmasked _ _ c.self.invariant c.other.invariant c.if-self-other.false)
+
+pub returns-else-self-other-clause-inclusion : goal.returns-else-self-other-clause-inclusion
+returns-else-self-other-clause-inclusion c =
+    subst (λ t. IsTrue t ↔ Includes c.args.self.now c.args.other.now) (sym (returns-else-self-other-clause-test c))
+    (rw (← c.self.view_is, ← c.other.view_is) (inclusion _ _ c.self.invariant c.other.invariant))

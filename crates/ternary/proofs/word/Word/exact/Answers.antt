@@ -1,0 +1,5 @@
+use Rattle.ternary.proofs.WordLemmas.{exact_holds}
+use Rattle.ternary.proofs.word.Word.exact.Goals as goal
+
+pub returns-clause-alone : goal.returns-clause-alone
+returns-clause-alone c = λ x x_fits. exact_holds c.args.h x c.requires x_fits

@@ -1,0 +1,5 @@
+use Rattle.ternary.proofs.WordLemmas.{tested_bit}
+use Rattle.ternary.proofs.word.Word.is_fixed.Goals as goal
+
+pub returns : goal.returns
+returns c = rw (← c.self.view_is) (tested_bit _ c.args.bit)

@@ -1,0 +1,94 @@
+-- Words with free bits over header numbers of 104 bits: the wildcard expressions of Kazemian, Varghese and McKeown,
+-- "Header Space Analysis: Static Checking for Networks", each kept as a value and a mask.
+use Rattle.std.specs.Prelude.{◌≡◌, ℕ, ◌-◌, ◌*◌, ◌^◌, ◌<◌, Bool, not, ◌&&◌, ◌||◌, ◌==◌, if◌then◌else◌, bit_and, bit_or, Option, Some, None, IsTrue}
+use Rattle.std.specs.Int.{bit_at, from_bool}
+
+-- a word as a pair: the bits of the mask are fixed, the others are free
+pub record WordValue : Type 0 where
+  pub value : ℕ
+  pub mask : ℕ
+
+-- the value, read on the bits of the mask alone
+abbrev pub fixed_value : WordValue → ℕ
+fixed_value w = bit_and w.value w.mask
+
+-- no bit of the value is outside the mask, and no bit of the mask is past the 104 of a header
+pub record IsWord (w : WordValue) : Type 0 where
+  pub within : fixed_value w ≡ w.value
+  pub bounded : w.mask < 2 ^ 104
+
+-- ---- headers of a word
+
+-- h and the value agree on each bit of the mask
+abbrev pub AgreesOnMask : WordValue → ℕ → Type 0
+AgreesOnMask w h = (k : ℕ) → bit_at w.mask k ≡ 1 → bit_at h k ≡ bit_at w.value k
+
+-- the word holds h: under the mask, h is the value
+unfoldable pub holds : WordValue → ℕ → Bool
+holds w h = bit_and h w.mask == fixed_value w
+
+-- a holds each header that b holds
+abbrev pub Includes : WordValue → WordValue → Type 0
+Includes a b = (h : ℕ) → h < 2 ^ 104 → IsTrue (holds b h) → IsTrue (holds a h)
+
+-- no header is held by both
+abbrev pub AreDisjoint : WordValue → WordValue → Type 0
+AreDisjoint a b = (h : ℕ) → h < 2 ^ 104 → IsTrue (holds a h) → IsTrue (holds b h) → ⊥
+
+-- m holds exactly what both hold
+abbrev pub IsMeet : WordValue → WordValue → WordValue → Type 0
+IsMeet a b m = (h : ℕ) → holds m h ≡ (holds a h && holds b h)
+
+-- ---- words of every header, and of one
+
+-- every bit is free
+abbrev pub any_word : WordValue
+any_word = record { value = 0; mask = 0 }
+
+-- all 104 bits are fixed to those of h
+abbrev pub exact_word : ℕ → WordValue
+exact_word h = record { value = h; mask = 2 ^ 104 - 1 }
+
+-- ---- two words
+
+-- the values agree on the bits that both fix
+unfoldable pub meets : WordValue → WordValue → Bool
+meets a b = let common = bit_and a.mask b.mask in bit_and a.value common == bit_and b.value common
+
+-- the fixed bits of both
+abbrev pub joined : WordValue → WordValue → WordValue
+joined a b = record { value = bit_or (fixed_value a) (fixed_value b); mask = bit_or a.mask b.mask }
+
+-- the word of what both hold, if there is something
+unfoldable pub meet_of : WordValue → WordValue → Option WordValue
+meet_of a b = if meets a b then Some (joined a b) else None
+
+-- each fixed bit of a is fixed in b, and to the same
+unfoldable pub covers_of : WordValue → WordValue → Bool
+covers_of a b = (bit_and a.mask b.mask == a.mask) && (bit_and b.value a.mask == fixed_value a)
+
+-- ---- one bit
+
+-- n with its bit k set to 0
+abbrev pub without_bit : ℕ → ℕ → ℕ
+without_bit n k = n - bit_at n k * 2 ^ k
+
+-- n with its bit k set to 1 or 0
+abbrev pub with_bit : ℕ → ℕ → Bool → ℕ
+with_bit n k one = bit_or (without_bit n k) (from_bool one * 2 ^ k)
+
+-- bit k is fixed
+unfoldable pub is_fixed_of : WordValue → ℕ → Bool
+is_fixed_of w k = bit_at w.mask k == 1
+
+-- bit k is free, or fixed to this
+unfoldable pub admits : WordValue → ℕ → Bool → Bool
+admits w k one = not (is_fixed_of w k) || (bit_at w.value k == from_bool one)
+
+-- bit k fixed to 1 or 0: a half of w, where the bit was free
+unfoldable pub fix_of : WordValue → ℕ → Bool → WordValue
+fix_of w k one = record { value = with_bit w.value k one; mask = bit_or w.mask (2 ^ k) }
+
+-- bit k freed
+unfoldable pub free_of : WordValue → ℕ → WordValue
+free_of w k = record { value = without_bit w.value k; mask = without_bit w.mask k }

@@ -1,0 +1,201 @@
+ghost use Rattle.std.specs.Prelude.{◌≡◌, ◌≢◌, ◌^◌, ◌<◌, ◌≤◌, ◌&&◌, ◌||◌, ◌==◌, ◌⊎◌, ◌↔◌, ℕ, bit_and, false, true, IsTrue, IsFalse, IsSome, IsNone, IfSome};
+ghost use Rattle.std.specs.Int.{bit_at, from_bool};
+ghost use Rattle.ternary.specs.Word.{WordValue, IsWord, AgreesOnMask, holds, Includes, AreDisjoint, IsMeet, any_word, exact_word, meet_of, covers_of, with_bit, is_fixed_of, fix_of, free_of};
+
+use std::marker::Model;
+
+/// The mask of all 104 bits of a header number.
+const ALL_BITS: u128 = (1 << 104) - 1;
+
+/// A set of header numbers, given by the bits that it fixes: a header is in it where it agrees with the value on each
+/// bit of the mask.
+///
+/// A bit of the mask is fixed, every other bit is free. Value and mask are below 2^104, and no bit of the value lies
+/// outside the mask, so equal sets are equal words.
+#[derive(Clone, Copy, Debug, PartialEq, Eq)]
+pub struct Word {
+    value: u128,
+    mask: u128,
+}
+
+impl Model for Word {
+    ghost use Rattle.ternary.specs.Word.{WordValue, IsWord};
+
+    ghost Value = { WordValue };
+
+    ghost view = { λ w. record { value = w.value; mask = w.mask } };
+
+    ghost invariant = { λ w. IsWord (record { value = w.value; mask = w.mask }) };
+
+    ghost inverse = { λ w. record { value = w.value; mask = w.mask } };
+}
+
+impl Word {
+    /// The word of this pair; `None` where the value has a bit outside the mask, or the mask one from bit 104 on.
+    pub fn new(value: u128, mask: u128) -> Option<Word>
+        ensures pair { IfSome result (λ w. (w ≡ record { value = value; mask = mask }) × IsWord w) }
+        ensures none { IsNone result ↔ ((bit_and value mask ≢ value) ⊎ (2 ^ 104 ≤ mask)) }
+    {
+        if value & mask == value && mask <= ALL_BITS {
+            Some(Word { value, mask })
+        } else {
+            None
+        }
+    }
+
+    /// The word of every header.
+    pub fn any() -> Word
+        ensures pair { result ≡ any_word }
+        ensures all { (h : ℕ) → IsTrue (holds result h) }
+        ensures word { IsWord result }
+    {
+        Word { value: 0, mask: 0 }
+    }
+
+    /// The word of this one header number.
+    pub fn exact(h: u128) -> Word
+        requires { h < 2 ^ 104 }
+        ensures pair { result ≡ exact_word h }
+        ensures alone { (x : ℕ) → x < 2 ^ 104 → (IsTrue (holds result x) ↔ (x ≡ h)) }
+        ensures word { IsWord result }
+    {
+        Word {
+            value: h,
+            mask: ALL_BITS,
+        }
+    }
+
+    /// The fixed bits that are 1.
+    pub fn value(&self) -> u128
+        ensures value { result ≡ self.now.value }
+        ensures bound { result < 2 ^ 104 }
+        ensures word { IsWord self.now }
+    {
+        self.value
+    }
+
+    /// The fixed bits.
+    pub fn mask(&self) -> u128
+        ensures mask { result ≡ self.now.mask }
+        ensures bound { result < 2 ^ 104 }
+        ensures word { IsWord self.now }
+    {
+        self.mask
+    }
+
+    /// Whether the word holds this header number.
+    pub fn holds(&self, h: u128) -> bool
+        ensures test { result ≡ holds self.now h }
+        ensures agrees { IsTrue result ↔ AgreesOnMask self.now h }
+        ensures word { IsWord self.now }
+    {
+        h & self.mask == self.value
+    }
+
+    /// The word of the headers that both hold; `None` where there is no such header.
+    pub fn meet(&self, other: &Word) -> Option<Word>
+        ensures pair { result ≡ meet_of self.now other.now }
+        ensures both { IfSome result (λ m. IsMeet self.now other.now m × IsWord m) }
+        ensures none { IsNone result ↔ AreDisjoint self.now other.now }
+        ensures words { IsWord self.now × IsWord other.now }
+    {
+        let common = self.mask & other.mask;
+        if self.value & common == other.value & common {
+            Some(Word {
+                value: self.value | other.value,
+                mask: self.mask | other.mask,
+            })
+        } else {
+            None
+        }
+    }
+
+    /// Whether this word holds each header that `other` holds.
+    pub fn covers(&self, other: &Word) -> bool
+        ensures test { result ≡ covers_of self.now other.now }
+        ensures inclusion { IsTrue result ↔ Includes self.now other.now }
+        ensures words { IsWord self.now × IsWord other.now }
+    {
+        self.mask & other.mask == self.mask && other.value & self.mask == self.value
+    }
+
+    /// Whether this bit, counted from the lowest, is fixed.
+    pub fn is_fixed(&self, bit: u32) -> bool
+        requires { bit < 104 }
+        ensures { result ≡ is_fixed_of self.now bit }
+    {
+        (self.mask >> bit) & 1 == 1
+    }
+
+    /// The half of this word whose free bit `bit` is 1, or 0.
+    pub fn fix(&self, bit: u32, one: bool) -> Word
+        requires bound { bit < 104 }
+        requires free { IsFalse (is_fixed_of self.now bit) }
+        ensures pair { result ≡ fix_of self.now bit one }
+        ensures half { (h : ℕ) → holds result h ≡ (holds self.now h && (bit_at h bit == from_bool one)) }
+        ensures word { IsWord result }
+    {
+        Word {
+            value: self.value | (u128::from(one) << bit),
+            mask: self.mask | (1 << bit),
+        }
+    }
+
+    /// This word with the bit `bit` free: it holds what this word holds with the bit set to 0 or to 1.
+    pub fn free(&self, bit: u32) -> Word
+        requires { bit < 104 }
+        ensures pair { result ≡ free_of self.now bit }
+        ensures either { (h : ℕ) → holds result h ≡ (holds self.now (with_bit h bit false) || holds self.now (with_bit h bit true)) }
+        ensures word { IsWord result }
+    {
+        let others = !(1u128 << bit);
+        Word {
+            value: self.value & others,
+            mask: self.mask & others,
+        }
+    }
+}
+
+#[cfg(test)]
+mod tests {
+    use super::*;
+    use std::test::Fail;
+
+    #[test]
+    fn stray_bits_are_refused(rt: HostRuntime) {
+        assert!(rt; Word::new(1, 0).is_none());
+        assert!(rt; Word::new(0, 1 << 104).is_none());
+    }
+
+    #[test]
+    fn words_meet_and_cover(rt: HostRuntime) -> Result<(), Fail> {
+        // 01** and **01 meet in 0101; 01** and 1*** in nothing.
+        let high = Word::new(0b0100, 0b1100).ok_or("01**")?;
+        let low = Word::new(0b0001, 0b0011).ok_or("**01")?;
+        let both = Word::new(0b0101, 0b1111).ok_or("0101")?;
+        let other = Word::new(0b1000, 0b1000).ok_or("1***")?;
+        assert_eq!(rt; high.meet(&low), Some(both));
+        assert_eq!(rt; high.meet(&other), None);
+        assert!(rt; high.covers(&both));
+        assert!(rt; !both.covers(&high));
+        assert!(rt; high.holds(0b0111));
+        assert!(rt; !high.holds(0b1111));
+        Ok(())
+    }
+
+    #[test]
+    fn bits_are_fixed_and_freed(rt: HostRuntime) {
+        let any = Word::any();
+        assert!(rt; !any.is_fixed(71));
+        let low = any.fix(71, false);
+        assert!(rt; !low.is_fixed(103));
+        let corner = low.fix(103, true);
+        assert_eq!(rt; corner.value(), 0x8000_0000_0000_0000_0000_0000_00);
+        assert_eq!(rt; corner.mask(), 0x8000_0000_8000_0000_0000_0000_00);
+        assert_eq!(rt; corner.free(103), low);
+        assert_eq!(rt;
+            Word::exact(6).free(0).mask(),
+            0xff_ffff_ffff_ffff_ffff_ffff_fffe
+        );
+    }
+}
