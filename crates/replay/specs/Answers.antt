@@ -1,6 +1,7 @@
 -- The answer to a schedule: what each of its rows writes into the journal.
 use Rattle.std.specs.Prelude.{ℕ, ◌≡◌, ◌+◌, Bool, true, false, Option, List, [], ◌∷◌, ◌++◌, length, filter}
 use Rattle.five_tuple.specs.declared.header.Header.{Header}
+use Rattle.std.proofs.Common.{refl, sym, ◌∙◌}
 use Rattle.policy_rules.specs.Policy.{scan}
 use Rattle.policy_rules.specs.declared.policy.Row.{Row}
 use Rattle.policy_rules.specs.declared.policy.Hit.{Hit}
@@ -56,3 +57,13 @@ Answers policy events journal = GoesOn policy [] 1 events journal
 -- a step of the one switch, whose number is 0
 abbrev pub IsOfOneSwitch : Event → Type 0
 IsOfOneSwitch (One (Packet switch header)) = switch ≡ 0
+
+-- there is a journal that goes on by these events, and so an answer to each schedule
+pub journal_behind : (policy : List Row) (before : List Item) (row : ℕ) (events : List Event) → (journal : List Item) × GoesOn policy before row events journal
+journal_behind policy before row [] = (before, refl)
+journal_behind policy before row (event ∷ events) = journal_behind policy (before ++ event_piece policy before row event) (row + 1) events
+
+-- and only one
+pub one_answer : (policy : List Row) (before : List Item) (row : ℕ) (events : List Event) (one other : List Item) → GoesOn policy before row events one → GoesOn policy before row events other → one ≡ other
+one_answer policy before row [] one other first second = first ∙ sym second
+one_answer policy before row (event ∷ events) one other first second = one_answer policy (before ++ event_piece policy before row event) (row + 1) events one other first second

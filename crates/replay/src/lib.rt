@@ -12,6 +12,6 @@ mod schedule;
 
 pub use journal::{Item, Journal};
 pub use lines::text;
-pub use play::{Played, replay};
+pub use play::{Played, replay, schedules_have_one_answer};
 pub use policy_rules::{Action, Header, Hit, How, Leaving, Policy};
 pub use schedule::{Event, Step};

@@ -1,4 +1,7 @@
-ghost use Rattle.std.specs.Prelude.{◌≡◌, ◌++◌, ◌≤◌, ◌<◌, ◌^◌, length, All, IfOk, OnOk, slice_index_or, []};
+ghost use Rattle.std.specs.Prelude.{◌≡◌, ◌++◌, ◌≤◌, ◌<◌, ◌^◌, length, All, IfOk, OnOk, List};
+ghost use Rattle.policy_rules.specs.declared.policy.Row.{Row};
+ghost use Rattle.replay.specs.declared.journal.Item.{Item};
+ghost use Rattle.replay.specs.declared.schedule.Event.{Event};
 ghost use Rattle.replay.specs.Answers.{Answers, IsOfOneSwitch, ending, event_piece, next_packet, packet_piece};
 ghost use Rattle.replay.specs.Machine.{IsRun, first_policy};
 ghost use Rattle.replay.specs.Standing.{EndsHaveCauses, NamesOwnPorts};
@@ -120,3 +123,9 @@ fn ending(packet: u32, header: Header, hit: Hit) -> Item
         },
     }
 }
+
+/// Each schedule has one answer: a law on journals alone.
+pub fn schedules_have_one_answer()
+    ensures exists { (policy : List Row) (events : List Event) → (journal : List Item) × Answers policy events journal }
+    ensures one { (policy : List Row) (events : List Event) (one other : List Item) → Answers policy events one → Answers policy events other → one ≡ other }
+{}

@@ -1,0 +1,5 @@
+pub mod AllRead
+pub mod Distinct
+pub mod Gains
+pub mod Unplayed
+pub mod SevenFields

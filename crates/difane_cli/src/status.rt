@@ -1,0 +1,146 @@
+//! How a command ended, and the line that tells it.
+ghost use Rattle.std.specs.Prelude.{◌≡◌, ◌≤◌, IfOk, IsErrOf, IsTrue, OnOk, OnErr};
+ghost use Rattle.std.specs.List.{flat_map};
+ghost use Rattle.shelf.specs.Faults.{Rose};
+ghost use Rattle.shelf.specs.Sink.{gained, GainedPart};
+ghost use Rattle.difane_cli.specs.Status.{input_line, status_line, status_number, Tells};
+
+use itoa::Buffer;
+use shelf::{Sink, SinkError, write_whole};
+use std::alloc::{AllocError, Global};
+use std::marker::Model;
+
+/// The name of a file as the words had it. Contracts see its bytes.
+#[derive(Debug, Drop)]
+pub struct FileName {
+    name: String,
+}
+
+impl Model for FileName {
+    ghost use Rattle.std.specs.Prelude.{List, ℕ, string_bytes};
+
+    ghost Value = { List ℕ };
+
+    ghost view = { λ n. string_bytes n.name };
+}
+
+impl FileName {
+    /// A copy of this name.
+    pub fn new(alloc: Global, name: &str) -> Result<FileName, AllocError>
+        ensures { IfOk result (λ file. file ≡ name.now) }
+    {
+        Ok(FileName {
+            name: String::from_str(alloc, name)?,
+        })
+    }
+
+    /// The name.
+    pub fn as_str(&self) -> &str
+        ensures { result.now ≡ self.now }
+    {
+        self.name.as_str()
+    }
+}
+
+/// How a command ended.
+#[derive(Debug, Drop)]
+pub enum Status {
+    /// It did its work.
+    Ok,
+    /// The words are off the grammar.
+    Words,
+    /// This file is refused, by this code in this row; 0 stands for the file as a whole.
+    Input { file: FileName, code: u32, row: u32 },
+    /// A file could not be read.
+    ReadFault,
+    /// The output could not be written.
+    WriteFault,
+    /// Memory ran out.
+    NoMemory,
+}
+
+impl Status {
+    /// The number that a program ends with.
+    pub fn number(&self) -> u8
+        ensures { result ≡ status_number self.now }
+    {
+        match self {
+            Status::Ok => 0,
+            Status::Words => 2,
+            Status::Input { .. } => 3,
+            Status::ReadFault => 4,
+            Status::WriteFault => 5,
+            Status::NoMemory => 7,
+        }
+    }
+}
+
+/// Writes the status's line; it takes no memory of its own.
+///
+/// A fault of the sink changes nothing but the sink, which then has a part of the line.
+pub fn tell<E: Sink>(status: &Status, errs: &mut E)
+    ensures line { Tells (E.bytes errs.old) (status_line status.now) (E.bytes errs.new) (Rose (E.faults errs.old) (E.faults errs.new)) (IsTrue E.takes_memory) }
+    ensures counts { E.faults errs.old ≤ E.faults errs.new }
+{
+    let _ = write_line(status, errs);
+}
+
+fn write_line<E: Sink>(status: &Status, errs: &mut E) -> Result<(), SinkError>
+    ensures whole { OnOk result (E.bytes errs.new ≡ gained (E.bytes errs.old) (status_line status.now)) }
+    ensures part { OnErr result (GainedPart (E.bytes errs.old) (status_line status.now) (E.bytes errs.new)) }
+    ensures counts { E.faults errs.old ≤ E.faults errs.new }
+    ensures failed { IsErrOf result SinkError.Failed → Rose (E.faults errs.old) (E.faults errs.new) }
+    ensures no_memory { IsErrOf result SinkError.NoMemory → IsTrue E.takes_memory }
+{
+    match status {
+        Status::Ok => write_whole(errs, b""),
+        Status::Words => write_whole(errs, b"difane: words\n"),
+        Status::Input { file, code, row } => write_input_line(file, *code, *row, errs),
+        Status::ReadFault => write_whole(errs, b"difane: read fault\n"),
+        Status::WriteFault => write_whole(errs, b"difane: write fault\n"),
+        Status::NoMemory => write_whole(errs, b"difane: no memory\n"),
+    }
+}
+
+fn write_input_line<E: Sink>(
+    file: &FileName,
+    code: u32,
+    row: u32,
+    errs: &mut E,
+) -> Result<(), SinkError>
+    ensures whole { OnOk result (E.bytes errs.new ≡ gained (E.bytes errs.old) (input_line file.now code row)) }
+    ensures part { OnErr result (GainedPart (E.bytes errs.old) (input_line file.now code row) (E.bytes errs.new)) }
+    ensures counts { E.faults errs.old ≤ E.faults errs.new }
+    ensures failed { IsErrOf result SinkError.Failed → Rose (E.faults errs.old) (E.faults errs.new) }
+    ensures no_memory { IsErrOf result SinkError.NoMemory → IsTrue E.takes_memory }
+{
+    let mut code_digits = Buffer::new();
+    let mut row_digits = Buffer::new();
+    let code = code_digits.format(code).as_bytes();
+    let row = row_digits.format(row).as_bytes();
+    let name = file.as_str().as_bytes();
+    let pieces: [&[u8]; 7] = [
+        b"difane: input ",
+        name,
+        b" code ",
+        code,
+        b" row ",
+        row,
+        b"\n",
+    ];
+    write_pieces(&pieces, errs)
+}
+
+// Writes the pieces one after another, until one fails.
+fn write_pieces<E: Sink>(pieces: &[&[u8]], errs: &mut E) -> Result<(), SinkError>
+    ensures whole { OnOk result (E.bytes errs.new ≡ gained (E.bytes errs.old) (flat_map (λ piece. piece.now) pieces.now)) }
+    ensures part { OnErr result (GainedPart (E.bytes errs.old) (flat_map (λ piece. piece.now) pieces.now) (E.bytes errs.new)) }
+    ensures counts { E.faults errs.old ≤ E.faults errs.new }
+    ensures failed { IsErrOf result SinkError.Failed → Rose (E.faults errs.old) (E.faults errs.new) }
+    ensures no_memory { IsErrOf result SinkError.NoMemory → IsTrue E.takes_memory }
+{
+    for piece in pieces {
+        write_whole(errs, piece)?;
+    }
+    Ok(())
+}

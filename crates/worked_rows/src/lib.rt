@@ -1,0 +1,5 @@
+//! Worked runs of the program, over files and outputs in memory. This crate has tests alone.
+#![tactic(auto)]
+
+#[cfg(test)]
+mod tests;
