@@ -7,7 +7,7 @@ use Rattle.replay.specs.Machine.{IsRun, start}
 use Rattle.replay.specs.declared.journal.Item.{Item}
 use Rattle.replay.specs.declared.schedule.Event.{Event}
 use Rattle.shelf.specs.Sink.{gained}
-use Rattle.difane_cli.specs.Inputs.{Accounts, Inputs, Refusal, IsStop, Refused}
+use Rattle.difane_cli.specs.Inputs.{Accounts, Inputs, FileRefusal, IsStop, Refused}
 use Rattle.difane_cli.specs.Run.{BeginsAnswer, IsDone, PlaysInputs, Records, Writes}
 use Rattle.difane_cli.specs.declared.status.Status.{Status}
 use Rattle.difane_cli.specs.declared.status.Status.TheVariants as status
@@ -33,7 +33,7 @@ writes_nothing status.Words before text stop = absurd stop
 writes_nothing status.WriteFault before text stop = absurd stop
 
 -- a refusal comes with the empty journal
-pub plays_nothing : (read : Result Inputs Refusal) (s : Status) → Refused read s → PlaysInputs read s []
+pub plays_nothing : (read : Result Inputs FileRefusal) (s : Status) → Refused read s → PlaysInputs read s []
 plays_nothing read (status.Input file code row) refused = record { accounts = refused; answers = λ inputs accepted. refl; run = λ inputs accepted. runs_from_start inputs.policy }
 plays_nothing read status.ReadFault refused = record { accounts = tt; answers = λ inputs accepted. refl; run = λ inputs accepted. runs_from_start inputs.policy }
 plays_nothing read status.NoMemory refused = record { accounts = tt; answers = λ inputs accepted. begins inputs.policy inputs.events; run = λ inputs accepted. runs_from_start inputs.policy }
@@ -42,7 +42,7 @@ plays_nothing read status.Words refused = absurd refused
 plays_nothing read status.WriteFault refused = absurd refused
 
 -- where the inputs are accepted, a fault came or the work is done
-pub done_or_fault : (read : Result Inputs Refusal) (s : Status) (inputs : Inputs) (R W : Type 0) → Accounts read s → read ≡ Ok inputs → (s ≡ status.ReadFault → R) → (s ≡ status.WriteFault → W) → R ⊎ W ⊎ IsDone s
+pub done_or_fault : (read : Result Inputs FileRefusal) (s : Status) (inputs : Inputs) (R W : Type 0) → Accounts read s → read ≡ Ok inputs → (s ≡ status.ReadFault → R) → (s ≡ status.WriteFault → W) → R ⊎ W ⊎ IsDone s
 done_or_fault read status.Ok inputs R W accounts accepted reads writes = inr (inr tt)
 done_or_fault read status.NoMemory inputs R W accounts accepted reads writes = inr (inr tt)
 done_or_fault read status.ReadFault inputs R W accounts accepted reads writes = inl (reads refl)

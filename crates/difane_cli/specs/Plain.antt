@@ -1,17 +1,11 @@
 -- Plain files: each byte is a line feed or printable ASCII but the double quote, no line is empty, and the records are
 -- the lines cut at commas.
-use Rattle.std.specs.Prelude.{ℕ, ◌≡◌, ◌-◌, ◌^◌, Bool, true, false, not, ◌&&◌, ◌||◌, ◌==◌, nat_le, nat_lt, nat_eq, if◌then◌else◌, Option, Some, None, option_and_then, List, [], ◌∷◌, length, map, take, drop, slice_index, codes, bytes_eq}
-use Rattle.std.specs.List.{list_all, list_any, slice_split, starts_with}
+use Rattle.std.specs.Prelude.{ℕ, ◌-◌, Bool, not, ◌&&◌, ◌||◌, ◌==◌, nat_le, nat_lt, if◌then◌else◌, Option, Some, None, option_and_then, List, [], ◌∷◌, length, take, slice_index, codes, bytes_eq}
+use Rattle.std.specs.List.{list_all, slice_split}
 use Rattle.std.specs.Option.{option_map}
 use Rattle.five_tuple.specs.declared.header.Fields.{Fields}
 use Rattle.five_tuple.specs.Header.{header_of}
-use Rattle.five_tuple.specs.Texts.{number_up_to, address_of, prefix_of, range_of, proto_number_of, proto_of}
-use Rattle.five_tuple.specs.Matching.{AddressBlock, Ports}
-use Rattle.five_tuple.specs.declared.matching.Proto.{Proto}
-use Rattle.policy_rules.specs.Policy.{priority_of}
-use Rattle.policy_rules.specs.declared.policy.Row.{Row}
-use Rattle.policy_rules.specs.declared.policy.Action.{Action}
-use Rattle.policy_rules.specs.declared.policy.Action.TheVariants.{Drop, Out}
+use Rattle.five_tuple.specs.Texts.{number_up_to, address_of, proto_number_of}
 use Rattle.replay.specs.declared.schedule.Event.{Event}
 use Rattle.replay.specs.declared.schedule.Event.TheVariants.{One}
 use Rattle.replay.specs.declared.schedule.Step.TheVariants.{Packet}
@@ -60,34 +54,3 @@ event_of _ = None
 -- the events of a plain schedule: at most 100,000 packets
 unfoldable pub plain_schedule : List ℕ → Option (List Event)
 plain_schedule bytes = option_and_then (all_read (λ line. event_of (record_of line))) (option_and_then (rows_behind (codes "event,arguments") 100000) (plain_lines bytes))
-
--- `any` or one port
-abbrev pub plain_ports : List ℕ → Option Ports
-plain_ports text = if list_any (λ b. b == 45) text then None else range_of text
-
--- `drop`, or `out:` and a port from 0 to 63
-abbrev pub action_of : List ℕ → Option Action
-action_of text = if bytes_eq text (codes "drop") then Some Drop else (if starts_with nat_eq text (codes "out:") then option_map Out (number_up_to 63 (drop 4 text)) else None)
-
-abbrev pub row_from : Option ℕ → Option AddressBlock → Option AddressBlock → Option Ports → Option Ports → Option Proto → Option Action → Option Row
-row_from (Some priority) (Some src) (Some dst) (Some sport) (Some dport) (Some proto) (Some action) =
-    Some (record { priority = priority; src = src; dst = dst; sport = sport; dport = dport; proto = proto; action = action })
-row_from _ _ _ _ _ _ _ = None
-
--- the seven fields of a policy's row
-abbrev pub row_of : List (List ℕ) → Option Row
-row_of (priority ∷ src ∷ dst ∷ sport ∷ dport ∷ proto ∷ action ∷ []) =
-    row_from (number_up_to (2 ^ 32 - 1) priority) (prefix_of src) (prefix_of dst) (plain_ports sport) (plain_ports dport) (proto_of proto) (action_of action)
-row_of _ = None
-
--- no number stands twice
-abbrev pub are_distinct : List ℕ → Bool
-are_distinct [] = true
-are_distinct (x ∷ xs) = not (list_any (nat_eq x) xs) && are_distinct xs
-
-abbrev pub with_distinct_priorities : List Row → Option (List Row)
-with_distinct_priorities rows = if are_distinct (map priority_of rows) then Some rows else None
-
--- the rows of a plain policy: at most 2,000, of distinct priorities
-unfoldable pub plain_policy : List ℕ → Option (List Row)
-plain_policy bytes = option_and_then with_distinct_priorities (option_and_then (all_read (λ line. row_of (record_of line))) (option_and_then (rows_behind (codes "priority,src,dst,sport,dport,proto,action") 2000) (plain_lines bytes)))

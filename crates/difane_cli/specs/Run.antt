@@ -7,7 +7,7 @@ use Rattle.replay.specs.Machine.{IsRun}
 use Rattle.replay.specs.declared.journal.Item.{Item}
 use Rattle.replay.specs.declared.schedule.Event.{Event}
 use Rattle.shelf.specs.Sink.{gained, GainedPart}
-use Rattle.difane_cli.specs.Inputs.{Accounts, Inputs, Refusal}
+use Rattle.difane_cli.specs.Inputs.{Accounts, Inputs, FileRefusal}
 use Rattle.difane_cli.specs.declared.status.Status.{Status}
 use Rattle.difane_cli.specs.declared.status.Status.TheVariants as status
 
@@ -58,7 +58,7 @@ IsAfterPlay (status.Input file code row) = ⊥
 IsAfterPlay status.ReadFault = ⊥
 
 -- what a replay's status and journal say of what was to be read
-pub record PlaysInputs (read : Result Inputs Refusal) (s : Status) (journal : List Item) : Type 0 where
+pub record PlaysInputs (read : Result Inputs FileRefusal) (s : Status) (journal : List Item) : Type 0 where
   pub accounts : Accounts read s
   pub answers : (inputs : Inputs) → read ≡ Ok inputs → Records s inputs.policy inputs.events journal
   pub run : (inputs : Inputs) → read ≡ Ok inputs → IsRun inputs.policy journal

@@ -1,25 +1,17 @@
 //! Plain files: printable lines cut at commas, with neither quotes nor empty lines.
-ghost use Rattle.std.specs.Prelude.{◌≡◌, ◌==◌, ◌≤◌, ◌-◌, ◌^◌, map, not, length, vec_len, All, IfOk, IfSome, Some};
+ghost use Rattle.std.specs.Prelude.{◌≡◌, ◌==◌, ◌≤◌, map, not, length, vec_len, All, IfOk, IfSome};
 ghost use Rattle.std.specs.List.{list_all, slice_split};
 ghost use Rattle.std.specs.Option.{option_map};
 ghost use Rattle.five_tuple.specs.Texts.{number_up_to};
 ghost use Rattle.replay.specs.Answers.{IsOfOneSwitch};
-ghost use Rattle.replay.specs.Standing.{HasPortOfAction, NamesOwnPorts};
-ghost use Rattle.difane_cli.specs.Plain.{action_of, all_read, event_of, is_plain, fields_from, plain_lines, plain_policy, plain_ports, plain_schedule, record_of, row_from, row_of, rows_behind, with_distinct_priorities, without_last_feed};
+ghost use Rattle.difane_cli.specs.Plain.{all_read, event_of, fields_from, is_plain, plain_lines, plain_schedule, record_of, rows_behind, without_last_feed};
 
-use five_tuple::{
-    Fields, Header, PortRange, Prefix, Proto, read_address, read_number, read_prefix, read_proto,
-    read_proto_number, read_range,
-};
-use policy_rules::{Action, NewPolicyError, Policy, Row};
+use five_tuple::{Fields, Header, read_address, read_number, read_proto_number};
 use replay::{Event, Step};
 use std::alloc::{AllocError, Global};
 
 /// The most rows of a schedule.
 const MAX_EVENTS: usize = 100_000;
-
-/// The most rows of a policy.
-const MAX_ROWS: usize = 2_000;
 
 /// Whether the bytes are plain text: line feeds and printable ASCII without the double quote.
 fn is_plain(bytes: &[u8]) -> bool
@@ -174,134 +166,4 @@ fn read_event_line(alloc: Global, line: &[u8]) -> Result<Option<Event>, AllocErr
 {
     let fields = cut(alloc, line, b',')?;
     Ok(read_event(&fields))
-}
-
-/// The policy of a plain file, or `None` where the bytes are none: the header record, and at most 2,000 rows of
-/// distinct priorities, whose port fields are `any` or one port.
-#[tactic(auto, unfolding(crate::specs::Plain::plain_policy))]
-pub fn read_policy(alloc: Global, bytes: &[u8]) -> Result<Option<Policy>, AllocError>
-    ensures value { IfOk result (λ policy. policy ≡ plain_policy bytes.now) }
-    ensures own_ports { IfOk result (λ policy. IfSome policy NamesOwnPorts) }
-{
-    let Some(lines) = read_lines(alloc, bytes)? else {
-        return Ok(None);
-    };
-    let header = b"priority,src,dst,sport,dport,proto,action";
-    let Some(rows) = rows_behind(&lines, header, MAX_ROWS) else {
-        return Ok(None);
-    };
-    let Some(rows) = read_rows(alloc, rows)? else {
-        return Ok(None);
-    };
-    with_distinct_priorities(alloc, rows)
-}
-
-/// The policy of these rows, or `None` where two have one priority.
-fn with_distinct_priorities(alloc: Global, rows: Vec<Row>) -> Result<Option<Policy>, AllocError>
-    requires count { vec_len rows ≤ 2000 }
-    requires own_ports { NamesOwnPorts rows.items }
-    ensures value { IfOk result (λ policy. policy ≡ with_distinct_priorities rows.items) }
-    ensures own_ports { IfOk result (λ policy. IfSome policy NamesOwnPorts) }
-{
-    match Policy::new(alloc, rows) {
-        Ok(policy) => Ok(Some(policy)),
-        Err(NewPolicyError::SamePriority { .. }) => Ok(None),
-        Err(NewPolicyError::NoMemory) => Err(AllocError),
-    }
-}
-
-fn read_rows(alloc: Global, lines: &[&[u8]]) -> Result<Option<Vec<Row>>, AllocError>
-    ensures rows { IfOk result (λ rows. option_map (λ v. v.items) rows ≡ all_read (λ line. row_of (record_of line)) (map (λ line. line.now) lines.now)) }
-    ensures own_ports { IfOk result (λ rows. IfSome rows (λ v. NamesOwnPorts v.items)) }
-    ensures count { IfOk result (λ rows. IfSome rows (λ v. vec_len v ≤ length lines.now)) }
-{
-    let mut rows = Vec::new(alloc);
-    for line in lines {
-        let Some(row) = read_row_line(alloc, line)? else {
-            return Ok(None);
-        };
-        rows.push(row)?;
-    }
-    Ok(Some(rows))
-}
-
-fn read_row_line(alloc: Global, line: &[u8]) -> Result<Option<Row>, AllocError>
-    ensures value { IfOk result (λ row. row ≡ row_of (record_of line.now)) }
-    ensures own_port { IfOk result (λ row. IfSome row (λ r. HasPortOfAction r.action)) }
-{
-    let fields = cut(alloc, line, b',')?;
-    Ok(read_row(&fields))
-}
-
-/// The row of seven fields.
-fn read_row(fields: &[&[u8]]) -> Option<Row>
-    ensures value { result ≡ row_of (map (λ field. field.now) fields.now) }
-    ensures own_port { IfSome result (λ row. HasPortOfAction row.action) }
-{
-    let [priority, src, dst, sport, dport, proto, action] = fields else {
-        return None;
-    };
-    row_from(
-        read_priority(priority),
-        read_prefix(src),
-        read_prefix(dst),
-        read_plain_ports(sport),
-        read_plain_ports(dport),
-        read_proto(proto),
-        read_action(action),
-    )
-}
-
-fn row_from(
-    priority: Option<u32>,
-    src: Option<Prefix>,
-    dst: Option<Prefix>,
-    sport: Option<PortRange>,
-    dport: Option<PortRange>,
-    proto: Option<Proto>,
-    action: Option<Action>,
-) -> Option<Row>
-    ensures value { result ≡ row_from priority src dst sport dport proto action }
-    ensures same_action { IfSome result (λ row. action ≡ Some row.action) }
-{
-    Some(Row {
-        priority: priority?,
-        src: src?,
-        dst: dst?,
-        sport: sport?,
-        dport: dport?,
-        proto: proto?,
-        action: action?,
-    })
-}
-
-fn read_priority(text: &[u8]) -> Option<u32>
-    ensures { result ≡ number_up_to (2 ^ 32 - 1) text.now }
-{
-    let priority = read_number(text, 4_294_967_295)?;
-    Some(priority as u32)
-}
-
-/// `any` or one port.
-fn read_plain_ports(text: &[u8]) -> Option<PortRange>
-    ensures { result ≡ plain_ports text.now }
-{
-    if text.contains(&b'-') {
-        None
-    } else {
-        read_range(text)
-    }
-}
-
-/// `drop`, or `out:` and a port from 0 to 63.
-fn read_action(text: &[u8]) -> Option<Action>
-    ensures value { result ≡ action_of text.now }
-    ensures own_port { IfSome result HasPortOfAction }
-{
-    if text == b"drop".as_slice() {
-        return Some(Action::Drop);
-    }
-    let port = text.strip_prefix(b"out:".as_slice())?;
-    let port = read_number(port, 63)?;
-    Some(Action::Out(port as u32))
 }

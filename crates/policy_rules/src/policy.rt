@@ -1,5 +1,5 @@
-ghost use Rattle.std.specs.Prelude.{◌≡◌, ◌<◌, ◌^◌, IfOk, IfErr, OnOk, vec_len, length};
-ghost use Rattle.policy_rules.specs.Policy.{row_matches, scan, scan_by, or_higher, IsFirstMatch, HaveDistinctPriorities, Refuses};
+ghost use Rattle.std.specs.Prelude.{◌≡◌, ◌<◌, ◌^◌, IfOk, IfErr, OnOk, vec_len, length, Some};
+ghost use Rattle.policy_rules.specs.Policy.{row_matches, hit_of, scan, scan_by, or_higher, IsFirstMatch, HaveDistinctPriorities, Refuses};
 ghost use Rattle.policy_rules.specs.declared.policy.NewPolicyError.TheVariants.{NoMemory};
 
 use five_tuple::{Fields, Header, PortRange, Prefix, Proto};
@@ -95,10 +95,21 @@ impl Row {
 }
 
 impl Hit {
-    const DEFAULT: Hit = Hit {
+    /// What becomes of a header that no row matches.
+    pub const DEFAULT: Hit = Hit {
         rule: None,
         action: Action::Drop,
     };
+
+    /// What this row says of a header that it decides.
+    pub fn of(row: &Row) -> Hit
+        ensures { result ≡ hit_of (Some row.now) }
+    {
+        Hit {
+            rule: Some(row.priority),
+            action: row.action,
+        }
+    }
 
     // This first match so far, or the next row where that one matches and is higher.
     fn or_higher(self, row: &Row, fields: &Fields) -> Hit
@@ -109,10 +120,7 @@ impl Hit {
             Some(best) => best < row.priority,
         };
         if yields && row.matches(fields) {
-            Hit {
-                rule: Some(row.priority),
-                action: row.action,
-            }
+            Hit::of(row)
         } else {
             self
         }

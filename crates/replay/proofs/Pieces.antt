@@ -8,6 +8,7 @@ use Rattle.std.proofs.lemmas.List.Elements.{filter_map-append, recursion_from_Al
 use Rattle.std.proofs.Common.{length-append}
 use Rattle.five_tuple.specs.declared.header.Header.{Header}
 use Rattle.policy_rules.specs.Policy.{scan, highest, higher, hit_of, row_matches}
+use Rattle.policy_rules.specs.Read.{HasSmallPort}
 use Rattle.policy_rules.specs.declared.policy.Row.{Row}
 use Rattle.policy_rules.specs.declared.policy.Hit.{Hit}
 use Rattle.policy_rules.specs.declared.policy.Action.{Action}
@@ -20,7 +21,7 @@ use Rattle.replay.specs.declared.schedule.Event.{Event}
 use Rattle.replay.specs.declared.schedule.Event.TheVariants.{One}
 use Rattle.std.proofs.Common.{drop, get_or, drop-cons, add-one}
 use Rattle.replay.specs.Machine.{Machine, Packet, End, Dropped, LeftBy, Move, Enter, Decide, Finish, Moves, MayEnd, Runs, start, with_packet, move_of, IsRun}
-use Rattle.replay.specs.Standing.{HasCause, HaveCauses, HasPort, HasPortOfAction, NamesOwnPorts, LeavesRightly, last_told, tells_entry, tells_decision}
+use Rattle.replay.specs.Standing.{HasCause, HaveCauses, NamesOwnPorts, LeavesRightly, last_told, tells_entry, tells_decision}
 use Rattle.replay.specs.Answers.{next_packet, is_packet_row, packet_piece, event_piece, ending, GoesOn, IsOfOneSwitch}
 use Rattle.replay.proofs.Runs.{Runs-append, HaveCauses-append, last_told-append, eqb_itself, with_packet-there}
 
@@ -39,28 +40,28 @@ pub so_far-nil : (policy : List Row) → SoFar policy []
 so_far-nil policy = record { packets = λ _. None; runs = refl; fresh = λ n h. refl; causes = tt }
 
 -- the action of a first match is that of a row, or a drop
-own_row : (row : Row) (best : Option Row) → HasPortOfAction row.action → MatchOption best (Unit {0}) (λ r. HasPortOfAction r.action) → HasPortOfAction (higher row best).action
+own_row : (row : Row) (best : Option Row) → HasSmallPort row.action → MatchOption best (Unit {0}) (λ r. HasSmallPort r.action) → HasSmallPort (higher row best).action
 own_row row None here there = here
 own_row row (Some other) here there = chosen (ltb row.priority other.priority)
   where
-    chosen : (b : Bool) → HasPortOfAction (cond b other row).action
+    chosen : (b : Bool) → HasSmallPort (cond b other row).action
     chosen true = there
     chosen false = here
 
-own_kept : (row : Row) (kept : List Row) (keeps : Bool) → HasPortOfAction row.action → MatchOption (highest kept) (Unit {0}) (λ r. HasPortOfAction r.action) → MatchOption (highest (cond keeps (row ∷ kept) kept)) (Unit {0}) (λ r. HasPortOfAction r.action)
+own_kept : (row : Row) (kept : List Row) (keeps : Bool) → HasSmallPort row.action → MatchOption (highest kept) (Unit {0}) (λ r. HasSmallPort r.action) → MatchOption (highest (cond keeps (row ∷ kept) kept)) (Unit {0}) (λ r. HasSmallPort r.action)
 own_kept row kept true here there = own_row row (highest kept) here there
 own_kept row kept false here there = there
 
-own_highest : (keeps : Row → Bool) (rows : List Row) → AllByRecursion (λ (row : Row). HasPortOfAction row.action) rows → MatchOption (highest (filter keeps rows)) (Unit {0}) (λ r. HasPortOfAction r.action)
+own_highest : (keeps : Row → Bool) (rows : List Row) → AllByRecursion (λ (row : Row). HasSmallPort row.action) rows → MatchOption (highest (filter keeps rows)) (Unit {0}) (λ r. HasSmallPort r.action)
 own_highest keeps [] own = tt
 own_highest keeps (row ∷ rows) own = own_kept row (filter keeps rows) (keeps row) own.0 (own_highest keeps rows own.1)
 
-own_hit : (best : Option Row) → MatchOption best (Unit {0}) (λ r. HasPortOfAction r.action) → HasPortOfAction (hit_of best).action
+own_hit : (best : Option Row) → MatchOption best (Unit {0}) (λ r. HasSmallPort r.action) → HasSmallPort (hit_of best).action
 own_hit None own = tt
 own_hit (Some row) own = own
 
-own_scan : (policy : List Row) (header : Header) → NamesOwnPorts policy → HasPortOfAction (scan policy header).action
-own_scan policy header own = own_hit _ (own_highest (λ row. row_matches row header.fields) policy (recursion_from_All (λ (row : Row). HasPortOfAction row.action) policy own))
+own_scan : (policy : List Row) (header : Header) → NamesOwnPorts policy → HasSmallPort (scan policy header).action
+own_scan policy header own = own_hit _ (own_highest (λ row. row_matches row header.fields) policy (recursion_from_All (λ (row : Row). HasSmallPort row.action) policy own))
 
 -- a packet that may come in is another than those before it
 other_packet : (n k : ℕ) → n + 1 ≤ k → nat_eq k n ≡ false
@@ -135,7 +136,7 @@ told_entry policy journal number row switch header = rw (last_told-append (tells
 told_decision : (policy : List Row) (journal : List Item) (number row switch : ℕ) (header : Header) → last_told (tells_decision number) (journal ++ decided_items policy number row switch header) ≡ Some (1, (scan policy header).rule)
 told_decision policy journal number row switch header = rw (last_told-append (tells_decision number) journal, eqb_itself number) refl
 
-by_action : (policy : List Row) (journal : List Item) (row switch : ℕ) (header : Header) → SoFar policy journal → switch ≡ 0 → (a : Action) → (scan policy header).action ≡ a → HasPortOfAction a →
+by_action : (policy : List Row) (journal : List Item) (row switch : ℕ) (header : Header) → SoFar policy journal → switch ≡ 0 → (a : Action) → (scan policy header).action ≡ a → HasSmallPort a →
     SoFar policy (journal ++ (decided_items policy (next_packet journal) row switch header ++ ending (next_packet journal) header (scan policy header) a ∷ []))
 unfolding decided
 by_action policy journal row switch header so_far one action.Drop is own =
@@ -145,7 +146,7 @@ by_action policy journal row switch header so_far one (action.Out port) is own =
     (record {
       switch = switch;
       stands = told_entry policy journal (next_packet journal) row switch header;
-      has_port = (one, own.1);
+      has_port = (one, own);
       decided = told_decision policy journal (next_packet journal) row switch header;
       number = refl;
     })

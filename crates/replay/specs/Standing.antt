@@ -2,9 +2,8 @@
 use Rattle.std.specs.Prelude.{ℕ, ◌≡◌, ◌<◌, if◌then◌else◌, ◌==◌, Option, Some, None, List, [], ◌∷◌, ◌++◌, All}
 use Rattle.std.specs.Option.{option_or}
 use Rattle.five_tuple.specs.declared.header.Header.{Header}
+use Rattle.policy_rules.specs.Read.{HasSmallPort}
 use Rattle.policy_rules.specs.declared.policy.Row.{Row}
-use Rattle.policy_rules.specs.declared.policy.Action.{Action}
-use Rattle.policy_rules.specs.declared.policy.Action.TheVariants as action
 use Rattle.policy_rules.specs.declared.packet.Leaving.{Leaving}
 use Rattle.replay.specs.declared.journal.Item.{Item}
 use Rattle.replay.specs.declared.journal.Item.TheVariants as item
@@ -59,9 +58,5 @@ abbrev pub EndsHaveCauses : List Item → Type 0
 EndsHaveCauses journal = HaveCauses [] journal
 
 -- a policy names only ports of the one switch
-abbrev pub HasPortOfAction : Action → Type 0
-HasPortOfAction action.Drop = Unit {0}
-HasPortOfAction (action.Out port) = HasPort 0 port
-
 abbrev pub NamesOwnPorts : List Row → Type 0
-NamesOwnPorts rows = All (λ row. HasPortOfAction row.action) rows
+NamesOwnPorts rows = All (λ row. HasSmallPort row.action) rows

@@ -11,6 +11,10 @@ const TWO_ROWS: &str = "priority,src,dst,sport,dport,proto,action\n\
     100,10.0.0.0/8,any,any,80,tcp,out:3\n\
     50,any,any,any,any,any,drop\n";
 
+// The same in quotes, with a range of ports, ends of lines as in RFC 4180, a blank line and no last line end.
+const QUOTED: &str = "priority,src,dst,sport,dport,proto,action\r\n\
+    100,\"10.0.0.0/8\",any,any,80-90,\"tcp\",out:3\r\n\r\n50,any,any,any,any,any,drop";
+
 const MATCHED: &str = "row 1: packet s0 10.1.1.1 9.9.9.9 5000 80 tcp\n\
     \x20 entered 1 s0\n\
     \x20 decided 1 v1 rule 100 out:3 authority s0 part 0\n\
@@ -83,6 +87,7 @@ fn replays_on_one_switch(rt: HostRuntime) -> Result<(), Fail> {
     for (schedule, policy, out) in [
         (ONE_PACKET, TWO_ROWS, MATCHED),
         (ONE_PACKET, HEADER, dropped),
+        (ONE_PACKET, QUOTED, MATCHED),
         ("event,arguments\n", HEADER, ""),
         ("event,arguments", HEADER, ""),
     ] {
@@ -101,21 +106,17 @@ fn replays_on_one_switch(rt: HostRuntime) -> Result<(), Fail> {
 
 #[test]
 fn refuses_with_a_cause(rt: HostRuntime) -> Result<(), Fail> {
-    let ports = "priority,src,dst,sport,dport,proto,action\n1,any,any,any,80-90,tcp,drop\n";
-    let same =
-        "priority,src,dst,sport,dport,proto,action\n7,any,any,any,any,any,drop\n7,any,any,any,any,any,drop\n";
+    let same = "priority,src,dst,sport,dport,proto,action\n\
+        7,any,any,any,any,any,drop\n7,any,any,any,any,any,drop\n";
+    let port = "priority,src,dst,sport,dport,proto,action\n7,any,any,any,any,any,out:64\n";
+    let wide = "priority,src,dst,sport,dport,proto,action\n\
+        1,any,any,1-65534,1-65534,any,drop\n2,any,any,1-65534,1-65534,any,drop\n\
+        3,any,any,1-65534,1-65534,any,drop\n4,any,any,1-65534,1-65534,any,drop\n\
+        5,any,any,1-65534,1-65534,any,drop\n";
     for (case, status, line) in [
         (
             Case {
                 words: &["replay"],
-                ..PLAIN
-            },
-            2,
-            "difane: words\n",
-        ),
-        (
-            Case {
-                words: &["replay", "s.csv", "-p"],
                 ..PLAIN
             },
             2,
@@ -131,11 +132,11 @@ fn refuses_with_a_cause(rt: HostRuntime) -> Result<(), Fail> {
         ),
         (
             Case {
-                policy: ports,
+                schedule: "flush\n",
                 ..PLAIN
             },
             3,
-            "difane: input p.csv code 18 row 0\n",
+            "difane: input s.csv code 18 row 0\n",
         ),
         (
             Case {
@@ -143,15 +144,23 @@ fn refuses_with_a_cause(rt: HostRuntime) -> Result<(), Fail> {
                 ..PLAIN
             },
             3,
-            "difane: input p.csv code 18 row 0\n",
+            "difane: input p.csv code 10 row 2\n",
         ),
         (
             Case {
-                schedule: "flush\n",
+                policy: port,
                 ..PLAIN
             },
             3,
-            "difane: input s.csv code 18 row 0\n",
+            "difane: input p.csv code 9 row 1\n",
+        ),
+        (
+            Case {
+                policy: wide,
+                ..PLAIN
+            },
+            3,
+            "difane: input p.csv code 12 row 0\n",
         ),
         (
             Case {

@@ -1,0 +1,68 @@
+ghost use Rattle.std.specs.Prelude.{◌≡◌};
+ghost use Rattle.policy_file.specs.Reading.{code_of};
+ghost use Rattle.policy_file.specs.declared.error.PolicyError.TheVariants.{NoMemory};
+
+use std::alloc::{AllocError, AllocFailed};
+use thiserror::Error;
+
+/// What is wrong with a policy's text.
+#[derive(Clone, Copy, Debug, PartialEq, Eq)]
+pub enum PolicyFault {
+    /// There is no first record, or it is not the header record.
+    Header = 1,
+    /// The row has other than seven fields.
+    Width = 2,
+    /// The priority is no number from 0 to 4294967295.
+    Priority = 3,
+    /// The source is no prefix.
+    Src = 4,
+    /// The destination is no prefix.
+    Dst = 5,
+    /// The source ports are no range.
+    Sport = 6,
+    /// The destination ports are no range.
+    Dport = 7,
+    /// The protocol has no such name or number.
+    Proto = 8,
+    /// The action is neither `drop` nor `out:` and a port from 0 to 63.
+    Action = 9,
+    /// An earlier row has the priority.
+    SamePriority = 10,
+    /// There is a row 2,001.
+    TooManyRows = 11,
+}
+
+impl PolicyFault {
+    /// The fault's number, from 1 to 11 in the order in which the variants stand.
+    pub fn code(self) -> u32
+        ensures { result ≡ code_of self }
+    {
+        self as u32
+    }
+}
+
+/// Why a text is read as no policy.
+#[derive(Clone, Copy, Debug, PartialEq, Eq, Error)]
+pub enum PolicyError {
+    /// The first fault in the text, and its row, counted from 1; the row of the header record is 0.
+    #[error("row {row}: {fault:?}")]
+    Refused { fault: PolicyFault, row: u32 },
+    #[error("no memory")]
+    NoMemory,
+}
+
+impl From<AllocError> for PolicyError {
+    ghost from_gives = { λ _ e. e ≡ NoMemory };
+
+    fn from(_: AllocError) -> Self {
+        PolicyError::NoMemory
+    }
+}
+
+impl<T: Drop> From<AllocFailed<T>> for PolicyError {
+    ghost from_gives = { λ _ e. e ≡ NoMemory };
+
+    fn from(_: AllocFailed<T>) -> Self {
+        PolicyError::NoMemory
+    }
+}

@@ -1,0 +1,54 @@
+-- Ranks by place, as a list of rules grows.
+use Rattle.std.proofs.Common.{ℕ, ◌≡◌, ◌∙◌, ◌+◌, ◌*◌, ◌≤◌, take, length-take, List, [], ◌∷◌, ◌++◌, append_assoc, length, map, refl, ap, sym, arith, length-append}
+use Rattle.std.specs.List.{enumerate_from, flat_map}
+use Rattle.std.proofs.lemmas.List.{length-map}
+use Rattle.std.proofs.lemmas.List.FromFn.{length-enumerate_from}
+use Rattle.ternary.specs.Word.{WordValue}
+use Rattle.policy_rules.specs.declared.policy.Hit.{Hit}
+use Rattle.policy_rules.specs.declared.policy.Row.{Row}
+use Rattle.std.proofs.Math.Nat.{mul-le-mul_left}
+use Rattle.policy_rules.specs.declared.rules.Rule.{Rule}
+use Rattle.policy_rules.specs.RuleList.{ranked, ranked_from, entries_at, entries_of, word_count, word_total}
+use Rattle.policy_rules.specs.Words.{blocks_of}
+use Rattle.std.proofs.lemmas.List.Sums.{sum_by-cons}
+
+pub length-ranked_from : (n : ℕ) (xs : List (WordValue × Hit)) → length (ranked_from n xs) ≡ length xs
+unfolding ranked_from
+length-ranked_from n xs = rw (length-map, length-enumerate_from) refl
+
+pub ranked_from-append : (n : ℕ) (xs ys : List (WordValue × Hit)) → ranked_from n (xs ++ ys) ≡ ranked_from n xs ++ ranked_from (n + length xs) ys
+unfolding ranked_from
+ranked_from-append n [] ys = ap (λ k. ranked_from k ys) (omega arith)
+ranked_from-append n (x ∷ xs) ys = ap (λ rest. ranked (n, x) ∷ rest) (ranked_from-append (n + 1) xs ys ∙ ap (λ k. ranked_from (n + 1) xs ++ ranked_from k ys) (omega arith))
+
+-- more entries after those that are done
+pub ranked_more : (old now new : List Rule) (done more all : List (WordValue × Hit)) → now ≡ old ++ ranked_from (length old) done → new ≡ now ++ ranked_from (length now) more → all ≡ done ++ more → new ≡ old ++ ranked_from (length old) all
+ranked_more old now new done more all is pushed joined =
+    let len : length now ≡ length old + length done = omega (arith, ap length is, length-append old (ranked_from (length old) done), length-ranked_from (length old) done) in
+    pushed
+    ∙ ap (λ k. now ++ ranked_from k more) len
+    ∙ ap (λ rules. rules ++ ranked_from (length old + length done) more) is
+    ∙ append_assoc old (ranked_from (length old) done) (ranked_from (length old + length done) more)
+    ∙ ap (λ rules. old ++ rules) (sym (ranked_from-append (length old) done more) ∙ ap (ranked_from (length old)) (sym joined))
+
+-- how many rules there are then
+pub length_ranked : (old now : List Rule) (done : List (WordValue × Hit)) → now ≡ old ++ ranked_from (length old) done → length now ≡ length old + length done
+length_ranked old now done is = omega (arith, ap length is, length-append old (ranked_from (length old) done), length-ranked_from (length old) done)
+
+-- a rule for each pair of blocks
+pub length-pairs : (row : Row) (destinations sources : List (ℕ × ℕ)) → length (flat_map (entries_at row destinations) sources) ≡ length sources * length destinations
+length-pairs row destinations [] = omega arith
+length-pairs row destinations (source ∷ sources) =
+    let here : length (entries_at row destinations source) ≡ length destinations = length-map _ _ in
+    omega (arith, length-append (entries_at row destinations source) (flat_map (entries_at row destinations) sources), here, length-pairs row destinations sources)
+
+-- of the first sources, at most 900
+pub few_pairs : (row : Row) (destinations sources : List (ℕ × ℕ)) (i : ℕ) → length destinations ≤ 30 → i ≤ 30 → length (flat_map (entries_at row destinations) (take i sources)) ≤ 900
+few_pairs row destinations sources i few most =
+    let n = length (take i sources) in
+    omega (arith, length-pairs row destinations (take i sources), mul-le-mul_left n few, length-take i sources)
+
+-- as many entries as words
+pub length-entries : (rows : List Row) → length (flat_map entries_of rows) ≡ word_total rows
+length-entries [] = refl
+length-entries (row ∷ rows) = omega (arith, length-append (entries_of row) (flat_map entries_of rows), length-pairs row (blocks_of row.dport) (blocks_of row.sport), length-entries rows, sum_by-cons word_count row rows)

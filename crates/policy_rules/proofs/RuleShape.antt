@@ -1,0 +1,75 @@
+-- The shape of a list of rules: ranks by place, words, and the default at the end.
+use Rattle.std.proofs.Common.{ℕ, ◌≡◌, ◌∙◌, ◌+◌, ◌<◌, List, [], ◌∷◌, ◌++◌, length, length-append, map, get_or, None, refl, ap, arith}
+use Rattle.std.specs.List.{All, flat_map, enumerate_from}
+use Rattle.std.specs.Int.Bits.{and_zero_r}
+use Rattle.std.proofs.lemmas.List.Elements.{All-tail, All-cons, All-append}
+use Rattle.std.proofs.lemmas.List.{get_or-map, length-map}
+use Rattle.std.proofs.lemmas.List.FromFn.{get_or-enumerate_from, length-enumerate_from}
+use Rattle.five_tuple.specs.Cover.{IsMaskedPort}
+use Rattle.ternary.specs.Word.{WordValue, IsWord, any_word}
+use Rattle.policy_rules.specs.declared.policy.Row.{Row}
+use Rattle.policy_rules.specs.declared.policy.Hit.{Hit}
+use Rattle.policy_rules.specs.declared.rules.Rule.{Rule}
+use Rattle.policy_rules.specs.Policy.{hit_of}
+use Rattle.policy_rules.specs.Words.{blocks_of, IsSoundRow}
+use Rattle.policy_rules.specs.RuleList.{entries_at, entries_of, ranked, ranked_from, with_default, by_falling_priority, rules_of, word_count, word_total, default_rule, IsRuleList}
+use Rattle.policy_rules.proofs.RowWords.{IsWord-word_of_row}
+use Rattle.policy_rules.proofs.Ranks.{length-ranked_from, ranked_from-append, length-entries}
+use Rattle.policy_rules.proofs.Sorting.{all_falling, sum_falling}
+
+HasWord : WordValue × Hit → Type 0
+HasWord entry = IsWord entry.0
+
+no_words : All HasWord []
+no_words = λ k d h. absurd (omega arith)
+
+words_at : (row : Row) (source : ℕ × ℕ) (destinations : List (ℕ × ℕ)) → IsSoundRow row → IsMaskedPort source → All IsMaskedPort destinations → All HasWord (entries_at row destinations source)
+unfolding HasWord
+words_at row source [] sound masked all = no_words
+words_at row source (d ∷ ds) sound masked all = All-cons HasWord _ (entries_at row ds source) (IsWord-word_of_row row source d sound.fields masked (all 0 d (omega arith))) (words_at row source ds sound masked (All-tail IsMaskedPort d ds all))
+
+words_of_pairs : (row : Row) (destinations sources : List (ℕ × ℕ)) → IsSoundRow row → All IsMaskedPort sources → All IsMaskedPort destinations → All HasWord (flat_map (entries_at row destinations) sources)
+words_of_pairs row destinations [] sound all masked = no_words
+words_of_pairs row destinations (s ∷ ss) sound all masked = All-append HasWord (entries_at row destinations s) (flat_map (entries_at row destinations) ss) (words_at row s destinations sound (all 0 s (omega arith)) masked) (words_of_pairs row destinations ss sound (All-tail IsMaskedPort s ss all) masked)
+
+words_of_rows : (rows : List Row) → All IsSoundRow rows → All HasWord (flat_map entries_of rows)
+words_of_rows [] sound = no_words
+words_of_rows (row ∷ rows) sound =
+    let here = sound 0 row (omega arith) in
+    All-append HasWord (entries_of row) (flat_map entries_of rows) (words_of_pairs row (blocks_of row.dport) (blocks_of row.sport) here here.sources.masked here.destinations.masked) (words_of_rows rows (All-tail IsSoundRow row rows sound))
+
+words_ranked : (k : ℕ) (entries : List (WordValue × Hit)) → All HasWord entries → All (λ (rule : Rule). IsWord rule.word) (ranked_from k entries)
+unfolding HasWord ranked_from
+words_ranked k [] all = λ i d h. absurd (omega arith)
+words_ranked k (entry ∷ entries) all = All-cons (λ (rule : Rule). IsWord rule.word) (ranked (k, entry)) (ranked_from (k + 1) entries) (all 0 entry (omega arith)) (words_ranked (k + 1) entries (All-tail HasWord entry entries all))
+
+rank_at : (entries : List (WordValue × Hit)) (place : ℕ) (d : Rule) → place < length (ranked_from 0 entries) → (get_or (ranked_from 0 entries) place d).rank ≡ place
+unfolding ranked_from
+rank_at entries place d within =
+    let some : WordValue × Hit = (any_word, hit_of None) in
+    let start : ℕ × (WordValue × Hit) = (0, some) in
+    let listed : place < length (enumerate_from 0 entries) = omega (arith, length-ranked_from 0 entries, length-enumerate_from 0 entries) in
+    let inside : place < length entries = omega (arith, length-ranked_from 0 entries) in
+    ap (λ (rule : Rule). rule.rank) (get_or-map ranked (enumerate_from 0 entries) place start d listed) ∙ ap (λ p. (ranked p).rank) (get_or-enumerate_from 0 entries place start inside) ∙ omega arith
+
+any_is_word : IsWord any_word
+any_is_word = record { within = and_zero_r 0; bounded = omega arith }
+
+pub IsRuleList-rules_of : (rows : List Row) → All IsSoundRow rows → IsRuleList (rules_of rows)
+unfolding rules_of ranked_from HasWord
+IsRuleList-rules_of rows sound =
+    let sorted = by_falling_priority rows in
+    let entries = flat_map entries_of sorted in
+    let last : WordValue × Hit = (any_word, hit_of None) in
+    record {
+      ranks = rank_at (with_default sorted);
+      words = words_ranked 0 (with_default sorted) (All-append HasWord entries (last ∷ []) (words_of_rows sorted (all_falling IsSoundRow rows sound)) (All-cons HasWord last [] any_is_word no_words));
+      ends = (ranked_from 0 entries, ranked_from-append 0 entries (last ∷ []) ∙ ap (λ rank. ranked_from 0 entries ++ default_rule rank ∷ []) {x = 0 + length entries} {y = length (ranked_from 0 entries)} (omega (arith, length-ranked_from 0 entries)));
+    }
+
+pub length-rules_of : (rows : List Row) → length (rules_of rows) ≡ word_total rows + 1
+unfolding rules_of
+length-rules_of rows =
+    let sorted = by_falling_priority rows in
+    let entries = flat_map entries_of sorted in
+    omega (arith, length-ranked_from 0 (with_default sorted), length-append entries ((any_word, hit_of None) ∷ []), length-entries sorted, sum_falling word_count rows)

@@ -1,0 +1,16 @@
+use Rattle.std.proofs.Common.{ℕ, ◌≡◌, ◌<◌, ◌≤◌, ◌^◌, Some, refl, ap, arith}
+use Rattle.std.specs.Prelude.{decimal, option_map}
+use Rattle.five_tuple.specs.Texts.{number_up_to}
+use Rattle.policy_rules.specs.declared.policy.Action.{Action}
+use Rattle.policy_rules.specs.declared.policy.Action.TheVariants.{Drop, Out}
+use Rattle.policy_rules.specs.Print.{action_text}
+use Rattle.policy_rules.specs.Read.{action_of, HasSmallPort}
+use Rattle.policy_rules.proofs.read.printed_actions_are_read_back.Goals as goal
+
+back : ((most n : ℕ) → n ≤ most → n < 2 ^ 64 → number_up_to most (decimal n) ≡ Some n) → (action : Action) → HasSmallPort action → action_of (action_text action) ≡ Some action
+unfolding action_of
+back number Drop small = refl
+back number (Out port) small = ap (option_map Out) (number 63 port (omega arith) (omega arith))
+
+pub returns : goal.returns
+returns c = back c.printed_forms_are_read_back.ensures.number

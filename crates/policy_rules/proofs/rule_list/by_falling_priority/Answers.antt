@@ -1,0 +1,15 @@
+use Rattle.std.proofs.Common.{ℕ, ◌≡◌, rules}
+use Rattle.std.specs.List.Sorted.{IsPermutation}
+use Rattle.std.specs.declared.cmp.Reverse.{Reverse}
+use Rattle.std.proofs.lemmas.List.Sorted.{answers_always}
+use Rattle.policy_rules.specs.declared.policy.Row.{Row}
+use Rattle.policy_rules.proofs.Sorting.{same_sorted}
+use Rattle.policy_rules.proofs.rule_list.by_falling_priority.Goals as goal
+
+pub returns : goal.returns
+returns c =
+    let sorted = c.sort_unstable_by_key.new.self.items in
+    let key : Row → Reverse ℕ = λ row. record { 0 = row.priority } in
+    let order = c.sort_unstable_by_key.ensures.sorted key (answers_always _ _ _ (λ f a r g called. search rules)) in
+    let moved = rw c.in_ok-sorted.ensures.items at c.sort_unstable_by_key.ensures.permutation in
+    same_sorted c.args.rows.now sorted c.requires moved order

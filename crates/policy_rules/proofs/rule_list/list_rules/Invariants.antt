@@ -1,0 +1,7 @@
+use Rattle.std.proofs.Common.{◌≡◌, take, length}
+use Rattle.std.specs.List.{flat_map}
+use Rattle.policy_rules.specs.RuleList.{entries_of, ranked_from}
+use Rattle.policy_rules.proofs.rule_list.list_rules.Given as goal
+
+abbrev pub invariant-loop-row : goal.invariant-loop-row
+invariant-loop-row l = l.rules.items ≡ ranked_from 0 (flat_map entries_of (take l.row-index l.rows))

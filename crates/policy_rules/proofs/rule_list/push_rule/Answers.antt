@@ -1,0 +1,10 @@
+use Rattle.std.proofs.Common.{◌≡◌, ◌∙◌, ap, [], ◌∷◌, ◌++◌, List}
+use Rattle.policy_rules.specs.RuleList.{ranked, ranked_from}
+use Rattle.policy_rules.specs.declared.rules.Rule.{Rule}
+use Rattle.policy_rules.proofs.rule_list.push_rule.Goals as goal
+
+pub returns : goal.returns
+unfolding ranked_from
+returns c =
+    let before = c.args.rules.now in
+    c.in_ok-push.ensures.items ∙ ap (λ rank. before.items ++ ranked (rank, (c.args.word, c.args.hit)) ∷ []) (c.len-rank.ensures ∙ before.ok.0)

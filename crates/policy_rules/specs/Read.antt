@@ -1,0 +1,17 @@
+-- The text of an action, as it is read.
+use Rattle.std.specs.Prelude.{ℕ, ◌<◌, if◌then◌else◌, List, take, drop, Option, Some, None, option_map, codes, bytes_eq}
+use Rattle.five_tuple.specs.Texts.{number_up_to}
+use Rattle.policy_rules.specs.declared.policy.Action.{Action}
+use Rattle.policy_rules.specs.declared.policy.Action.TheVariants.{Drop, Out}
+
+-- `drop`, or `out:` and the number of a port from 0 to 63
+unfoldable pub action_of : List ℕ → Option Action
+action_of text =
+    if bytes_eq text (codes "drop") then Some Drop
+    else if bytes_eq (take 4 text) (codes "out:") then option_map Out (number_up_to 63 (drop 4 text))
+    else None
+
+-- a port that an action may name has a number below 64
+abbrev pub HasSmallPort : Action → Type 0
+HasSmallPort Drop = Unit {0}
+HasSmallPort (Out port) = port < 64

@@ -1,0 +1,73 @@
+-- The list of a policy's rules: its rows by falling priority, each as words of a ternary memory.
+use Rattle.std.specs.Prelude.{⊤, ℕ, ◌≡◌, ◌+◌, ◌*◌, ◌<◌, nat_lt, if◌then◌else◌, Option, Some, None, List, [], ◌∷◌, ◌++◌, length, map, All, sum_by, slice_index_or}
+use Rattle.std.specs.List.{flat_map, enumerate_from}
+use Rattle.ternary.specs.Word.{WordValue, IsWord, any_word}
+use Rattle.policy_rules.specs.Policy.{hit_of}
+use Rattle.policy_rules.specs.Words.{blocks_of, word_of_row}
+use Rattle.policy_rules.specs.declared.policy.Row.{Row}
+use Rattle.policy_rules.specs.declared.policy.Hit.{Hit}
+use Rattle.policy_rules.specs.declared.policy.Action.TheVariants.{Drop}
+use Rattle.policy_rules.specs.declared.rules.Rule.{Rule}
+use Rattle.policy_rules.specs.declared.rule_list.RulesError.{RulesError}
+use Rattle.policy_rules.specs.declared.rule_list.RulesError.TheVariants.{TooManyWords, NoMemory}
+
+-- the row at its place among rows by falling priority
+abbrev pub placed : Row → List Row → List Row
+placed row [] = row ∷ []
+placed row (other ∷ more) = if nat_lt row.priority other.priority then other ∷ placed row more else row ∷ other ∷ more
+
+-- the rows by falling priority
+abbrev pub by_falling_priority : List Row → List Row
+by_falling_priority [] = []
+by_falling_priority (row ∷ rows) = placed row (by_falling_priority rows)
+
+-- a word for a source port block and each destination port block, with what the row says of the headers of the word
+abbrev pub entries_at : Row → List (ℕ × ℕ) → ℕ × ℕ → List (WordValue × Hit)
+entries_at row destinations source = map (λ destination. (word_of_row row source destination, hit_of (Some row))) destinations
+
+-- the same for each pair of blocks, the source block outermost
+abbrev pub entries_of : Row → List (WordValue × Hit)
+entries_of row = flat_map (entries_at row (blocks_of row.dport)) (blocks_of row.sport)
+
+-- a word and what becomes of its headers, as the rule of a rank
+abbrev pub ranked : ℕ × (WordValue × Hit) → Rule
+ranked (rank, entry) = record { word = entry.0; rank = rank; rule = entry.1.rule; action = entry.1.action }
+
+-- ranks from this one on
+unfoldable pub ranked_from : ℕ → List (WordValue × Hit) → List Rule
+ranked_from rank entries = map ranked (enumerate_from rank entries)
+
+-- the entries of rows, and last the default, whose word holds each header
+abbrev pub with_default : List Row → List (WordValue × Hit)
+with_default rows = flat_map entries_of rows ++ (any_word, hit_of None) ∷ []
+
+-- the rules of these rows: each entry has its place as its rank
+unfoldable pub rules_of : List Row → List Rule
+rules_of rows = ranked_from 0 (with_default (by_falling_priority rows))
+
+-- how many words a row has
+abbrev pub word_count : Row → ℕ
+word_count row = length (blocks_of row.sport) * length (blocks_of row.dport)
+
+-- how many words the rows have together
+abbrev pub word_total : List Row → ℕ
+word_total rows = sum_by word_count rows
+
+-- why rows have no list of rules: they have too many words, or memory ran out
+abbrev pub RefusesRules : List Row → RulesError → Type 0
+RefusesRules rows (TooManyWords words) = (words ≡ word_total rows) × (4096 < words)
+RefusesRules rows NoMemory = ⊤
+
+-- the rule of what no row matches
+abbrev pub default_rule : ℕ → Rule
+default_rule rank = record { word = any_word; rank = rank; rule = None; action = Drop }
+
+-- what becomes of the headers of a rule
+abbrev pub hit_of_rule : Rule → Hit
+hit_of_rule rule = record { rule = rule.rule; action = rule.action }
+
+-- rules by rank from 0, of which the last, the default, holds each header
+pub record IsRuleList (rules : List Rule) : Type 0 where
+  pub ranks : (place : ℕ) (d : Rule) → place < length rules → (slice_index_or rules place d).rank ≡ place
+  pub words : All (λ rule. IsWord rule.word) rules
+  pub ends : (earlier : List Rule) × (rules ≡ earlier ++ default_rule (length earlier) ∷ [])

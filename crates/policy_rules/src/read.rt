@@ -1,0 +1,28 @@
+ghost use Rattle.std.specs.Prelude.{◌≡◌, Some, IfSome};
+ghost use Rattle.policy_rules.specs.declared.policy.Action.{Action};
+ghost use Rattle.policy_rules.specs.Print.{action_text};
+ghost use Rattle.policy_rules.specs.Read.{action_of, HasSmallPort};
+
+use crate::policy::Action;
+use five_tuple::{printed_forms_are_read_back, read_number};
+
+/// The action that the text names: `drop`, or `out:` and a port's number from 0 to 63; `None` for any other text.
+#[tactic(auto, unfolding(crate::specs::Read::action_of))]
+pub fn read_action(text: &[u8]) -> Option<Action>
+    ensures value { result ≡ action_of text.now }
+    ensures small_port { IfSome result HasSmallPort }
+{
+    if text == b"drop".as_slice() {
+        return Some(Action::Drop);
+    }
+    let port = text.strip_prefix(b"out:".as_slice())?;
+    let port = read_number(port, 63)?;
+    Some(Action::Out(port as u32))
+}
+
+/// Each printed action is read back to the action, where its port is below 64: a law on the texts alone.
+pub fn printed_actions_are_read_back()
+    ensures { (action : Action) → HasSmallPort action → action_of (action_text action) ≡ Some action }
+{
+    printed_forms_are_read_back();
+}

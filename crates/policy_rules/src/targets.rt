@@ -1,0 +1,58 @@
+ghost use Rattle.std.specs.Prelude.{◌≡◌, ◌≤◌, ◌<◌, ◌⊎◌, ◌↔◌, length, IfSome, IsNone};
+
+use std::marker::Model;
+
+/// The most switches that one partition names.
+const MOST: usize = 4;
+
+/// One to four numbers of switches, in order: a partition's authority switch and after it the backups.
+///
+/// They are held in place, without memory. Contracts see the list.
+#[derive(Clone, Copy, Debug, PartialEq, Eq)]
+pub struct Targets {
+    // The list, and 0 at the places past its end.
+    places: [u32; MOST],
+    len: u8,
+}
+
+impl Model for Targets {
+    ghost use Rattle.std.specs.Prelude.{List, ℕ};
+    ghost use Rattle.policy_rules.specs.Targets.{first_places, IsFilled, filled, filled-first_places};
+
+    ghost Value = { List ℕ };
+
+    ghost view = { first_places };
+
+    ghost invariant = { IsFilled };
+
+    ghost inverse = { filled };
+
+    ghost inverse_ok = { filled-first_places };
+}
+
+impl Targets {
+    /// The list of these switches; `None` where there is none, or more than four.
+    pub fn new(switches: &[u32]) -> Option<Targets>
+        ensures list { IfSome result (λ targets. targets ≡ switches.now) }
+        ensures none { IsNone result ↔ ((length switches.now ≡ 0) ⊎ (4 < length switches.now)) }
+    {
+        if switches.is_empty() || switches.len() > MOST {
+            return None;
+        }
+        let mut places = [0; MOST];
+        places[..switches.len()].copy_from_slice(switches);
+        Some(Targets {
+            places,
+            len: switches.len() as u8,
+        })
+    }
+
+    /// The switches, the first of which is asked first.
+    pub fn items(&self) -> &[u32]
+        ensures list { result.now ≡ self.now }
+        ensures some { 0 < length self.now }
+        ensures few { length self.now ≤ 4 }
+    {
+        &self.places[..usize::from(self.len)]
+    }
+}
