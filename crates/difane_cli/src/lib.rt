@@ -5,11 +5,13 @@
 //! where its cause is.
 #![tactic(auto)]
 
+mod calm;
 mod inputs;
 mod plain;
 mod status;
 mod top_call;
 mod words;
 
+pub use calm::run_calmly;
 pub use status::{FileName, Status, tell};
 pub use top_call::{Finished, run};

@@ -1,12 +1,12 @@
 -- The lines of a policy's text are its records, and state its rows.
-use Rattle.std.proofs.Common.{ℕ, zero, suc, ◌≡◌, ◌+◌, ◌<◌, ◌≤◌, Bool, true, false, Some, Ok, List, [], ◌∷◌, ◌++◌, length, map, take, get_or, refl, ap, sym, ◌∙◌, subst, add-one, append_assoc, length-append, arith}
-use Rattle.std.specs.Prelude.{fold, flat_map, decimal, nat_eq}
-use Rattle.std.specs.List.{All, AllByRecursion, join_with_byte, list_any}
+use Rattle.std.proofs.Common.{ℕ, zero, suc, ◌≡◌, ◌+◌, ◌<◌, ◌≤◌, true, false, Some, Ok, List, [], ◌∷◌, ◌++◌, length, map, take, get_or, refl, ap, sym, ◌∙◌, subst, add-one, append_assoc, length-append, arith}
+use Rattle.std.specs.Prelude.{fold, decimal, nat_eq}
+use Rattle.std.specs.List.{AllByRecursion, join_with_byte, list_any}
 use Rattle.std.proofs.lemmas.Grind.{common_steps, flat_map-append}
 use Rattle.std.proofs.lemmas.List.{append-nil, length-map, map-append, take_more}
 use Rattle.csv.specs.Machine.{next_record}
 use Rattle.csv.specs.Reading.{default_config, records, records_from, records_next, strip_bom}
-use Rattle.csv.specs.Writing.{default_writer, field_text, fields_text, is_blank, row_body, row_text}
+use Rattle.csv.specs.Writing.{default_writer, field_text, fields_text, is_blank, row_text}
 use Rattle.csv.specs.declared.parser.State.TheVariants as st
 use Rattle.csv.proofs.RoundTrip.{read-write-many}
 use Rattle.five_tuple.specs.Printing.{prefix_text, range_text, proto_text}
@@ -16,8 +16,7 @@ use Rattle.policy_rules.specs.Print.{action_text}
 use Rattle.policy_rules.specs.Read.{action_of}
 use Rattle.policy_rules.specs.declared.policy.Row.{Row}
 use Rattle.policy_file.specs.Printing.{line, policy_text, row_fields, rows_text}
-use Rattle.policy_file.specs.Reading.{has_priority, header_fields, next_row, policy_of, row_of, rows_of, with_next}
-use Rattle.policy_file.specs.Records.{TakesNext}
+use Rattle.policy_file.specs.Reading.{has_priority, header_fields, policy_of, row_of, with_next}
 use Rattle.policy_file.proofs.Plain.{ArePlain, IsPlain}
 use Rattle.policy_file.proofs.Rows.{new_row, taken_next}
 use Rattle.policy_file.proofs.Taking.{over}

@@ -1,5 +1,5 @@
 -- A mask of 64 bits has no bit past them.
-use Rattle.std.proofs.Common.{ℕ, ◌≡◌, ◌<◌, ◌≤◌, ◌^◌, ◌/◌, ◌%◌, ◌==◌, false, zero, refl, arith}
+use Rattle.std.proofs.Common.{ℕ, ◌≡◌, ◌<◌, ◌≤◌, ◌^◌, ◌/◌, ◌%◌, ◌==◌, false, refl, arith}
 use Rattle.std.proofs.Math.Nat.{div-eq_of_lt, pow-le-pow_right}
 
 pub past_mask : (ports port : ℕ) → ports < 2 ^ 64 → 64 ≤ port → (ports / 2 ^ port % 2 == 1) ≡ false

@@ -1,14 +1,15 @@
 -- What one more read takes of the records that are left.
 use Rattle.std.proofs.Common.{ℕ, zero, suc, ◌≡◌, ◌+◌, ◌<◌, ◌⊎◌, inl, inr, Bool, true, false, cond, List, [], ◌∷◌, ◌++◌, length, Option, Some, None, refl, ap, sym, ◌∙◌, subst, add-one, arith}
 use Rattle.std.specs.Prelude.{IsSome}
+use Rattle.std.specs.Borrow.{Bor}
 use Rattle.csv.specs.Machine.{Read, ends_at_end, field_after, fields_after, is_end, next_record, step}
-use Rattle.csv.specs.Reading.{Reached, ReadRecord, default_config, reader_config, reader_state, records_from, records_next, source_of}
+use Rattle.csv.specs.Reading.{Reached, ReadRecord, default_config, reader_config, reader_state, records_from, records_next}
 use Rattle.csv.specs.declared.parser.Config.{Config}
 use Rattle.csv.specs.declared.parser.State.{State}
 use Rattle.csv.specs.declared.parser.State.TheVariants as st
 use Rattle.csv.specs.declared.reader.Reader.{Reader}
 use Rattle.csv.proofs.ReadFacts.{rows-end, rows-more}
-use Rattle.policy_file.specs.Records.{IsReading, TakesNext, records_left}
+use Rattle.policy_file.specs.Records.{TakesNext, bytes_left, records_left}
 
 -- after a record less is left than before, or the text is over
 abbrev pub LeavesLess : List ℕ → Read → Type 0
@@ -70,9 +71,8 @@ one_left : (cfg : Config) (s : State) (xs : List ℕ) (read : Read) → next_rec
 unfolding records_from
 one_left cfg s xs read e = rw (add-one (length xs), e) (ap (λ (rest : List (List (List ℕ))). read.0 ∷ rest) (same_rest cfg (length xs) (length read.2 + 1) xs read (leaves_less cfg s [] [] xs read e) (λ fewer. enough cfg (length xs) (length read.2 + 1) read.1 read.2 fewer (omega arith))))
 
-left_at : {R : Type 0} (remaining : R → Option (List ℕ)) (reader : Reader R) (xs : List ℕ) → source_of remaining reader ≡ Some xs
-    → records_left remaining reader ≡ records_from default_config (length xs + 1) (reader_state reader) xs
-left_at remaining reader xs source = rw source refl
+left_at : (reader : Reader (Bor (List ℕ))) (xs : List ℕ) → bytes_left reader ≡ Some xs → records_left reader ≡ records_from default_config (length xs + 1) (reader_state reader) xs
+left_at reader xs source = rw source refl
 
 reached_start : (s : State) (xs : List ℕ) → Reached default_config s xs [] s xs
 unfolding Reached
@@ -84,14 +84,14 @@ unfolding Reached
 one_reached fields s s2 xs ys (read, next, same, rest) = one_left default_config s xs read next ∙ rw (same, rest.0, rest.1) refl
 
 -- a read takes the first of the records that were left, or finds none where none was
-pub takes_next : {R : Type 0} (remaining : R → Option (List ℕ)) (old new : Reader R) (found : Bool) (fields : List (List ℕ)) (xs : List ℕ)
-    → reader_config old ≡ default_config → source_of remaining old ≡ Some xs → ReadRecord remaining old new found fields
-    → TakesNext (records_left remaining old) found fields (records_left remaining new)
-takes_next remaining old new false fields xs config source read =
-    left_at remaining old xs source ∙ none_left default_config (length xs) (reader_state old) xs (rows-end remaining old new fields default_config xs config source read)
-takes_next remaining old new true fields xs config source read =
-    let (ys, left, reached) = rows-more remaining old new fields default_config (reader_state old) xs xs [] config source (reached_start (reader_state old) xs) read in
-    left_at remaining old xs source ∙ one_reached fields (reader_state old) (reader_state new) xs ys reached ∙ ap (λ (rest : List (List (List ℕ))). fields ∷ rest) (sym (left_at remaining new ys left))
+pub takes_next : (old new : Reader (Bor (List ℕ))) (found : Bool) (fields : List (List ℕ)) (xs : List ℕ)
+    → reader_config old ≡ default_config → bytes_left old ≡ Some xs → ReadRecord (λ slice. Some slice.now) old new found fields
+    → TakesNext (records_left old) found fields (records_left new)
+takes_next old new false fields xs config source read =
+    left_at old xs source ∙ none_left default_config (length xs) (reader_state old) xs (rows-end (λ (slice : Bor (List ℕ)). Some slice.now) old new fields default_config xs config source read)
+takes_next old new true fields xs config source read =
+    let (ys, left, reached) = rows-more (λ (slice : Bor (List ℕ)). Some slice.now) old new fields default_config (reader_state old) xs xs [] config source (reached_start (reader_state old) xs) read in
+    left_at old xs source ∙ one_reached fields (reader_state old) (reader_state new) xs ys reached ∙ ap (λ (rest : List (List (List ℕ))). fields ∷ rest) (sym (left_at new ys left))
 
 pub source_known : (source : Option (List ℕ)) → IsSome source → (xs : List ℕ) × (source ≡ Some xs)
 source_known None known = cc known

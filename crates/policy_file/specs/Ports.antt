@@ -1,5 +1,5 @@
 -- Policies against the ports of a network: bit p of a mask stands for the port p.
-use Rattle.std.specs.Prelude.{ℕ, ◌≡◌, ◌+◌, ◌==◌, Bool, true, not, Option, option_map, List, position}
+use Rattle.std.specs.Prelude.{ℕ, ◌+◌, ◌==◌, Bool, true, not, Option, option_map, List, position}
 use Rattle.std.specs.Int.{bit_at}
 use Rattle.policy_rules.specs.declared.policy.Action.{Action}
 use Rattle.policy_rules.specs.declared.policy.Action.TheVariants.{Drop, Out}

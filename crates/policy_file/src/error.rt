@@ -33,7 +33,7 @@ pub enum PolicyFault {
 }
 
 impl PolicyFault {
-    /// The fault's number, from 1 to 11 in the order in which the variants stand.
+    /// The fault's number, from 1 to 11 in the order of the variants.
     pub fn code(self) -> u32
         ensures { result ≡ code_of self }
     {

@@ -11,7 +11,6 @@ use csv::{ByteRecord, Reader};
 use policy_rules::{NewPolicyError, Policy, Row};
 use std::alloc::Global;
 use std::collections::HashSet;
-use std::io::Read;
 
 /// The most rows of a policy's text.
 const MOST_ROWS: u32 = 2000;
@@ -19,10 +18,12 @@ const MOST_ROWS: u32 = 2000;
 /// The policy that the text states.
 ///
 /// The text's records are those of the crate `csv` with its presets, of any width: the header record
-/// `priority,src,dst,sport,dport,proto,action`, and then one for each row.
+/// `priority,src,dst,sport,dport,proto,action`, and then one for each of at most 2,000 rows. So a byte-order mark,
+/// quotes, line ends and blank lines are as that crate reads them.
 ///
 /// # Errors
-/// The first fault in the text, or want of memory.
+/// The first fault in the text, or want of memory. The rows are checked in order: first a row's width, then its fields
+/// from left to right, and last whether an earlier row has its priority.
 #[tactic(auto, unfolding(crate::specs::Reading::policy_of))]
 pub fn read_policy(alloc: Global, bytes: &[u8]) -> Result<Policy, PolicyError>
     ensures policy { IfOk result (λ policy. policy_of bytes.now ≡ Ok policy) }
@@ -47,17 +48,17 @@ pub fn read_policy(alloc: Global, bytes: &[u8]) -> Result<Policy, PolicyError>
 }
 
 // The rows of the records that are left.
-fn read_rows<R: Read>(
+fn read_rows(
     alloc: Global,
-    reader: &mut Reader<R>,
+    reader: &mut Reader<&[u8]>,
     record: &mut ByteRecord,
 ) -> Result<Vec<Row>, PolicyError>
-    requires { IsReading R.remaining reader.old }
-    ensures rows { IfOk result (λ rows. rows_of (records_left R.remaining reader.old) ≡ Ok rows.items) }
+    requires { IsReading reader.old }
+    ensures rows { IfOk result (λ rows. rows_of (records_left reader.old) ≡ Ok rows.items) }
     ensures few { IfOk result (λ rows. vec_len rows ≤ 2000) }
     ensures small_ports { IfOk result (λ rows. All (λ row. HasSmallPort row.action) rows.items) }
     ensures distinct { IfOk result (λ rows. HaveDistinctPriorities rows.items) }
-    ensures refused { IfErr result (IsRefusal (rows_of (records_left R.remaining reader.old))) }
+    ensures refused { IfErr result (IsRefusal (rows_of (records_left reader.old))) }
 {
     let mut rows = Vec::new(alloc);
     let mut seen: HashSet<u32> = HashSet::new(alloc);

@@ -62,7 +62,7 @@ impl fmt::Display for RowRecord {
     }
 }
 
-// Each field of a row is within its type.
+// Each field of a row is within its type: the law on texts asks for it, and a field's range is known where it is read.
 fn is_row(row: &Row)
     ensures { IsRow row.now }
 {
@@ -74,6 +74,7 @@ fn is_row(row: &Row)
     is_protocol(&row.proto);
 }
 
+// The address and the length are those of a block.
 fn is_block(prefix: &Prefix)
     ensures { IsAddressBlock prefix.now }
 {
@@ -83,6 +84,7 @@ fn is_block(prefix: &Prefix)
     } = *prefix;
 }
 
+// Both ends are ports, in order.
 fn is_port_range(range: &PortRange)
     ensures { IsPortRange range.now }
 {
@@ -92,6 +94,7 @@ fn is_port_range(range: &PortRange)
     } = *range;
 }
 
+// The number has eight bits.
 fn is_protocol(proto: &Proto)
     ensures { IsProtocol proto.now }
 {

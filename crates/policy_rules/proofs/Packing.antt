@@ -1,11 +1,10 @@
 -- Five fields packed in one number.
-use Rattle.std.proofs.Common.{ℕ, ◌⊎◌, ◌≡◌, ◌∙◌, ◌+◌, ◌-◌, ◌*◌, ◌/◌, ◌%◌, ◌^◌, ◌<◌, ◌≤◌, Bool, ◌&&◌, ◌==◌, eqb, min, bit_and, refl, ap, sym, inl, inr, arith}
+use Rattle.std.proofs.Common.{ℕ, ◌⊎◌, ◌≡◌, ◌∙◌, ◌+◌, ◌-◌, ◌*◌, ◌^◌, ◌<◌, ◌≤◌, ◌&&◌, eqb, bit_and, ap, sym, inl, inr, arith}
 use Rattle.std.specs.Int.{bit_at}
-use Rattle.std.proofs.Math.Nat.{mul-div_cancel}
-use Rattle.std.proofs.lemmas.Bool.{cases_lt, eqb-true, eq-eqb}
-use Rattle.std.proofs.lemmas.Bool.Decides.{Decides-eqb, Decides-like, Decides-and, same_from_decides, nat_tests}
-use Rattle.std.proofs.lemmas.Nat.{and_le_l, and_comm, shr_split, pow_pos}
-use Rattle.std.proofs.lemmas.Nat.Bits.{and_high_mask, same_from_bits, bit_at_and, bit_at_cat_low, bit_at_cat_high}
+use Rattle.std.proofs.lemmas.Bool.{cases_lt}
+use Rattle.std.proofs.lemmas.Bool.Decides.{Decides-eqb, Decides-like, Decides-and, same_from_decides}
+use Rattle.std.proofs.lemmas.Nat.{and_le_l}
+use Rattle.std.proofs.lemmas.Nat.Bits.{same_from_bits, bit_at_and, bit_at_cat_low, bit_at_cat_high}
 use Rattle.policy_rules.specs.Words.{packed}
 
 -- `and` of two numbers that are each a high and a low part

@@ -1,6 +1,6 @@
 -- Ranks by place, as a list of rules grows.
-use Rattle.std.proofs.Common.{ℕ, ◌≡◌, ◌∙◌, ◌+◌, ◌*◌, ◌≤◌, take, length-take, List, [], ◌∷◌, ◌++◌, append_assoc, length, map, refl, ap, sym, arith, length-append}
-use Rattle.std.specs.List.{enumerate_from, flat_map}
+use Rattle.std.proofs.Common.{ℕ, ◌≡◌, ◌∙◌, ◌+◌, ◌*◌, ◌≤◌, take, length-take, List, [], ◌∷◌, ◌++◌, append_assoc, length, refl, ap, sym, arith, length-append}
+use Rattle.std.specs.List.{flat_map}
 use Rattle.std.proofs.lemmas.List.{length-map}
 use Rattle.std.proofs.lemmas.List.FromFn.{length-enumerate_from}
 use Rattle.ternary.specs.Word.{WordValue}

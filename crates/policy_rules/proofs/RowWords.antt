@@ -1,5 +1,5 @@
 -- The word of a row and of two blocks: it is a word, and it holds what the row matches on the ports of the blocks.
-use Rattle.std.proofs.Common.{ℕ, ◌≡◌, ◌≢◌, ◌∙◌, ◌⊎◌, ◌+◌, ◌-◌, ◌*◌, ◌/◌, ◌%◌, ◌^◌, ◌<◌, ◌≤◌, Bool, true, ◌&&◌, eqb, Option, Some, None, IsSome, IsNone, IfSome, ◌↔◌, rules, bit_and, refl, ap, sym, inl, inr, arith}
+use Rattle.std.proofs.Common.{ℕ, ◌≡◌, ◌≢◌, ◌∙◌, ◌⊎◌, ◌-◌, ◌*◌, ◌/◌, ◌^◌, ◌<◌, ◌≤◌, ◌&&◌, eqb, Option, Some, None, IsSome, IsNone, IfSome, ◌↔◌, rules, bit_and, refl, ap, sym, inl, inr, arith}
 use Rattle.std.proofs.Math.Nat.{mul-div_cancel}
 use Rattle.std.proofs.lemmas.Bool.Decides.{Decides-eqb, Decides-like, same_from_decides, nat_tests}
 use Rattle.std.proofs.lemmas.Nat.{and_le_l, shr_split, pow_pos}

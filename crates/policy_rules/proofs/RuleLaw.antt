@@ -1,20 +1,19 @@
 -- The first rule that holds a header has the rule and the action of the policy's first match.
-use Rattle.std.proofs.Common.{bit_and, ℕ, ◌≡◌, ◌∙◌, ◌+◌, ◌-◌, ◌*◌, ◌<◌, ◌≤◌, ◌^◌, Bool, true, false, cond, ◌&&◌, ◌||◌, Option, Some, None, option_map, List, [], ◌∷◌, ◌++◌, append_assoc, length, length-append, map, find, filter, get_or, refl, ap, sym, arith}
+use Rattle.std.proofs.Common.{bit_and, ℕ, ◌≡◌, ◌∙◌, ◌+◌, Bool, true, false, cond, ◌&&◌, ◌||◌, Option, Some, None, option_map, List, [], ◌∷◌, ◌++◌, append_assoc, find, get_or, refl, ap, sym, arith}
 use Rattle.std.specs.Option.{option_or}
 use Rattle.std.specs.Int.Bits.{and_zero_r}
 use Rattle.std.proofs.lemmas.Bool.{eq-eqb}
-use Rattle.std.specs.List.{All, list_any, flat_map, enumerate_from}
-use Rattle.std.proofs.lemmas.List.Elements.{All-tail, All-cons, All-append}
+use Rattle.std.specs.List.{All, list_any, flat_map}
+use Rattle.std.proofs.lemmas.List.Elements.{All-tail}
 use Rattle.std.proofs.lemmas.List.Folds.{find-append}
 use Rattle.five_tuple.specs.Header.{fields_of, number_of}
-use Rattle.five_tuple.specs.Matching.{prefix_matches, range_matches, proto_matches}
+use Rattle.five_tuple.specs.Matching.{prefix_matches, proto_matches}
 use Rattle.five_tuple.specs.Cover.{IsMaskedPort, block_holds}
 use Rattle.five_tuple.specs.declared.header.Header.{Header}
-use Rattle.ternary.specs.Word.{WordValue, IsWord, any_word, holds}
+use Rattle.ternary.specs.Word.{WordValue, any_word, holds}
 use Rattle.policy_rules.specs.declared.policy.Row.{Row}
 use Rattle.policy_rules.specs.declared.policy.Hit.{Hit}
-use Rattle.policy_rules.specs.declared.rules.Rule.{Rule}
-use Rattle.policy_rules.specs.Policy.{row_matches, hit_of, highest, scan}
+use Rattle.policy_rules.specs.Policy.{row_matches, hit_of, scan}
 use Rattle.policy_rules.specs.Rules.{IsHeader, is_held, first_rule}
 use Rattle.policy_rules.specs.Words.{word_of_row, blocks_of, IsSoundRow}
 use Rattle.policy_rules.specs.RuleList.{entries_at, entries_of, ranked, ranked_from, with_default, by_falling_priority, rules_of, hit_of_rule}

@@ -1,9 +1,9 @@
 -- The shape of a list of rules: ranks by place, words, and the default at the end.
-use Rattle.std.proofs.Common.{ℕ, ◌≡◌, ◌∙◌, ◌+◌, ◌<◌, List, [], ◌∷◌, ◌++◌, length, length-append, map, get_or, None, refl, ap, arith}
+use Rattle.std.proofs.Common.{ℕ, ◌≡◌, ◌∙◌, ◌+◌, ◌<◌, List, [], ◌∷◌, ◌++◌, length, length-append, get_or, None, ap, arith}
 use Rattle.std.specs.List.{All, flat_map, enumerate_from}
 use Rattle.std.specs.Int.Bits.{and_zero_r}
 use Rattle.std.proofs.lemmas.List.Elements.{All-tail, All-cons, All-append}
-use Rattle.std.proofs.lemmas.List.{get_or-map, length-map}
+use Rattle.std.proofs.lemmas.List.{get_or-map}
 use Rattle.std.proofs.lemmas.List.FromFn.{get_or-enumerate_from, length-enumerate_from}
 use Rattle.five_tuple.specs.Cover.{IsMaskedPort}
 use Rattle.ternary.specs.Word.{WordValue, IsWord, any_word}

@@ -1,5 +1,5 @@
 -- Rows by falling priority: one list of them has this order, where no two have one priority.
-use Rattle.std.proofs.Common.{length-take, Option, Some, None, MatchOption, find, filter, ℕ, zero, suc, ◌≡◌, ◌∙◌, ◌+◌, ◌<◌, ◌≤◌, Bool, true, false, cond, eqb, ltb, List, [], ◌∷◌, length, map, take, get_or, Contains, refl, ap, sym, subst, inl, inr, arith}
+use Rattle.std.proofs.Common.{length-take, Option, Some, None, MatchOption, find, filter, ℕ, suc, ◌≡◌, ◌∙◌, ◌+◌, ◌<◌, ◌≤◌, Bool, true, false, cond, eqb, ltb, List, [], ◌∷◌, length, map, take, get_or, Contains, refl, ap, sym, subst, inl, inr, arith}
 use Rattle.std.specs.List.{All, sum_by, list_any}
 use Rattle.std.specs.List.Sorted.{IsSortedBy, IsPermutation}
 use Rattle.std.proofs.lemmas.List.Sorted.{All-permutation, sum_by-IsPermutation}
@@ -10,7 +10,7 @@ use Rattle.std.proofs.lemmas.List.Folds.{list_any-from_Any}
 use Rattle.std.proofs.lemmas.List.Elements.{All-cons, All-tail, All-contains_itself}
 use Rattle.std.proofs.lemmas.List.Sums.{sum_by-cons}
 use Rattle.std.proofs.lemmas.Map.Keys.{ge_from_not_lt}
-use Rattle.policy_rules.specs.Policy.{HaveDistinctPriorities, priority_of, repeats, higher, highest}
+use Rattle.policy_rules.specs.Policy.{HaveDistinctPriorities, priority_of, higher, highest}
 use Rattle.policy_rules.specs.RuleList.{placed, by_falling_priority}
 use Rattle.policy_rules.specs.declared.policy.Row.{Row}
 

@@ -1,5 +1,5 @@
 -- The list of a policy's rules: its rows by falling priority, each as words of a ternary memory.
-use Rattle.std.specs.Prelude.{⊤, ℕ, ◌≡◌, ◌+◌, ◌*◌, ◌<◌, nat_lt, if◌then◌else◌, Option, Some, None, List, [], ◌∷◌, ◌++◌, length, map, All, sum_by, slice_index_or}
+use Rattle.std.specs.Prelude.{⊤, ℕ, ◌≡◌, ◌*◌, ◌<◌, nat_lt, if◌then◌else◌, Some, None, List, [], ◌∷◌, ◌++◌, length, map, All, sum_by, slice_index_or}
 use Rattle.std.specs.List.{flat_map, enumerate_from}
 use Rattle.ternary.specs.Word.{WordValue, IsWord, any_word}
 use Rattle.policy_rules.specs.Policy.{hit_of}

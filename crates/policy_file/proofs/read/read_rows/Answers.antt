@@ -1,5 +1,4 @@
 use Rattle.std.proofs.Common.{refl, subst, Bool, not, [], ◌∷◌, ◌++◌, length-append, ◌∙◌, ◌≡◌, sym, ap, cond, false, nat_eq, true, arith}
-use Rattle.std.specs.HashSet.{contains}
 use Rattle.std.proofs.lemmas.Bool.{not-true}
 use Rattle.std.specs.List.{All}
 use Rattle.std.proofs.lemmas.List.Elements.{All-push}
@@ -16,27 +15,27 @@ not-false true e = refl
 not-false false e = cc e
 
 pub returns-in-Err-clause-refused : goal.returns-in-Err-clause-refused
-returns-in-Err-clause-refused g c =
+returns-in-Err-clause-refused c =
     let inv = c.loop-earlier.invariant in
     inv.rest ∙ refused_next c.loop-earlier.rows.items _ _ (fields_of c.read_next.new.fields) c.in_ok-read_next.field-0 c.in-Err.fault c.loop-earlier.earlier c.if-not-branch.false c.in_ok-read_next.ensures.takes inv.count
     (fault_in_row c.loop-earlier.rows.items (fields_of c.read_next.new.fields) c.in-Err.fault (omega arith) (sym c.in-Err.ensures.row))
 
 pub returns-then-not-branch-2-clause-refused : goal.returns-then-not-branch-2-clause-refused
-returns-then-not-branch-2-clause-refused g c =
+returns-then-not-branch-2-clause-refused c =
     let inv = c.loop-earlier.invariant in
     let has : has_priority c.loop-earlier.rows.items c.in-Ok.next.priority ≡ true = sym (inv.seen _) ∙ not-false _ (sym c.in_ok-insert.ensures.added ∙ c.if-not-branch-2.true) in
     inv.rest ∙ refused_next c.loop-earlier.rows.items _ _ (fields_of c.read_next.new.fields) c.in_ok-read_next.field-0 _ c.loop-earlier.earlier c.if-not-branch.false c.in_ok-read_next.ensures.takes inv.count
     (same_priority c.loop-earlier.rows.items (fields_of c.read_next.new.fields) c.in-Ok.next (omega arith) (sym c.in-Ok.ensures.row) has)
 
 pub returns-clause-refused : goal.returns-clause-refused
-returns-clause-refused g c =
+returns-clause-refused c =
     let inv = c.loop-earlier.invariant in
     let full : c.loop-earlier.earlier ≡ 2000 = omega arith in
     inv.rest ∙ refused_next c.loop-earlier.rows.items _ _ (fields_of c.read_next-2.new.fields) c.in_ok-read_next-2.field-0 _ 2000 c.if-not-branch-3.false c.in_ok-read_next-2.ensures.takes (inv.count ∙ full)
     (too_many c.loop-earlier.rows.items (fields_of c.read_next-2.new.fields) (inv.count ∙ full))
 
 pub loop-earlier-preserved : goal.loop-earlier-preserved
-loop-earlier-preserved g c =
+loop-earlier-preserved c =
     let inv = c.loop-earlier.invariant in
     let rows = c.loop-earlier.rows.items in
     let row = c.in-Ok.next in

@@ -1,9 +1,8 @@
-use Rattle.std.proofs.Common.{◌≡◌, ◌^◌, ◌<◌, Ok, List, arith}
-use Rattle.std.specs.List.{All, AllByRecursion}
+use Rattle.std.proofs.Common.{◌≡◌, Ok, arith}
+use Rattle.std.specs.List.{All}
 use Rattle.std.proofs.lemmas.List.Elements.{recursion_from_All}
-use Rattle.policy_rules.specs.Read.{HasSmallPort}
 use Rattle.policy_rules.specs.declared.policy.Row.{Row}
-use Rattle.policy_file.specs.Printing.{IsRow, row_fields}
+use Rattle.policy_file.specs.Printing.{row_fields}
 use Rattle.policy_file.specs.Reading.{row_of}
 use Rattle.policy_file.proofs.Lines.{policy_back, row_back}
 use Rattle.policy_file.proofs.Plain.{ArePlain, plain_row}

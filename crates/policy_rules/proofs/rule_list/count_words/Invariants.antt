@@ -1,4 +1,4 @@
-use Rattle.std.proofs.Common.{◌≡◌, ◌≤◌, ◌*◌, take, length}
+use Rattle.std.proofs.Common.{◌≡◌, ◌≤◌, ◌*◌, take}
 use Rattle.std.specs.List.{All}
 use Rattle.policy_rules.specs.Words.{IsSoundRow}
 use Rattle.policy_rules.specs.RuleList.{word_total}

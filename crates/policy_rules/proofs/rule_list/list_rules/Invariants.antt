@@ -1,4 +1,4 @@
-use Rattle.std.proofs.Common.{◌≡◌, take, length}
+use Rattle.std.proofs.Common.{◌≡◌, take}
 use Rattle.std.specs.List.{flat_map}
 use Rattle.policy_rules.specs.RuleList.{entries_of, ranked_from}
 use Rattle.policy_rules.proofs.rule_list.list_rules.Given as goal

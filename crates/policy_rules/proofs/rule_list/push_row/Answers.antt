@@ -1,7 +1,7 @@
-use Rattle.std.proofs.Common.{◌≡◌, ◌∙◌, ◌+◌, ◌≤◌, ap, sym, [], ◌∷◌, ◌++◌, List, length, append-nil, arith, take}
+use Rattle.std.proofs.Common.{◌∙◌, ◌≤◌, ap, sym, [], length, append-nil, arith, take}
 use Rattle.std.specs.List.{flat_map}
 use Rattle.std.proofs.lemmas.List.{flat_map_more, take_more}
-use Rattle.policy_rules.specs.RuleList.{ranked, ranked_from, entries_at}
+use Rattle.policy_rules.specs.RuleList.{ranked_from, entries_at}
 use Rattle.policy_rules.proofs.Ranks.{ranked_more, length_ranked, few_pairs}
 use Rattle.policy_rules.proofs.rule_list.push_row.Goals as goal
 

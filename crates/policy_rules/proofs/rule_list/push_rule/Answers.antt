@@ -1,6 +1,5 @@
-use Rattle.std.proofs.Common.{◌≡◌, ◌∙◌, ap, [], ◌∷◌, ◌++◌, List}
+use Rattle.std.proofs.Common.{◌∙◌, ap, [], ◌∷◌, ◌++◌}
 use Rattle.policy_rules.specs.RuleList.{ranked, ranked_from}
-use Rattle.policy_rules.specs.declared.rules.Rule.{Rule}
 use Rattle.policy_rules.proofs.rule_list.push_rule.Goals as goal
 
 pub returns : goal.returns

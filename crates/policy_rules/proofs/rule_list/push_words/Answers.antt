@@ -1,7 +1,6 @@
-use Rattle.std.proofs.Common.{◌≡◌, ◌∙◌, ◌+◌, ap, sym, [], ◌∷◌, ◌++◌, List, length, append-nil, arith, map, take, length-take}
+use Rattle.std.proofs.Common.{◌≡◌, sym, length, append-nil, arith, take, length-take}
 use Rattle.std.proofs.lemmas.List.{map_more, length-map}
-use Rattle.policy_rules.specs.Policy.{hit_of}
-use Rattle.policy_rules.specs.RuleList.{ranked, ranked_from, entries_at}
+use Rattle.policy_rules.specs.RuleList.{ranked_from, entries_at}
 use Rattle.policy_rules.proofs.Ranks.{ranked_more, length_ranked}
 use Rattle.policy_rules.proofs.rule_list.push_words.Goals as goal
 

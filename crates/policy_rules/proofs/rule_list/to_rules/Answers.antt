@@ -1,4 +1,4 @@
-use Rattle.std.proofs.Common.{◌≡◌, ◌∙◌, ap, subst, option_map, arith}
+use Rattle.std.proofs.Common.{◌∙◌, ap, subst, option_map, arith}
 use Rattle.std.specs.List.{All}
 use Rattle.policy_rules.specs.Rules.{first_rule}
 use Rattle.policy_rules.proofs.RuleShape.{IsRuleList-rules_of, length-rules_of}

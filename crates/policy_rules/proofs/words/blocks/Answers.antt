@@ -1,7 +1,3 @@
-use Rattle.std.proofs.Common.{◌≡◌, subst}
-use Rattle.std.specs.List.{All, list_any}
-use Rattle.five_tuple.specs.Cover.{IsMaskedPort, block_holds}
-use Rattle.five_tuple.specs.Matching.{range_matches}
 use Rattle.policy_rules.specs.Words.{blocks_of}
 use Rattle.policy_rules.proofs.Blocks.{IsCover-cover_of}
 use Rattle.policy_rules.proofs.words.blocks.Goals as goal

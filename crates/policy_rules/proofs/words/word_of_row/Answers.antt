@@ -1,4 +1,3 @@
-use Rattle.std.proofs.Common.{◌≡◌}
 use Rattle.policy_rules.specs.Words.{word_of_row}
 use Rattle.policy_rules.proofs.RowWords.{IsWord-word_of_row, word_taken, word_given}
 use Rattle.policy_rules.proofs.words.word_of_row.Goals as goal
