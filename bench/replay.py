@@ -4,7 +4,7 @@
 usage: bench/replay.py BIN
 
 BIN is the proved program (`rt run` leaves it in crates/difane/out/difane). Each case runs in a folder of its own, with
-its output sent to a file. Prints a line a case: seconds, peak memory in MiB, bytes written.
+its output sent to a file. Prints a line a case: seconds, peak memory in MiB, bytes written. It needs GNU time.
 """
 import os
 import random
@@ -20,9 +20,9 @@ def address(rng):
     return "10.%d.%d.%d" % (rng.randrange(4), rng.randrange(256), rng.randrange(256))
 
 
-def schedule(rng):
+def schedule(rng, packets):
     lines = ["event,arguments"]
-    for _ in range(PACKETS):
+    for _ in range(packets):
         lines.append("packet,s0,%s,%s,%d,%d,tcp" % (address(rng), address(rng), rng.randrange(1024, 65536), rng.randrange(1024)))
     return "\n".join(lines) + "\n"
 
@@ -35,28 +35,31 @@ def policy(rng, rows):
     return "\n".join(lines) + "\n"
 
 
-def run(program, folder, rows):
+def run(program, folder, packets, rows):
+    # GNU time, a small process, measures the memory: what a child of this script inherits would count as its own.
     with open(os.path.join(folder, "out"), "wb") as out:
+        words = ["/usr/bin/time", "-f", "%M", "-o", "memory", program, "replay", "s.csv", "p.csv"]
         begun = time.monotonic()
-        child = subprocess.Popen([program, "replay", "s.csv", "p.csv"], cwd=folder, stdout=out)
-        _, status, used = os.wait4(child.pid, 0)
+        status = subprocess.run(words, cwd=folder, stdout=out).returncode
         seconds = time.monotonic() - begun
     if status != 0:
         sys.exit("status %d" % status)
+    with open(os.path.join(folder, "memory")) as memory:
+        mebibytes = int(memory.read()) / 1024
     size = os.path.getsize(os.path.join(folder, "out"))
-    print("%d packets, %4d rows: %.2f s, %d MiB, %d bytes written" % (PACKETS, rows, seconds, used.ru_maxrss // 1024, size))
+    print("%6d packets, %4d rows: %.3f s, %.1f MiB, %d bytes written" % (packets, rows, seconds, mebibytes, size))
 
 
 def main():
     program = os.path.abspath(sys.argv[1])
     rng = random.Random(2010)
-    text = schedule(rng)
-    for rows in (0, 100, 2000):
+    texts = {packets: schedule(rng, packets) for packets in (0, PACKETS)}
+    for packets, rows in ((0, 0), (0, 2000), (PACKETS, 0), (PACKETS, 100), (PACKETS, 2000)):
         with tempfile.TemporaryDirectory() as folder:
-            for name, content in (("s.csv", text), ("p.csv", policy(rng, rows))):
+            for name, content in (("s.csv", texts[packets]), ("p.csv", policy(rng, rows))):
                 with open(os.path.join(folder, name), "w") as file:
                     file.write(content)
-            run(program, folder, rows)
+            run(program, folder, packets, rows)
 
 
 main()

@@ -1,14 +1,13 @@
 -- Ends before any play: the journal is empty, and the output gained nothing.
-use Rattle.std.proofs.Common.{ℕ, ◌≡◌, ◌⊎◌, inl, inr, Option, Some, None, Result, Ok, Err, List, [], ◌++◌, take, refl, ap, sym}
+use Rattle.std.proofs.Common.{ℕ, ◌≡◌, ◌⊎◌, inl, inr, Option, Some, None, Result, Ok, List, [], refl, ap, sym}
 use Rattle.std.proofs.lemmas.List.{append-nil}
 use Rattle.policy_rules.specs.declared.policy.Row.{Row}
 use Rattle.replay.specs.Answers.{journal_behind}
 use Rattle.replay.specs.Machine.{IsRun, start}
-use Rattle.replay.specs.declared.journal.Item.{Item}
 use Rattle.replay.specs.declared.schedule.Event.{Event}
 use Rattle.shelf.specs.Sink.{gained}
 use Rattle.difane_cli.specs.Inputs.{Accounts, Inputs, FileRefusal, IsStop, Refused}
-use Rattle.difane_cli.specs.Run.{BeginsAnswer, IsDone, PlaysInputs, Records, Writes}
+use Rattle.difane_cli.specs.Run.{BeginsAnswer, IsDone, PlaysInputs, Writes}
 use Rattle.difane_cli.specs.declared.status.Status.{Status}
 use Rattle.difane_cli.specs.declared.status.Status.TheVariants as status
 

@@ -1,5 +1,5 @@
 -- What the top call's status says of its journal and its output.
-use Rattle.std.specs.Prelude.{ℕ, ◌≡◌, Option, Result, Ok, Err, List, [], ◌++◌, map, take, string_bytes, String, Vec}
+use Rattle.std.specs.Prelude.{ℕ, ◌≡◌, Option, Result, Ok, List, [], ◌++◌, map, take, string_bytes, String, Vec}
 use Rattle.std.specs.Global.{Global}
 use Rattle.policy_rules.specs.declared.policy.Row.{Row}
 use Rattle.replay.specs.Answers.{Answers}

@@ -1,5 +1,5 @@
 -- The first match among the rows so far, one row further.
-use Rattle.std.proofs.Common.{ℕ, ◌≡◌, ◌+◌, ◌<◌, ◌≤◌, Bool, true, false, cond, ◌&&◌, nat_lt, ltb, Option, Some, None, MatchOption, List, [], ◌∷◌, ◌++◌, length, take, get_or, filter, Contains, refl, ◌⊎◌, ⊎_elim, inl, inr, ap, ◌∙◌, sym, arith, rules, subst}
+use Rattle.std.proofs.Common.{ℕ, ◌≡◌, ◌+◌, ◌<◌, ◌≤◌, Bool, true, false, cond, ◌&&◌, ltb, Option, Some, None, MatchOption, List, [], ◌∷◌, ◌++◌, length, take, get_or, filter, Contains, refl, ◌⊎◌, ⊎_elim, inl, inr, ap, ◌∙◌, sym, arith, subst}
 use Rattle.std.proofs.lemmas.List.Elements.{filter_more}
 use Rattle.std.proofs.lemmas.Bool.Decides.{nat_tests}
 use Rattle.std.proofs.lemmas.List.{append-nil}
@@ -9,7 +9,6 @@ use Rattle.five_tuple.specs.Header.{fields_of}
 use Rattle.std.proofs.lemmas.List.Elements.{Contains-append_right, Contains-append_cases, Contains-push_cases}
 use Rattle.std.proofs.lemmas.Bool.{cases_lt, lt-ltb, le-ltb}
 use Rattle.policy_rules.specs.declared.policy.Row.{Row}
-use Rattle.policy_rules.specs.declared.policy.Hit.{Hit}
 use Rattle.policy_rules.specs.Policy.{row_matches, higher, highest, hit_of, scan_by, or_higher, scan, IsFirstMatch}
 
 and_true : (b : Bool) → (b && true) ≡ b

@@ -1,9 +1,8 @@
 -- The priorities that a loop over the rows has seen.
-use Rattle.std.proofs.Common.{ℕ, ◌≡◌, ◌+◌, ◌<◌, Bool, true, false, cond, ◌||◌, eqb, List, length, take, get_or, map, refl, ap, ◌∙◌, sym, arith}
+use Rattle.std.proofs.Common.{ℕ, ◌≡◌, ◌+◌, ◌<◌, Bool, true, false, cond, ◌||◌, eqb, List, length, take, get_or, refl, ap, ◌∙◌, sym, arith}
 use Rattle.std.specs.List.{list_any}
 use Rattle.std.proofs.lemmas.List.Folds.{list_any_more}
 use Rattle.std.proofs.lemmas.Bool.Decides.{nat_tests}
-use Rattle.policy_rules.specs.Policy.{repeats}
 
 or_from_cond : (a b : Bool) → cond a true b ≡ (b || a)
 or_from_cond true true = refl

@@ -1,10 +1,10 @@
-ghost use Rattle.std.specs.Prelude.{◌≡◌, ◌+◌, ◌<◌, ◌≤◌, ◌^◌, ◌∷◌, [], ◌++◌, IfOk, IfErr, OnOk, All, Some, option_map, length};
+ghost use Rattle.std.specs.Prelude.{◌≡◌, ◌+◌, ◌<◌, ◌≤◌, ◌^◌, ◌∷◌, [], IfOk, IfErr, OnOk, All, Some, option_map, length};
 ghost use Rattle.five_tuple.specs.Cover.{IsMaskedPort};
 ghost use Rattle.five_tuple.specs.declared.header.Header.{Header};
 ghost use Rattle.policy_rules.specs.Policy.{scan, HaveDistinctPriorities};
 ghost use Rattle.policy_rules.specs.Rules.{IsHeader, first_rule};
 ghost use Rattle.policy_rules.specs.Words.{IsSoundRow};
-ghost use Rattle.policy_rules.specs.RuleList.{by_falling_priority, entries_at, entries_of, ranked_from, with_default, rules_of, word_count, word_total, RefusesRules, hit_of_rule, IsRuleList};
+ghost use Rattle.policy_rules.specs.RuleList.{Appends, by_falling_priority, entries_at, entries_of, ranked_from, with_default, rules_of, word_count, word_total, RefusesRules, hit_of_rule, IsRuleList};
 ghost use Rattle.policy_rules.specs.declared.rule_list.RulesError.TheVariants.{NoMemory};
 
 use crate::policy::{Hit, Policy, Row};
@@ -109,7 +109,7 @@ fn list_rules(alloc: Global, rows: &[Row], room: usize) -> Result<Vec<Rule>, All
 
 fn push_row(alloc: Global, rules: &mut Vec<Rule>, row: &Row) -> Result<(), AllocError>
     requires { length rules.old.items ≤ 4096 }
-    ensures { OnOk result (rules.new.items ≡ rules.old.items ++ ranked_from (length rules.old.items) (entries_of row.now)) }
+    ensures { OnOk result (Appends rules.old.items rules.new.items (entries_of row.now)) }
 {
     let sources = blocks(alloc, &row.sport)?;
     let destinations = blocks(alloc, &row.dport)?;
@@ -128,7 +128,7 @@ fn push_words(
     requires few { length rules.old.items + length destinations.now < 2 ^ 32 }
     requires source { IsMaskedPort source }
     requires destinations { All IsMaskedPort destinations.now }
-    ensures { OnOk result (rules.new.items ≡ rules.old.items ++ ranked_from (length rules.old.items) (entries_at row.now destinations.now source)) }
+    ensures { OnOk result (Appends rules.old.items rules.new.items (entries_at row.now destinations.now source)) }
 {
     for destination in destinations {
         push_rule(rules, word_of_row(row, source, *destination), Hit::of(row))?;
@@ -138,7 +138,7 @@ fn push_words(
 
 fn push_rule(rules: &mut Vec<Rule>, word: Word, hit: Hit) -> Result<(), AllocError>
     requires { length rules.old.items < 2 ^ 32 }
-    ensures { OnOk result (rules.new.items ≡ rules.old.items ++ ranked_from (length rules.old.items) ((word, hit) ∷ [])) }
+    ensures { OnOk result (Appends rules.old.items rules.new.items ((word, hit) ∷ [])) }
 {
     let rank = rules.len() as u32;
     rules.push(Rule {

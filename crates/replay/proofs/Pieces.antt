@@ -1,16 +1,13 @@
 -- What one packet's piece does to a journal that is a run with causes.
-use Rattle.std.proofs.Common.{ℕ, ◌≡◌, ◌+◌, ◌-◌, ◌<◌, ◌≤◌, Bool, true, false, cond, Option, Some, None, MatchOption, List, [], ◌∷◌, ◌++◌, All, filter, count_by, length, nat_eq, ltb, refl, ap, ◌∙◌, sym, subst, arith, rules}
+use Rattle.std.proofs.Common.{ℕ, ◌≡◌, ◌+◌, ◌<◌, ◌≤◌, Bool, true, false, cond, Option, Some, None, MatchOption, List, [], ◌∷◌, ◌++◌, filter, length, nat_eq, ltb, refl, ap, subst, arith}
 use Rattle.std.specs.List.{filter_map, AllByRecursion}
-use Rattle.std.specs.Option.{option_or, option_map}
 use Rattle.std.proofs.lemmas.Bool.{ne_eqb}
-use Rattle.std.proofs.lemmas.List.{append-nil}
 use Rattle.std.proofs.lemmas.List.Elements.{filter_map-append, recursion_from_All, filter-append}
 use Rattle.std.proofs.Common.{length-append}
 use Rattle.five_tuple.specs.declared.header.Header.{Header}
 use Rattle.policy_rules.specs.Policy.{scan, highest, higher, hit_of, row_matches}
 use Rattle.policy_rules.specs.Read.{HasSmallPort}
 use Rattle.policy_rules.specs.declared.policy.Row.{Row}
-use Rattle.policy_rules.specs.declared.policy.Hit.{Hit}
 use Rattle.policy_rules.specs.declared.policy.Action.{Action}
 use Rattle.policy_rules.specs.declared.policy.Action.TheVariants as action
 use Rattle.policy_rules.specs.declared.packet.How.TheVariants.{Authority}
@@ -20,8 +17,8 @@ use Rattle.replay.specs.declared.schedule.Step.TheVariants as step
 use Rattle.replay.specs.declared.schedule.Event.{Event}
 use Rattle.replay.specs.declared.schedule.Event.TheVariants.{One}
 use Rattle.std.proofs.Common.{drop, get_or, drop-cons, add-one}
-use Rattle.replay.specs.Machine.{Machine, Packet, End, Dropped, LeftBy, Move, Enter, Decide, Finish, Moves, MayEnd, Runs, start, with_packet, move_of, IsRun}
-use Rattle.replay.specs.Standing.{HasCause, HaveCauses, NamesOwnPorts, LeavesRightly, last_told, tells_entry, tells_decision}
+use Rattle.replay.specs.Machine.{Machine, Packet, End, Dropped, LeftBy, Enter, Decide, Finish, MayEnd, Runs, start, with_packet, move_of, IsRun}
+use Rattle.replay.specs.Standing.{HasCause, HaveCauses, NamesOwnPorts, last_told, tells_entry, tells_decision}
 use Rattle.replay.specs.Answers.{next_packet, is_packet_row, packet_piece, event_piece, ending, GoesOn, IsOfOneSwitch}
 use Rattle.replay.proofs.Runs.{Runs-append, HaveCauses-append, last_told-append, eqb_itself, with_packet-there}
 

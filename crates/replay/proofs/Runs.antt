@@ -1,11 +1,11 @@
 -- Laws of runs, causes and what was told last, along a journal that grows.
-use Rattle.std.proofs.Common.{ℕ, ◌≡◌, Bool, true, false, cond, Option, Some, None, List, [], ◌∷◌, ◌++◌, refl, ap, ◌∙◌, sym, subst, append_assoc, ◌==◌, eqb}
+use Rattle.std.proofs.Common.{ℕ, ◌≡◌, true, Option, Some, None, List, [], ◌∷◌, ◌++◌, refl, ap, ◌∙◌, sym, subst, append_assoc, ◌==◌}
 use Rattle.std.proofs.lemmas.Bool.{eq-eqb}
 use Rattle.std.specs.Option.{option_or}
 use Rattle.std.proofs.lemmas.List.{append-nil}
 use Rattle.replay.specs.declared.journal.Item.{Item}
-use Rattle.replay.specs.Machine.{Machine, Packet, Move, Moves, Runs, with_packet}
-use Rattle.replay.specs.Standing.{HasCause, HaveCauses, last_told}
+use Rattle.replay.specs.Machine.{Machine, Packet, Move, Runs, with_packet}
+use Rattle.replay.specs.Standing.{HaveCauses, last_told}
 
 -- a run goes on by a run
 pub Runs-append : (a b c : Machine) (xs ys : List Move) → Runs a xs b → Runs b ys c → Runs a (xs ++ ys) c

@@ -1,5 +1,5 @@
 -- The answer to a schedule: what each of its rows writes into the journal.
-use Rattle.std.specs.Prelude.{ℕ, ◌≡◌, ◌+◌, Bool, true, false, Option, List, [], ◌∷◌, ◌++◌, length, filter}
+use Rattle.std.specs.Prelude.{ℕ, ◌≡◌, ◌+◌, Bool, true, false, List, [], ◌∷◌, ◌++◌, length, filter}
 use Rattle.five_tuple.specs.declared.header.Header.{Header}
 use Rattle.std.proofs.Common.{refl, sym, ◌∙◌}
 use Rattle.policy_rules.specs.Policy.{scan}

@@ -1,13 +1,12 @@
 -- The abstract machine: what a network that decides packets by versions of a policy may do, and nothing else. It has
 -- policies, a mark and packets; it knows no switch, link, table or message. The notion of a version that decides a
 -- whole packet is that of Reitblatt, Foster, Rexford, Schlesinger and Walker, "Abstractions for Network Update".
-use Rattle.std.specs.Prelude.{ℕ, ◌≡◌, ◌+◌, ◌-◌, ◌<◌, ◌≤◌, if◌then◌else◌, ◌==◌, Option, Some, None, option_map, List, [], ◌∷◌, ◌++◌, length, slice_index_or}
+use Rattle.std.specs.Prelude.{ℕ, ◌≡◌, ◌-◌, ◌<◌, ◌≤◌, if◌then◌else◌, ◌==◌, Option, Some, None, option_map, List, [], ◌∷◌, ◌++◌, length, slice_index_or}
 use Rattle.std.specs.List.{filter_map}
 use Rattle.five_tuple.specs.declared.header.Header.{Header}
 use Rattle.policy_rules.specs.Policy.{scan}
 use Rattle.policy_rules.specs.declared.policy.Row.{Row}
 use Rattle.policy_rules.specs.declared.policy.Hit.{Hit}
-use Rattle.policy_rules.specs.declared.policy.Action.{Action}
 use Rattle.policy_rules.specs.declared.policy.Action.TheVariants as action
 use Rattle.replay.specs.declared.journal.Item.{Item}
 use Rattle.replay.specs.declared.journal.Item.TheVariants as item

@@ -1,5 +1,5 @@
-use Rattle.std.proofs.Common.{◌≡◌, ◌∙◌, sym, ap}
-use Rattle.difane_cli.specs.Plain.{all_read, event_of, record_of}
+use Rattle.std.proofs.Common.{◌∙◌, sym}
+use Rattle.difane_cli.specs.Plain.{event_of, record_of}
 use Rattle.difane_cli.proofs.AllRead.{all_read-map, all_read_stops, all_read_end}
 use Rattle.difane_cli.proofs.plain.read_events.Goals as goal
 

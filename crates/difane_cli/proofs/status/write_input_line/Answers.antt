@@ -1,4 +1,4 @@
-use Rattle.std.proofs.Common.{◌≡◌, ◌∙◌, List, ℕ}
+use Rattle.std.proofs.Common.{◌≡◌, ◌∙◌}
 use Rattle.std.specs.Fmt.{decimal}
 use Rattle.difane_cli.proofs.status.write_input_line.Goals as goal
 

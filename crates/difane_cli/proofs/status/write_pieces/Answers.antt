@@ -1,4 +1,4 @@
-use Rattle.std.proofs.Common.{◌≡◌, subst, List, ℕ, [], drop, take, suc}
+use Rattle.std.proofs.Common.{subst, List, ℕ, drop, take, suc}
 use Rattle.std.specs.Borrow.{Bor}
 use Rattle.std.specs.List.{flat_map}
 use Rattle.shelf.specs.Sink.{GainedPart}

@@ -1,4 +1,3 @@
-use Rattle.std.proofs.Common.{◌≡◌, []}
 use Rattle.difane_cli.proofs.Unplayed.{begins, runs_from_start}
 use Rattle.difane_cli.proofs.top_call.play.Goals as goal
 

@@ -1,4 +1,4 @@
-use Rattle.std.proofs.Common.{◌≡◌, ◌∙◌, sym, subst}
+use Rattle.std.proofs.Common.{◌∙◌, sym, subst}
 use Rattle.difane_cli.specs.Inputs.{IsStop}
 use Rattle.difane_cli.proofs.Unplayed.{writes_nothing, plays_nothing}
 use Rattle.difane_cli.proofs.top_call.replay_files.Goals as goal

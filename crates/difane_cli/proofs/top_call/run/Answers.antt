@@ -1,4 +1,3 @@
-use Rattle.std.proofs.Common.{◌≡◌, ◌∙◌, sym, subst}
 use Rattle.difane_cli.proofs.Unplayed.{done_or_fault}
 use Rattle.difane_cli.proofs.top_call.run.Goals as goal
 

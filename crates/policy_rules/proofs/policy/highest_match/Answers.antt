@@ -1,4 +1,4 @@
-use Rattle.std.proofs.Common.{◌≡◌, ◌∙◌, sym, ap, take}
+use Rattle.std.proofs.Common.{◌∙◌, sym, ap, take}
 use Rattle.policy_rules.specs.Policy.{scan_by, or_higher}
 use Rattle.policy_rules.proofs.FirstMatch.{scan_more}
 use Rattle.policy_rules.proofs.policy.highest_match.Goals as goal

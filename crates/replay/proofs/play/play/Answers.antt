@@ -1,11 +1,10 @@
-use Rattle.std.proofs.Common.{◌≡◌, ◌+◌, List, [], drop, sym, ap, ◌∙◌, refl, subst, arith, length, get_or}
-use Rattle.replay.specs.declared.journal.Item.{Item}
+use Rattle.std.proofs.Common.{◌+◌, sym, ap, ◌∙◌, refl, get_or}
 use Rattle.replay.specs.declared.schedule.Event.{Event}
 use Rattle.replay.specs.declared.schedule.Event.TheVariants.{One}
 use Rattle.replay.specs.declared.schedule.Step.TheVariants.{Packet}
 use Rattle.std.proofs.lemmas.List.Elements.{All-get_or}
-use Rattle.replay.specs.Answers.{Answers, GoesOn, next_packet, IsOfOneSwitch}
-use Rattle.replay.proofs.Pieces.{SoFar, so_far-nil, so_far-event, next_packet-event, IsRun-so_far, GoesOn-drop}
+use Rattle.replay.specs.Answers.{IsOfOneSwitch}
+use Rattle.replay.proofs.Pieces.{so_far-nil, so_far-event, next_packet-event, GoesOn-drop}
 use Rattle.replay.proofs.play.play.Goals as goal
 
 -- what is read past the last event

@@ -1,6 +1,5 @@
-use Rattle.std.proofs.Common.{◌≡◌, ◌∙◌, sym, ap, subst}
-use Rattle.policy_rules.specs.Policy.{IsFirstMatch, scan, scan_by}
-use Rattle.policy_rules.specs.declared.policy.Hit.{Hit}
+use Rattle.std.proofs.Common.{◌≡◌, ap}
+use Rattle.policy_rules.specs.Policy.{scan}
 use Rattle.policy_rules.proofs.FirstMatch.{first_match-scan}
 use Rattle.policy_rules.proofs.policy.Policy.scan.Goals as goal
 
