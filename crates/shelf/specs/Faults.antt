@@ -5,6 +5,10 @@ use Rattle.std.specs.Prelude.{◌≤◌, ◌+◌, ◌-◌, ◌^◌, ℕ, min, Bo
 abbrev pub counted : ℕ → ℕ
 counted n = min (n + 1) (2 ^ 64 - 1)
 
+-- so many more, or the last value
+abbrev pub counted_up : ℕ → ℕ → ℕ
+counted_up many n = min (n + many) (2 ^ 64 - 1)
+
 -- the count rose, or stands at its last value
 abbrev pub Rose : ℕ → ℕ → Type 0
 Rose before now = counted before ≤ now

@@ -1,9 +1,9 @@
 -- What a source of whole files holds, and what a read of it may answer.
-use Rattle.std.specs.Prelude.{◌≡◌, ◌<◌, ◌≤◌, ℕ, Bool, true, false, List, length, map, find, Option, Some, None, IsSomeAnd, Result, Ok, Err, string_bytes, String, Vec}
+use Rattle.std.specs.Prelude.{⊤, ◌≡◌, ◌<◌, ◌≤◌, ℕ, Bool, true, false, List, length, map, find, Option, Some, None, IsSomeAnd, Result, Ok, Err, string_bytes, String, Vec}
 use Rattle.std.specs.Global.{Global}
 use Rattle.std.specs.Option.{option_map}
 use Rattle.std.specs.Str.{bytes_eq}
-use Rattle.shelf.specs.Faults.{CallScript}
+use Rattle.shelf.specs.Faults.{CallScript, counted_up}
 use Rattle.shelf.specs.declared.source.ShelfError.{ShelfError}
 use Rattle.shelf.specs.declared.source.ShelfError.TheVariants.{Failed, NoMemory}
 
@@ -11,9 +11,26 @@ use Rattle.shelf.specs.declared.source.ShelfError.TheVariants.{Failed, NoMemory}
 abbrev pub Files : Type 0
 Files = List (List ℕ × List ℕ)
 
--- what files in memory tell
-abbrev pub told_files : List (String Global × Vec ℕ Global) → Files
-told_files files = map (λ file. (string_bytes file.0, file.1.items)) files
+-- what contracts see of each shelf: its files, where they are known; how often it failed; and how
+-- often it was read. Both counts stand still at their last value.
+pub record ShelfState : Type 0 where
+  pub files : Option Files
+  pub faults : ℕ
+  pub reads : ℕ
+
+-- there were at most so many reads
+abbrev pub ReadsAtMost : ℕ → ℕ → ℕ → Type 0
+ReadsAtMost most before now = (n : ℕ) × (n ≤ most) × (now ≡ counted_up n before)
+
+-- what at most so many reads leave of a shelf: the same files, and no lower count of faults
+pub record IsAfterReads (most : ℕ) (old new : ShelfState) : Type 0 where
+  pub same_files : new.files ≡ old.files
+  pub faults : old.faults ≤ new.faults
+  pub reads : ReadsAtMost most old.reads new.reads
+
+-- the files that are held in memory
+abbrev pub files_of : List (String Global × Vec ℕ Global) → Files
+files_of files = map (λ file. (string_bytes file.0, file.1.items)) files
 
 -- the content of the first file of this name
 abbrev pub file_named : Files → List ℕ → Option (List ℕ)
@@ -37,7 +54,7 @@ HasLongerFile files name limit =
 abbrev pub IsServed : {T : Type 0} → Result T ShelfError → Type 0
 IsServed (Err Failed) = ⊥
 IsServed (Err NoMemory) = ⊥
-IsServed _ = Unit {0}
+IsServed _ = ⊤
 
 -- the answer is a fault
 abbrev pub is_fault : {T : Type 0} → Result T ShelfError → Bool
@@ -54,3 +71,13 @@ is_refusal _ = true
 pub record ScriptedFiles : Type 0 where
   pub files : Files
   pub script : CallScript
+
+-- files, and how often they were read
+pub record CalmFiles : Type 0 where
+  pub files : Files
+  pub reads : ℕ
+
+-- the counts of a shelf whose files are not known
+pub record ReadCounts : Type 0 where
+  pub faults : ℕ
+  pub reads : ℕ

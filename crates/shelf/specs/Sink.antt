@@ -1,11 +1,16 @@
 -- What a sink of bytes holds, and what a write to it may answer.
-use Rattle.std.specs.Prelude.{◌≡◌, ◌<◌, ℕ, Bool, true, false, ◌&&◌, ◌==◌, not, List, ◌++◌, length, take, Option, Some, None, Result, Ok, Err}
+use Rattle.std.specs.Prelude.{◌≡◌, ◌<◌, ◌≤◌, ℕ, Bool, IsTrue, true, false, ◌&&◌, ◌==◌, not, List, ◌++◌, length, take, Option, Some, None, Result, Ok, Err, OnOk, OnErr, IsErrOf}
 use Rattle.std.proofs.Common.{refl, ap, append_assoc}
-use Rattle.shelf.specs.Faults.{CallScript}
+use Rattle.shelf.specs.Faults.{CallScript, Rose}
 use Rattle.shelf.specs.declared.output.SinkError.{SinkError}
 use Rattle.shelf.specs.declared.output.SinkError.TheVariants.{Failed, NoMemory}
 
--- what a sink tells once it gained a piece: where it tells its bytes, these and then the piece
+-- what contracts see of each sink: its bytes, where they are known, and how often it failed
+pub record SinkState : Type 0 where
+  pub bytes : Option (List ℕ)
+  pub faults : ℕ
+
+-- what is known of a sink once it gained a piece: where its bytes are known, these and the piece
 abbrev pub gained : Option (List ℕ) → List ℕ → Option (List ℕ)
 gained None piece = None
 gained (Some bytes) piece = Some (bytes ++ piece)
@@ -19,6 +24,15 @@ gained-gained (Some bytes) first next = ap Some (append_assoc bytes first next)
 -- the sink gained some of these bytes from the front, and not all
 abbrev pub GainedPart : Option (List ℕ) → List ℕ → Option (List ℕ) → Type 0
 GainedPart before bytes now = (n : ℕ) × (n < length bytes) × (now ≡ gained before (take n bytes))
+
+-- what a write of these bytes leaves of a sink: all of them where it succeeds, and else a part; and
+-- each error has its cause
+pub record IsAfterWrite (bytes : List ℕ) (takes_memory : Bool) (old new : SinkState) (result : Result (Unit {0}) SinkError) : Type 0 where
+  pub whole : OnOk result (new.bytes ≡ gained old.bytes bytes)
+  pub part : OnErr result (GainedPart old.bytes bytes new.bytes)
+  pub faults : old.faults ≤ new.faults
+  pub failed : IsErrOf result Failed → Rose old.faults new.faults
+  pub no_memory : IsErrOf result NoMemory → IsTrue takes_memory
 
 -- the answer is a fault, or an Ok of nothing for a piece that has bytes
 abbrev pub is_fault : List ℕ → Result ℕ SinkError → Bool

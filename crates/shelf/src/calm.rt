@@ -1,5 +1,6 @@
 //! Files and bytes in memory that never fail.
-ghost use Rattle.std.specs.Prelude.{◌≡◌, ◌++◌, [], Some, true, length, IfOk, OnErr, IsOkUnless};
+ghost use Rattle.std.specs.Prelude.{◌≡◌, ◌↔◌, [], Some, true, false, IfOk, IsErrOf};
+ghost use Rattle.shelf.specs.Faults.{counted};
 
 use crate::output::{Sink, SinkError};
 use crate::source::{Shelf, ShelfError, copy_named};
@@ -11,33 +12,47 @@ use std::marker::Model;
 pub struct CalmShelf {
     alloc: Global,
     files: Vec<(String, Vec<u8>)>,
+    reads: u64,
 }
 
 impl Model for CalmShelf {
-    ghost use Rattle.shelf.specs.Shelf.{Files, told_files};
+    ghost use Rattle.shelf.specs.Shelf.{CalmFiles, files_of};
 
-    ghost Value = { Files };
+    ghost Value = { CalmFiles };
 
-    ghost view = { λ s. told_files s.files.items };
+    ghost view = { λ s. record { files = files_of s.files.items; reads = s.reads } };
 }
 
 impl CalmShelf {
-    ghost use Rattle.shelf.specs.Shelf.{told_files};
+    ghost use Rattle.shelf.specs.Shelf.{files_of};
 
     /// A shelf of these files. Of two files of one name the first counts.
     pub fn new(alloc: Global, files: Vec<(String, Vec<u8>)>) -> Self
-        ensures { result ≡ told_files files.items }
+        ensures { result ≡ record { files = files_of files.items; reads = 0 } }
     {
-        CalmShelf { alloc, files }
+        CalmShelf {
+            alloc,
+            files,
+            reads: 0,
+        }
     }
 }
 
 impl Shelf for CalmShelf {
-    ghost files = { λ s. Some s };
+    ghost use Rattle.shelf.specs.Shelf.{HasFile, LacksFile, HasLongerFile, is_fault};
 
-    ghost faults = { λ _. 0 };
+    ghost state = { λ s. record { files = Some s.files; faults = 0; reads = s.reads } };
 
-    fn read(&mut self, name: &str, limit: u64) -> Result<Vec<u8>, ShelfError> {
+    fn read(&mut self, name: &str, limit: u64) -> Result<Vec<u8>, ShelfError>
+        ensures no_fault { is_fault result ≡ false }
+        ensures after { self.new ≡ record self.old { reads = counted self.old.reads } }
+        ensures content { IfOk result (λ content.
+            HasFile self.old.files name.now limit content.items) }
+        ensures missing { IsErrOf result ShelfError.Missing ↔ LacksFile self.old.files name.now }
+        ensures too_long { IsErrOf result ShelfError.TooLong
+            ↔ HasLongerFile self.old.files name.now limit }
+    {
+        self.reads = self.reads.saturating_add(1);
         copy_named(self.alloc, &self.files, name, limit)
     }
 }
@@ -75,9 +90,7 @@ impl CalmSink {
 }
 
 impl Sink for CalmSink {
-    ghost bytes = { λ s. Some s };
-
-    ghost faults = { λ _. 0 };
+    ghost state = { λ s. record { bytes = Some s; faults = 0 } };
 
     ghost takes_memory = { true };
 

@@ -1,7 +1,7 @@
 //! The sink of bytes, and a write of many bytes to it.
-ghost use Rattle.std.specs.Prelude.{◌≡◌, ◌≤◌, ◌<◌, ℕ, Bool, IsTrue, Option, List, [], length, take, IfOk, IsOk, OnOk, OnErr, IsErrOf};
+ghost use Rattle.std.specs.Prelude.{◌≡◌, ◌≤◌, ◌<◌, Bool, IsTrue, [], length, take, IfOk, IsOk, OnErr, IsErrOf};
 ghost use Rattle.shelf.specs.Faults.{Rose};
-ghost use Rattle.shelf.specs.Sink.{gained, GainedPart};
+ghost use Rattle.shelf.specs.Sink.{SinkState, IsAfterWrite, gained};
 ghost use Rattle.shelf.specs.declared.output.SinkError.TheVariants.{NoMemory};
 
 use std::alloc::AllocError;
@@ -28,11 +28,8 @@ impl From<AllocError> for SinkError {
 
 /// A sink of bytes, which go to its end.
 pub trait Sink {
-    /// The bytes that the sink holds, where it tells them.
-    ghost bytes: { Self → Option (List ℕ) };
-
-    /// How often the sink has failed, up to 2^64 - 1.
-    ghost faults: { Self → ℕ };
+    /// What contracts see: the bytes, where they are known, and the count of faults.
+    ghost state: { Self → SinkState };
 
     /// Whether writes to this kind of sink may take memory.
     ghost takes_memory: { Bool };
@@ -41,17 +38,17 @@ pub trait Sink {
     fn write(&mut self, piece: &[u8]) -> Result<u64, SinkError>
         ensures within { IfOk result (λ taken. taken ≤ length piece.now) }
         ensures taken { IfOk result (λ taken.
-            bytes self.new ≡ gained (bytes self.old) (take taken piece.now)) }
-        ensures nothing_taken { OnErr result (bytes self.new ≡ bytes self.old) }
+            (state self.new).bytes ≡ gained (state self.old).bytes (take taken piece.now)) }
+        ensures nothing_taken { OnErr result ((state self.new).bytes ≡ (state self.old).bytes) }
 
-        ensures counts { faults self.old ≤ faults self.new }
+        ensures faults { (state self.old).faults ≤ (state self.new).faults }
         ensures failed { IsErrOf result SinkError.Failed
-            → Rose (faults self.old) (faults self.new) }
+            → Rose (state self.old).faults (state self.new).faults }
         ensures no_memory { IsErrOf result SinkError.NoMemory → IsTrue takes_memory }
 
         // A sink that takes nothing of a piece has failed too.
         ensures stuck { result ≡ Ok 0 → 0 < length piece.now
-            → Rose (faults self.old) (faults self.new) };
+            → Rose (state self.old).faults (state self.new).faults };
 }
 
 /// The most bytes that are given to one write.
@@ -62,14 +59,8 @@ const PIECE_BYTES: usize = 65_536;
 /// At an error the sink gained the bytes of the writes before it. A write that takes nothing ends
 /// the call as a failed one does.
 pub fn write_whole<K: Sink>(sink: &mut K, bytes: &[u8]) -> Result<(), SinkError>
-    ensures whole { OnOk result (K.bytes sink.new ≡ gained (K.bytes sink.old) bytes.now) }
+    ensures after { IsAfterWrite bytes.now K.takes_memory (K.state sink.old) (K.state sink.new) result }
     ensures no_bytes { bytes.now ≡ [] → IsOk result × (sink.new ≡ sink.old) }
-    ensures part { OnErr result (GainedPart (K.bytes sink.old) bytes.now (K.bytes sink.new)) }
-
-    ensures counts { K.faults sink.old ≤ K.faults sink.new }
-    ensures failed { IsErrOf result SinkError.Failed
-        → Rose (K.faults sink.old) (K.faults sink.new) }
-    ensures no_memory { IsErrOf result SinkError.NoMemory → IsTrue K.takes_memory }
 {
     let mut written = 0;
     while written < bytes.len() {

@@ -68,22 +68,22 @@ pub struct MemShelf {
 }
 
 impl Model for MemShelf {
-    ghost use Rattle.shelf.specs.Shelf.{ScriptedFiles, told_files};
+    ghost use Rattle.shelf.specs.Shelf.{ScriptedFiles, files_of};
 
     ghost Value = { ScriptedFiles };
 
-    ghost view = { λ s. record { files = told_files s.files.items; script = s.script } };
+    ghost view = { λ s. record { files = files_of s.files.items; script = s.script } };
 }
 
 impl MemShelf {
-    ghost use Rattle.shelf.specs.Shelf.{told_files};
+    ghost use Rattle.shelf.specs.Shelf.{files_of};
 
     /// A shelf of these files, at which the calls with these numbers fail.
     ///
     /// Of two files of one name the first counts.
     pub fn new(alloc: Global, files: Vec<(String, Vec<u8>)>, failing: Vec<u64>) -> Self
         ensures { result
-            ≡ record { files = told_files files.items; script = script_of failing.items } }
+            ≡ record { files = files_of files.items; script = script_of failing.items } }
     {
         MemShelf {
             alloc,
@@ -96,15 +96,17 @@ impl MemShelf {
 impl Shelf for MemShelf {
     ghost use Rattle.shelf.specs.Shelf.{is_fault, HasFile, LacksFile, HasLongerFile, IsServed};
 
-    ghost files = { λ s. Some s.files };
-
-    ghost faults = { λ s. s.script.faults };
+    ghost state = { λ s. record {
+      files = Some s.files;
+      faults = s.script.faults;
+      reads = s.script.calls;
+    } };
 
     fn read(&mut self, name: &str, limit: u64) -> Result<Vec<u8>, ShelfError>
         ensures fails { IsErrOf result ShelfError.Failed ↔ FailsNext self.old.script }
         ensures after { self.new
             ≡ record self.old { script = after_call self.old.script (is_fault result) } }
-        ensures counts { self.old.script.faults ≤ self.new.script.faults }
+        ensures faults { self.old.script.faults ≤ self.new.script.faults }
 
         ensures content { IfOk result (λ content.
             HasFile self.old.files name.now limit content.items) }
@@ -163,9 +165,7 @@ impl MemSink {
 impl Sink for MemSink {
     ghost use Rattle.shelf.specs.Sink.{is_fault};
 
-    ghost bytes = { λ s. Some s.bytes };
-
-    ghost faults = { λ s. s.script.faults };
+    ghost state = { λ s. record { bytes = Some s.bytes; faults = s.script.faults } };
 
     ghost takes_memory = { true };
 
@@ -178,7 +178,7 @@ impl Sink for MemSink {
         ensures after { self.new.script
             ≡ after_call self.old.script (is_fault piece.now result) }
 
-        ensures counts { self.old.script.faults ≤ self.new.script.faults }
+        ensures faults { self.old.script.faults ≤ self.new.script.faults }
     {
         if self.script.begin_call() {
             return Err(SinkError::Failed);

@@ -1,9 +1,9 @@
 //! The source of whole files, and a look-up among files in memory.
-ghost use Rattle.std.specs.Prelude.{◌≡◌, ◌≤◌, ◌↔◌, ◌⊎◌, ℕ, Option, IfOk, IsErrOf, false, find, string_bytes};
+ghost use Rattle.std.specs.Prelude.{◌≡◌, ◌≤◌, ◌↔◌, IfOk, IsErrOf, false, find, string_bytes};
 ghost use Rattle.std.specs.Option.{ForSome, ForNone, option_copied};
 ghost use Rattle.std.specs.Str.{bytes_eq};
-ghost use Rattle.shelf.specs.Faults.{Rose};
-ghost use Rattle.shelf.specs.Shelf.{Files, HasFile, LacksFile, HasLongerFile, IsServed, told_files, is_fault};
+ghost use Rattle.shelf.specs.Faults.{Rose, counted};
+ghost use Rattle.shelf.specs.Shelf.{ShelfState, HasFile, LacksFile, HasLongerFile, IsServed, files_of, is_fault};
 ghost use Rattle.shelf.specs.declared.source.ShelfError.TheVariants.{NoMemory};
 
 use std::alloc::{AllocError, Global};
@@ -36,35 +36,36 @@ impl From<AllocError> for ShelfError {
 
 /// A source of whole files by name.
 pub trait Shelf {
-    /// The files, where the shelf tells them.
-    ghost files: { Self → Option Files };
-
-    /// How often the shelf has failed, up to 2^64 - 1.
-    ghost faults: { Self → ℕ };
+    /// What contracts see: the files, where they are known, and the counts of faults and of reads.
+    ghost state: { Self → ShelfState };
 
     /// The whole content of the file `name`, where it has at most `limit` bytes.
     ///
     /// Want of memory may be answered at any call.
     fn read(&mut self, name: &str, limit: u64) -> Result<Vec<u8>, ShelfError>
-        ensures same_files { files self.new ≡ files self.old }
-        ensures counts { faults self.old ≤ faults self.new }
+        ensures same_files { (state self.new).files ≡ (state self.old).files }
+        ensures reads { (state self.new).reads ≡ counted (state self.old).reads }
+        ensures faults { (state self.old).faults ≤ (state self.new).faults }
         ensures failed { IsErrOf result ShelfError.Failed
-            → Rose (faults self.old) (faults self.new) }
+            → Rose (state self.old).faults (state self.new).faults }
 
-        // Where files are told, they decide what a call answers that is served.
+        // Where files are known, they decide what a call answers that is served.
         ensures content { IfOk result (λ content.
-            ForSome (files self.old) (λ told. HasFile told name.now limit content.items)) }
-        ensures missing { ForSome (files self.old) (λ told.
-            IsServed result → (IsErrOf result ShelfError.Missing ↔ LacksFile told name.now)) }
-        ensures too_long { ForSome (files self.old) (λ told.
+            ForSome (state self.old).files (λ files.
+            HasFile files name.now limit content.items)) }
+        ensures missing { ForSome (state self.old).files (λ files.
+            IsServed result → (IsErrOf result ShelfError.Missing ↔ LacksFile files name.now)) }
+        ensures too_long { ForSome (state self.old).files (λ files.
             IsServed result
-            → (IsErrOf result ShelfError.TooLong ↔ HasLongerFile told name.now limit)) }
+            → (IsErrOf result ShelfError.TooLong ↔ HasLongerFile files name.now limit)) }
 
         // Where they aren't, the count does.
-        ensures missing_untold { ForNone (files self.old)
-            (IsErrOf result ShelfError.Missing → Rose (faults self.old) (faults self.new)) }
-        ensures too_long_untold { ForNone (files self.old)
-            (IsErrOf result ShelfError.TooLong → Rose (faults self.old) (faults self.new)) };
+        ensures missing_unknown { ForNone (state self.old).files
+            (IsErrOf result ShelfError.Missing
+            → Rose (state self.old).faults (state self.new).faults) }
+        ensures too_long_unknown { ForNone (state self.old).files
+            (IsErrOf result ShelfError.TooLong
+            → Rose (state self.old).faults (state self.new).faults) };
 }
 
 /// The first of these files with this name.
@@ -76,7 +77,7 @@ fn find_named<'a>(files: &'a [(String, Vec<u8>)], name: &str) -> Option<&'a (Str
 }
 
 /// A copy of the first of these files with this name, where it has at most `limit` bytes.
-#[tactic(auto, using(crate::proofs::Lookups::file_named_told))]
+#[tactic(auto, using(crate::proofs::Lookups::file_named_kept))]
 pub(crate) fn copy_named(
     alloc: Global,
     files: &[(String, Vec<u8>)],
@@ -85,11 +86,11 @@ pub(crate) fn copy_named(
 ) -> Result<Vec<u8>, ShelfError>
     ensures no_fault { is_fault result ≡ false }
     ensures content { IfOk result (λ content.
-        HasFile (told_files files.now) name.now limit content.items) }
+        HasFile (files_of files.now) name.now limit content.items) }
     ensures missing { IsErrOf result ShelfError.Missing
-        ↔ LacksFile (told_files files.now) name.now }
+        ↔ LacksFile (files_of files.now) name.now }
     ensures too_long { IsErrOf result ShelfError.TooLong
-        ↔ HasLongerFile (told_files files.now) name.now limit }
+        ↔ HasLongerFile (files_of files.now) name.now limit }
 {
     let Some(file) = find_named(files, name) else {
         return Err(ShelfError::Missing);

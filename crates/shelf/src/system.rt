@@ -1,6 +1,6 @@
 //! The trusted edge: files, standard output and standard error of the system.
 //!
-//! Nothing is known here of what a file holds or of what reaches a stream, so neither is told.
+//! Nothing is known here of what a file holds or of what reaches a stream, so neither is known to contracts.
 ghost use Rattle.std.specs.Prelude.{◌≡◌, ◌≤◌, None, false, length, IfOk, ◌≢◌, if◌then◌else◌};
 ghost use Rattle.shelf.specs.Faults.{counted};
 
@@ -16,27 +16,32 @@ use std::rt::Files;
 ///
 /// A file that can't be opened is missing, and one that is opened but can't be read, as a folder,
 /// is a failure. Its model is the count of its faults, which rises at each error but want of
-/// memory.
+/// memory, and the count of its reads.
 #[derive(Drop)]
 pub struct DiskShelf<R: Files + AllocGlobal + Drop> {
     system: R,
     faults: u64,
+    reads: u64,
 }
 
 impl<R: Files + AllocGlobal + Drop> Model for DiskShelf<R> {
-    ghost use Rattle.std.specs.Prelude.{ℕ};
+    ghost use Rattle.shelf.specs.Shelf.{ReadCounts};
 
-    ghost Value = { ℕ };
+    ghost Value = { ReadCounts };
 
-    ghost view = { λ s. s.faults };
+    ghost view = { λ s. record { faults = s.faults; reads = s.reads } };
 }
 
 impl<R: Files + AllocGlobal + Drop> DiskShelf<R> {
     /// The files of this system.
     pub fn new(system: R) -> Self
-        ensures { result ≡ 0 }
+        ensures { result ≡ record { faults = 0; reads = 0 } }
     {
-        DiskShelf { system, faults: 0 }
+        DiskShelf {
+            system,
+            faults: 0,
+            reads: 0,
+        }
     }
 }
 
@@ -68,14 +73,16 @@ fn cause(error: io::Error, other: ShelfError) -> ShelfError {
 impl<R: Files + AllocGlobal + Drop> Shelf for DiskShelf<R> {
     ghost use Rattle.shelf.specs.Shelf.{is_refusal};
 
-    ghost files = { λ _. None };
-
-    ghost faults = { λ s. s };
+    ghost state = { λ s. record { files = None; faults = s.faults; reads = s.reads } };
 
     fn read(&mut self, name: &str, limit: u64) -> Result<Vec<u8>, ShelfError>
-        ensures after { self.new ≡ (if is_refusal result then counted self.old else self.old) }
-        ensures counts { self.old ≤ self.new }
+        ensures after { self.new ≡ record {
+          faults = (if is_refusal result then counted self.old.faults else self.old.faults);
+          reads = counted self.old.reads;
+        } }
+        ensures faults { self.old.faults ≤ self.new.faults }
     {
+        self.reads = self.reads.saturating_add(1);
         let content = read_file(&self.system, name, limit);
         if matches!(
             content,
@@ -126,9 +133,7 @@ fn write_through<W: Write>(stream: &mut W, piece: &[u8]) -> io::Result<usize>
 impl<W: Write + Drop> Sink for StdSink<W> {
     ghost use Rattle.shelf.specs.Sink.{is_fault};
 
-    ghost bytes = { λ _. None };
-
-    ghost faults = { λ s. s };
+    ghost state = { λ s. record { bytes = None; faults = s } };
 
     ghost takes_memory = { false };
 
@@ -137,7 +142,7 @@ impl<W: Write + Drop> Sink for StdSink<W> {
         ensures no_memory { result ≢ Err SinkError.NoMemory }
         ensures after { self.new
             ≡ (if is_fault piece.now result then counted self.old else self.old) }
-        ensures counts { self.old ≤ self.new }
+        ensures faults { self.old ≤ self.new }
     {
         match write_through(&mut self.stream, piece) {
             Ok(taken) if taken > 0 || piece.is_empty() => Ok(taken as u64),

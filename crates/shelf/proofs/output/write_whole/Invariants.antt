@@ -5,9 +5,9 @@ use Rattle.shelf.proofs.output.write_whole.Given as goal
 abbrev pub invariant-loop-written : goal.invariant-loop-written
 invariant-loop-written g l = record {
   within : l.written ≤ length l.bytes;
-  written : g.K.Sink.bytes l.sink ≡ gained (g.K.Sink.bytes l.initial.sink) (take l.written l.bytes);
+  written : (g.K.Sink.state l.sink).bytes ≡ gained (g.K.Sink.state l.initial.sink).bytes (take l.written l.bytes);
   untouched : l.bytes ≡ [] → l.sink ≡ l.initial.sink;
-  counts : g.K.Sink.faults l.initial.sink ≤ g.K.Sink.faults l.sink;
+  faults : (g.K.Sink.state l.initial.sink).faults ≤ (g.K.Sink.state l.sink).faults;
 }
 
 abbrev pub decreases-loop-written : goal.decreases-loop-written
