@@ -1,11 +1,10 @@
 -- The parts of a text round a byte, taken off one at a time.
-use Rattle.std.proofs.Common.{◌≡◌, Bool, ◌+◌, ◌<◌, ℕ, List, [], ◌∷◌, length, take, drop, true, false, cond, ltb, ◌==◌, Some, None, position, Option, refl, ap, ◌∙◌, arith, add-one}
+use Rattle.std.proofs.Common.{◌≡◌, Bool, ◌+◌, ◌<◌, ℕ, List, [], ◌∷◌, length, take, drop, true, false, cond, ltb, ◌==◌, Some, None, position, refl, arith}
 use Rattle.std.specs.List.{position_or_len}
 use Rattle.std.proofs.lemmas.Bool.{ltb-true, ltb-false}
 use Rattle.std.proofs.lemmas.Option.{cond_some}
 use Rattle.std.proofs.lemmas.List.Splits.{slice_split_first, slice_split_none, length-slice_split}
 use Rattle.std.proofs.lemmas.List.Sums.{fails_before_first}
-use Rattle.five_tuple.specs.declared.header.Fields.{Fields}
 use Rattle.schedule.specs.Plain.{parts_of, fields_read}
 
 -- the first such byte stands at this place

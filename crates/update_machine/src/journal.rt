@@ -1,14 +1,14 @@
 ghost use Rattle.std.specs.Prelude.{◌≡◌, [], ◌∷◌, ◌++◌, OnOk, OnErr};
 
-use crate::schedule::Step;
 use policy_rules::{Action, Header, How, Leaving};
+use schedule::Step;
 use std::alloc::{AllocError, Global};
 use std::marker::Model;
 
 /// One record of a journal.
 ///
 /// Packets are numbered from 1 in the order of the packet rows, switches from 0 and policy versions from 1.
-#[derive(Clone, Copy, Debug, PartialEq, Eq)]
+#[derive(Drop)]
 pub enum Item {
     /// The schedule's row of this number, from 1, takes this step.
     Row {
@@ -49,7 +49,7 @@ pub struct Journal {
 
 impl Model for Journal {
     ghost use Rattle.std.specs.Prelude.{List};
-    ghost use Rattle.replay.specs.declared.journal.Item.{Item};
+    ghost use Rattle.update_machine.specs.declared.journal.Item.{Item};
 
     ghost Value = { List Item };
 

@@ -1,0 +1,5 @@
+pub mod CallerLemmas
+mod Ends
+mod Pieces
+mod Runs
+mod Steps

@@ -1,0 +1,5 @@
+pub mod Setting
+pub mod Folds
+pub mod Machine
+pub mod Answers
+pub mod Causes
