@@ -1,4 +1,1 @@
-pub mod Machine
-pub mod Standing
-pub mod Answers
 pub mod Text

@@ -1,17 +1,14 @@
-//! Plays a schedule against policies, and writes down every decision in a journal.
+//! Plays a schedule against policies, and prints the journal of it.
 //!
-//! `replay` promises the one journal that answers the schedule, that this journal is a run of an abstract machine
-//! which knows only policies, versions and packets, and that each end of a packet in it has its cause. `text`
-//! promises the journal's lines.
+//! `replay` promises the one journal that answers the schedule; the laws of `update_machine` say what follows: that it is a run of
+//! the abstract machine, and that the ends in it have causes. `text` promises the journal's lines.
 #![tactic(auto)]
 
-mod journal;
-mod lines;
 mod play;
-mod schedule;
+mod printing;
 
-pub use journal::{Item, Journal};
-pub use lines::text;
-pub use play::{Played, replay, schedules_have_one_answer};
+pub use play::{Played, replay};
 pub use policy_rules::{Action, Header, Hit, How, Leaving, Policy};
+pub use printing::{lines, text};
 pub use schedule::{Event, Step};
+pub use update_machine::{Item, Journal};

@@ -1,15 +1,10 @@
-ghost use Rattle.std.specs.Prelude.{◌≡◌, ◌++◌, ◌≤◌, ◌<◌, ◌^◌, length, All, IfOk, OnOk, List};
-ghost use Rattle.policy_rules.specs.declared.policy.Row.{Row};
-ghost use Rattle.replay.specs.declared.journal.Item.{Item};
-ghost use Rattle.replay.specs.declared.schedule.Event.{Event};
-ghost use Rattle.replay.specs.Answers.{Answers, IsOfOneSwitch, ending, event_piece, next_packet, packet_piece};
-ghost use Rattle.replay.specs.Machine.{IsRun, first_policy};
-ghost use Rattle.replay.specs.Standing.{EndsHaveCauses, NamesOwnPorts};
+ghost use Rattle.std.specs.Prelude.{◌≡◌, ◌++◌, ◌∷◌, [], ◌≤◌, ◌<◌, length, vec_len, IfOk, OnOk};
+ghost use Rattle.update_machine.specs.Answers.{Answers, ending, next_packet, packet_piece, piece};
 
-use crate::journal::{Item, Journal};
-use crate::schedule::{Event, Step};
 use policy_rules::{Action, Header, Hit, How, Leaving, Policy};
+use schedule::{Event, Step};
 use std::alloc::{AllocError, Global};
+use update_machine::{Item, Journal};
 
 /// What a play leaves.
 #[derive(Drop)]
@@ -17,58 +12,55 @@ pub struct Played {
     pub journal: Journal,
 }
 
-/// Plays the events on the network of one switch, which has the ports 0 to 63 and scans the policy: event k, from 1,
-/// is row k of the schedule.
+/// Plays the events on the network of one switch, which scans the first policy: event k, from 1, is row k of the schedule.
+///
+/// The journal is the answer to the events; what that means beyond its items is the laws of `update_machine`.
 ///
 /// # Errors
 /// Want of memory alone.
 pub fn replay(alloc: Global, policies: Vec<Policy>, events: &[Event]) -> Result<Played, AllocError>
-    requires one_policy { length policies.items ≡ 1 }
-    requires own_ports { NamesOwnPorts (first_policy policies.items) }
-    requires one_switch { All IsOfOneSwitch events.now }
+    requires some_policy { 0 < vec_len policies }
     requires few_events { length events.now ≤ 100000 }
-    ensures answers { IfOk result (λ played. Answers (first_policy policies.items) events.now played.journal) }
-    ensures run { IfOk result (λ played. IsRun (first_policy policies.items) played.journal) }
-    ensures causes { IfOk result (λ played. EndsHaveCauses played.journal) }
-{
-    let journal = play(alloc, &policies[0], events)?;
-    Ok(Played { journal })
-}
-
-// Plays the events one by one.
-fn play(alloc: Global, policy: &Policy, events: &[Event]) -> Result<Journal, AllocError>
-    requires own_ports { NamesOwnPorts policy.now }
-    requires one_switch { All IsOfOneSwitch events.now }
-    requires few_events { length events.now ≤ 100000 }
-    ensures answers { IfOk result (λ journal. Answers policy.now events.now journal) }
-    ensures run { IfOk result (λ journal. IsRun policy.now journal) }
-    ensures causes { IfOk result EndsHaveCauses }
+    ensures { IfOk result (λ played.
+        Answers (record { policies = policies.items }) events.now played.journal) }
 {
     let mut journal = Journal::new(alloc);
-    let mut packets = 0u32;
     let mut row = 0u32;
     for event in events {
         row += 1;
-        packets += 1;
-        play_event(&mut journal, policy, row, packets, event)?;
+        // Each row is a packet, so that the packet of row k has the number k.
+        let packet = row;
+        let step = only_step(event);
+        play_step(&mut journal, &policies, row, packet, step)?;
     }
-    Ok(journal)
+    Ok(Played { journal })
 }
 
-// Writes the piece of one event; a packet that comes in has this number.
-fn play_event(
+// The one step of an event.
+fn only_step(event: &Event) -> &Step
+    ensures { event.now ≡ Event.One result.now }
+{
+    match event {
+        Event::One(step) => step,
+    }
+}
+
+// Writes the piece of one step; a packet that comes in has this number.
+fn play_step(
     journal: &mut Journal,
-    policy: &Policy,
+    policies: &[Policy],
     row: u32,
     packet: u32,
-    event: &Event,
+    step: &Step,
 ) -> Result<(), AllocError>
-    requires { packet ≡ next_packet journal.old }
-    ensures { OnOk result (journal.new ≡ journal.old ++ event_piece policy.now journal.old row event.now) }
+    requires some_policy { 0 < length policies.now }
+    requires number { packet ≡ next_packet journal.old }
+    ensures { OnOk result (journal.new
+        ≡ journal.old ++ piece (record { policies = policies.now }) journal.old row step.now) }
 {
-    match *event {
-        Event::One(Step::Packet { switch, header }) => {
-            play_packet(journal, policy, row, packet, switch, header)
+    match *step {
+        Step::Packet { switch, header } => {
+            play_packet(journal, &policies[0], row, packet, switch, header)
         }
     }
 }
@@ -82,7 +74,8 @@ fn play_packet(
     switch: u32,
     header: Header,
 ) -> Result<(), AllocError>
-    ensures { OnOk result (journal.new ≡ journal.old ++ packet_piece policy.now packet row switch header) }
+    ensures { OnOk result (journal.new ≡ journal.old
+        ++ packet_piece (record { policies = policy.now ∷ [] }) packet row switch header) }
 {
     let hit = policy.scan(&header);
     let step = Step::Packet { switch, header };
@@ -123,9 +116,3 @@ fn ending(packet: u32, header: Header, hit: Hit) -> Item
         },
     }
 }
-
-/// Each schedule has one answer: a law on journals alone.
-pub fn schedules_have_one_answer()
-    ensures exists { (policy : List Row) (events : List Event) → (journal : List Item) × Answers policy events journal }
-    ensures one { (policy : List Row) (events : List Event) (one other : List Item) → Answers policy events one → Answers policy events other → one ≡ other }
-{}

@@ -1,20 +1,22 @@
-ghost use Rattle.std.specs.Prelude.{◌≡◌, ◌++◌, ◌∷◌, [], Some, IfOk, OnOk};
+ghost use Rattle.std.specs.Prelude.{◌≡◌, ◌++◌, ◌∷◌, [], Some, IfOk};
 ghost use Rattle.std.specs.String.{string_bytes};
-ghost use Rattle.replay.specs.Text.{how_text, item_line, journal_text, step_text, switch_text};
+ghost use Rattle.schedule.specs.OneSwitch.{switch_name};
+ghost use Rattle.replay.specs.Text.{how_text, item_line, journal_text, step_text};
+ghost use Rattle.update_machine.specs.Setting.{Setting};
 
-use crate::journal::{Item, Journal};
-use crate::schedule::Step;
 use policy_rules::{How, RuleName};
+use schedule::Step;
 use std::alloc::{AllocError, Global};
 use std::fmt;
 use std::fmt::Write;
+use update_machine::{Item, Journal};
 
 // A switch, printed by its name.
 #[derive(Clone, Copy)]
 struct SwitchName(u32);
 
 impl fmt::Display for SwitchName {
-    ghost output = { λ name. Some (switch_text name.0) };
+    ghost output = { λ name. Some (switch_name name.0) };
 
     fn fmt<W: fmt::Write>(&self, f: &mut fmt::Formatter<W>) -> fmt::Result {
         let switch = self.0;
@@ -22,12 +24,15 @@ impl fmt::Display for SwitchName {
     }
 }
 
-/// Printed as the fields of its row in a schedule, separated by blanks.
-impl fmt::Display for Step {
-    ghost output = { λ step. Some (step_text step) };
+// A step, printed as the fields of its row in a schedule, separated by blanks.
+#[derive(Clone, Copy)]
+struct StepLine<'a>(&'a Step);
+
+impl fmt::Display for StepLine<'_> {
+    ghost output = { λ line. Some (step_text switch_name line.0.now) };
 
     fn fmt<W: fmt::Write>(&self, f: &mut fmt::Formatter<W>) -> fmt::Result {
-        match self {
+        match self.0 {
             Step::Packet { switch, header } => {
                 let switch = SwitchName(*switch);
                 let fields = header.fields();
@@ -42,7 +47,7 @@ impl fmt::Display for Step {
 struct Source(How);
 
 impl fmt::Display for Source {
-    ghost output = { λ source. Some (how_text source.0) };
+    ghost output = { λ source. Some (how_text switch_name source.0) };
 
     fn fmt<W: fmt::Write>(&self, f: &mut fmt::Formatter<W>) -> fmt::Result {
         match self.0 {
@@ -55,13 +60,19 @@ impl fmt::Display for Source {
     }
 }
 
-/// Printed as its line in a journal: a row at the left edge, each other item behind two blanks.
-impl fmt::Display for Item {
-    ghost output = { λ item. Some (item_line item) };
+// An item, printed as its line in a journal: a row at the left edge, each other item behind two blanks.
+#[derive(Clone, Copy)]
+struct Line<'a>(&'a Item);
+
+impl fmt::Display for Line<'_> {
+    ghost output = { λ line. Some (item_line switch_name line.0.now) };
 
     fn fmt<W: fmt::Write>(&self, f: &mut fmt::Formatter<W>) -> fmt::Result {
-        match self {
-            Item::Row { row, step } => write!(f, "row {row}: {step}"),
+        match self.0 {
+            Item::Row { row, step } => {
+                let step = StepLine(step);
+                write!(f, "row {row}: {step}")
+            }
             Item::Entered { packet, switch, .. } => {
                 let switch = SwitchName(*switch);
                 write!(f, "  entered {packet} {switch}")
@@ -91,11 +102,24 @@ impl fmt::Display for Item {
 /// # Errors
 /// Want of memory alone.
 pub fn text(alloc: Global, journal: &Journal) -> Result<Vec<u8>, AllocError>
-    ensures { IfOk result (λ bytes. bytes.items ≡ journal_text journal.now) }
+    ensures { (setting : Setting)
+        → IfOk result (λ bytes. bytes.items ≡ journal_text setting journal.now) }
+{
+    lines(alloc, journal.items())
+}
+
+/// The lines of some items of a journal, as `text` has them.
+///
+/// # Errors
+/// Want of memory alone.
+pub fn lines(alloc: Global, items: &[Item]) -> Result<Vec<u8>, AllocError>
+    ensures { (setting : Setting)
+        → IfOk result (λ bytes. bytes.items ≡ journal_text setting items.now) }
 {
     let mut text = String::new(alloc);
-    for item in journal.items() {
-        writeln!(text, "{item}")?;
+    for item in items {
+        let line = Line(item);
+        writeln!(text, "{line}")?;
     }
     Ok(text.into_bytes())
 }
