@@ -1,6 +1,7 @@
 //! `difane`: replays a schedule of packets against an access-control policy.
 //!
-//! This file only joins the proved top call to the system: files, standard output and standard error.
+//! This file only joins the proved top call to the system: files, standard output and standard
+//! error.
 #![tactic(auto)]
 
 use difane_cli::{Status, run, tell};

@@ -1,3 +1,4 @@
-pub mod AllRead
-pub mod Gains
-pub mod Unplayed
+mod Ends
+mod Gains
+mod Plays
+mod ShelfReads

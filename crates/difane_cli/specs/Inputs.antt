@@ -1,155 +1,132 @@
--- The inputs of a replay, where files are told: what its files are read to, or the first refusal.
-use Rattle.std.specs.Prelude.{ℕ, ◌≡◌, ◌⊎◌, ◌-◌, ◌^◌, nat_le, if◌then◌else◌, Option, Some, None, Result, Ok, Err, IsOk, List, length}
-use Rattle.std.specs.Option.{ForSome, ok_or}
-use Rattle.std.specs.Result.{ForOk}
+-- The inputs of a replay: what its files are read to, or the first refusal in the order of work.
+use Rattle.std.specs.Prelude.{⊤, ℕ, ◌≡◌, ◌+◌, ◌<◌, Bool, true, false, nat_le, if◌then◌else◌, Option, Some, None, Result, Ok, Err, is_ok, List, [], ◌∷◌, length}
 use Rattle.policy_rules.specs.RuleList.{word_total}
 use Rattle.policy_rules.specs.declared.policy.Row.{Row}
-use Rattle.replay.specs.declared.schedule.Event.{Event}
-use Rattle.shelf.specs.Shelf.{Files, file_named, LacksFile, HasLongerFile}
 use Rattle.policy_file.specs.Ports.{first_without_port}
-use Rattle.policy_file.specs.Reading.{Refusal, code_of, policy_of}
+use Rattle.policy_file.specs.Reading as policy_text
 use Rattle.policy_file.specs.declared.ports.NoPort.{NoPort}
-use Rattle.difane_cli.specs.Plain.{plain_schedule}
+use Rattle.schedule.specs.OneSwitch.{port_mask}
+use Rattle.schedule.specs.Plain as schedule_text
+use Rattle.schedule.specs.declared.step.Event.{Event}
+use Rattle.shelf.specs.Shelf.{Files, file_named}
+use Rattle.update_machine.specs.Setting.{Setting}
 use Rattle.difane_cli.specs.Words.{ReplayCommand, command_of}
-use Rattle.difane_cli.specs.declared.status.Status.{Status}
-use Rattle.difane_cli.specs.declared.status.Status.TheVariants as status
+use Rattle.difane_cli.specs.declared.inputs.TheConstants.{MAX_BYTES, MISSING, TOO_LONG}
+use Rattle.difane_cli.specs.declared.policies.TheConstants.{MAX_WORDS, NO_PORT, TOO_MANY_WORDS}
+use Rattle.difane_cli.specs.declared.status.Refusal.{Refusal}
+use Rattle.difane_cli.specs.declared.status.Stop.{Stop}
+use Rattle.difane_cli.specs.declared.status.Stop.TheVariants as stop
 
--- why a file is refused: a code, and the row, or 0 for the file as a whole
-pub record Fault : Type 0 where
-  pub code : ℕ
-  pub row : ℕ
+-- what goes on from a value that was read; a refusal ends the reading
+abbrev pub and_then : {X Y : Type 0} → Result X Refusal → (X → Result Y Refusal) → Result Y Refusal
+and_then (Ok x) next = next x
+and_then (Err refusal) next = Err refusal
 
-abbrev pub whole_file : ℕ → Fault
-whole_file code = record { code = code; row = 0 }
+-- ---- one file
 
--- which file is refused, and why
-pub record FileRefusal : Type 0 where
-  pub file : List ℕ
-  pub code : ℕ
-  pub row : ℕ
+-- a file that is refused as a whole
+abbrev pub whole : List ℕ → ℕ → Refusal
+whole name code = record { file = name; code = code; row = 0 }
 
-abbrev pub refusal_of : List ℕ → Fault → FileRefusal
-refusal_of file fault = record { file = file; code = fault.code; row = fault.row }
+abbrev pub content_from : List ℕ → Option (List ℕ) → Result (List ℕ) Refusal
+content_from name None = Err (whole name MISSING)
+content_from name (Some bytes) =
+    if nat_le (length bytes) MAX_BYTES then Ok bytes else Err (whole name TOO_LONG)
 
-abbrev pub blames : {X : Type 0} → List ℕ → Result X Fault → Result X FileRefusal
-blames file (Ok x) = Ok x
-blames file (Err fault) = Err (refusal_of file fault)
+-- the content of the file of this name, unless there is none or it is too long
+abbrev pub content_of : Files → List ℕ → Result (List ℕ) Refusal
+content_of files name = content_from name (file_named files name)
 
--- a file's content as a reader takes it; code 0 where there is no such file, 20 where it is too long
-abbrev pub read_content : {X : Type 0} → (List ℕ → Result X Fault) → Option (List ℕ) → Result X Fault
-read_content reads None = Err (whole_file 0)
-read_content reads (Some bytes) = if nat_le (length bytes) 16777216 then reads bytes else Err (whole_file 20)
+abbrev pub schedule_from : List ℕ → Result (List Event) schedule_text.Refusal
+    → Result (List Event) Refusal
+schedule_from name (Ok events) = Ok events
+schedule_from name (Err refusal) =
+    Err (record { file = name; code = refusal.code; row = refusal.row })
 
-abbrev pub read_file : {X : Type 0} → (List ℕ → Result X Fault) → Files → List ℕ → Result X FileRefusal
-read_file reads files name = blames name (read_content reads (file_named files name))
+-- the events that the bytes of this file state
+abbrev pub schedule_in : List ℕ → List ℕ → Result (List Event) Refusal
+schedule_in name bytes = schedule_from name (schedule_text.schedule_of bytes)
 
--- for now only plain schedules are taken: code 18 stands for all others
-abbrev pub schedule_of : List ℕ → Result (List Event) Fault
-schedule_of bytes = ok_or (plain_schedule bytes) (whole_file 18)
+abbrev pub policy_from : List ℕ → Result (List Row) policy_text.Refusal → Result (List Row) Refusal
+policy_from name (Ok rows) = Ok rows
+policy_from name (Err refusal) =
+    Err (record { file = name; code = policy_text.code_of refusal.fault; row = refusal.row })
 
-abbrev pub fault_of : Refusal → Fault
-fault_of refusal = record { code = code_of refusal.fault; row = refusal.row }
+abbrev pub with_ports : List ℕ → List Row → Option NoPort → Result (List Row) Refusal
+with_ports name rows None = Ok rows
+with_ports name rows (Some lack) = Err (record { file = name; code = NO_PORT; row = lack.row })
 
--- the one switch has each port from 0 to 63
-abbrev pub own_ports : ℕ
-own_ports = 2 ^ 64 - 1
+-- the rows that the bytes of this file state, unless one names a port that the network lacks
+abbrev pub policy_in : List ℕ → List ℕ → Result (List Row) Refusal
+policy_in name bytes =
+    and_then (policy_from name (policy_text.policy_of bytes)) (λ rows.
+    with_ports name rows (first_without_port port_mask rows))
 
--- the rows, unless one names a port that the network lacks: code 13
-abbrev pub with_known_ports : Option NoPort → List Row → Result (List Row) Fault
-with_known_ports None rows = Ok rows
-with_known_ports (Some lack) rows = Err (record { code = 13; row = lack.row })
+abbrev pub read_schedule : Files → List ℕ → Result (List Event) Refusal
+read_schedule files name = and_then (content_of files name) (schedule_in name)
 
--- the rows, unless they have more than 4,096 words together: code 12
-abbrev pub with_few_words : Result (List Row) Fault → Result (List Row) Fault
-with_few_words (Ok rows) = if nat_le (word_total rows) 4096 then Ok rows else Err (whole_file 12)
-with_few_words (Err fault) = Err fault
+abbrev pub read_policy : Files → List ℕ → Result (List Row) Refusal
+read_policy files name = and_then (content_of files name) (policy_in name)
 
-abbrev pub checked_policy : Result (List Row) Refusal → Result (List Row) Fault
-checked_policy (Ok rows) = with_few_words (with_known_ports (first_without_port own_ports rows) rows)
-checked_policy (Err refusal) = Err (fault_of refusal)
+-- ---- all files
 
--- the policy that a file states, by its CSV records, or its first fault
-abbrev pub policy_in : List ℕ → Result (List Row) Fault
-policy_in bytes = checked_policy (policy_of bytes)
+-- the first policy, unless it has too many words
+abbrev pub first_plan : List ℕ → List Row → Result (List Row) Refusal
+first_plan name rows =
+    if nat_le (word_total rows) MAX_WORDS then Ok rows else Err (whole name TOO_MANY_WORDS)
 
 pub record Inputs : Type 0 where
+  pub setting : Setting
   pub events : List Event
-  pub policy : List Row
 
--- the first refusal, if there is one
-abbrev pub both : Result (List Event) FileRefusal → Result (List Row) FileRefusal → Result Inputs FileRefusal
-both (Err refusal) policy = Err refusal
-both (Ok events) (Err refusal) = Err refusal
-both (Ok events) (Ok policy) = Ok (record { events = events; policy = policy })
+-- the schedule is read and checked, then the policy, and then the first policy is planned
+abbrev pub inputs_of : Files → ReplayCommand → Result Inputs Refusal
+inputs_of files command =
+    and_then (read_schedule files command.schedule) (λ events.
+    and_then (read_policy files command.policy) (λ rows.
+    and_then (first_plan command.policy rows) (λ policy.
+    Ok (record { setting = record { policies = policy ∷ [] }; events = events }))))
 
--- the schedule is read before the policy
-abbrev pub inputs_of : Files → ReplayCommand → Result Inputs FileRefusal
-inputs_of files command = both (read_file schedule_of files command.schedule) (read_file policy_in files command.policy)
+-- the inputs or the refusal, where files are known and the words are a command
+abbrev pub known_inputs : Option Files → Option ReplayCommand → Option (Result Inputs Refusal)
+known_inputs (Some files) (Some command) = Some (inputs_of files command)
+known_inputs _ _ = None
 
--- what a status says of what was to be read: a refusal is the one that stands there, and work was done only on what was
--- read; where a read failed or memory ran out, nothing is said
-abbrev pub Accounts : {X : Type 0} → Result X FileRefusal → Status → Type 0
-Accounts read status.Ok = IsOk read
-Accounts read status.WriteFault = IsOk read
-Accounts read (status.Input file code row) = read ≡ Err (record { file = file; code = code; row = row })
-Accounts read status.ReadFault = Unit {0}
-Accounts read status.NoMemory = Unit {0}
-Accounts read status.Words = ⊥
+-- the inputs are known, and accepted
+abbrev pub AreAccepted : Option (Result Inputs Refusal) → Type 0
+AreAccepted (Some (Ok inputs)) = ⊤
+AreAccepted _ = ⊥
 
--- a status that ends a command before its work
-abbrev pub IsStop : Status → Type 0
-IsStop (status.Input file code row) = Unit {0}
-IsStop status.ReadFault = Unit {0}
-IsStop status.NoMemory = Unit {0}
-IsStop status.Ok = ⊥
-IsStop status.Words = ⊥
-IsStop status.WriteFault = ⊥
+-- of files in order, which are accepted or not, how many are read: none behind the first that is
+-- refused
+abbrev pub up_to_refusal : List Bool → ℕ
+up_to_refusal [] = 0
+up_to_refusal (true ∷ files) = 1 + up_to_refusal files
+up_to_refusal (false ∷ files) = 1
 
--- what such a status says of what was to be read
-abbrev pub Refused : {X : Type 0} → Result X FileRefusal → Status → Type 0
-Refused read (status.Input file code row) = read ≡ Err (record { file = file; code = code; row = row })
-Refused read status.ReadFault = Unit {0}
-Refused read status.NoMemory = Unit {0}
-Refused read status.Ok = ⊥
-Refused read status.Words = ⊥
-Refused read status.WriteFault = ⊥
+-- how many reads a command makes at most
+abbrev pub most_reads : Option Files → Option ReplayCommand → ℕ
+most_reads files None = 0
+most_reads None (Some command) = 2
+most_reads (Some files) (Some command) =
+    up_to_refusal (is_ok (read_schedule files command.schedule)
+    ∷ is_ok (read_policy files command.policy) ∷ [])
 
--- this holds of the inputs, where the words are a replay of files that are told and accepted
-abbrev pub OnAccepted : Option Files → List (List ℕ) → (Inputs → Type 0) → Type 0
-OnAccepted told words P = ForSome told (λ files. ForSome (command_of words) (λ command. ForOk (inputs_of files command) P))
+-- what a stop says of what was to be read: a refusal is the one that stands there
+abbrev pub Stops : {X : Type 0} → Result X Refusal → Stop → Type 0
+Stops read (stop.Refused refusal) = read ≡ Err refusal
+Stops read _ = ⊤
 
--- why the file of this name wasn't read, where files are told
-abbrev pub RefusesFile : Files → List ℕ → Status → Type 0
-RefusesFile files name (status.Input file code row) = (file ≡ name) × (row ≡ 0) × (((code ≡ 0) × LacksFile files name) ⊎ ((code ≡ 20) × HasLongerFile files name 16777216))
-RefusesFile files name status.ReadFault = Unit {0}
-RefusesFile files name status.NoMemory = Unit {0}
-RefusesFile files name status.Ok = ⊥
-RefusesFile files name status.Words = ⊥
-RefusesFile files name status.WriteFault = ⊥
+-- this refusal, or want of memory
+abbrev pub Refuses : Refusal → Stop → Type 0
+Refuses given (stop.Refused refusal) = refusal ≡ given
+Refuses given stop.NoMemory = ⊤
+Refuses given stop.ReadFault = ⊥
 
--- a status stands for this fault of the file, or memory ran out
-abbrev pub IsRefusal : List ℕ → Fault → Status → Type 0
-IsRefusal name fault (status.Input file code row) = (file ≡ name) × (code ≡ fault.code) × (row ≡ fault.row)
-IsRefusal name fault status.NoMemory = Unit {0}
-IsRefusal name fault status.ReadFault = ⊥
-IsRefusal name fault status.Ok = ⊥
-IsRefusal name fault status.Words = ⊥
-IsRefusal name fault status.WriteFault = ⊥
-
--- why a file that was read is refused: its reader's fault, or memory ran out
-abbrev pub Blames : {X : Type 0} → List ℕ → Result X Fault → Status → Type 0
-Blames name read (status.Input file code row) = (file ≡ name) × (read ≡ Err (record { code = code; row = row })) × ((code ≡ 0) ⊎ (code ≡ 20) → ⊥)
-Blames name read status.NoMemory = Unit {0}
-Blames name read status.ReadFault = ⊥
-Blames name read status.Ok = ⊥
-Blames name read status.Words = ⊥
-Blames name read status.WriteFault = ⊥
-
--- where files aren't told, a file counts as absent or too long only where the shelf failed
-abbrev pub FailsUntold : Status → Type 0 → Type 0
-FailsUntold (status.Input file code row) failed = ((code ≡ 0) ⊎ (code ≡ 20)) → failed
-FailsUntold status.ReadFault failed = failed
-FailsUntold status.Ok failed = Unit {0}
-FailsUntold status.Words failed = Unit {0}
-FailsUntold status.WriteFault failed = Unit {0}
-FailsUntold status.NoMemory failed = Unit {0}
+-- a stop at the content of a file: its refusal, by a code that an absent file or one too long
+-- doesn't have
+abbrev pub StopsContent : {X : Type 0} → Result X Refusal → Stop → Type 0
+StopsContent read (stop.Refused refusal) =
+    (read ≡ Err refusal) × (MISSING < refusal.code) × (refusal.code < TOO_LONG)
+StopsContent read stop.NoMemory = ⊤
+StopsContent read stop.ReadFault = ⊥

@@ -1,5 +1,5 @@
 pub mod Inputs
-pub mod Plain
 pub mod Run
 pub mod Status
 pub mod Words
+pub mod Commands

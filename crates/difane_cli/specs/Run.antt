@@ -1,64 +1,75 @@
--- What the top call's status says of its journal and its output.
-use Rattle.std.specs.Prelude.{ℕ, ◌≡◌, Option, Result, Ok, List, [], ◌++◌, map, take, string_bytes, String, Vec}
-use Rattle.std.specs.Global.{Global}
-use Rattle.policy_rules.specs.declared.policy.Row.{Row}
-use Rattle.replay.specs.Answers.{Answers}
-use Rattle.replay.specs.Machine.{IsRun}
-use Rattle.replay.specs.declared.journal.Item.{Item}
-use Rattle.replay.specs.declared.schedule.Event.{Event}
+-- What became of a call of the program, by its status.
+use Rattle.std.specs.Prelude.{⊤, ℕ, ◌≡◌, ◌⊎◌, Option, Result, Ok, Err, IsOk, List, [], take}
+use Rattle.std.specs.Option.{ForSome}
+use Rattle.replay.specs.Text.{journal_text}
 use Rattle.shelf.specs.Sink.{gained, GainedPart}
-use Rattle.difane_cli.specs.Inputs.{Accounts, Inputs, FileRefusal}
+use Rattle.update_machine.specs.Answers.{Answers, BeginsAnswer}
+use Rattle.update_machine.specs.Causes.{EndsHaveCauses}
+use Rattle.update_machine.specs.Machine.{IsRun}
+use Rattle.update_machine.specs.declared.journal.Item.{Item}
+use Rattle.difane_cli.specs.Inputs.{Inputs}
+use Rattle.difane_cli.specs.declared.status.Refusal.{Refusal}
 use Rattle.difane_cli.specs.declared.status.Status.{Status}
 use Rattle.difane_cli.specs.declared.status.Status.TheVariants as status
 
--- the bytes of the words
-abbrev pub texts : Vec (String Global) Global → List (List ℕ)
-texts words = map string_bytes words.items
+-- what is known of the inputs
+abbrev pub Known : Type 0
+Known = Option (Result Inputs Refusal)
 
--- the journal begins an answer to the events
-abbrev pub BeginsAnswer : List Row → List Event → List Item → Type 0
-BeginsAnswer policy events journal = (rest : List Item) × Answers policy events (journal ++ rest)
+-- the output gained some of these bytes from the front
+abbrev pub GainedSome : Option (List ℕ) → List ℕ → Option (List ℕ) → Type 0
+GainedSome before bytes now = (n : ℕ) × (now ≡ gained before (take n bytes))
 
--- the journal that a status comes with: the answer where it was played, a beginning of it where memory ran out, and
--- the empty one where nothing was played
-abbrev pub Records : Status → List Row → List Event → List Item → Type 0
-Records status.Ok policy events journal = Answers policy events journal
-Records status.WriteFault policy events journal = Answers policy events journal
-Records status.NoMemory policy events journal = BeginsAnswer policy events journal
-Records status.Words policy events journal = journal ≡ []
-Records (status.Input file code row) policy events journal = journal ≡ []
-Records status.ReadFault policy events journal = journal ≡ []
+-- nothing was played, and nothing written
+pub record Unplayed (journal : List Item) (before now : Option (List ℕ)) : Type 0 where
+  pub nothing_played : journal ≡ []
+  pub nothing_written : now ≡ before
 
--- what the output gained under a status: the whole text, a proper part of it at a fault, some of it where memory ran
--- out, and nothing where nothing was played
-abbrev pub Writes : Status → Option (List ℕ) → List ℕ → Option (List ℕ) → Type 0
-Writes status.Ok before text now = now ≡ gained before text
-Writes status.WriteFault before text now = GainedPart before text now
-Writes status.NoMemory before text now = (n : ℕ) × (now ≡ gained before (take n text))
-Writes status.Words before text now = now ≡ before
-Writes (status.Input file code row) before text now = now ≡ before
-Writes status.ReadFault before text now = now ≡ before
+-- there are inputs, the known ones where files are known; the journal answers them, and the output
+-- gained its text
+pub record Replayed (known : Known) (journal : List Item) (before now : Option (List ℕ))
+    : Type 0 where
+  pub inputs : Inputs
+  pub accepted : ForSome known (λ read. read ≡ Ok inputs)
+  pub answers : Answers inputs.setting inputs.events journal
+  pub run : IsRun inputs.setting journal
+  pub causes : EndsHaveCauses inputs.setting journal
+  pub written : now ≡ gained before (journal_text inputs.setting journal)
 
--- the work was done, or memory ran out
-abbrev pub IsDone : Status → Type 0
-IsDone status.Ok = Unit {0}
-IsDone status.NoMemory = Unit {0}
-IsDone status.Words = ⊥
-IsDone (status.Input file code row) = ⊥
-IsDone status.ReadFault = ⊥
-IsDone status.WriteFault = ⊥
+-- the same, but that the output failed and gained a part of the text
+pub record CutShort (known : Known) (journal : List Item) (before now : Option (List ℕ))
+    : Type 0 where
+  pub inputs : Inputs
+  pub accepted : ForSome known (λ read. read ≡ Ok inputs)
+  pub answers : Answers inputs.setting inputs.events journal
+  pub run : IsRun inputs.setting journal
+  pub causes : EndsHaveCauses inputs.setting journal
+  pub written : GainedPart before (journal_text inputs.setting journal) now
 
--- a status that comes once the inputs were accepted
-abbrev pub IsAfterPlay : Status → Type 0
-IsAfterPlay status.Ok = Unit {0}
-IsAfterPlay status.NoMemory = Unit {0}
-IsAfterPlay status.WriteFault = Unit {0}
-IsAfterPlay status.Words = ⊥
-IsAfterPlay (status.Input file code row) = ⊥
-IsAfterPlay status.ReadFault = ⊥
+-- there are such inputs; the journal begins an answer to them, and the output gained some of its
+-- text
+pub record Begun (known : Known) (journal : List Item) (before now : Option (List ℕ)) : Type 0 where
+  pub inputs : Inputs
+  pub accepted : ForSome known (λ read. read ≡ Ok inputs)
+  pub begins : BeginsAnswer inputs.setting inputs.events journal
+  pub run : IsRun inputs.setting journal
+  pub causes : EndsHaveCauses inputs.setting journal
+  pub written : GainedSome before (journal_text inputs.setting journal) now
 
--- what a replay's status and journal say of what was to be read
-pub record PlaysInputs (read : Result Inputs FileRefusal) (s : Status) (journal : List Item) : Type 0 where
-  pub accounts : Accounts read s
-  pub answers : (inputs : Inputs) → read ≡ Ok inputs → Records s inputs.policy inputs.events journal
-  pub run : (inputs : Inputs) → read ≡ Ok inputs → IsRun inputs.policy journal
+-- the journal and the output that a status comes with
+abbrev pub Outcome : Known → Status → List Item → (before now : Option (List ℕ)) → Type 0
+Outcome known status.Ok journal before now = Replayed known journal before now
+Outcome known status.WriteFault journal before now = CutShort known journal before now
+Outcome known status.NoMemory journal before now =
+    Unplayed journal before now ⊎ Begun known journal before now
+Outcome known _ journal before now = Unplayed journal before now
+
+-- what a status says of the known inputs: a refusal is the one that stands there, and work was done
+-- only on accepted inputs
+abbrev pub Accounts : Result Inputs Refusal → Status → Type 0
+Accounts read (status.Input file code row) =
+    read ≡ Err (record { file = file; code = code; row = row })
+Accounts read status.Words = ⊥
+Accounts read status.Ok = IsOk read
+Accounts read status.WriteFault = IsOk read
+Accounts read _ = ⊤

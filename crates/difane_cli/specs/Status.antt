@@ -1,9 +1,21 @@
 -- How a command ended: its number and its line.
-use Rattle.std.specs.Prelude.{ℕ, ◌≡◌, ◌⊎◌, Option, List, [], ◌∷◌, codes, decimal}
+use Rattle.std.specs.Prelude.{⊤, ℕ, ◌≡◌, ◌≤◌, ◌⊎◌, Bool, IsTrue, Option, None, List, [], ◌∷◌, codes, decimal}
 use Rattle.std.specs.List.{concat}
-use Rattle.shelf.specs.Sink.{gained, GainedPart}
+use Rattle.shelf.specs.Faults.{Rose}
+use Rattle.shelf.specs.Shelf.{Files}
+use Rattle.shelf.specs.Sink.{SinkState, gained, GainedPart}
+use Rattle.difane_cli.specs.declared.status.Refusal.{Refusal}
 use Rattle.difane_cli.specs.declared.status.Status.{Status}
 use Rattle.difane_cli.specs.declared.status.Status.TheVariants as status
+use Rattle.difane_cli.specs.declared.status.Stop.{Stop}
+use Rattle.difane_cli.specs.declared.status.Stop.TheVariants as stop
+use Rattle.difane_cli.specs.declared.inputs.TheConstants.{MISSING, TOO_LONG}
+
+-- the status of a command that ended before its work
+abbrev pub status_of : Stop → Status
+status_of (stop.Refused refusal) = status.Input refusal.file refusal.code refusal.row
+status_of stop.ReadFault = status.ReadFault
+status_of stop.NoMemory = status.NoMemory
 
 abbrev pub status_number : Status → ℕ
 status_number status.Ok = 0
@@ -15,7 +27,8 @@ status_number status.NoMemory = 7
 
 -- the line of a refused file, with its line feed
 abbrev pub input_line : List ℕ → ℕ → ℕ → List ℕ
-input_line file code row = concat (codes "difane: input " ∷ file ∷ codes " code " ∷ decimal code ∷ codes " row " ∷ decimal row ∷ codes "\n" ∷ [])
+input_line file code row = concat (codes "difane: input " ∷ file
+    ∷ codes " code " ∷ decimal code ∷ codes " row " ∷ decimal row ∷ codes "\n" ∷ [])
 
 -- the line of a status, with its line feed; a command that did its work says nothing
 abbrev pub status_line : Status → List ℕ
@@ -26,6 +39,27 @@ status_line status.ReadFault = codes "difane: read fault\n"
 status_line status.WriteFault = codes "difane: write fault\n"
 status_line status.NoMemory = codes "difane: no memory\n"
 
--- a sink gained the line, or a proper part of it where the sink failed or a write of it found no memory
-abbrev pub Tells : Option (List ℕ) → List ℕ → Option (List ℕ) → Type 0 → Type 0 → Type 0
-Tells before line now failed no_memory = (now ≡ gained before line) ⊎ (GainedPart before line now × (failed ⊎ no_memory))
+-- a sink gained the line, or a proper part of it where it failed or where its writes take memory
+pub record TellsLine (whole : List ℕ) (takes_memory : Bool) (old new : SinkState) : Type 0 where
+  pub faults : old.faults ≤ new.faults
+  pub line : (new.bytes ≡ gained old.bytes whole)
+      ⊎ (GainedPart old.bytes whole new.bytes
+      × (Rose old.faults new.faults ⊎ IsTrue takes_memory))
+
+-- a status that only a fault of the shelf gives: a read fault; and where files are not known, an
+-- absent file or one too long
+abbrev pub NeedsReadFault : Option Files → Status → Type 0
+NeedsReadFault files status.ReadFault = ⊤
+NeedsReadFault None (status.Input file code row) = (code ≡ MISSING) ⊎ (code ≡ TOO_LONG)
+NeedsReadFault _ _ = ⊥
+
+-- the work was done, or memory ran out
+abbrev pub IsDone : Status → Type 0
+IsDone status.Ok = ⊤
+IsDone status.NoMemory = ⊤
+IsDone _ = ⊥
+
+-- a status that a play ends with
+abbrev pub IsAfterPlay : Status → Type 0
+IsAfterPlay status.WriteFault = ⊤
+IsAfterPlay other = IsDone other

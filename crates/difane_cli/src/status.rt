@@ -1,9 +1,8 @@
 //! How a command ended, and the line that tells it.
-ghost use Rattle.std.specs.Prelude.{◌≡◌, ◌≤◌, IfOk, IsErrOf, IsTrue, OnOk, OnErr};
+ghost use Rattle.std.specs.Prelude.{◌≡◌, IfOk};
 ghost use Rattle.std.specs.List.{flat_map};
-ghost use Rattle.shelf.specs.Faults.{Rose};
-ghost use Rattle.shelf.specs.Sink.{gained, GainedPart};
-ghost use Rattle.difane_cli.specs.Status.{input_line, status_line, status_number, Tells};
+ghost use Rattle.shelf.specs.Sink.{IsAfterWrite};
+ghost use Rattle.difane_cli.specs.Status.{TellsLine, input_line, status_line, status_number, status_of};
 
 use itoa::Buffer;
 use shelf::{Sink, SinkError, write_whole};
@@ -11,7 +10,7 @@ use std::alloc::{AllocError, Global};
 use std::marker::Model;
 
 /// The name of a file as the words had it. Contracts see its bytes.
-#[derive(Debug, Drop)]
+#[derive(Drop)]
 pub struct FileName {
     name: String,
 }
@@ -42,8 +41,28 @@ impl FileName {
     }
 }
 
+/// Which file is refused, by which code in which row, counted from 1; 0 stands for the file as a
+/// whole.
+#[derive(Drop)]
+pub struct Refusal {
+    pub file: FileName,
+    pub code: u32,
+    pub row: u32,
+}
+
+/// Why a command ended before its work.
+#[derive(Drop)]
+pub enum Stop {
+    /// A file is refused.
+    Refused(Refusal),
+    /// A file could not be read.
+    ReadFault,
+    /// Memory ran out.
+    NoMemory,
+}
+
 /// How a command ended.
-#[derive(Debug, Drop)]
+#[derive(Drop)]
 pub enum Status {
     /// It did its work.
     Ok,
@@ -57,6 +76,18 @@ pub enum Status {
     WriteFault,
     /// Memory ran out.
     NoMemory,
+}
+
+impl From<Stop> for Status {
+    ghost from_gives = { λ stop status. status ≡ status_of stop };
+
+    fn from(stop: Stop) -> Self {
+        match stop {
+            Stop::Refused(Refusal { file, code, row }) => Status::Input { file, code, row },
+            Stop::ReadFault => Status::ReadFault,
+            Stop::NoMemory => Status::NoMemory,
+        }
+    }
 }
 
 impl Status {
@@ -79,18 +110,15 @@ impl Status {
 ///
 /// A fault of the sink changes nothing but the sink, which then has a part of the line.
 pub fn tell<E: Sink>(status: &Status, errs: &mut E)
-    ensures line { Tells (E.bytes errs.old) (status_line status.now) (E.bytes errs.new) (Rose (E.faults errs.old) (E.faults errs.new)) (IsTrue E.takes_memory) }
-    ensures counts { E.faults errs.old ≤ E.faults errs.new }
+    ensures { TellsLine (status_line status.now) E.takes_memory
+        (E.state errs.old) (E.state errs.new) }
 {
     let _ = write_line(status, errs);
 }
 
 fn write_line<E: Sink>(status: &Status, errs: &mut E) -> Result<(), SinkError>
-    ensures whole { OnOk result (E.bytes errs.new ≡ gained (E.bytes errs.old) (status_line status.now)) }
-    ensures part { OnErr result (GainedPart (E.bytes errs.old) (status_line status.now) (E.bytes errs.new)) }
-    ensures counts { E.faults errs.old ≤ E.faults errs.new }
-    ensures failed { IsErrOf result SinkError.Failed → Rose (E.faults errs.old) (E.faults errs.new) }
-    ensures no_memory { IsErrOf result SinkError.NoMemory → IsTrue E.takes_memory }
+    ensures { IsAfterWrite (status_line status.now) E.takes_memory
+        (E.state errs.old) (E.state errs.new) result }
 {
     match status {
         Status::Ok => write_whole(errs, b""),
@@ -108,11 +136,8 @@ fn write_input_line<E: Sink>(
     row: u32,
     errs: &mut E,
 ) -> Result<(), SinkError>
-    ensures whole { OnOk result (E.bytes errs.new ≡ gained (E.bytes errs.old) (input_line file.now code row)) }
-    ensures part { OnErr result (GainedPart (E.bytes errs.old) (input_line file.now code row) (E.bytes errs.new)) }
-    ensures counts { E.faults errs.old ≤ E.faults errs.new }
-    ensures failed { IsErrOf result SinkError.Failed → Rose (E.faults errs.old) (E.faults errs.new) }
-    ensures no_memory { IsErrOf result SinkError.NoMemory → IsTrue E.takes_memory }
+    ensures { IsAfterWrite (input_line file.now code row) E.takes_memory
+        (E.state errs.old) (E.state errs.new) result }
 {
     let mut code_digits = Buffer::new();
     let mut row_digits = Buffer::new();
@@ -133,14 +158,13 @@ fn write_input_line<E: Sink>(
 
 // Writes the pieces one after another, until one fails.
 fn write_pieces<E: Sink>(pieces: &[&[u8]], errs: &mut E) -> Result<(), SinkError>
-    ensures whole { OnOk result (E.bytes errs.new ≡ gained (E.bytes errs.old) (flat_map (λ piece. piece.now) pieces.now)) }
-    ensures part { OnErr result (GainedPart (E.bytes errs.old) (flat_map (λ piece. piece.now) pieces.now) (E.bytes errs.new)) }
-    ensures counts { E.faults errs.old ≤ E.faults errs.new }
-    ensures failed { IsErrOf result SinkError.Failed → Rose (E.faults errs.old) (E.faults errs.new) }
-    ensures no_memory { IsErrOf result SinkError.NoMemory → IsTrue E.takes_memory }
+    ensures { IsAfterWrite (flat_map (λ piece. piece.now) pieces.now) E.takes_memory
+        (E.state errs.old) (E.state errs.new) result }
 {
     for piece in pieces {
-        write_whole(errs, piece)?;
+        if let Err(error) = write_whole(errs, piece) {
+            return Err(error);
+        }
     }
     Ok(())
 }

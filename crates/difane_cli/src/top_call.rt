@@ -1,23 +1,22 @@
 //! The top call.
-ghost use Rattle.std.specs.Prelude.{◌≡◌, ◌≤◌, ◌⊎◌, ◌↔◌, [], map, string_bytes, All, IfOk, IsTrue, None, vec_len};
-ghost use Rattle.std.specs.Option.{ForSome, ForNone};
+ghost use Rattle.std.specs.Prelude.{◌≡◌, ◌≤◌, ◌⊎◌, ◌↔◌, All, None, vec_len};
+ghost use Rattle.std.specs.Option.{ForSome};
+ghost use Rattle.schedule.specs.OneSwitch.{IsOfOneSwitch, NamesOwnPorts};
 ghost use Rattle.shelf.specs.Faults.{Rose};
-ghost use Rattle.replay.specs.Answers.{Answers, IsOfOneSwitch};
-ghost use Rattle.replay.specs.Machine.{IsRun};
-ghost use Rattle.replay.specs.Standing.{EndsHaveCauses, NamesOwnPorts};
-ghost use Rattle.replay.specs.Text.{journal_text};
-ghost use Rattle.difane_cli.specs.Inputs.{Accounts, FailsUntold, OnAccepted, inputs_of};
-ghost use Rattle.difane_cli.specs.Run.{IsAfterPlay, IsDone, PlaysInputs, Records, Writes, texts};
-ghost use Rattle.difane_cli.specs.Status.{Tells, status_line};
-ghost use Rattle.difane_cli.specs.Words.{command_of};
+ghost use Rattle.shelf.specs.Shelf.{IsAfterReads};
+ghost use Rattle.difane_cli.specs.Inputs.{AreAccepted, known_inputs, most_reads};
+ghost use Rattle.difane_cli.specs.Run.{Accounts, Outcome};
+ghost use Rattle.difane_cli.specs.Status.{IsDone, NeedsReadFault, TellsLine, status_line};
+ghost use Rattle.difane_cli.specs.Words.{command_of, texts};
 ghost use Rattle.difane_cli.specs.declared.status.Status.TheVariants as status;
 
-use crate::inputs::{ReplayInputs, read_inputs};
+use crate::inputs::read_inputs;
+use crate::playing::play;
 use crate::status::{Status, tell};
-use crate::words::{ReplayWords, read_words};
-use replay::{Journal, replay, text};
-use shelf::{Shelf, Sink, SinkError, write_whole};
-use std::alloc::{AllocError, Global};
+use crate::words::read_words;
+use shelf::{Shelf, Sink};
+use std::alloc::Global;
+use update_machine::Journal;
 
 /// How a command ended, and the journal of its play; the empty one where nothing was played.
 #[derive(Drop)]
@@ -26,11 +25,13 @@ pub struct Finished {
     pub journal: Journal,
 }
 
-/// Does what the words ask: `replay SCHEDULE POLICY` plays the schedule on one switch and writes the journal to `out`.
+/// Does what the words ask: `replay SCHEDULE POLICY` plays the schedule on one switch and writes
+/// the journal to `out`.
 ///
-/// A status other than `Ok` writes its line to `errs`. The words are those of the command line without the program's
-/// name. The first refusal in the order of work ends the call: the words, the schedule, the policy, the play, the
-/// writing; each file is read and checked before the next one is read.
+/// A status other than `Ok` writes its line to `errs`. The words are those of the command line
+/// without the program's name. The first refusal in the order of work ends the call: the words, the
+/// schedule, the policy, the plan of the policy, the play, the writing; each file is read and
+/// checked before the next one is read.
 pub fn run<F: Shelf, K: Sink, E: Sink>(
     alloc: Global,
     words: &Vec<String>,
@@ -38,142 +39,56 @@ pub fn run<F: Shelf, K: Sink, E: Sink>(
     out: &mut K,
     errs: &mut E,
 ) -> Finished
-    // The journal answers the schedule: it is the pieces of its rows, one after another.
-    ensures answers { OnAccepted (F.files shelf.old) (texts words.now) (λ inputs. Records result.status inputs.policy inputs.events result.journal) }
-
-    // It is a run of the abstract machine: each packet's decision is the first match of one whole policy version that
-    // was not retired when the packet came in.
-    ensures run { OnAccepted (F.files shelf.old) (texts words.now) (λ inputs. IsRun inputs.policy result.journal) }
-
-    // Each end of a packet has its cause.
-    ensures causes { EndsHaveCauses result.journal }
-
-    // The output gained the text of the journal, and nothing else.
-    ensures written { Writes result.status (K.bytes out.old) (journal_text result.journal) (K.bytes out.new) }
+    // By its status: what was played, that it answers the inputs, is a run of the abstract machine
+    // whose ends have their causes, and what the output gained.
+    ensures outcome { Outcome
+        (known_inputs (F.state shelf.old).files (command_of (texts words.now)))
+        result.status result.journal (K.state out.old).bytes (K.state out.new).bytes }
 
     // Each status has its cause.
     ensures words { (result.status ≡ status.Words) ↔ (command_of (texts words.now) ≡ None) }
-    ensures accounts { ForSome (command_of (texts words.now)) (λ command. ForSome (F.files shelf.old) (λ files. Accounts (inputs_of files command) result.status)) }
-    ensures untold { ForNone (F.files shelf.old) (FailsUntold result.status (Rose (F.faults shelf.old) (F.faults shelf.new))) }
-    ensures read_fault { result.status ≡ status.ReadFault → Rose (F.faults shelf.old) (F.faults shelf.new) }
-    ensures write_fault { result.status ≡ status.WriteFault → Rose (K.faults out.old) (K.faults out.new) }
+    ensures accounts { ForSome (known_inputs (F.state shelf.old).files (command_of (texts words.now)))
+        (λ read. Accounts read result.status) }
+    ensures read_fault { NeedsReadFault (F.state shelf.old).files result.status
+        → Rose (F.state shelf.old).faults (F.state shelf.new).faults }
+    ensures write_fault { result.status ≡ status.WriteFault
+        → Rose (K.state out.old).faults (K.state out.new).faults }
 
     // Where the inputs are accepted and nothing fails, the work is done or memory ran out.
-    ensures complete { OnAccepted (F.files shelf.old) (texts words.now) (λ inputs.
-        Rose (F.faults shelf.old) (F.faults shelf.new) ⊎ Rose (K.faults out.old) (K.faults out.new) ⊎ IsDone result.status) }
+    ensures complete { AreAccepted (known_inputs (F.state shelf.old).files (command_of (texts words.now)))
+        → Rose (F.state shelf.old).faults (F.state shelf.new).faults
+        ⊎ Rose (K.state out.old).faults (K.state out.new).faults
+        ⊎ IsDone result.status }
 
     // The line of the status is told, whole unless the sink of errors fails.
-    ensures told { Tells (E.bytes errs.old) (status_line result.status) (E.bytes errs.new) (Rose (E.faults errs.old) (E.faults errs.new)) (IsTrue E.takes_memory) }
+    ensures line { TellsLine (status_line result.status) E.takes_memory
+        (E.state errs.old) (E.state errs.new) }
 
-    ensures same_files { F.files shelf.new ≡ F.files shelf.old }
-    ensures read_faults { F.faults shelf.old ≤ F.faults shelf.new }
-    ensures write_faults { K.faults out.old ≤ K.faults out.new }
-    ensures line_faults { E.faults errs.old ≤ E.faults errs.new }
-{
-    let finished = obey(alloc, words, shelf, out);
-    tell(&finished.status, errs);
-    finished
-}
-
-/// Does what the words ask, and leaves the status untold.
-fn obey<F: Shelf, K: Sink>(alloc: Global, words: &[String], shelf: &mut F, out: &mut K) -> Finished
-    ensures answers { ForSome (command_of (map string_bytes words.now)) (λ command. ForSome (F.files shelf.old) (λ files. PlaysInputs (inputs_of files command) result.status result.journal)) }
-    ensures causes { EndsHaveCauses result.journal }
-    ensures written { Writes result.status (K.bytes out.old) (journal_text result.journal) (K.bytes out.new) }
-    ensures words { (result.status ≡ status.Words) ↔ (command_of (map string_bytes words.now) ≡ None) }
-    ensures untold { ForNone (F.files shelf.old) (FailsUntold result.status (Rose (F.faults shelf.old) (F.faults shelf.new))) }
-    ensures read_fault { result.status ≡ status.ReadFault → Rose (F.faults shelf.old) (F.faults shelf.new) }
-    ensures write_fault { result.status ≡ status.WriteFault → Rose (K.faults out.old) (K.faults out.new) }
-    ensures same_files { F.files shelf.new ≡ F.files shelf.old }
-    ensures read_faults { F.faults shelf.old ≤ F.faults shelf.new }
-    ensures write_faults { K.faults out.old ≤ K.faults out.new }
+    // Files are read in order, none behind the first that is refused, and stay as they are.
+    ensures shelf { IsAfterReads
+        (most_reads (F.state shelf.old).files (command_of (texts words.now)))
+        (F.state shelf.old) (F.state shelf.new) }
+    ensures faults { (K.state out.old).faults ≤ (K.state out.new).faults }
 {
     match read_words(words) {
-        None => unplayed(alloc, Status::Words),
-        Some(command) => replay_files(alloc, command, shelf, out),
+        None => end(Status::Words, Journal::new(alloc), errs),
+        Some(command) => match read_inputs(alloc, shelf, command) {
+            Err(stop) => end(Status::from(stop), Journal::new(alloc), errs),
+            Ok(inputs) => {
+                let (status, journal) = play(alloc, inputs, out);
+                end(status, journal, errs)
+            }
+        },
     }
 }
 
-/// An end before any play.
-fn unplayed(alloc: Global, status: Status) -> Finished
-    ensures { (result.status ≡ status) × (result.journal ≡ []) }
+/// Tells the status of a command that ended.
+fn end<E: Sink>(status: Status, journal: Journal, errs: &mut E) -> Finished
+    ensures status { result.status ≡ status }
+    ensures journal { result.journal ≡ journal }
+    ensures line { TellsLine (status_line status) E.takes_memory
+        (E.state errs.old) (E.state errs.new) }
 {
-    Finished {
-        status,
-        journal: Journal::new(alloc),
-    }
-}
-
-fn replay_files<F: Shelf, K: Sink>(
-    alloc: Global,
-    command: ReplayWords<'_>,
-    shelf: &mut F,
-    out: &mut K,
-) -> Finished
-    ensures told_inputs { ForSome (F.files shelf.old) (λ files. PlaysInputs (inputs_of files (record { schedule = command.entry.schedule.now; policy = command.entry.policy.now })) result.status result.journal) }
-    ensures causes { EndsHaveCauses result.journal }
-    ensures written { Writes result.status (K.bytes out.old) (journal_text result.journal) (K.bytes out.new) }
-    ensures no_words { result.status ≡ status.Words → ⊥ }
-    ensures untold { ForNone (F.files shelf.old) (FailsUntold result.status (Rose (F.faults shelf.old) (F.faults shelf.new))) }
-    ensures read_fault { result.status ≡ status.ReadFault → Rose (F.faults shelf.old) (F.faults shelf.new) }
-    ensures write_fault { result.status ≡ status.WriteFault → Rose (K.faults out.old) (K.faults out.new) }
-    ensures same_files { F.files shelf.new ≡ F.files shelf.old }
-    ensures read_faults { F.faults shelf.old ≤ F.faults shelf.new }
-    ensures write_faults { K.faults out.old ≤ K.faults out.new }
-{
-    match read_inputs(alloc, shelf, command) {
-        Err(status) => unplayed(alloc, status),
-        Ok(inputs) => play(alloc, inputs, out),
-    }
-}
-
-fn play<K: Sink>(alloc: Global, inputs: ReplayInputs, out: &mut K) -> Finished
-    requires one_switch { All IsOfOneSwitch inputs.events.items }
-    requires few { vec_len inputs.events ≤ 100000 }
-    requires own_ports { NamesOwnPorts inputs.policy }
-    ensures answers { Records result.status inputs.policy inputs.events.items result.journal }
-    ensures run { IsRun inputs.policy result.journal }
-    ensures causes { EndsHaveCauses result.journal }
-    ensures written { Writes result.status (K.bytes out.old) (journal_text result.journal) (K.bytes out.new) }
-    ensures status { IsAfterPlay result.status }
-    ensures write_fault { result.status ≡ status.WriteFault → Rose (K.faults out.old) (K.faults out.new) }
-    ensures write_faults { K.faults out.old ≤ K.faults out.new }
-{
-    match journal_of(alloc, inputs) {
-        Err(_) => unplayed(alloc, Status::NoMemory),
-        Ok(journal) => {
-            let status = write_journal(alloc, &journal, out);
-            Finished { status, journal }
-        }
-    }
-}
-
-fn journal_of(alloc: Global, inputs: ReplayInputs) -> Result<Journal, AllocError>
-    requires one_switch { All IsOfOneSwitch inputs.events.items }
-    requires few { vec_len inputs.events ≤ 100000 }
-    requires own_ports { NamesOwnPorts inputs.policy }
-    ensures answers { IfOk result (λ journal. Answers inputs.policy inputs.events.items journal) }
-    ensures run { IfOk result (λ journal. IsRun inputs.policy journal) }
-    ensures causes { IfOk result EndsHaveCauses }
-{
-    let mut policies = Vec::new(alloc);
-    policies.push(inputs.policy)?;
-    let played = replay(alloc, policies, &inputs.events)?;
-    Ok(played.journal)
-}
-
-fn write_journal<K: Sink>(alloc: Global, journal: &Journal, out: &mut K) -> Status
-    ensures written { Writes result (K.bytes out.old) (journal_text journal.now) (K.bytes out.new) }
-    ensures status { IsAfterPlay result }
-    ensures write_fault { result ≡ status.WriteFault → Rose (K.faults out.old) (K.faults out.new) }
-    ensures write_faults { K.faults out.old ≤ K.faults out.new }
-{
-    let Ok(lines) = text(alloc, journal) else {
-        return Status::NoMemory;
-    };
-    match write_whole(out, &lines) {
-        Ok(()) => Status::Ok,
-        Err(SinkError::Failed) => Status::WriteFault,
-        Err(SinkError::NoMemory) => Status::NoMemory,
-    }
+    tell(&status, errs);
+    Finished { status, journal }
 }

@@ -1,6 +1,7 @@
 //! The words of the command line.
 ghost use Rattle.std.specs.Prelude.{◌≡◌, map, string_bytes};
 ghost use Rattle.std.specs.Option.{option_map};
+ghost use Rattle.difane_cli.specs.Commands.{command_named};
 ghost use Rattle.difane_cli.specs.Words.{command_of, is_name};
 
 /// What the words ask for.
@@ -14,7 +15,7 @@ pub struct ReplayWords<'a> {
 
 /// The command that the words are, or `None` where they are off the grammar.
 pub fn read_words(words: &[String]) -> Option<ReplayWords<'_>>
-    ensures { option_map (λ w. record { schedule = w.schedule.now; policy = w.policy.now }) result ≡ command_of (map string_bytes words.now) }
+    ensures { option_map command_named result ≡ command_of (map string_bytes words.now) }
 {
     let [command, schedule, policy] = words else {
         return None;

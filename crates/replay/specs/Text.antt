@@ -22,20 +22,26 @@ names_of setting = switch_name
 
 -- the fields of the step's row, separated by blanks
 abbrev pub step_text : Names → Step → List ℕ
-step_text names (Packet switch header) = codes "packet " ++ names switch ++ codes " " ++ fields_text header.fields
+step_text names (Packet switch header) =
+    codes "packet " ++ names switch ++ codes " " ++ fields_text header.fields
 
 abbrev pub how_text : Names → How → List ℕ
 how_text names (Cached message) = codes "cache " ++ decimal message
-how_text names (Authority switch partition) = codes "authority " ++ names switch ++ codes " part " ++ decimal partition
+how_text names (Authority switch partition) =
+    codes "authority " ++ names switch ++ codes " part " ++ decimal partition
 
 -- the item's line: a row at the left edge, each other item behind two blanks
 abbrev pub item_line : Names → Item → List ℕ
-item_line names (item.Row row step) = codes "row " ++ decimal row ++ codes ": " ++ step_text names step
-item_line names (item.Entered packet switch header) = codes "  entered " ++ decimal packet ++ codes " " ++ names switch
+item_line names (item.Row row step) =
+    codes "row " ++ decimal row ++ codes ": " ++ step_text names step
+item_line names (item.Entered packet switch header) =
+    codes "  entered " ++ decimal packet ++ codes " " ++ names switch
 item_line names (item.Decided packet version rule action how) =
-    codes "  decided " ++ decimal packet ++ codes " v" ++ decimal version ++ codes " rule " ++ rule_text rule ++ codes " " ++ action_text action ++ codes " " ++ how_text names how
+    codes "  decided " ++ decimal packet ++ codes " v" ++ decimal version ++ codes " rule "
+    ++ rule_text rule ++ codes " " ++ action_text action ++ codes " " ++ how_text names how
 item_line names (item.Dropped packet) = codes "  dropped " ++ decimal packet
-item_line names (item.Left packet port leaving) = codes "  out " ++ decimal packet ++ codes " port " ++ decimal port
+item_line names (item.Left packet port leaving) =
+    codes "  out " ++ decimal packet ++ codes " port " ++ decimal port
 
 -- one line for each item, with its line feed
 abbrev pub journal_text : Setting → List Item → List ℕ

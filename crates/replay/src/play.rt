@@ -12,9 +12,11 @@ pub struct Played {
     pub journal: Journal,
 }
 
-/// Plays the events on the network of one switch, which scans the first policy: event k, from 1, is row k of the schedule.
+/// Plays the events on the network of one switch, which scans the first policy: event k, from 1, is
+/// row k of the schedule.
 ///
-/// The journal is the answer to the events; what that means beyond its items is the laws of `update_machine`.
+/// The journal is the answer to the events; what that means beyond its items is the laws of
+/// `update_machine`.
 ///
 /// # Errors
 /// Want of memory alone.

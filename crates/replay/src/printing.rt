@@ -60,7 +60,8 @@ impl fmt::Display for Source {
     }
 }
 
-// An item, printed as its line in a journal: a row at the left edge, each other item behind two blanks.
+// An item, printed as its line in a journal: a row at the left edge, each other item behind two
+// blanks.
 #[derive(Clone, Copy)]
 struct Line<'a>(&'a Item);
 

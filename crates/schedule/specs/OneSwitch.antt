@@ -1,5 +1,5 @@
--- The network of one switch: it has the number 0, the name `s0` and the ports 0 to 63, and is the authority for
--- partition 0, which has all headers. What is true of this network alone stands here.
+-- The network of one switch: it has the number 0, the name `s0` and the ports 0 to 63, and is the
+-- authority for partition 0, which has all headers. What is true of this network alone stands here.
 use Rattle.std.specs.Prelude.{ℕ, ◌≡◌, ◌-◌, ◌^◌, ◌<◌, List, ◌++◌, All, codes, decimal}
 use Rattle.policy_rules.specs.Read.{HasSmallPort}
 use Rattle.policy_rules.specs.declared.packet.How.{How}

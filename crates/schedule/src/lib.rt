@@ -1,7 +1,7 @@
 //! Schedules: the events that are played against a network.
 //!
-//! `read_schedule` promises the events that a text states, or that the text is refused, and why. For now it reads plain
-//! schedules alone, which are lines of packets at the one switch:
+//! `read_schedule` promises the events that a text states, or that the text is refused, and why.
+//! For now it reads plain schedules alone, which are lines of packets at the one switch:
 //!
 //! ```text
 //! event,arguments

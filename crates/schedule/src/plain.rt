@@ -3,7 +3,7 @@ ghost use Rattle.std.specs.Prelude.{◌≡◌, ◌≤◌, Ok, vec_len, All, IfOk
 ghost use Rattle.std.specs.Option.{option_map};
 ghost use Rattle.five_tuple.specs.Texts.{number_up_to};
 ghost use Rattle.schedule.specs.OneSwitch.{IsOfOneSwitch};
-ghost use Rattle.schedule.specs.Plain.{RefusesSchedule, event_of, events_of, fields_read, is_plain, parts_left, record_of, schedule_of, without_last_feed};
+ghost use Rattle.schedule.specs.Plain.{HasScheduleCode, RefusesSchedule, event_of, events_of, fields_read, is_plain, parts_left, record_of, schedule_of, without_last_feed};
 
 use crate::error::ScheduleError;
 use crate::split::first_part;
@@ -104,15 +104,17 @@ fn read_rows(alloc: Global, rows: Option<&[u8]>) -> Result<Option<Vec<Event>>, A
     Ok(Some(events))
 }
 
-/// The events of a plain schedule: the header record, and then at most 100,000 packets at the one switch.
+/// The events of a plain schedule: the header record, and then at most 100,000 packets at the one
+/// switch.
 ///
 /// # Errors
-/// Code 18 in row 0 exactly where the bytes are no such schedule. A row that is none ends the reading, so
-/// that no list of the lines is made.
+/// Code 18 in row 0 exactly where the bytes are no such schedule. A row that is none ends the
+/// reading, so that no list of the lines is made.
 #[tactic(auto, unfolding(crate::specs::Plain::schedule_of))]
 pub fn read_schedule(alloc: Global, bytes: &[u8]) -> Result<Vec<Event>, ScheduleError>
     ensures events { IfOk result (λ events. schedule_of bytes.now ≡ Ok events.items) }
     ensures refused { IfErr result (RefusesSchedule (schedule_of bytes.now)) }
+    ensures codes { IfErr result HasScheduleCode }
     ensures one_switch { IfOk result (λ events. All IsOfOneSwitch events.items) }
     ensures few { IfOk result (λ events. vec_len events ≤ MAX_EVENTS) }
 {

@@ -1,5 +1,5 @@
 -- Counts of faults: numbers of 64 bits that never fall and stand still at their last value.
-use Rattle.std.specs.Prelude.{◌≤◌, ◌+◌, ◌-◌, ◌^◌, ℕ, min, Bool, if◌then◌else◌, List, Contains}
+use Rattle.std.specs.Prelude.{◌≤◌, ◌+◌, ◌-◌, ◌^◌, ℕ, zero, suc, min, Bool, if◌then◌else◌, List, Contains}
 
 -- one more, or the last value
 abbrev pub counted : ℕ → ℕ
@@ -7,7 +7,8 @@ counted n = min (n + 1) (2 ^ 64 - 1)
 
 -- so many more, or the last value
 abbrev pub counted_up : ℕ → ℕ → ℕ
-counted_up many n = min (n + many) (2 ^ 64 - 1)
+counted_up zero n = n
+counted_up (suc many) n = counted (counted_up many n)
 
 -- the count rose, or stands at its last value
 abbrev pub Rose : ℕ → ℕ → Type 0

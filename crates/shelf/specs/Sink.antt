@@ -27,7 +27,8 @@ GainedPart before bytes now = (n : ℕ) × (n < length bytes) × (now ≡ gained
 
 -- what a write of these bytes leaves of a sink: all of them where it succeeds, and else a part; and
 -- each error has its cause
-pub record IsAfterWrite (bytes : List ℕ) (takes_memory : Bool) (old new : SinkState) (result : Result (Unit {0}) SinkError) : Type 0 where
+pub record IsAfterWrite (bytes : List ℕ) (takes_memory : Bool) (old new : SinkState)
+    (result : Result (Unit {0}) SinkError) : Type 0 where
   pub whole : OnOk result (new.bytes ≡ gained old.bytes bytes)
   pub part : OnErr result (GainedPart old.bytes bytes new.bytes)
   pub faults : old.faults ≤ new.faults

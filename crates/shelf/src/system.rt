@@ -1,6 +1,7 @@
 //! The trusted edge: files, standard output and standard error of the system.
 //!
-//! Nothing is known here of what a file holds or of what reaches a stream, so neither is known to contracts.
+//! Nothing is known here of what a file holds or of what reaches a stream, so neither is known to
+//! contracts.
 ghost use Rattle.std.specs.Prelude.{◌≡◌, ◌≤◌, None, false, length, IfOk, ◌≢◌, if◌then◌else◌};
 ghost use Rattle.shelf.specs.Faults.{counted};
 

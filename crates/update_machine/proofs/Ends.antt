@@ -18,7 +18,7 @@ use Rattle.update_machine.specs.Setting.{Setting, first_policy}
 use Rattle.update_machine.specs.Causes.{HasCause, HaveCauses, EndsHaveCauses, tells_entry, tells_decision}
 use Rattle.update_machine.specs.Folds.{last_told}
 use Rattle.update_machine.specs.Answers.{AreFirstSteps, BeginsAnswer, StepOfRow, after_steps, ending, next_packet, piece}
-use Rattle.update_machine.proofs.CallerLemmas.{last_told_append}
+use Rattle.update_machine.proofs.FoldLemmas.{last_told_append}
 use Rattle.update_machine.proofs.Pieces.{decided_items}
 use Rattle.update_machine.proofs.Runs.{HaveCauses-append, HaveCauses-take, eqb_itself}
 

@@ -1,5 +1,6 @@
 pub mod CallerLemmas
-mod Ends
+pub mod Ends
+pub mod FoldLemmas
 mod Pieces
 mod Runs
-mod Steps
+pub mod Steps

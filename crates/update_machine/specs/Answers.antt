@@ -28,18 +28,22 @@ next_packet journal = count_of is_packet_row journal + 1
 -- a packet that got a hit of version 1 is dropped, or leaves by the port of its action
 abbrev pub ending : ℕ → Header → Hit → Action → Item
 ending packet header hit action.Drop = item.Dropped packet
-ending packet header hit (action.Out port) = item.Left packet port (record { packet = packet; header = header; version = 1; rule = hit.rule })
+ending packet header hit (action.Out port) =
+    item.Left packet port
+    (record { packet = packet; header = header; version = 1; rule = hit.rule })
 
 -- a packet comes in at the one switch, which decides it by the first policy, and ends
 abbrev pub packet_piece : Setting → ℕ → ℕ → ℕ → Header → List Item
 packet_piece setting number row switch header =
     let hit = scan (first_policy setting) header in
     item.Row row (Packet switch header) ∷ item.Entered number switch header
-    ∷ item.Decided number 1 hit.rule hit.action own_source ∷ ending number header hit hit.action ∷ []
+    ∷ item.Decided number 1 hit.rule hit.action own_source
+    ∷ ending number header hit hit.action ∷ []
 
 -- what a step writes behind the journal
 abbrev pub piece : Setting → List Item → ℕ → Step → List Item
-piece setting journal row (Packet switch header) = packet_piece setting (next_packet journal) row switch header
+piece setting journal row (Packet switch header) =
+    packet_piece setting (next_packet journal) row switch header
 
 -- ---- the steps of events
 
@@ -53,30 +57,36 @@ abbrev pub AreSteps : Setting → List Item → ℕ → List Event → List Step
 AreSteps setting before row [] steps = steps ≡ []
 AreSteps setting before row (One step ∷ events) [] = ⊥
 AreSteps setting before row (One step ∷ events) (first ∷ steps) =
-    (first ≡ record { row = row; step = step }) × AreSteps setting (before ++ piece setting before row step) (row + 1) events steps
+    (first ≡ record { row = row; step = step })
+    × AreSteps setting (before ++ piece setting before row step) (row + 1) events steps
 
 -- the same of the first steps, behind which others may come
 abbrev pub AreFirstSteps : Setting → List Item → ℕ → List Event → List StepOfRow → Type 0
 AreFirstSteps setting before row events [] = ⊤
 AreFirstSteps setting before row [] (first ∷ steps) = ⊥
 AreFirstSteps setting before row (One step ∷ events) (first ∷ steps) =
-    (first ≡ record { row = row; step = step }) × AreFirstSteps setting (before ++ piece setting before row step) (row + 1) events steps
+    (first ≡ record { row = row; step = step })
+    × AreFirstSteps setting (before ++ piece setting before row step) (row + 1) events steps
 
 -- the journal once the steps wrote their pieces, one after another
 abbrev pub after_steps : Setting → List Item → List StepOfRow → List Item
 after_steps setting before [] = before
-after_steps setting before (next ∷ steps) = after_steps setting (before ++ piece setting before next.row next.step) steps
+after_steps setting before (next ∷ steps) =
+    after_steps setting (before ++ piece setting before next.row next.step) steps
 
 -- ---- answers
 
--- the journal answers the events: it is the pieces of their steps, one after another, and event k is row k
+-- the journal answers the events: it is the pieces of their steps, one after another, and event k
+-- is row k
 pub record Answers (setting : Setting) (events : List Event) (journal : List Item) : Type 0 where
   pub steps : List StepOfRow
   pub allowed : AreSteps setting [] 1 events steps
   pub written : journal ≡ after_steps setting [] steps
 
--- the journal begins an answer to the events: it is the pieces of some steps, and items of the last of them may lack
-pub record BeginsAnswer (setting : Setting) (events : List Event) (journal : List Item) : Type 0 where
+-- the journal begins an answer to the events: it is the pieces of some steps, and items of the last
+-- of them may lack
+pub record BeginsAnswer (setting : Setting) (events : List Event) (journal : List Item)
+    : Type 0 where
   pub steps : List StepOfRow
   pub allowed : AreFirstSteps setting [] 1 events steps
   pub length : ℕ

@@ -14,7 +14,8 @@ pub record Entry : Type 0 where
   pub header : Header
 
 abbrev pub tells_entry : ℕ → Item → Option Entry
-tells_entry number (item.Entered packet switch header) = if packet == number then Some (record { switch = switch; header = header }) else None
+tells_entry number (item.Entered packet switch header) =
+    if packet == number then Some (record { switch = switch; header = header }) else None
 tells_entry number _ = None
 
 -- which version decided the packet, by which rule
@@ -23,26 +24,32 @@ pub record Decision : Type 0 where
   pub rule : Option ℕ
 
 abbrev pub tells_decision : ℕ → Item → Option Decision
-tells_decision number (item.Decided packet version rule action how) = if packet == number then Some (record { version = version; rule = rule }) else None
+tells_decision number (item.Decided packet version rule action how) =
+    if packet == number then Some (record { version = version; rule = rule }) else None
 tells_decision number _ = None
 
 -- a packet leaves where it stands, by a port of that switch, with its own header, version and rule
-pub record LeavesRightly (setting : Setting) (before : List Item) (packet port : ℕ) (leaving : Leaving) : Type 0 where
+pub record LeavesRightly (setting : Setting) (before : List Item) (packet port : ℕ)
+    (leaving : Leaving) : Type 0 where
   pub switch : ℕ
-  pub stands : last_told (tells_entry packet) before ≡ Some (record { switch = switch; header = leaving.header })
+  pub stands : last_told (tells_entry packet) before
+      ≡ Some (record { switch = switch; header = leaving.header })
   pub has_port : HasPort switch port
-  pub decided : last_told (tells_decision packet) before ≡ Some (record { version = leaving.version; rule = leaving.rule })
+  pub decided : last_told (tells_decision packet) before
+      ≡ Some (record { version = leaving.version; rule = leaving.rule })
   pub number : leaving.packet ≡ packet
 
 -- an item that ends a packet has its cause in the journal before it
 abbrev pub HasCause : Setting → List Item → Item → Type 0
-HasCause setting before (item.Left packet port leaving) = LeavesRightly setting before packet port leaving
+HasCause setting before (item.Left packet port leaving) =
+    LeavesRightly setting before packet port leaving
 HasCause setting before _ = ⊤
 
 -- after this journal, each of the items has its cause in what stands before it
 abbrev pub HaveCauses : Setting → List Item → List Item → Type 0
 HaveCauses setting before [] = ⊤
-HaveCauses setting before (next ∷ items) = HasCause setting before next × HaveCauses setting (before ++ next ∷ []) items
+HaveCauses setting before (next ∷ items) =
+    HasCause setting before next × HaveCauses setting (before ++ next ∷ []) items
 
 abbrev pub EndsHaveCauses : Setting → List Item → Type 0
 EndsHaveCauses setting journal = HaveCauses setting [] journal

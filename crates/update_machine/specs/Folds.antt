@@ -1,5 +1,5 @@
--- The four ways in which a journal says something: what an item told last, how many items satisfy a test, what the items give
--- one after another, and what becomes of a value as each item changes it.
+-- The four ways in which a journal says something: what an item told last, how many items satisfy a
+-- test, what the items give one after another, and what becomes of a value as each item changes it.
 use Rattle.std.specs.Prelude.{ℕ, Bool, Option, None, List, [], ◌∷◌, count_by, fold}
 use Rattle.std.specs.List.{flat_map}
 use Rattle.std.specs.Option.{option_or}

@@ -7,7 +7,8 @@ use std::marker::Model;
 
 /// One record of a journal.
 ///
-/// Packets are numbered from 1 in the order of the packet rows, switches from 0 and policy versions from 1.
+/// Packets are numbered from 1 in the order of the packet rows, switches from 0 and policy versions
+/// from 1.
 #[derive(Drop)]
 pub enum Item {
     /// The schedule's row of this number, from 1, takes this step.
@@ -21,7 +22,8 @@ pub enum Item {
         switch: u32,
         header: Header,
     },
-    /// The packet got this rule and action of this policy version: the row's priority, or `None` for the default.
+    /// The packet got this rule and action of this policy version: the row's priority, or `None`
+    /// for the default.
     Decided {
         packet: u32,
         version: u32,

@@ -21,23 +21,24 @@ pub fn schedules_have_one_answer()
         → Answers setting events journal → BeginsAnswer setting events journal }
 {}
 
-/// An answer, and each beginning of one, is a run of the abstract machine: each packet's decision is the first match of one
-/// whole policy version that was not retired when the packet came in.
+/// An answer, and each beginning of one, is a run of the abstract machine: each packet's decision
+/// is the first match of one whole policy version that was not retired when the packet came in.
 pub fn answers_are_runs()
     ensures { (setting : Setting) (events : List Event) (journal : List Item)
         → BeginsAnswer setting events journal → IsRun setting journal }
 {}
 
-/// In an answer, and in each beginning of one, the ends of packets have their causes, where the schedule and the policies speak
-/// of the network of one switch.
+/// In an answer, and in each beginning of one, the ends of packets have their causes, where the
+/// schedule and the policies speak of the network of one switch.
 pub fn ends_of_answers_have_causes()
     ensures { (setting : Setting) (events : List Event) (journal : List Item)
         → NamesOwnPorts (first_policy setting) → All IsOfOneSwitch events
         → BeginsAnswer setting events journal → EndsHaveCauses setting journal }
 {}
 
-/// What a journal says, once more items stand behind it: a law for each of the four folds, over whatever an item tells.
-#[tactic(auto, using(crate::proofs::CallerLemmas::last_told_append))]
+/// What a journal says, once more items stand behind it: a law for each of the four folds, over
+/// whatever an item tells.
+#[tactic(auto, using(crate::proofs::FoldLemmas::last_told_append))]
 pub fn journals_grow<X>()
     ensures last { (told : Item → Option X) (before items : List Item)
         → last_told told (before ++ items)

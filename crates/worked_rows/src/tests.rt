@@ -1,3 +1,6 @@
+use crate::examples::{
+    FIRST_JOURNAL, FIRST_POLICY, FIRST_SCHEDULE, RANGES_JOURNAL, RANGES_POLICY, RANGES_SCHEDULE,
+};
 use difane_cli::run;
 use shelf::{MemShelf, MemSink};
 use std::alloc::{AllocError, Global};
@@ -11,7 +14,8 @@ const TWO_ROWS: &str = "priority,src,dst,sport,dport,proto,action\n\
     100,10.0.0.0/8,any,any,80,tcp,out:3\n\
     50,any,any,any,any,any,drop\n";
 
-// The same in quotes, with a range of ports, ends of lines as in RFC 4180, a blank line and no last line end.
+// The same in quotes, with a range of ports, ends of lines as in RFC 4180, a blank line and no last
+// line end.
 const QUOTED: &str = "priority,src,dst,sport,dport,proto,action\r\n\
     100,\"10.0.0.0/8\",any,any,80-90,\"tcp\",out:3\r\n\r\n50,any,any,any,any,any,drop";
 
@@ -20,8 +24,9 @@ const MATCHED: &str = "row 1: packet s0 10.1.1.1 9.9.9.9 5000 80 tcp\n\
     \x20 decided 1 v1 rule 100 out:3 authority s0 part 0\n\
     \x20 out 1 port 3\n";
 
-/// A run of `replay s.csv p.csv`, or of other words, with so many bytes of padding after the policy; the call of a number
-/// in `failing_read`, `failing_write` or `failing_line` fails, counted from 1, and none fails at 0.
+/// A run of `replay s.csv p.csv`, or of other words, with so many bytes of padding after the
+/// policy; the call of a number in `failing_read`, `failing_write` or `failing_line` fails, counted
+/// from 1, and none fails at 0.
 #[derive(Clone, Copy)]
 struct Case<'a> {
     words: &'a [&'a str],
@@ -91,6 +96,8 @@ fn replays_on_one_switch(rt: HostRuntime) -> Result<(), Fail> {
         (ONE_PACKET, QUOTED, MATCHED),
         ("event,arguments\n", HEADER, ""),
         ("event,arguments", HEADER, ""),
+        (FIRST_SCHEDULE, FIRST_POLICY, FIRST_JOURNAL),
+        (RANGES_SCHEDULE, RANGES_POLICY, RANGES_JOURNAL),
     ] {
         let case = Case {
             schedule,
@@ -118,6 +125,17 @@ fn refuses_with_a_cause(rt: HostRuntime) -> Result<(), Fail> {
         (
             Case {
                 schedule: "flush\n",
+                ..PLAIN
+            },
+            3,
+            "difane: input s.csv code 18 row 0\n",
+        ),
+        // The schedule is checked before the policy is read, so that a read which fails there
+        // doesn't show.
+        (
+            Case {
+                schedule: "flush\n",
+                failing_read: 2,
                 ..PLAIN
             },
             3,
@@ -156,8 +174,9 @@ fn refuses_with_a_cause(rt: HostRuntime) -> Result<(), Fail> {
     Ok(())
 }
 
-// A sink that fails at its second call, a shelf whose first call fails, a policy too long by a byte, a missing one, and
-// words off the grammar; and then sinks and shelves that fail elsewhere, and a sink that takes a byte a call.
+// A sink that fails at its second call, a shelf whose first call fails, a policy too long by a
+// byte, a missing one, and words off the grammar; and then sinks and shelves that fail elsewhere,
+// and a sink that takes a byte a call.
 #[test]
 fn answers_each_fault(rt: HostRuntime) -> Result<(), Fail> {
     for (case, status, out, line) in [
@@ -264,7 +283,8 @@ fn answers_each_fault(rt: HostRuntime) -> Result<(), Fail> {
     Ok(())
 }
 
-// For runs in which an allocation fails (`rt try --test --fail-alloc N`); the other tests ask for memory enough.
+// For runs in which an allocation fails (`rt try --test --fail-alloc N`); the other tests ask for
+// memory enough.
 #[test]
 fn ends_whole_or_for_want_of_memory(rt: HostRuntime) -> Result<(), Fail> {
     let Ok((status, written, told)) = played(rt.alloc(), &PLAIN) else {

@@ -1,0 +1,111 @@
+//! The play of accepted inputs, and the writing of its journal.
+ghost use Rattle.std.specs.Prelude.{◌≡◌, ◌≤◌, ◌<◌, ◌+◌, Ok, All, IfOk, IsErrOf, OnOk, OnErr, drop, length, take, vec_len};
+ghost use Rattle.std.specs.Option.{ForSome};
+ghost use Rattle.replay.specs.Text.{journal_text};
+ghost use Rattle.schedule.specs.OneSwitch.{IsOfOneSwitch, NamesOwnPorts};
+ghost use Rattle.shelf.specs.Faults.{Rose};
+ghost use Rattle.shelf.specs.Sink.{GainedPart, gained};
+ghost use Rattle.update_machine.specs.Answers.{Answers};
+ghost use Rattle.update_machine.specs.Setting.{Setting};
+ghost use Rattle.difane_cli.specs.Commands.{inputs_stated};
+ghost use Rattle.difane_cli.specs.Run.{GainedSome, Known, Outcome};
+ghost use Rattle.difane_cli.specs.Status.{IsAfterPlay};
+ghost use Rattle.difane_cli.specs.declared.status.Status.TheVariants as status;
+
+use crate::inputs::ReplayInputs;
+use crate::status::Status;
+use replay::{lines, replay};
+use shelf::{Sink, SinkError, write_whole};
+use std::alloc::{AllocError, Global};
+use update_machine::{Item, Journal};
+
+/// How many items are printed before they are written: their lines have about 40,000 bytes.
+const BLOCK: usize = 1_024;
+
+/// Plays the inputs and writes the journal. What comes of it is told for whatever is known of them.
+pub fn play<K: Sink>(alloc: Global, inputs: ReplayInputs, out: &mut K) -> (Status, Journal)
+    requires one_switch { All IsOfOneSwitch inputs.events.items }
+    requires few { vec_len inputs.events ≤ 100000 }
+    requires own_ports { NamesOwnPorts inputs.policy }
+    ensures outcome { (known : Known) → ForSome known (λ read. read ≡ Ok (inputs_stated inputs))
+        → Outcome known result.0 result.1 (K.state out.old).bytes (K.state out.new).bytes }
+    ensures status { IsAfterPlay result.0 }
+    ensures write_fault { result.0 ≡ status.WriteFault
+        → Rose (K.state out.old).faults (K.state out.new).faults }
+    ensures faults { (K.state out.old).faults ≤ (K.state out.new).faults }
+{
+    let Ok(journal) = journal_of(alloc, inputs) else {
+        return (Status::NoMemory, Journal::new(alloc));
+    };
+    match write_journal(alloc, &journal, out) {
+        Ok(()) => (Status::Ok, journal),
+        Err(SinkError::Failed) => (Status::WriteFault, journal),
+        Err(SinkError::NoMemory) => (Status::NoMemory, journal),
+    }
+}
+
+fn journal_of(alloc: Global, inputs: ReplayInputs) -> Result<Journal, AllocError>
+    requires { vec_len inputs.events ≤ 100000 }
+    ensures { IfOk result (λ journal.
+        Answers (inputs_stated inputs).setting (inputs_stated inputs).events journal) }
+{
+    let mut policies = Vec::new(alloc);
+    policies.push(inputs.policy)?;
+    let played = replay(alloc, policies, &inputs.events)?;
+    Ok(played.journal)
+}
+
+/// Writes the lines of the journal, so many items at a time.
+fn write_journal<K: Sink>(alloc: Global, journal: &Journal, out: &mut K) -> Result<(), SinkError>
+    ensures whole { (setting : Setting) → OnOk result ((K.state out.new).bytes
+        ≡ gained (K.state out.old).bytes (journal_text setting journal.now)) }
+    ensures part { (setting : Setting) → IsErrOf result SinkError.Failed
+        → GainedPart (K.state out.old).bytes (journal_text setting journal.now)
+        (K.state out.new).bytes }
+    ensures some { (setting : Setting) → OnErr result
+        (GainedSome (K.state out.old).bytes (journal_text setting journal.now)
+        (K.state out.new).bytes) }
+    ensures failed { IsErrOf result SinkError.Failed
+        → Rose (K.state out.old).faults (K.state out.new).faults }
+    ensures faults { (K.state out.old).faults ≤ (K.state out.new).faults }
+{
+    let items = journal.items();
+    let mut written = 0;
+    while written < items.len() {
+        let block = next_block(items, written);
+        match write_block(alloc, block, out) {
+            Ok(()) => written += block.len(),
+            Err(error) => return Err(error),
+        }
+    }
+    Ok(())
+}
+
+/// The items that are printed next, where so many were.
+fn next_block(items: &[Item], written: usize) -> &[Item]
+    requires { written < length items.now }
+    ensures block { result.now ≡ take (length result.now) (drop written items.now) }
+    ensures some { 0 < length result.now }
+    ensures within { written + length result.now ≤ length items.now }
+{
+    let rest = &items[written..];
+    &rest[..rest.len().min(BLOCK)]
+}
+
+/// Writes the lines of some items.
+fn write_block<K: Sink>(alloc: Global, items: &[Item], out: &mut K) -> Result<(), SinkError>
+    ensures whole { (setting : Setting) → OnOk result ((K.state out.new).bytes
+        ≡ gained (K.state out.old).bytes (journal_text setting items.now)) }
+    ensures part { (setting : Setting) → IsErrOf result SinkError.Failed
+        → GainedPart (K.state out.old).bytes (journal_text setting items.now)
+        (K.state out.new).bytes }
+    ensures some { (setting : Setting) → OnErr result
+        (GainedSome (K.state out.old).bytes (journal_text setting items.now)
+        (K.state out.new).bytes) }
+    ensures failed { IsErrOf result SinkError.Failed
+        → Rose (K.state out.old).faults (K.state out.new).faults }
+    ensures faults { (K.state out.old).faults ≤ (K.state out.new).faults }
+{
+    let text = lines(alloc, items)?;
+    write_whole(out, &text)
+}
