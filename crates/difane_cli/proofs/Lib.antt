@@ -1,4 +1,4 @@
-mod Ends
 mod Gains
 mod Plays
 mod ShelfReads
+mod Tried

@@ -25,25 +25,26 @@ pub record Unplayed (journal : List Item) (before now : Option (List ℕ)) : Typ
   pub nothing_played : journal ≡ []
   pub nothing_written : now ≡ before
 
--- there are inputs, the known ones where files are known; the journal answers them, and the output
--- gained its text
-pub record Replayed (known : Known) (journal : List Item) (before now : Option (List ℕ))
-    : Type 0 where
-  pub inputs : Inputs
+-- the journal answers these inputs, which are the known ones where inputs are known; so it is a run of
+-- the machine, and its ends have their causes
+pub record IsAnswer (known : Known) (inputs : Inputs) (journal : List Item) : Type 0 where
   pub accepted : ForSome known (λ read. read ≡ Ok inputs)
   pub answers : Answers inputs.setting inputs.events journal
   pub run : IsRun inputs.setting journal
   pub causes : EndsHaveCauses inputs.setting journal
+
+-- there are inputs that the journal answers, and the output gained its text
+pub record Replayed (known : Known) (journal : List Item) (before now : Option (List ℕ))
+    : Type 0 where
+  pub inputs : Inputs
+  pub played : IsAnswer known inputs journal
   pub written : now ≡ gained before (journal_text inputs.setting journal)
 
 -- the same, but that the output failed and gained a part of the text
 pub record CutShort (known : Known) (journal : List Item) (before now : Option (List ℕ))
     : Type 0 where
   pub inputs : Inputs
-  pub accepted : ForSome known (λ read. read ≡ Ok inputs)
-  pub answers : Answers inputs.setting inputs.events journal
-  pub run : IsRun inputs.setting journal
-  pub causes : EndsHaveCauses inputs.setting journal
+  pub played : IsAnswer known inputs journal
   pub written : GainedPart before (journal_text inputs.setting journal) now
 
 -- there are such inputs; the journal begins an answer to them, and the output gained some of its

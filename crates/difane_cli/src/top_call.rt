@@ -47,7 +47,8 @@ pub fn run<F: Shelf, K: Sink, E: Sink>(
 
     // Each status has its cause.
     ensures words { (result.status ≡ status.Words) ↔ (command_of (texts words.now) ≡ None) }
-    ensures accounts { ForSome (known_inputs (F.state shelf.old).files (command_of (texts words.now)))
+    ensures accounts { ForSome
+        (known_inputs (F.state shelf.old).files (command_of (texts words.now)))
         (λ read. Accounts read result.status) }
     ensures read_fault { NeedsReadFault (F.state shelf.old).files result.status
         → Rose (F.state shelf.old).faults (F.state shelf.new).faults }
@@ -55,7 +56,8 @@ pub fn run<F: Shelf, K: Sink, E: Sink>(
         → Rose (K.state out.old).faults (K.state out.new).faults }
 
     // Where the inputs are accepted and nothing fails, the work is done or memory ran out.
-    ensures complete { AreAccepted (known_inputs (F.state shelf.old).files (command_of (texts words.now)))
+    ensures complete { AreAccepted
+        (known_inputs (F.state shelf.old).files (command_of (texts words.now)))
         → Rose (F.state shelf.old).faults (F.state shelf.new).faults
         ⊎ Rose (K.state out.old).faults (K.state out.new).faults
         ⊎ IsDone result.status }

@@ -59,7 +59,8 @@ const PIECE_BYTES: usize = 65_536;
 /// At an error the sink gained the bytes of the writes before it. A write that takes nothing ends
 /// the call as a failed one does.
 pub fn write_whole<K: Sink>(sink: &mut K, bytes: &[u8]) -> Result<(), SinkError>
-    ensures after { IsAfterWrite bytes.now K.takes_memory (K.state sink.old) (K.state sink.new) result }
+    ensures after { IsAfterWrite bytes.now K.takes_memory
+        (K.state sink.old) (K.state sink.new) result }
     ensures no_bytes { bytes.now ≡ [] → IsOk result × (sink.new ≡ sink.old) }
 {
     let mut written = 0;

@@ -172,7 +172,8 @@ impl Sink for MemSink {
     fn write(&mut self, piece: &[u8]) -> Result<u64, SinkError>
         ensures fails { IsErrOf result SinkError.Failed ↔ FailsNext self.old.script }
         ensures most { IfOk result (λ taken. taken ≡ min self.old.most (length piece.now)) }
-        ensures ok { IfOk result (λ taken. self.new.bytes ≡ self.old.bytes ++ take taken piece.now) }
+        ensures ok { IfOk result (λ taken.
+            self.new.bytes ≡ self.old.bytes ++ take taken piece.now) }
         ensures err { OnErr result (self.new.bytes ≡ self.old.bytes) }
         ensures same_most { self.new.most ≡ self.old.most }
         ensures after { self.new.script

@@ -4,3 +4,4 @@ pub mod FoldLemmas
 mod Pieces
 mod Runs
 pub mod Steps
+mod Tried
