@@ -1,5 +1,5 @@
 -- Reads of a shelf, one after another.
-use Rattle.std.proofs.Common.{ℕ, zero, suc, ◌≡◌, ◌+◌, ◌≤◌, Bool, true, false, Option, Some, None, Result, Ok, Err, is_ok, List, ◌∷◌, [], refl, ap, ◌∙◌, sym, arith}
+use Rattle.std.proofs.Common.{ℕ, zero, suc, ◌≡◌, ◌+◌, ◌≤◌, Bool, true, false, Option, Some, None, Ok, List, ◌∷◌, [], refl, ap, ◌∙◌, arith}
 use Rattle.std.specs.Option.{ForSome}
 use Rattle.schedule.specs.declared.step.Event.{Event}
 use Rattle.shelf.specs.Faults.{counted, counted_up}

@@ -10,7 +10,7 @@ use Rattle.schedule.specs.Plain as schedule_text
 use Rattle.schedule.specs.declared.step.Event.{Event}
 use Rattle.shelf.specs.Shelf.{Files, file_named}
 use Rattle.update_machine.specs.Setting.{Setting}
-use Rattle.difane_cli.specs.Words.{ReplayCommand, command_of}
+use Rattle.difane_cli.specs.Words.{ReplayCommand}
 use Rattle.difane_cli.specs.declared.inputs.TheConstants.{MAX_BYTES, MISSING, TOO_LONG}
 use Rattle.difane_cli.specs.declared.policies.TheConstants.{MAX_WORDS, NO_PORT, TOO_MANY_WORDS}
 use Rattle.difane_cli.specs.declared.status.Refusal.{Refusal}

@@ -4,7 +4,6 @@ use Rattle.std.specs.List.{concat}
 use Rattle.shelf.specs.Faults.{Rose}
 use Rattle.shelf.specs.Shelf.{Files}
 use Rattle.shelf.specs.Sink.{SinkState, gained, GainedPart}
-use Rattle.difane_cli.specs.declared.status.Refusal.{Refusal}
 use Rattle.difane_cli.specs.declared.status.Status.{Status}
 use Rattle.difane_cli.specs.declared.status.Status.TheVariants as status
 use Rattle.difane_cli.specs.declared.status.Stop.{Stop}

@@ -62,7 +62,7 @@ pub fn run<F: Shelf, K: Sink, E: Sink>(
         ⊎ Rose (K.state out.old).faults (K.state out.new).faults
         ⊎ IsDone result.status }
 
-    // The line of the status is told, whole unless the sink of errors fails.
+    // The line of the status is written, whole unless the sink of errors fails.
     ensures line { TellsLine (status_line result.status) E.takes_memory
         (E.state errs.old) (E.state errs.new) }
 

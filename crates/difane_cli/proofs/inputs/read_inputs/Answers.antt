@@ -1,6 +1,4 @@
-use Rattle.std.proofs.Common.{Some}
 use Rattle.difane_cli.specs.Commands.{command_named}
-use Rattle.difane_cli.specs.Inputs.{most_reads}
 use Rattle.difane_cli.proofs.ShelfReads.{reads_then, two_reads}
 use Rattle.difane_cli.proofs.inputs.read_inputs.Goals as goal
 

@@ -1,8 +1,8 @@
-use Rattle.std.proofs.Common.{ℕ, ◌≡◌, ◌+◌, ◌++◌, ◌∷◌, [], ◌∙◌, ap, sym, subst, List, drop, take, length, arith, IsErrOf}
+use Rattle.std.proofs.Common.{ℕ, ◌++◌, ◌∷◌, [], ◌∙◌, ap, subst, List, drop, take, length, arith}
 use Rattle.std.specs.List.{flat_map}
 use Rattle.shelf.specs.Sink.{gained, gained-gained, GainedPart}
 use Rattle.update_machine.specs.declared.journal.Item.{Item}
-use Rattle.replay.specs.Text.{item_line, journal_text, names_of}
+use Rattle.replay.specs.Text.{item_line, names_of}
 use Rattle.difane_cli.specs.Run.{GainedSome}
 use Rattle.difane_cli.proofs.Gains.{GainedPart-behind, GainedSome-behind, flat_map-block, flat_map-more}
 use Rattle.difane_cli.proofs.playing.write_journal.Goals as goal
