@@ -1,10 +1,9 @@
 -- The definitions, tried on literals by computing.
-use Rattle.std.proofs.Common.{◌≡◌, None, List, [], ◌∷◌, refl}
+use Rattle.std.proofs.Common.{◌≡◌, None, [], ◌∷◌, refl}
 use Rattle.five_tuple.specs.declared.header.Header.{Header}
 use Rattle.policy_rules.specs.declared.policy.Action.TheVariants.{Drop}
 use Rattle.schedule.specs.OneSwitch.{own_source}
 use Rattle.schedule.specs.declared.step.Step.TheVariants.{Packet}
-use Rattle.update_machine.specs.declared.journal.Item.{Item}
 use Rattle.update_machine.specs.declared.journal.Item.TheVariants as item
 use Rattle.update_machine.specs.Answers.{after_steps}
 
