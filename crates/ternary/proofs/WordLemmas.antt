@@ -4,27 +4,25 @@ use Rattle.std.specs.Bool.{Decides, IsTrue, IsFalse, ◌==◌}
 use Rattle.std.specs.Option.{option_and_then, is_some}
 use Rattle.std.specs.Int.{bit_at, from_bool}
 use Rattle.std.specs.Int.Bits.{bit_and, bit_or, and_self, or_comm, or_lt}
+use Rattle.std.proofs.Math.Nat.{mod-eq_of_lt}
 use Rattle.std.proofs.lemmas.Bool.{eqb-true, eq-eqb, cases_Bool, and_parts, and_from, cond-true, cond-false, both_ways, false_from_ne_true, ne_eqb, and_left, or_left as either_left, or_right as either_right}
 use Rattle.std.proofs.lemmas.Bool.Decides.{same_from_decides, Decides-like, Decides-and, Decides-or, Decides-eqb}
-use Rattle.std.proofs.lemmas.Nat.{and_assoc, and_le_r, pow_below}
+use Rattle.std.proofs.lemmas.Nat.{and_assoc, and_le_r, and_mask, pow_below}
 use Rattle.std.proofs.lemmas.Nat.Bits.{bit_at-zero, bit_at_ones, shr_and_one, same_from_bits_below}
 use Rattle.std.proofs.lemmas.Option.{cond_some}
-use Rattle.ternary.specs.Word.{WordValue, IsWord, fixed_value, AgreesOnMask, holds, Includes, AreDisjoint, IsMeet, any_word, exact_word, meets, joined, meet_of, covers_of, is_fixed_of, admits, fix_of, free_of, with_bit, without_bit}
+use Rattle.ternary.specs.Word.{WordValue, IsWord, fixed_value, AgreesOnMask, AgreesOnBoth, IsFixedIn, holds, Includes, AreDisjoint, IsMeet, any_word, exact_word, meets, joined, meet_of, covers_of, is_fixed_of, admits, fix_of, free_of, with_bit, without_bit, word_eq}
 use Rattle.ternary.proofs.BitLemmas.{masked, unmasked, part, of_part, both_set, left_set, right_set, or_assoc, absorbed, same_set, set_below, not_set, by_place, digit_cases, with_bit-same, with_bit-other, with_bit-lt, without_bit-same, without_bit-other, without_bit-le, without_bit-unset, shifted, shifted_one, masked_out, or_pow-same, or_pow-other, masked_sum-left, masked_sum-right, or_left, or_right, or_from}
 
 -- words of the same value and mask are equal
 pub same_word : (a b : WordValue) → a.value ≡ b.value → a.mask ≡ b.mask → a ≡ b
 same_word a b p q = λ i. record { value = p i; mask = q i }
 
+pub word_eq_decides : (a b : WordValue) → Decides (word_eq a b) (a ≡ b)
+word_eq_decides a b =
+    Decides-like _ (λ both. same_word a b both.0 both.1) (λ e. (ap (λ (w : WordValue). w.value) e, ap (λ (w : WordValue). w.mask) e))
+    (Decides-and _ _ (Decides-eqb a.value b.value) (Decides-eqb a.mask b.mask))
+
 -- ---- each test, bit by bit
-
--- a and b agree where both are fixed
-abbrev AgreesOnBoth : WordValue → WordValue → Type 0
-AgreesOnBoth a b = (k : ℕ) → bit_at a.mask k ≡ 1 → bit_at b.mask k ≡ 1 → bit_at a.value k ≡ bit_at b.value k
-
--- what a fixes, b fixes so too
-abbrev IsFixedIn : WordValue → WordValue → Type 0
-IsFixedIn a b = (k : ℕ) → bit_at a.mask k ≡ 1 → (bit_at b.mask k ≡ 1) × (bit_at b.value k ≡ bit_at a.value k)
 
 pub holds_decides : (w : WordValue) (h : ℕ) → Decides (holds w h) (AgreesOnMask w h)
 unfolding holds
@@ -59,6 +57,9 @@ exact_holds h x h_fits x_fits =
     (λ bits. same_from_bits_below 104 x h x_fits h_fits (λ k low. bits k (bit_at_ones 104 k low)))
     (λ e k set. ap (λ n. bit_at n k) e)
     (holds_decides (exact_word h) x)
+
+pub exact_is_word : (h : ℕ) → h < 2 ^ 104 → IsWord (exact_word h)
+exact_is_word h fits = record { within = and_mask h 104 ∙ mod-eq_of_lt fits; bounded = omega arith }
 
 -- ---- the order
 
@@ -344,18 +345,18 @@ meet_narrowed w a b ab =
 
 -- ---- a fixed bit, and the halves of a word
 
-is_fixed_decides : (w : WordValue) (k : ℕ) → Decides (is_fixed_of w k) (bit_at w.mask k ≡ 1)
+pub is_fixed_decides : (w : WordValue) (k : ℕ) → Decides (is_fixed_of w k) (bit_at w.mask k ≡ 1)
 unfolding is_fixed_of
 is_fixed_decides w k = Decides-eqb (bit_at w.mask k) 1
 
-free_bit : (w : WordValue) (k : ℕ) → IsFalse (is_fixed_of w k) → bit_at w.mask k ≡ 1 → ⊥
+pub free_bit : (w : WordValue) (k : ℕ) → IsFalse (is_fixed_of w k) → bit_at w.mask k ≡ 1 → ⊥
 free_bit w k free p = both_ways _ free ((is_fixed_decides w k).1 p)
 
-is_fixed_same : (v w : WordValue) (k : ℕ) → bit_at v.mask k ≡ bit_at w.mask k → is_fixed_of v k ≡ is_fixed_of w k
+pub is_fixed_same : (v w : WordValue) (k : ℕ) → bit_at v.mask k ≡ bit_at w.mask k → is_fixed_of v k ≡ is_fixed_of w k
 unfolding is_fixed_of
 is_fixed_same v w k e = ap (λ d. d == 1) e
 
-implies_decides : {P Q : Type 0} (p q : Bool) → Decides p P → Decides q Q → Decides (not p || q) (P → Q)
+pub implies_decides : {P Q : Type 0} (p q : Bool) → Decides p P → Decides q Q → Decides (not p || q) (P → Q)
 implies_decides true q of_p of_q = (λ t _. of_q.0 t, λ f. of_q.1 (f (of_p.0 refl)))
 implies_decides false q of_p of_q = (λ _ x. absurd (both_ways false refl (of_p.1 x)), λ _. refl)
 

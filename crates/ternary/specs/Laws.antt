@@ -1,8 +1,9 @@
 -- The laws of words: `x_laws` of the crate ensures the record of each.
-use Rattle.std.specs.Prelude.{◌≡◌, ◌≢◌, ℕ, ◌^◌, ◌<◌, Bool, true, false, ◌&&◌, ◌||◌, ◌==◌, ◌↔◌, Some, None, IsTrue, IsFalse, is_some}
+use Rattle.std.specs.Prelude.{◌≡◌, ◌≢◌, ℕ, ◌+◌, ◌^◌, ◌<◌, Bool, true, false, not, ◌&&◌, ◌||◌, ◌==◌, ◌↔◌, Some, None, IsTrue, IsFalse, is_some, length, [], Contains, filter}
 use Rattle.std.specs.Int.{bit_at, from_bool}
 use Rattle.std.specs.Option.{option_and_then}
-use Rattle.ternary.specs.Word.{WordValue, IsWord, AgreesOnMask, holds, IsMeet, any_word, exact_word, meets, meet_of, covers_of, with_bit, is_fixed_of, admits, fix_of, free_of}
+use Rattle.std.specs.List.Sorted.{IsStrictlyIncreasing}
+use Rattle.ternary.specs.Word.{WordValue, IsWord, AgreesOnMask, AgreesOnBoth, IsFixedIn, holds, IsMeet, any_word, exact_word, meets, meet_of, covers_of, with_bit, is_fixed_of, admits, agrees_at, includes_at, fix_of, free_of, free_bits, word_eq}
 
 pub record HoldsLaws : Type 0 where
   -- the test is agreement, bit by bit
@@ -10,22 +11,44 @@ pub record HoldsLaws : Type 0 where
   -- every word holds a header, its value
   pub value : (w : WordValue) → IsTrue (holds w w.value)
   pub bound : (w : WordValue) → IsWord w → w.value < 2 ^ 104
+  pub equal : (a b : WordValue) → IsTrue (word_eq a b) ↔ (a ≡ b)
   -- words of the same headers are equal
-  pub same : (a b : WordValue) → IsWord a → IsWord b → ((h : ℕ) → h < 2 ^ 104 → holds a h ≡ holds b h) → a ≡ b
+  pub same : (a b : WordValue) → IsWord a → IsWord b
+      → ((h : ℕ) → h < 2 ^ 104 → holds a h ≡ holds b h) → a ≡ b
+
+pub record AnyLaws : Type 0 where
+  pub word : IsWord any_word
+  pub holds : (h : ℕ) → IsTrue (holds any_word h)
+  pub no_fixed_bit : (k : ℕ) → IsFalse (is_fixed_of any_word k)
+
+pub record ExactLaws : Type 0 where
+  pub word : (h : ℕ) → h < 2 ^ 104 → IsWord (exact_word h)
+  -- of the headers, the word of one holds this one
+  pub holds : (h x : ℕ) → h < 2 ^ 104 → x < 2 ^ 104 → IsTrue (holds (exact_word h) x) ↔ (x ≡ h)
+  pub no_free_bit : (h k : ℕ) → k < 104 → IsTrue (is_fixed_of (exact_word h) k)
 
 pub record CoversLaws : Type 0 where
+  -- the test is this fact, bit by bit
+  pub bitwise : (a b : WordValue) → IsTrue (covers_of a b) ↔ IsFixedIn a b
   -- what is covered is held
-  pub held : (a b : WordValue) (h : ℕ) → IsTrue (covers_of a b) → IsTrue (holds b h) → IsTrue (holds a h)
+  pub held : (a b : WordValue) (h : ℕ) → IsTrue (covers_of a b) → IsTrue (holds b h)
+      → IsTrue (holds a h)
   pub reflexive : (a : WordValue) → IsTrue (covers_of a a)
-  pub transitive : (a b c : WordValue) → IsTrue (covers_of a b) → IsTrue (covers_of b c) → IsTrue (covers_of a c)
-  pub antisymmetric : (a b : WordValue) → IsWord a → IsWord b → IsTrue (covers_of a b) → IsTrue (covers_of b a) → a ≡ b
+  pub transitive : (a b c : WordValue) → IsTrue (covers_of a b) → IsTrue (covers_of b c)
+      → IsTrue (covers_of a c)
+  pub antisymmetric : (a b : WordValue) → IsWord a → IsWord b → IsTrue (covers_of a b)
+      → IsTrue (covers_of b a) → a ≡ b
   pub any : (w : WordValue) → IsTrue (covers_of any_word w)
   -- the word of one header is covered where the header is held
-  pub exact : (w : WordValue) (h : ℕ) → IsWord w → h < 2 ^ 104 → covers_of w (exact_word h) ≡ holds w h
+  pub exact : (w : WordValue) (h : ℕ) → IsWord w → h < 2 ^ 104
+      → covers_of w (exact_word h) ≡ holds w h
   -- a word without a free bit is covered by what it meets
-  pub no_free_bit : (a b : WordValue) → IsWord a → ((k : ℕ) → k < 104 → IsTrue (is_fixed_of b k)) → IsTrue (meets a b) → IsTrue (covers_of a b)
+  pub no_free_bit : (a b : WordValue) → IsWord a → ((k : ℕ) → k < 104 → IsTrue (is_fixed_of b k))
+      → IsTrue (meets a b) → IsTrue (covers_of a b)
 
 pub record MeetLaws : Type 0 where
+  -- words meet where no bit is fixed in both to different values
+  pub bitwise : (a b : WordValue) → IsTrue (meets a b) ↔ AgreesOnBoth a b
   -- the meet holds what both hold, and is none where both hold nothing
   pub both : (a b m : WordValue) → meet_of a b ≡ Some m → IsMeet a b m
   pub none : (a b : WordValue) (h : ℕ) → meet_of a b ≡ None → (holds a h && holds b h) ≡ false
@@ -34,38 +57,86 @@ pub record MeetLaws : Type 0 where
   pub idempotent : (a : WordValue) → IsWord a → meet_of a a ≡ Some a
   pub symmetric : (a b : WordValue) → meets a b ≡ meets b a
   pub commutative : (a b : WordValue) → meet_of a b ≡ meet_of b a
-  pub associative : (a b c : WordValue) → option_and_then (λ m. meet_of m c) (meet_of a b) ≡ option_and_then (meet_of a) (meet_of b c)
+  pub associative : (a b c : WordValue)
+      → option_and_then (λ m. meet_of m c) (meet_of a b) ≡ option_and_then (meet_of a) (meet_of b c)
   pub any : (a : WordValue) → IsWord a → meet_of a any_word ≡ Some a
   pub exact : (w : WordValue) (h : ℕ) → IsWord w → h < 2 ^ 104 → meets w (exact_word h) ≡ holds w h
   -- the meet is the greatest word that both cover
-  pub within : (a b m : WordValue) → meet_of a b ≡ Some m → IsTrue (covers_of a m) × IsTrue (covers_of b m)
-  pub greatest : (a b m c : WordValue) → meet_of a b ≡ Some m → covers_of m c ≡ (covers_of a c && covers_of b c)
+  pub within : (a b m : WordValue) → meet_of a b ≡ Some m
+      → IsTrue (covers_of a m) × IsTrue (covers_of b m)
+  pub greatest : (a b m c : WordValue) → meet_of a b ≡ Some m
+      → covers_of m c ≡ (covers_of a c && covers_of b c)
   pub covered : (a b : WordValue) → IsWord b → IsTrue (covers_of a b) ↔ (meet_of a b ≡ Some b)
   pub meets_cover : (a b : WordValue) → IsTrue (covers_of a b) → IsTrue (meets b a)
   -- what a word does not meet, none that it covers does
-  pub monotone : (a b c : WordValue) → IsTrue (covers_of a b) → meet_of a c ≡ None → meet_of b c ≡ None
+  pub monotone : (a b c : WordValue) → IsTrue (covers_of a b) → meet_of a c ≡ None
+      → meet_of b c ≡ None
   -- narrowed to a, and then to what a covers, is narrowed to the latter at once
-  pub narrowed : (w a b : WordValue) → IsTrue (covers_of a b) → option_and_then (λ m. meet_of m b) (meet_of w a) ≡ meet_of w b
+  pub narrowed : (w a b : WordValue) → IsTrue (covers_of a b)
+      → option_and_then (λ m. meet_of m b) (meet_of w a) ≡ meet_of w b
 
 pub record FixLaws : Type 0 where
   -- a half holds the headers of the word that have its bit, so each is in exactly one half
-  pub half : (w : WordValue) (k : ℕ) (one : Bool) (h : ℕ) → IsFalse (is_fixed_of w k) → holds (fix_of w k one) h ≡ (holds w h && (bit_at h k == from_bool one))
-  pub split : (w : WordValue) (k h : ℕ) → IsFalse (is_fixed_of w k) → holds w h ≡ (holds (fix_of w k false) h || holds (fix_of w k true) h)
+  pub half : (w : WordValue) (k : ℕ) (one : Bool) (h : ℕ) → IsFalse (is_fixed_of w k)
+      → holds (fix_of w k one) h ≡ (holds w h && (bit_at h k == from_bool one))
+  pub split : (w : WordValue) (k h : ℕ) → IsFalse (is_fixed_of w k)
+      → holds w h ≡ (holds (fix_of w k false) h || holds (fix_of w k true) h)
   pub apart : (w : WordValue) (k : ℕ) → meet_of (fix_of w k false) (fix_of w k true) ≡ None
-  pub within : (w : WordValue) (k : ℕ) (one : Bool) → IsFalse (is_fixed_of w k) → IsTrue (covers_of w (fix_of w k one))
+  pub within : (w : WordValue) (k : ℕ) (one : Bool) → IsFalse (is_fixed_of w k)
+      → IsTrue (covers_of w (fix_of w k one))
   pub word : (w : WordValue) (k : ℕ) (one : Bool) → IsWord w → k < 104 → IsWord (fix_of w k one)
   pub same_bit : (w : WordValue) (k : ℕ) (one : Bool) → IsTrue (is_fixed_of (fix_of w k one) k)
-  pub other_bit : (w : WordValue) (k j : ℕ) (one : Bool) → j ≢ k → is_fixed_of (fix_of w k one) j ≡ is_fixed_of w j
+  pub other_bit : (w : WordValue) (k j : ℕ) (one : Bool) → j ≢ k
+      → is_fixed_of (fix_of w k one) j ≡ is_fixed_of w j
   -- how a word stands to a header's bit, and to a half of r
-  pub admits_bit : (w : WordValue) (k : ℕ) (one : Bool) (h : ℕ) → IsTrue (holds w h) → bit_at h k ≡ from_bool one → IsTrue (admits w k one)
-  pub meets_half : (w r : WordValue) (k : ℕ) (one : Bool) → IsFalse (is_fixed_of r k) → meets w (fix_of r k one) ≡ (meets w r && admits w k one)
-  pub covers_half : (w r : WordValue) (k : ℕ) (one : Bool) → covers_of w (fix_of r k one) ≡ (covers_of (free_of w k) r && admits w k one)
+  pub admits_bit : (w : WordValue) (k : ℕ) (one : Bool) (h : ℕ) → IsTrue (holds w h)
+      → bit_at h k ≡ from_bool one → IsTrue (admits w k one)
+  pub meets_half : (w r : WordValue) (k : ℕ) (one : Bool) → IsFalse (is_fixed_of r k)
+      → meets w (fix_of r k one) ≡ (meets w r && admits w k one)
+  pub covers_half : (w r : WordValue) (k : ℕ) (one : Bool)
+      → covers_of w (fix_of r k one) ≡ (covers_of (free_of w k) r && admits w k one)
 
 pub record FreeLaws : Type 0 where
   -- the freed word holds what the word holds with the bit set to 0 or to 1
-  pub either : (w : WordValue) (k h : ℕ) → holds (free_of w k) h ≡ (holds w (with_bit h k false) || holds w (with_bit h k true))
+  pub either : (w : WordValue) (k h : ℕ)
+      → holds (free_of w k) h ≡ (holds w (with_bit h k false) || holds w (with_bit h k true))
   pub wider : (w : WordValue) (k : ℕ) → IsTrue (covers_of (free_of w k) w)
-  pub monotone : (a b : WordValue) (k : ℕ) → IsTrue (covers_of a b) → IsTrue (covers_of (free_of a k) (free_of b k))
+  pub monotone : (a b : WordValue) (k : ℕ) → IsTrue (covers_of a b)
+      → IsTrue (covers_of (free_of a k) (free_of b k))
   pub word : (w : WordValue) (k : ℕ) → IsWord w → IsWord (free_of w k)
   pub same_bit : (w : WordValue) (k : ℕ) → IsFalse (is_fixed_of (free_of w k) k)
   pub other_bit : (w : WordValue) (k j : ℕ) → j ≢ k → is_fixed_of (free_of w k) j ≡ is_fixed_of w j
+  -- a freed bit that was free, or one that had been fixed before
+  pub unfixed : (w : WordValue) (k : ℕ) → IsWord w → IsFalse (is_fixed_of w k) → free_of w k ≡ w
+  pub undone : (w : WordValue) (k : ℕ) (one : Bool) → IsWord w → IsFalse (is_fixed_of w k)
+      → free_of (fix_of w k one) k ≡ w
+  pub restored : (w : WordValue) (k : ℕ) (one : Bool) → IsWord w → IsTrue (is_fixed_of w k)
+      → bit_at w.value k ≡ from_bool one → fix_of (free_of w k) k one ≡ w
+  -- one bit apart from the others
+  pub meets_bit : (a b : WordValue) (k : ℕ) → meets a b ≡ (meets (free_of a k) b && agrees_at a b k)
+  pub covers_bit : (a b : WordValue) (k : ℕ)
+      → covers_of a b ≡ (covers_of (free_of a k) b && includes_at a b k)
+  -- a freed bit no longer matters
+  pub meets_others : (a b : WordValue) (k : ℕ)
+      → IsTrue (meets (free_of a k) b) ↔ ((j : ℕ) → j ≢ k → IsTrue (agrees_at a b j))
+  pub covers_others : (a b : WordValue) (k : ℕ)
+      → IsTrue (covers_of (free_of a k) b) ↔ ((j : ℕ) → j ≢ k → IsTrue (includes_at a b j))
+  pub meets_freed : (a b : WordValue) (k : ℕ)
+      → meets (free_of a k) b ≡ meets (free_of a k) (free_of b k)
+  pub covers_freed : (a b : WordValue) (k : ℕ)
+      → covers_of (free_of a k) b ≡ covers_of (free_of a k) (free_of b k)
+  -- what covers a freed word leaves its bit free
+  pub freed_covered : (a b : WordValue) (k : ℕ)
+      → covers_of a (free_of b k) ≡ (not (is_fixed_of a k) && covers_of a b)
+
+pub record FreeBitsLaws : Type 0 where
+  pub member : (w : WordValue) (k : ℕ)
+      → Contains (free_bits w) k ↔ ((k < 104) × IsFalse (is_fixed_of w k))
+  pub ascending : (w : WordValue) → IsStrictlyIncreasing (free_bits w)
+  pub any : length (free_bits any_word) ≡ 104
+  pub exact : (h : ℕ) → free_bits (exact_word h) ≡ []
+  -- a fixed bit, and it alone, is gone
+  pub fixed : (w : WordValue) (k : ℕ) (one : Bool)
+      → free_bits (fix_of w k one) ≡ filter (λ j. not (j == k)) (free_bits w)
+  pub shorter : (w : WordValue) (k : ℕ) (one : Bool) → k < 104 → IsFalse (is_fixed_of w k)
+      → length (free_bits (fix_of w k one)) + 1 ≡ length (free_bits w)

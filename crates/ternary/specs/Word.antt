@@ -1,7 +1,9 @@
 -- Words with free bits over header numbers of 104 bits: the wildcard expressions of Kazemian, Varghese and McKeown,
 -- "Header Space Analysis: Static Checking for Networks", each kept as a value and a mask.
-use Rattle.std.specs.Prelude.{◌≡◌, ℕ, ◌-◌, ◌*◌, ◌^◌, ◌<◌, Bool, not, ◌&&◌, ◌||◌, ◌==◌, if◌then◌else◌, bit_and, bit_or, Option, Some, None, IsTrue}
+use Rattle.std.specs.Prelude.{◌≡◌, ℕ, zero, suc, ◌-◌, ◌*◌, ◌/◌, ◌%◌, ◌^◌, ◌<◌, Bool, false, not, ◌&&◌, ◌||◌, ◌==◌, if◌then◌else◌, bit_and, bit_or, Option, Some, None, IsTrue, List, [], ◌∷◌, ◌++◌, filter}
+use Rattle.std.specs.Fmt.{digit_glyph}
 use Rattle.std.specs.Int.{bit_at, from_bool}
+use Rattle.std.specs.List.{range_with_len}
 
 -- a word as a pair: the bits of the mask are fixed, the others are free
 pub record WordValue : Type 0 where
@@ -51,6 +53,20 @@ exact_word h = record { value = h; mask = 2 ^ 104 - 1 }
 
 -- ---- two words
 
+-- the same value and mask: what `==` and the keys of maps compare
+abbrev pub word_eq : WordValue → WordValue → Bool
+word_eq a b = (a.value == b.value) && (a.mask == b.mask)
+
+-- the values agree on each bit that both fix
+abbrev pub AgreesOnBoth : WordValue → WordValue → Type 0
+AgreesOnBoth a b = (k : ℕ) → bit_at a.mask k ≡ 1 → bit_at b.mask k ≡ 1
+    → bit_at a.value k ≡ bit_at b.value k
+
+-- each bit that a fixes, b fixes to the same
+abbrev pub IsFixedIn : WordValue → WordValue → Type 0
+IsFixedIn a b = (k : ℕ) → bit_at a.mask k ≡ 1
+    → (bit_at b.mask k ≡ 1) × (bit_at b.value k ≡ bit_at a.value k)
+
 -- the values agree on the bits that both fix
 unfoldable pub meets : WordValue → WordValue → Bool
 meets a b = let common = bit_and a.mask b.mask in bit_and a.value common == bit_and b.value common
@@ -92,3 +108,29 @@ fix_of w k one = record { value = with_bit w.value k one; mask = bit_or w.mask (
 -- bit k freed
 unfoldable pub free_of : WordValue → ℕ → WordValue
 free_of w k = record { value = without_bit w.value k; mask = without_bit w.mask k }
+
+-- bit k is not fixed in both to different values
+unfoldable pub agrees_at : WordValue → WordValue → ℕ → Bool
+agrees_at a b k = not (is_fixed_of a k && is_fixed_of b k) || (bit_at a.value k == bit_at b.value k)
+
+-- bit k is fixed in b, and to the same, if a fixes it
+unfoldable pub includes_at : WordValue → WordValue → ℕ → Bool
+includes_at a b k =
+    not (is_fixed_of a k) || (is_fixed_of b k && (bit_at b.value k == bit_at a.value k))
+
+-- ---- the free bits
+
+-- of the 104 bits, those that are free, ascending
+unfoldable pub free_bits : WordValue → List ℕ
+free_bits w = filter (λ k. not (is_fixed_of w k)) (range_with_len 0 104)
+
+-- ---- the printed form
+
+-- this many hexadecimal digits in lower case, the highest first
+unfoldable pub hex_digits : ℕ → ℕ → List ℕ
+hex_digits zero n = []
+hex_digits (suc count) n = hex_digits count (n / 16) ++ digit_glyph false (n % 16) ∷ []
+
+-- value and mask with a slash between them, each in 26 digits
+unfoldable pub word_text : WordValue → List ℕ
+word_text w = hex_digits 26 w.value ++ 47 ∷ hex_digits 26 w.mask

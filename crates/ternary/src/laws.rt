@@ -1,8 +1,18 @@
-ghost use Rattle.ternary.specs.Laws.{HoldsLaws, CoversLaws, MeetLaws, FixLaws, FreeLaws};
+ghost use Rattle.ternary.specs.Laws.{HoldsLaws, AnyLaws, ExactLaws, CoversLaws, MeetLaws, FixLaws, FreeLaws, FreeBitsLaws};
 
 /// A word holds what agrees with its value on each fixed bit, so it holds its value; words of the same headers are equal.
 pub fn holds_laws()
     ensures { HoldsLaws }
+{}
+
+/// The word that fixes no bit holds every header.
+pub fn any_laws()
+    ensures { AnyLaws }
+{}
+
+/// The word of one header fixes each bit, and of all headers holds this one.
+pub fn exact_laws()
+    ensures { ExactLaws }
 {}
 
 /// `covers` orders the words. A word covers that of one header where it holds this header, and what it meets where that
@@ -22,7 +32,13 @@ pub fn fix_laws()
     ensures { FixLaws }
 {}
 
-/// A freed bit widens a word, and keeps the order of two words.
+/// A freed bit widens a word, and keeps the order of two words. Two words meet, or one covers the other, where they do
+/// with a bit freed and that bit agrees.
 pub fn free_laws()
     ensures { FreeLaws }
+{}
+
+/// The free bits of a word as an ascending list: to fix one takes it, and it alone, away.
+pub fn free_bits_laws()
+    ensures { FreeBitsLaws }
 {}

@@ -1,11 +1,26 @@
 //! Words with free bits over header numbers of 104 bits, as a ternary content-addressable memory matches them.
 //!
-//! A word fixes some bits and leaves the others free. The crate promises that each operation answers for exactly the
-//! headers that a word holds, and gives the laws of meet, cover, fixed and freed bits. Nothing here takes memory.
+//! A word fixes some bits and leaves the others free. Each operation answers for exactly the headers that a word holds,
+//! and takes no memory. What holds of all words is ensured by the laws, functions with an empty body, for proofs where no
+//! call runs; a map whose keys are words compares them by `word_eq`.
+//!
+//! A caller, which imports `IfSome` and `IsNone` from std, `AreDisjoint` and `IsMeet` from `specs/Word.antt`:
+//!
+//! ```rust
+//! /// The part of a rule that lies in a region.
+//! pub fn part_in(rule: &Word, region: &Word) -> Option<Word>
+//!     ensures part { IfSome result (λ part. IsMeet rule.now region.now part) }
+//!     ensures none { IsNone result ↔ AreDisjoint rule.now region.now }
+//! {
+//!     rule.meet(region)
+//! }
+//! ```
 #![tactic(auto)]
 
 mod laws;
 mod word;
 
-pub use laws::{covers_laws, fix_laws, free_laws, holds_laws, meet_laws};
+pub use laws::{
+    any_laws, covers_laws, exact_laws, fix_laws, free_bits_laws, free_laws, holds_laws, meet_laws,
+};
 pub use word::Word;

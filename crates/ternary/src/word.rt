@@ -1,7 +1,8 @@
-ghost use Rattle.std.specs.Prelude.{◌≡◌, ◌≢◌, ◌^◌, ◌<◌, ◌≤◌, ◌&&◌, ◌||◌, ◌==◌, ◌⊎◌, ◌↔◌, ℕ, bit_and, false, true, IsTrue, IsFalse, IsSome, IsNone, IfSome};
+ghost use Rattle.std.specs.Prelude.{◌≡◌, ◌≢◌, ◌^◌, ◌<◌, ◌≤◌, ◌&&◌, ◌||◌, ◌==◌, ◌⊎◌, ◌↔◌, ℕ, bit_and, false, true, Some, IsTrue, IsFalse, IsSome, IsNone, IfSome};
 ghost use Rattle.std.specs.Int.{bit_at, from_bool};
-ghost use Rattle.ternary.specs.Word.{WordValue, IsWord, AgreesOnMask, holds, Includes, AreDisjoint, IsMeet, any_word, exact_word, meet_of, covers_of, with_bit, is_fixed_of, fix_of, free_of};
+ghost use Rattle.ternary.specs.Word.{WordValue, IsWord, AgreesOnMask, holds, Includes, AreDisjoint, IsMeet, any_word, exact_word, meet_of, covers_of, with_bit, is_fixed_of, fix_of, free_of, word_text};
 
+use std::fmt;
 use std::marker::Model;
 
 /// The mask of all 104 bits of a header number.
@@ -12,7 +13,7 @@ const ALL_BITS: u128 = (1 << 104) - 1;
 ///
 /// A bit of the mask is fixed, every other bit is free. Value and mask are below 2^104, and no bit of the value lies
 /// outside the mask, so equal sets are equal words.
-#[derive(Clone, Copy, Debug, PartialEq, Eq)]
+#[derive(Clone, Copy, Debug, PartialEq, Eq, Hash)]
 pub struct Word {
     value: u128,
     mask: u128,
@@ -34,6 +35,8 @@ impl Word {
     /// The word of this pair; `None` where the value has a bit outside the mask, or the mask one from bit 104 on.
     pub fn new(value: u128, mask: u128) -> Option<Word>
         ensures pair { IfSome result (λ w. (w ≡ record { value = value; mask = mask }) × IsWord w) }
+        ensures taken { let pair : WordValue = record { value = value; mask = mask } in
+            IsSome result ↔ IsWord pair }
         ensures none { IsNone result ↔ ((bit_and value mask ≢ value) ⊎ (2 ^ 104 ≤ mask)) }
     {
         if value & mask == value && mask <= ALL_BITS {
@@ -132,7 +135,8 @@ impl Word {
         requires bound { bit < 104 }
         requires free { IsFalse (is_fixed_of self.now bit) }
         ensures pair { result ≡ fix_of self.now bit one }
-        ensures half { (h : ℕ) → holds result h ≡ (holds self.now h && (bit_at h bit == from_bool one)) }
+        ensures half { (h : ℕ) →
+            holds result h ≡ (holds self.now h && (bit_at h bit == from_bool one)) }
         ensures word { IsWord result }
     {
         Word {
@@ -145,7 +149,8 @@ impl Word {
     pub fn free(&self, bit: u32) -> Word
         requires { bit < 104 }
         ensures pair { result ≡ free_of self.now bit }
-        ensures either { (h : ℕ) → holds result h ≡ (holds self.now (with_bit h bit false) || holds self.now (with_bit h bit true)) }
+        ensures either { (h : ℕ) → holds result h ≡
+            (holds self.now (with_bit h bit false) || holds self.now (with_bit h bit true)) }
         ensures word { IsWord result }
     {
         let others = !(1u128 << bit);
@@ -153,6 +158,39 @@ impl Word {
             value: self.value & others,
             mask: self.mask & others,
         }
+    }
+}
+
+/// Printed as value and mask with a slash between them, each in 26 lower-case hexadecimal digits.
+#[tactic(auto, unfolding(crate::specs::Word::word_text))]
+impl fmt::Display for Word {
+    ghost output = { λ w. Some (word_text w) };
+
+    fn fmt<W: fmt::Write>(&self, f: &mut fmt::Formatter<W>) -> fmt::Result {
+        let value = Hex { number: self.value };
+        let mask = Hex { number: self.mask };
+        write!(f, "{value}/{mask}")
+    }
+}
+
+// A number below 2^104, printed in 26 hexadecimal digits: 10 digits, and 16 for the low 64 bits, since the contract of
+// `{:x}` reaches no further.
+#[derive(Drop)]
+struct Hex {
+    number: u128,
+    ghost bound: { number < 2 ^ 104 },
+}
+
+impl fmt::Display for Hex {
+    ghost use Rattle.std.specs.Prelude.{Some};
+    ghost use Rattle.ternary.specs.Word.{hex_digits};
+
+    ghost output = { λ hex. Some (hex_digits 26 hex.number) };
+
+    fn fmt<W: fmt::Write>(&self, f: &mut fmt::Formatter<W>) -> fmt::Result {
+        let high = (self.number >> 64) as u64;
+        let low = (self.number & u128::from(u64::MAX)) as u64;
+        write!(f, "{high:010x}{low:016x}")
     }
 }
 
@@ -180,6 +218,15 @@ mod tests {
         assert!(rt; !both.covers(&high));
         assert!(rt; high.holds(0b0111));
         assert!(rt; !high.holds(0b1111));
+        Ok(())
+    }
+
+    #[test]
+    fn prints_both_numbers(rt: HostRuntime) -> Result<(), Fail> {
+        let word = Word::new(0x0a02_0000_0000_0000_06, 0xff02_0000_0000_0000_ff).ok_or("word")?;
+        let text = word.to_string(rt.alloc())?;
+        let printed = "000000000a0200000000000006/00000000ff02000000000000ff";
+        assert_eq!(rt; text.as_str(), printed);
         Ok(())
     }
 

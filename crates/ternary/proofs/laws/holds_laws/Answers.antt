@@ -1,4 +1,4 @@
-use Rattle.ternary.proofs.WordLemmas.{holds_decides, holds_value, value_below, same_headers}
+use Rattle.ternary.proofs.WordLemmas.{holds_decides, holds_value, value_below, same_headers, word_eq_decides}
 use Rattle.ternary.proofs.laws.holds_laws.Goals as goal
 
 pub returns : goal.returns
@@ -6,5 +6,6 @@ returns c = record {
   bitwise = holds_decides;
   value = holds_value;
   bound = value_below;
+  equal = word_eq_decides;
   same = same_headers;
 }

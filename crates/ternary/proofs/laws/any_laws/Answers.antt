@@ -1,0 +1,11 @@
+use Rattle.std.proofs.Common.{refl, arith}
+use Rattle.ternary.proofs.WordLemmas.{any_holds}
+use Rattle.ternary.proofs.FreeBits.{any_unfixed}
+use Rattle.ternary.proofs.laws.any_laws.Goals as goal
+
+pub returns : goal.returns
+returns c = record {
+  word = record { within = refl; bounded = omega arith };
+  holds = any_holds;
+  no_fixed_bit = any_unfixed;
+}
