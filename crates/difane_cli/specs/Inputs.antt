@@ -50,7 +50,7 @@ schedule_in name bytes = schedule_from name (schedule_text.schedule_of bytes)
 abbrev pub policy_from : List ℕ → Result (List Row) policy_text.Refusal → Result (List Row) Refusal
 policy_from name (Ok rows) = Ok rows
 policy_from name (Err refusal) =
-    Err (record { file = name; code = policy_text.code_of refusal.fault; row = refusal.row })
+    Err (record { file = name; code = policy_text.code_of refusal.refusal; row = refusal.row })
 
 abbrev pub with_ports : List ℕ → List Row → Option NoPort → Result (List Row) Refusal
 with_ports name rows None = Ok rows

@@ -1,5 +1,5 @@
 //! The files of a command, read and checked one after another.
-ghost use Rattle.std.specs.Prelude.{◌≡◌, ◌≤◌, All, length, vec_len, IfOk, IfErr, Ok, Some};
+ghost use Rattle.std.specs.Prelude.{◌≡◌, ◌≤◌, All, vec_len, IfOk, IfErr, Ok, Some};
 ghost use Rattle.std.specs.Option.{ForSome};
 ghost use Rattle.schedule.specs.OneSwitch.{IsOfOneSwitch, NamesOwnPorts};
 ghost use Rattle.shelf.specs.Faults.{Rose};
@@ -94,7 +94,6 @@ fn read_policy<F: Shelf>(alloc: Global, shelf: &mut F, name: &str) -> Result<Pol
         → Rose (F.state shelf.old).faults (F.state shelf.new).faults) }
     ensures shelf { IsAfterReads 1 (F.state shelf.old) (F.state shelf.new) }
     ensures own_ports { IfOk result NamesOwnPorts }
-    ensures few { IfOk result (λ policy. length policy ≤ 2000) }
 {
     let bytes = read_bytes(alloc, shelf, name)?;
     check_policy(alloc, name, &bytes)

@@ -8,7 +8,7 @@ use Rattle.std.proofs.lemmas.List.Elements.{All-cons}
 use Rattle.std.proofs.lemmas.List.Kept.{AllPairs-cons}
 use Rattle.std.proofs.lemmas.Nat.{and_le_l, mod-mul-add, mod-pow-add, pow_below, pow_pos, shr_split}
 use Rattle.std.proofs.lemmas.Nat.Bits.{and_high_mask}
-use Rattle.five_tuple.specs.Cover.{IsBlock, IsLargestBlock, IsCover, block_holds, AreDisjoint, IsMaskedPort}
+use Rattle.five_tuple.specs.Cover.{IsBlock, IsLargestBlock, IsCover, block_holds, AreDisjoint, IsPortBlock}
 
 pub exponent_small : (first high e : ℕ) → IsBlock first high e → high < 2 ^ 16 → e ≤ 16
 exponent_small first high e b h =
@@ -64,16 +64,16 @@ disjoint low high [] c h = λ i j d u k. absurd (omega arith)
 disjoint low high (b ∷ bs) (e, l, same, rest) h =
     AllPairs-cons AreDisjoint b bs (λ k d u. rw same (apart low high e l.block h _ (from_low (low + 2 ^ e) high bs rest k d u))) (disjoint (low + 2 ^ e) high bs rest h)
 
-pub masked : (low high : ℕ) (xs : List (ℕ × ℕ)) → IsCover low high xs → high < 2 ^ 16 → All IsMaskedPort xs
+pub masked : (low high : ℕ) (xs : List (ℕ × ℕ)) → IsCover low high xs → high < 2 ^ 16 → All IsPortBlock xs
 masked low high [] c h = λ k d u. absurd (omega arith)
 masked low high (b ∷ bs) (e, l, same, rest) h =
     let pos = pow_pos e in
     let small = exponent_small low high e l.block h in
     let first : low < 2 ^ 16 = omega (arith, l.block.fits) in
-    All-cons IsMaskedPort b bs (rw same (record { value = first; mask = omega arith; inside = and_high_mask 16 e small low first ∙ omega (arith, shr_split low e, l.block.aligned) })) (masked (low + 2 ^ e) high bs rest h)
+    All-cons IsPortBlock b bs (rw same (record { value = first; mask = omega arith; inside = and_high_mask 16 e small low first ∙ omega (arith, shr_split low e, l.block.aligned) })) (masked (low + 2 ^ e) high bs rest h)
 
 -- what is aligned to a power of two is aligned to each smaller one
-aligned_down : (n m k : ℕ) → m ≤ k → n % 2 ^ k ≡ 0 → n % 2 ^ m ≡ 0
+pub aligned_down : (n m k : ℕ) → m ≤ k → n % 2 ^ k ≡ 0 → n % 2 ^ m ≡ 0
 aligned_down n m k small h =
     let e : k ≡ k - m + m = omega arith in
     omega (arith, mod-pow-add n (k - m) m, subst (λ i. n % 2 ^ i ≡ 0) e h)

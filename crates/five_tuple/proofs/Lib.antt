@@ -4,3 +4,6 @@ pub mod Numbers
 pub mod Readings
 pub mod RoundTrip
 pub mod Covers
+pub mod CoverOf
+pub mod PlainTexts
+pub mod CallerLemmas

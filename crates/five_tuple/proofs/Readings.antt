@@ -1,6 +1,6 @@
 -- What a reader of parts finds, where it takes them off one at a time and reads the last as a number.
 use Rattle.std.proofs.Common.{◌≡◌, ℕ, List, ◌∷◌, Some, None, Option, inl, inr, refl, sym}
-use Rattle.five_tuple.specs.Texts.{number_up_to, address_from, address_of, block_from, block_of_parts, ports_from, ports_of_parts, parts_round}
+use Rattle.five_tuple.specs.Texts.{number_up_to, address_from, address_of, block_from, block_of_parts, range_from, range_of_parts, parts_round}
 use Rattle.five_tuple.proofs.Parts.{last_part}
 
 no_last : (x y z : Option ℕ) → address_from x y z None ≡ None
@@ -25,10 +25,10 @@ pub block_reads : (text a len : List ℕ) → parts_round 47 text ≡ a ∷ part
 block_reads text a len e =
     rw e (elim (last_part 47 32 len refl) [ inl one ↦ rw one | inr w ↦ rw (w.3, w.4) (sym (no_len (address_of a))) ])
 
-no_high : (x : Option ℕ) → ports_from x None ≡ None
+no_high : (x : Option ℕ) → range_from x None ≡ None
 no_high None = refl
 no_high (Some a) = refl
 
-pub ports_reads : (text low high : List ℕ) → parts_round 45 text ≡ low ∷ parts_round 45 high → ports_of_parts (parts_round 45 text) ≡ ports_from (number_up_to 65535 low) (number_up_to 65535 high)
-ports_reads text low high e =
+pub range_reads : (text low high : List ℕ) → parts_round 45 text ≡ low ∷ parts_round 45 high → range_of_parts (parts_round 45 text) ≡ range_from (number_up_to 65535 low) (number_up_to 65535 high)
+range_reads text low high e =
     rw e (elim (last_part 45 65535 high refl) [ inl one ↦ rw one | inr w ↦ rw (w.3, w.4) (sym (no_high (number_up_to 65535 low))) ])

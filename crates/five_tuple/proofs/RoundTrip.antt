@@ -17,17 +17,17 @@ use Rattle.std.proofs.lemmas.Slice.Eq.{bytes_eq-Decides}
 use Rattle.std.proofs.lemmas.Str.Parse.{IsNumeralModel, numerals_by_value}
 use Rattle.five_tuple.specs.declared.matching.Proto.{Proto}
 use Rattle.five_tuple.specs.declared.matching.Proto.TheVariants.{Any, Is}
-use Rattle.five_tuple.specs.Matching.{AddressBlock, IsAddressBlock, Ports, IsPortRange, IsProtocol}
+use Rattle.five_tuple.specs.Matching.{AddressBlock, block_round, IsAddressBlock, PortRangeValue, IsPortRange, IsProtocol}
 use Rattle.five_tuple.specs.Printing.{address_text, prefix_text, range_text, proto_number_text, proto_text}
-use Rattle.five_tuple.specs.Texts.{block_round, has_leading_zero, number_up_to, address_of, prefix_of, range_of, proto_number_of, proto_of, parts_round}
+use Rattle.five_tuple.specs.Texts.{has_leading_zero, number_up_to, address_of, prefix_of, range_of, proto_number_of, proto_of, parts_round}
 use Rattle.five_tuple.proofs.Numbers.{accepted}
 use Rattle.five_tuple.proofs.Parts.{digits_lack, digits_are_one_part}
-use Rattle.five_tuple.proofs.Readings.{address_reads, block_reads, ports_reads}
+use Rattle.five_tuple.proofs.Readings.{address_reads, block_reads, range_reads}
 
 own : IsNumeralModel (λ ds. list_all is_ascii_digit ds ≡ true) (digits_value 10)
 own = numerals_by_value _ (search rules)
 
-decimal_is_digits : (n : ℕ) → n < 2 ^ 64 → list_all is_ascii_digit (decimal n) ≡ true
+pub decimal_is_digits : (n : ℕ) → n < 2 ^ 64 → list_all is_ascii_digit (decimal n) ≡ true
 decimal_is_digits n h = digits_decimal own n h
 
 no_leading_zero : (n : ℕ) → n < 2 ^ 64 → has_leading_zero (decimal n) ≡ false
@@ -131,17 +131,17 @@ two_ports_back : (m n : ℕ) → m ≤ n → n < 2 ^ 16 → range_of (decimal m 
 unfolding range_of
 two_ports_back m n l h =
     let word = no_word (decimal m ++ 45 ∷ decimal n) (110 ∷ 121 ∷ []) 97 (first_digit m (45 ∷ decimal n) (omega arith)) refl in
-    let read = ports_reads (decimal m ++ 45 ∷ decimal n) (decimal m) (decimal n) (part_off 45 m (decimal n) (omega arith) refl) in
+    let read = range_reads (decimal m ++ 45 ∷ decimal n) (decimal m) (decimal n) (part_off 45 m (decimal n) (omega arith) refl) in
     rw (word, read, number_back 65535 m (omega arith) (omega arith), number_back 65535 n (omega arith) (omega arith), le-leb m n l)
 
-made_ports : (low high : ℕ) (r : Ports) → low ≡ r.low → high ≡ r.high → ◌≡◌ {A = Ports} (record { low = low; high = high }) r
+made_ports : (low high : ℕ) (r : PortRangeValue) → low ≡ r.low → high ≡ r.high → ◌≡◌ {A = PortRangeValue} (record { low = low; high = high }) r
 made_ports low high r e f = rw (e, f)
 
-every_port_back : (r : Ports) → r.low ≡ 0 → r.high ≡ 65535 → range_of (codes "any") ≡ Some r
+every_port_back : (r : PortRangeValue) → r.low ≡ 0 → r.high ≡ 65535 → range_of (codes "any") ≡ Some r
 unfolding range_of
 every_port_back r e f = ap Some (made_ports 0 65535 r (sym e) (sym f))
 
-pub range_back : (r : Ports) → IsPortRange r → range_of (range_text r) ≡ Some r
+pub range_back : (r : PortRangeValue) → IsPortRange r → range_of (range_text r) ≡ Some r
 unfolding range_text
 range_back r v =
     elim (cases_Bool (r.low == 0 && r.high == 65535)) [

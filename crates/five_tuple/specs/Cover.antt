@@ -1,8 +1,61 @@
 -- A range of ports as aligned blocks whose sizes are powers of two (V. Srinivasan, G. Varghese, S. Suri, M. Waldvogel:
 -- Fast and Scalable Layer Four Switching, where ranges become prefixes).
-use Rattle.std.specs.Prelude.{ℕ, ◌≡◌, ◌+◌, ◌-◌, ◌%◌, ◌^◌, ◌<◌, ◌≤◌, Bool, ◌==◌, IsTrue, List, [], ◌∷◌, bit_and}
+use Rattle.std.specs.Prelude.{ℕ, zero, suc, ◌≡◌, ◌+◌, ◌-◌, ◌%◌, ◌^◌, ◌<◌, ◌≤◌, Bool, ◌&&◌, ◌==◌, nat_lt, nat_le, if◌then◌else◌, IsTrue, List, [], ◌∷◌, bit_and}
+use Rattle.five_tuple.specs.Matching.{PortRangeValue}
 
--- the 2 ^ exponent ports from `first` on are an aligned block that ends at or below `high`
+-- ---- blocks
+
+-- ports that share some of their first bits: a value, and the mask of the bits that count
+abbrev pub Block : Type 0
+Block = ℕ × ℕ
+
+-- value and mask have 16 bits, and the value none outside the mask
+pub record IsPortBlock (block : Block) : Type 0 where
+  pub value : block.0 < 2 ^ 16
+  pub mask : block.1 < 2 ^ 16
+  pub inside : bit_and block.0 block.1 ≡ block.0
+
+-- the port has the block's value in the bits of its mask
+abbrev pub block_holds : ℕ → Block → Bool
+block_holds port block = bit_and port block.1 == block.0
+
+-- no port is in both
+abbrev pub AreDisjoint : Block → Block → Type 0
+AreDisjoint a b =
+    (port : ℕ) → port < 2 ^ 16 → IsTrue (block_holds port a) → IsTrue (block_holds port b) → ⊥
+
+-- the block of 2 ^ exponent ports that begins at `first`
+abbrev pub block_at : ℕ → ℕ → Block
+block_at first exponent = (first, 2 ^ 16 - 2 ^ exponent)
+
+-- ---- the cover of a range
+
+-- the 2 ^ exponent ports from `first` on are aligned and end at or below `high`
+abbrev pub fits_at : ℕ → ℕ → ℕ → Bool
+fits_at first high exponent =
+    (first % 2 ^ exponent == 0) && nat_le (first + 2 ^ exponent) (high + 1)
+
+-- the largest such exponent, of those up to this one
+abbrev pub largest_up_to : ℕ → ℕ → ℕ → ℕ
+largest_up_to zero first high = 0
+largest_up_to (suc exponent) first high =
+    if fits_at first high (suc exponent) then suc exponent else largest_up_to exponent first high
+
+-- blocks from `low` on, each the largest that begins where the one before it ends, until no port is left or there are this
+-- many
+abbrev pub blocks_from : ℕ → ℕ → ℕ → List Block
+blocks_from zero low high = []
+blocks_from (suc most) low high =
+    if nat_lt high low then [] else (let exponent = largest_up_to 16 low high in
+    block_at low exponent ∷ blocks_from most (low + 2 ^ exponent) high)
+
+-- the blocks of a range: no more than it has ports
+unfoldable pub cover_of : PortRangeValue → List Block
+cover_of range = blocks_from (range.high + 1 - range.low) range.low range.high
+
+-- ---- the same, as a relation
+
+-- the block of this size that begins at `first` is aligned and ends at or below `high`
 pub record IsBlock (first high exponent : ℕ) : Type 0 where
   pub aligned : first % 2 ^ exponent ≡ 0
   pub fits : first + 2 ^ exponent ≤ high + 1
@@ -12,21 +65,9 @@ pub record IsLargestBlock (first high exponent : ℕ) : Type 0 where
   pub block : IsBlock first high exponent
   pub largest : (other : ℕ) → IsBlock first high other → other ≤ exponent
 
--- from `low` on, each pair is the largest block, as its first port and its mask; nothing is left past the last one
-abbrev pub IsCover : ℕ → ℕ → List (ℕ × ℕ) → Type 0
+-- from `low` on, each is the largest block, and nothing is left past the last one
+abbrev pub IsCover : ℕ → ℕ → List Block → Type 0
 IsCover low high [] = high < low
-IsCover low high (block ∷ more) = (exponent : ℕ) × IsLargestBlock low high exponent × (block ≡ (low, 2 ^ 16 - 2 ^ exponent)) × IsCover (low + 2 ^ exponent) high more
-
--- the port has the block's value in the bits of its mask
-abbrev pub block_holds : ℕ → ℕ × ℕ → Bool
-block_holds port block = bit_and port block.1 == block.0
-
--- no port is in both
-abbrev pub AreDisjoint : ℕ × ℕ → ℕ × ℕ → Type 0
-AreDisjoint a b = (port : ℕ) → port < 2 ^ 16 → IsTrue (block_holds port a) → IsTrue (block_holds port b) → ⊥
-
--- value and mask have 16 bits, and the value none outside the mask
-pub record IsMaskedPort (block : ℕ × ℕ) : Type 0 where
-  pub value : block.0 < 2 ^ 16
-  pub mask : block.1 < 2 ^ 16
-  pub inside : bit_and block.0 block.1 ≡ block.0
+IsCover low high (block ∷ more) =
+    (exponent : ℕ) × IsLargestBlock low high exponent × (block ≡ block_at low exponent)
+    × IsCover (low + 2 ^ exponent) high more

@@ -3,3 +3,5 @@ pub mod Matching
 pub mod Texts
 pub mod Printing
 pub mod Cover
+pub mod Laws
+pub mod Blocks

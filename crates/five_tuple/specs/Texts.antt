@@ -1,13 +1,14 @@
 -- The texts of a policy's and a packet's fields, as they are read. An address is in dotted decimal (RFC 1123, section
 -- 2.1), and a block has a slash and its length after it (RFC 4632, section 3.1). That a number has neither sign nor
 -- leading zero, and the words and the dash, are this project's own.
-use Rattle.std.specs.Prelude.{ℕ, ◌-◌, ◌*◌, ◌+◌, ◌/◌, ◌^◌, Bool, not, ◌&&◌, ◌==◌, nat_lt, nat_le, if◌then◌else◌, List, [], ◌∷◌, length, slice_index, Option, Some, None, option_map, codes, bytes_eq}
+use Rattle.std.specs.Prelude.{ℕ, ◌*◌, ◌+◌, ◌^◌, Bool, not, ◌&&◌, ◌==◌, nat_lt, nat_le, if◌then◌else◌, List, [], ◌∷◌, length, slice_index, Option, Some, None, option_map, codes, bytes_eq}
 use Rattle.std.specs.List.{list_all, slice_split}
 use Rattle.std.specs.Char.{is_ascii_digit}
 use Rattle.std.specs.Str.Parse.{digits_value}
+use Rattle.five_tuple.specs.declared.header.Fields.{Fields}
 use Rattle.five_tuple.specs.declared.matching.Proto.{Proto}
 use Rattle.five_tuple.specs.declared.matching.Proto.TheVariants.{Any, Is}
-use Rattle.five_tuple.specs.Matching.{AddressBlock, Ports}
+use Rattle.five_tuple.specs.Matching.{AddressBlock, block_round, PortRangeValue}
 
 -- the first digit is 0 and does not stand alone
 abbrev pub has_leading_zero : List ℕ → Bool
@@ -15,11 +16,14 @@ has_leading_zero text = nat_lt 1 (length text) && slice_index text 0 == 48
 
 -- one digit or more, with no leading zero
 abbrev pub is_number : List ℕ → Bool
-is_number text = nat_lt 0 (length text) && not (has_leading_zero text) && list_all is_ascii_digit text
+is_number text =
+    nat_lt 0 (length text) && not (has_leading_zero text) && list_all is_ascii_digit text
 
 -- the number that the text writes, if it is at most this much
 unfoldable pub number_up_to : ℕ → List ℕ → Option ℕ
-number_up_to most text = if is_number text && nat_le (digits_value 10 text) most then Some (digits_value 10 text) else None
+number_up_to most text =
+    if is_number text && nat_le (digits_value 10 text) most then Some (digits_value 10 text)
+    else None
 
 -- the parts of a text that stand round a byte
 abbrev pub parts_round : ℕ → List ℕ → List (List ℕ)
@@ -32,16 +36,13 @@ address_from _ _ _ _ = None
 
 -- four parts, each a byte
 abbrev pub address_of_parts : List (List ℕ) → Option ℕ
-address_of_parts (a ∷ b ∷ c ∷ d ∷ []) = address_from (number_up_to 255 a) (number_up_to 255 b) (number_up_to 255 c) (number_up_to 255 d)
+address_of_parts (a ∷ b ∷ c ∷ d ∷ []) =
+    address_from (number_up_to 255 a) (number_up_to 255 b) (number_up_to 255 c) (number_up_to 255 d)
 address_of_parts _ = None
 
 -- four numbers from 0 to 255 joined by dots, the highest byte first
 unfoldable pub address_of : List ℕ → Option ℕ
 address_of text = address_of_parts (parts_round 46 text)
-
--- the block of this length that the address lies in: the bits past it are cleared
-abbrev pub block_round : ℕ → ℕ → AddressBlock
-block_round address len = record { address = address / 2 ^ (32 - len) * 2 ^ (32 - len); len = len }
 
 -- a block, where both its address and its length can be read
 abbrev pub block_from : Option ℕ → Option ℕ → Option AddressBlock
@@ -56,27 +57,48 @@ block_of_parts _ = None
 
 -- `any`; an address, a block of its own; an address, a slash and the block's length
 unfoldable pub prefix_of : List ℕ → Option AddressBlock
-prefix_of text = if bytes_eq text (codes "any") then Some (block_round 0 0) else block_of_parts (parts_round 47 text)
+prefix_of text =
+    if bytes_eq text (codes "any") then Some (block_round 0 0) else
+    block_of_parts (parts_round 47 text)
 
 -- a range, where both ends can be read and stand in order
-abbrev pub ports_from : Option ℕ → Option ℕ → Option Ports
-ports_from (Some low) (Some high) = if nat_le low high then Some (record { low = low; high = high }) else None
-ports_from _ _ = None
+abbrev pub range_from : Option ℕ → Option ℕ → Option PortRangeValue
+range_from (Some low) (Some high) =
+    if nat_le low high then Some (record { low = low; high = high }) else None
+range_from _ _ = None
 
 -- one port is both ends
-abbrev pub ports_of_parts : List (List ℕ) → Option Ports
-ports_of_parts (port ∷ []) = ports_from (number_up_to 65535 port) (number_up_to 65535 port)
-ports_of_parts (low ∷ high ∷ []) = ports_from (number_up_to 65535 low) (number_up_to 65535 high)
-ports_of_parts _ = None
+abbrev pub range_of_parts : List (List ℕ) → Option PortRangeValue
+range_of_parts (port ∷ []) = range_from (number_up_to 65535 port) (number_up_to 65535 port)
+range_of_parts (low ∷ high ∷ []) = range_from (number_up_to 65535 low) (number_up_to 65535 high)
+range_of_parts _ = None
 
 -- `any`; a port; two ports joined by a dash, the first at most the second
-unfoldable pub range_of : List ℕ → Option Ports
-range_of text = if bytes_eq text (codes "any") then Some (record { low = 0; high = 65535 }) else ports_of_parts (parts_round 45 text)
+unfoldable pub range_of : List ℕ → Option PortRangeValue
+range_of text =
+    if bytes_eq text (codes "any") then Some (record { low = 0; high = 65535 }) else
+    range_of_parts (parts_round 45 text)
 
 -- a protocol by its name or its assigned number (RFC 791, section 3.1): ICMP is 1, TCP 6 and UDP 17
 unfoldable pub proto_number_of : List ℕ → Option ℕ
-proto_number_of text = if bytes_eq text (codes "icmp") then Some 1 else (if bytes_eq text (codes "tcp") then Some 6 else (if bytes_eq text (codes "udp") then Some 17 else number_up_to 255 text))
+proto_number_of text =
+    if bytes_eq text (codes "icmp") then Some 1 else
+    (if bytes_eq text (codes "tcp") then Some 6 else
+    (if bytes_eq text (codes "udp") then Some 17 else number_up_to 255 text))
+
+-- the fields of a packet, where each can be read
+abbrev pub fields_from : Option ℕ → Option ℕ → Option ℕ → Option ℕ → Option ℕ → Option Fields
+fields_from (Some src) (Some dst) (Some sport) (Some dport) (Some proto) =
+    Some (record { src = src; dst = dst; sport = sport; dport = dport; proto = proto })
+fields_from _ _ _ _ _ = None
+
+-- two addresses, two ports and a protocol's number
+abbrev pub packet_fields_of : List ℕ → List ℕ → List ℕ → List ℕ → List ℕ → Option Fields
+packet_fields_of src dst sport dport proto =
+    fields_from (address_of src) (address_of dst)
+    (number_up_to 65535 sport) (number_up_to 65535 dport) (proto_number_of proto)
 
 -- `any`, or a protocol
 unfoldable pub proto_of : List ℕ → Option Proto
-proto_of text = if bytes_eq text (codes "any") then Some Any else option_map Is (proto_number_of text)
+proto_of text =
+    if bytes_eq text (codes "any") then Some Any else option_map Is (proto_number_of text)

@@ -1,10 +1,11 @@
-ghost use Rattle.std.specs.Prelude.{ℕ, ◌≡◌, ◌^◌, ◌<◌};
-ghost use Rattle.five_tuple.specs.Header.{fields_of, header_numbered, header_of, number_of};
+ghost use Rattle.std.specs.Prelude.{◌≡◌, ◌^◌, ◌<◌};
+ghost use Rattle.five_tuple.specs.Header.{IsHeader, fields_of, header_numbered, header_of, number_of};
+ghost use Rattle.five_tuple.specs.Laws.{HeaderLaws};
 
 /// The five fields of a packet: IPv4 addresses (RFC 791), ports (RFC 768, RFC 793) and the protocol number.
 ///
 /// In this project every header has two ports, whatever its protocol.
-#[derive(Clone, Copy, Debug, PartialEq, Eq)]
+#[derive(Clone, Copy, Debug, PartialEq, Eq, Hash)]
 pub struct Fields {
     /// The source address.
     pub src: u32,
@@ -22,7 +23,7 @@ pub struct Fields {
 ///
 /// In the number the protocol has the bits 0 to 7, the destination port 8 to 23, the source port 24 to 39, the
 /// destination 40 to 71 and the source 72 to 103.
-#[derive(Clone, Copy, Debug, PartialEq, Eq)]
+#[derive(Clone, Copy, Debug, PartialEq, Eq, Hash)]
 pub struct Header {
     fields: Fields,
 }
@@ -47,6 +48,7 @@ impl Header {
         ensures number { result ≡ number_of self.now }
         ensures bound { result < 2 ^ 104 }
         ensures back { header_numbered result ≡ self.now }
+        ensures header { IsHeader self.now }
     {
         let Fields {
             src,
@@ -63,8 +65,7 @@ impl Header {
     }
 }
 
-/// Each number below 2^104 is that of exactly one header: a law on the numbers alone.
-#[tactic(auto, using(crate::proofs::BitFields::number_back))]
-pub fn header_numbers()
-    ensures { (n : ℕ) → n < 2 ^ 104 → number_of (header_numbered n) ≡ n }
+/// Each number below 2^104 is that of exactly one header.
+pub fn header_laws()
+    ensures { HeaderLaws }
 {}

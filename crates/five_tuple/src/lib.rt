@@ -1,9 +1,23 @@
-//! Headers of IPv4 five-tuples, and the fields that match them.
+//! Headers of IPv4 five-tuples, the fields that match them, and the texts of both.
 //!
-//! A header is one number of 104 bits that packs source, destination, ports and protocol; the crate promises that
-//! packing and unpacking are inverse, that prefixes, port ranges and protocols match as RFC 4632 and the field's
-//! tables say, that each text is read exactly where its grammar has it, that each printed form is read back, and that
-//! the blocks that cover a range of ports hold exactly its ports, each in one block, in at most 30 blocks.
+//! A header is one number of 104 bits that packs source, destination, ports and protocol; each number is that of one
+//! header. Prefixes, port ranges and protocols match as RFC 4632 and the field's tables say, each text is read exactly
+//! where its grammar has it, and each printed form is read back. The blocks that cover a range of ports hold exactly its
+//! ports, each in one block, in at most 30 blocks. Laws, functions with an empty body, ensure the same for proofs where no
+//! call runs.
+//!
+//! A caller, which imports `option_map` from std, `prefix_matches` from `specs/Matching.antt` and `prefix_of` from
+//! `specs/Texts.antt`:
+//!
+//! ```rust
+//! /// Whether a packet goes to the block of addresses that the text names; `None` where it names none.
+//! pub fn goes_to(packet: &Fields, block: &[u8]) -> Option<bool>
+//!     ensures { result ≡ option_map (λ p. prefix_matches p packet.now.dst) (prefix_of block.now) }
+//! {
+//!     let block = read_prefix(block)?;
+//!     Some(block.matches(packet.dst))
+//! }
+//! ```
 #![tactic(auto)]
 
 mod header;
@@ -12,13 +26,16 @@ mod port_blocks;
 mod read;
 mod write;
 
-pub use header::{Fields, Header, header_numbers};
+pub use header::{Fields, Header, header_laws};
 pub use matching::{PortRange, Prefix, Proto};
-pub use port_blocks::{a_range_has_one_cover, cover};
-pub use read::{read_address, read_number, read_prefix, read_proto, read_proto_number, read_range};
+pub use port_blocks::{Blocks, PortBlock, count_blocks, cover, cover_laws};
+pub use read::{
+    read_address, read_fields, read_number, read_port, read_prefix, read_proto, read_proto_number,
+    read_range,
+};
 pub use write::{
-    Address, Protocol, printed_forms_are_read_back, write_address, write_prefix, write_proto,
-    write_range,
+    Address, Protocol, printed_forms_are_plain, printed_forms_are_read_back, write_address,
+    write_prefix, write_proto, write_range,
 };
 
 #[cfg(test)]

@@ -1,5 +1,5 @@
-ghost use Rattle.std.specs.Prelude.{◌≡◌};
-ghost use Rattle.five_tuple.specs.Matching.{prefix_matches, range_matches, proto_matches};
+ghost use Rattle.std.specs.Prelude.{◌≡◌, ◌≤◌};
+ghost use Rattle.five_tuple.specs.Matching.{IsAddressBlock, block_round, prefix_matches, range_matches, proto_matches};
 
 use std::marker::Model;
 
@@ -25,6 +25,22 @@ impl Model for Prefix {
 }
 
 impl Prefix {
+    /// The block of this length that the address lies in: the bits past the first `len` are cleared.
+    pub fn new(address: u32, len: u32) -> Prefix
+        requires { len ≤ 32 }
+        ensures block { result ≡ block_round address len }
+        ensures sound { IsAddressBlock result }
+    {
+        if len == 0 {
+            return Prefix { address: 0, len: 0 };
+        }
+        let free = 32 - len;
+        Prefix {
+            address: (address >> free) << free,
+            len,
+        }
+    }
+
     /// Whether the address lies in this block.
     pub fn matches(&self, address: u32) -> bool
         ensures { result ≡ prefix_matches self.now address }
@@ -41,14 +57,13 @@ pub struct PortRange {
 }
 
 impl Model for PortRange {
-    ghost use Rattle.std.specs.Prelude.{◌≤◌};
-    ghost use Rattle.five_tuple.specs.Matching.{Ports};
+    ghost use Rattle.five_tuple.specs.Matching.{PortRangeValue, IsPortRange};
 
-    ghost Value = { Ports };
+    ghost Value = { PortRangeValue };
 
     ghost view = { λ r. record { low = r.low; high = r.high } };
 
-    ghost invariant = { λ r. r.low ≤ r.high };
+    ghost invariant = { λ r. IsPortRange (record { low = r.low; high = r.high }) };
 
     ghost inverse = { λ v. record { low = v.low; high = v.high } };
 }

@@ -1,20 +1,13 @@
-ghost use Rattle.std.specs.Prelude.{ℕ, ◌≡◌, ◌≤◌, ◌<◌, ◌^◌, ◌↔◌, IsTrue, IfOk, All, AllPairs, List, vec_len};
-ghost use Rattle.std.specs.List.{list_any};
-ghost use Rattle.five_tuple.specs.Matching.{range_matches};
-ghost use Rattle.five_tuple.specs.Cover.{IsBlock, IsLargestBlock, IsCover, block_holds, AreDisjoint, IsMaskedPort};
+ghost use Rattle.std.specs.Prelude.{◌≡◌, ◌+◌, ◌≤◌, ◌<◌, ◌^◌, IfOk, length};
+ghost use Rattle.five_tuple.specs.Cover.{IsLargestBlock, cover_of};
+ghost use Rattle.five_tuple.specs.Laws.{CoverLaws, IsCoverOf};
+ghost use Rattle.five_tuple.specs.Matching.{IsPortRange};
 
 use crate::matching::PortRange;
 use std::alloc::{AllocError, Global};
 
-fn is_block(first: u32, high: u32, exponent: u32) -> bool
-    requires first { first < 2 ^ 16 }
-    requires high { high < 2 ^ 16 }
-    requires exponent { exponent ≤ 16 }
-    ensures { IsTrue result ↔ IsBlock first high exponent }
-{
-    let size: u32 = 1 << exponent;
-    first % size == 0 && first + size <= high + 1
-}
+/// A block of ports as a value and a mask: it holds the ports that agree with the value in the bits of the mask.
+pub type PortBlock = (u16, u16);
 
 /// The largest power of two, by its exponent, whose aligned block begins at `first` and ends at or below `high`.
 fn largest_block(first: u32, high: u32) -> u32
@@ -23,39 +16,83 @@ fn largest_block(first: u32, high: u32) -> u32
     ensures largest { IsLargestBlock first high result }
     ensures bound { result ≤ 16 }
 {
-    let mut exponent = 16;
-    while !is_block(first, high, exponent) {
-        exponent -= 1;
-    }
-    exponent
+    let aligned = first.trailing_zeros();
+    let fitting = (high + 1 - first).ilog2();
+    aligned.min(fitting)
 }
 
-/// The range as aligned blocks, each a value and a mask: a block holds the ports that agree with its value in the bits of
-/// its mask.
+/// The blocks of a range, ascending: an iterator that takes no memory.
+#[derive(Clone, Copy, Debug)]
+pub struct Blocks {
+    next: u32,
+    high: u32,
+    ghost ports: { high < 2 ^ 16 },
+    ghost reached: { next ≤ high + 1 },
+}
+
+impl Iterator for Blocks {
+    ghost use Rattle.std.specs.Iterator.{YieldsFirst, item_count};
+    ghost use Rattle.five_tuple.specs.Blocks.{blocks_left};
+
+    type Item = PortBlock;
+
+    ghost next_gives = { YieldsFirst blocks_left };
+
+    ghost remaining = { item_count blocks_left };
+
+    fn next(&mut self) -> Option<PortBlock> {
+        if self.next > self.high {
+            return None;
+        }
+        let size: u32 = 1 << largest_block(self.next, self.high);
+        let block = (self.next as u16, (65_536 - size) as u16);
+        self.next += size;
+        Some(block)
+    }
+}
+
+impl PortRange {
+    ghost use Rattle.five_tuple.specs.Blocks.{blocks_left};
+
+    /// The blocks of this range, one after another, as `cover` lists them.
+    pub fn blocks(&self) -> Blocks
+        ensures blocks { blocks_left result ≡ cover_of self.now }
+        ensures sound { IsPortRange self.now }
+    {
+        Blocks {
+            next: u32::from(self.low),
+            high: u32::from(self.high),
+        }
+    }
+}
+
+/// The range as aligned blocks: exactly its ports, in at most 30 blocks.
 ///
 /// From the low end on, each block is the largest that begins at the first port not yet taken and ends at or below the
 /// high end. A block of 2^k ports has the mask 65536 - 2^k.
-pub fn cover(alloc: Global, range: &PortRange) -> Result<Vec<(u16, u16)>, AllocError>
-    ensures cover { IfOk result (λ v. IsCover range.now.low range.now.high v.items) }
-    ensures exact { IfOk result (λ v. (port : ℕ) → port < 2 ^ 16 →
-        list_any (block_holds port) v.items ≡ range_matches range.now port) }
-    ensures disjoint { IfOk result (λ v. AllPairs AreDisjoint v.items) }
-    ensures ascending { IfOk result (λ v. AllPairs (λ a b. a.0 < b.0) v.items) }
-    ensures masked { IfOk result (λ v. All IsMaskedPort v.items) }
-    ensures few { IfOk result (λ v. vec_len v ≤ 30) }
+pub fn cover(alloc: Global, range: &PortRange) -> Result<Vec<PortBlock>, AllocError>
+    ensures cover { IfOk result (λ v. v.items ≡ cover_of range.now) }
+    ensures blocks { IfOk result (λ v. IsCoverOf range.now v.items) }
 {
-    let high = u32::from(range.high);
-    let mut next = u32::from(range.low);
-    let mut blocks = Vec::new(alloc);
-    while next <= high {
-        let size: u32 = 1 << largest_block(next, high);
-        blocks.push((next as u16, (65_536 - size) as u16))?;
-        next += size;
-    }
-    Ok(blocks)
+    collect_blocks(alloc, range)
 }
 
-/// One list of blocks covers a range from `low` to `high`, and no other.
-pub fn a_range_has_one_cover()
-    ensures { (low high : ℕ) (xs ys : List (ℕ × ℕ)) → IsCover low high xs → IsCover low high ys → xs ≡ ys }
+fn collect_blocks(alloc: Global, range: &PortRange) -> Result<Vec<PortBlock>, AllocError>
+    ensures blocks { IfOk result (λ v. v.items ≡ cover_of range.now) }
+    ensures sound { IsPortRange range.now }
+{
+    range.blocks().collect(alloc)
+}
+
+/// The number of blocks that `cover` lists, with no list made.
+pub fn count_blocks(range: &PortRange) -> u32
+    ensures count { result ≡ length (cover_of range.now) }
+    ensures few { result ≤ 30 }
+{
+    range.blocks().count() as u32
+}
+
+/// The blocks of a range are exactly its ports, and each is the largest that begins at the first port not yet taken.
+pub fn cover_laws()
+    ensures { CoverLaws }
 {}

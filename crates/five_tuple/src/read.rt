@@ -1,8 +1,9 @@
 ghost use Rattle.std.specs.Prelude.{◌≡◌, ◌≤◌, ◌<◌, ◌^◌, ◌∷◌, [], ◌==◌, IfSome, MatchOption, position};
 ghost use Rattle.std.specs.List.{slice_split};
 ghost use Rattle.five_tuple.specs.Matching.{IsAddressBlock, IsPortRange, IsProtocol};
-ghost use Rattle.five_tuple.specs.Texts.{address_from, block_round, ports_from, has_leading_zero, number_up_to, address_of, prefix_of, range_of, proto_number_of, proto_of, parts_round};
+ghost use Rattle.five_tuple.specs.Texts.{address_from, fields_from, packet_fields_of, range_from, has_leading_zero, number_up_to, address_of, prefix_of, range_of, proto_number_of, proto_of, parts_round};
 
+use crate::header::Fields;
 use crate::matching::{PortRange, Prefix, Proto};
 
 /// The number that the text writes in decimal digits; `None` unless it is a number of at most `most`.
@@ -64,8 +65,10 @@ fn read_byte(text: &[u8]) -> Option<u8>
     Some(number as u8)
 }
 
-fn read_port(text: &[u8]) -> Option<u16>
-    ensures { result ≡ number_up_to 65535 text.now }
+/// The port, from 0 to 65535, that the text writes; `None` for any other text.
+pub fn read_port(text: &[u8]) -> Option<u16>
+    ensures value { result ≡ number_up_to 65535 text.now }
+    ensures bound { IfSome result (λ port. port < 2 ^ 16) }
 {
     let number = read_number(text, 65535)?;
     Some(number as u16)
@@ -94,21 +97,6 @@ pub fn read_address(text: &[u8]) -> Option<u32>
     )
 }
 
-/// The block of this length that the address lies in.
-fn block_round(address: u32, len: u32) -> Prefix
-    requires { len ≤ 32 }
-    ensures { result ≡ block_round address len }
-{
-    if len == 0 {
-        return Prefix { address: 0, len: 0 };
-    }
-    let free = 32 - len;
-    Prefix {
-        address: (address >> free) << free,
-        len,
-    }
-}
-
 /// The block of addresses that the text names; `None` for a text that names none.
 ///
 /// `any` is every address, an address stands for itself alone, and after a slash comes the block's length, at most
@@ -119,23 +107,23 @@ pub fn read_prefix(text: &[u8]) -> Option<Prefix>
     ensures valid { IfSome result IsAddressBlock }
 {
     if text == b"any".as_slice() {
-        return Some(block_round(0, 0));
+        return Some(Prefix::new(0, 0));
     }
     match cut(text, b'/') {
         None => {
             let address = read_address(text)?;
-            Some(block_round(address, 32))
+            Some(Prefix::new(address, 32))
         }
         Some((block, len)) => {
             let address = read_address(block)?;
             let len = read_number(len, 32)?;
-            Some(block_round(address, len as u32))
+            Some(Prefix::new(address, len as u32))
         }
     }
 }
 
-fn ports_from(low: Option<u16>, high: Option<u16>) -> Option<PortRange>
-    ensures { result ≡ ports_from low high }
+fn range_from(low: Option<u16>, high: Option<u16>) -> Option<PortRange>
+    ensures { result ≡ range_from low high }
 {
     let (low, high) = (low?, high?);
     if low <= high {
@@ -162,9 +150,9 @@ pub fn read_range(text: &[u8]) -> Option<PortRange>
     match cut(text, b'-') {
         None => {
             let port = read_port(text);
-            ports_from(port, port)
+            range_from(port, port)
         }
-        Some((low, high)) => ports_from(read_port(low), read_port(high)),
+        Some((low, high)) => range_from(read_port(low), read_port(high)),
     }
 }
 
@@ -197,4 +185,43 @@ pub fn read_proto(text: &[u8]) -> Option<Proto>
     }
     let number = read_proto_number(text)?;
     Some(Proto::Is(number))
+}
+
+/// The fields of a packet, each from its text; `None` where one of them has none.
+///
+/// The addresses stand without a length, and the protocol isn't `any`.
+pub fn read_fields(
+    src: &[u8],
+    dst: &[u8],
+    sport: &[u8],
+    dport: &[u8],
+    proto: &[u8],
+) -> Option<Fields>
+    ensures { result ≡ packet_fields_of src.now dst.now sport.now dport.now proto.now }
+{
+    fields_from(
+        read_address(src),
+        read_address(dst),
+        read_port(sport),
+        read_port(dport),
+        read_proto_number(proto),
+    )
+}
+
+fn fields_from(
+    src: Option<u32>,
+    dst: Option<u32>,
+    sport: Option<u16>,
+    dport: Option<u16>,
+    proto: Option<u8>,
+) -> Option<Fields>
+    ensures { result ≡ fields_from src dst sport dport proto }
+{
+    Some(Fields {
+        src: src?,
+        dst: dst?,
+        sport: sport?,
+        dport: dport?,
+        proto: proto?,
+    })
 }

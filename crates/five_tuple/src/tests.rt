@@ -72,6 +72,21 @@ fn reads_ranges(rt: HostRuntime) {
 }
 
 #[test]
+fn reads_packets(rt: HostRuntime) {
+    let read = |src: &str| read_fields(src.as_bytes(), b"9.9.9.9", b"5000", b"80", b"tcp");
+    let fields = Fields {
+        src: 0x0a01_0101,
+        dst: 0x0909_0909,
+        sport: 5000,
+        dport: 80,
+        proto: 6,
+    };
+    assert_eq!(rt; read("10.1.1.1"), Some(fields));
+    assert_eq!(rt; read("any"), None);
+    assert_eq!(rt; read_port(b"65535"), Some(u16::MAX));
+}
+
+#[test]
 fn reads_protocols(rt: HostRuntime) {
     for (text, want, number) in [
         ("any", Some(Proto::Any), None),
@@ -135,6 +150,7 @@ fn covers_ranges(rt: HostRuntime) -> Result<(), Fail> {
         let range = read_range(text.as_bytes()).ok_or("range")?;
         let blocks = cover(alloc, &range)?;
         assert_eq!(rt; blocks.len(), count, "{text}");
+        assert_eq!(rt; count_blocks(&range) as usize, count, "{text}");
         assert_eq!(rt; blocks.first().copied(), Some(first), "{text}");
     }
     Ok(())

@@ -1,6 +1,7 @@
 ghost use Rattle.std.specs.Prelude.{ℕ, ◌≡◌, ◌≤◌, ◌<◌, ◌^◌, Some, decimal, IfOk};
 ghost use Rattle.five_tuple.specs.declared.matching.Proto.{Proto};
-ghost use Rattle.five_tuple.specs.Matching.{AddressBlock, IsAddressBlock, Ports, IsPortRange, IsProtocol};
+ghost use Rattle.five_tuple.specs.Laws.{PlainTextLaws};
+ghost use Rattle.five_tuple.specs.Matching.{AddressBlock, IsAddressBlock, PortRangeValue, IsPortRange, IsProtocol};
 ghost use Rattle.five_tuple.specs.Printing.{address_text, fields_text, prefix_text, range_text, proto_number_text, proto_text};
 ghost use Rattle.five_tuple.specs.Texts.{number_up_to, address_of, prefix_of, range_of, proto_number_of, proto_of};
 
@@ -164,7 +165,13 @@ pub fn printed_forms_are_read_back()
     ensures number { (most n : ℕ) → n ≤ most → n < 2 ^ 64 → number_up_to most (decimal n) ≡ Some n }
     ensures address { (a : ℕ) → a < 2 ^ 32 → address_of (address_text a) ≡ Some a }
     ensures prefix { (p : AddressBlock) → IsAddressBlock p → prefix_of (prefix_text p) ≡ Some p }
-    ensures range { (r : Ports) → IsPortRange r → range_of (range_text r) ≡ Some r }
+    ensures range { (r : PortRangeValue) → IsPortRange r → range_of (range_text r) ≡ Some r }
     ensures proto_number { (n : ℕ) → n < 2 ^ 8 → proto_number_of (proto_number_text n) ≡ Some n }
     ensures proto { (p : Proto) → IsProtocol p → proto_of (proto_text p) ≡ Some p }
+{}
+
+/// Each printed form has digits, lower-case letters, dots, slashes and dashes alone: a field of a CSV file that needs no
+/// quotes.
+pub fn printed_forms_are_plain()
+    ensures { PlainTextLaws }
 {}

@@ -1,8 +1,9 @@
 -- The seven fields of a row, one by one.
-use Rattle.std.proofs.Common.{ℕ, ◌≡◌, List, [], ◌∷◌, length, refl, ap, arith}
-use Rattle.std.specs.Prelude.{unwrap_or}
+use Rattle.std.proofs.Common.{ℕ, zero, suc, ◌≡◌, ◌∙◌, ◌+◌, List, [], ◌∷◌, length, length-drop, drop, refl, ap, arith}
+use Rattle.std.specs.Prelude.{◌≢◌, Err, unwrap_or}
 use Rattle.csv.specs.Records.{field_at}
-use Rattle.policy_file.specs.Reading.{is_header, row_of}
+use Rattle.policy_file.specs.Reading.{is_heading, row_of}
+use Rattle.policy_file.specs.declared.error.PolicyRefusal.TheVariants as why
 
 abbrev pub field : List (List ℕ) → ℕ → List ℕ
 field fields place = unwrap_or (field_at fields place) []
@@ -15,10 +16,28 @@ unfolding field_at
 seven_fields (a ∷ b ∷ c ∷ d ∷ e ∷ f ∷ g ∷ []) seven = refl
 seven_fields _ seven = absurd (omega arith)
 
-pub is_header-seven : (fields : List (List ℕ)) → length fields ≡ 7 → is_header fields ≡ is_header (seven_of fields)
-is_header-seven fields seven = ap is_header (seven_fields fields seven)
+pub is_heading-seven : (fields : List (List ℕ)) → length fields ≡ 7 → is_heading fields ≡ is_heading (seven_of fields)
+is_heading-seven fields seven = ap is_heading (seven_fields fields seven)
 
-pub row_of-seven : (fields : List (List ℕ)) → length fields ≡ 7 → row_of fields ≡ row_of (seven_of fields)
-row_of-seven fields seven = ap row_of (seven_fields fields seven)
+-- a field past the first ones
+field_past : (fields : List (List ℕ)) (from place : ℕ) → field (drop from fields) place ≡ field fields (from + place)
+unfolding field_at
+field_past fields zero place = ap (field fields) (omega arith)
+field_past [] (suc from) place = refl
+field_past (first ∷ fields) (suc from) place = field_past fields from place ∙ ap (field (first ∷ fields)) {x = suc (from + place)} {y = suc from + place} (omega arith)
 
-pub ruleset sevens = (is_header-seven, row_of-seven)
+pub row_of-seven : (fields : List (List ℕ)) (from : ℕ) → length fields ≡ from + 7
+    → row_of (drop from fields) ≡ row_of (field fields from ∷ field fields (from + 1) ∷ field fields (from + 2) ∷ field fields (from + 3) ∷ field fields (from + 4) ∷ field fields (from + 5) ∷ field fields (from + 6) ∷ [])
+row_of-seven fields from seven =
+    let here : field (drop from fields) 0 ≡ field fields from = field_past fields from 0 ∙ ap (field fields) (omega arith) in
+    ap row_of (seven_fields (drop from fields) (omega (arith, length-drop from fields)))
+    ∙ rw (here, field_past fields from 1, field_past fields from 2, field_past fields from 3, field_past fields from 4, field_past fields from 5, field_past fields from 6) refl
+
+pub row_of-other : (fields : List (List ℕ)) (from : ℕ) → length fields ≢ from + 7 → row_of (drop from fields) ≡ Err why.Width
+row_of-other fields from other = no_seven (drop from fields) (λ seven. other (omega (arith, length-drop from fields)))
+  where
+    no_seven : (xs : List (List ℕ)) → length xs ≢ 7 → row_of xs ≡ Err why.Width
+    no_seven (a ∷ b ∷ c ∷ d ∷ e ∷ f ∷ g ∷ []) other = absurd (other refl)
+    no_seven _ other = refl
+
+pub ruleset sevens = (is_heading-seven, row_of-seven, row_of-other)

@@ -1,9 +1,9 @@
 -- The lines of a policy's text are its records, and state its rows.
-use Rattle.std.proofs.Common.{ℕ, zero, suc, ◌≡◌, ◌+◌, ◌<◌, ◌≤◌, true, false, Some, Ok, List, [], ◌∷◌, ◌++◌, length, map, take, get_or, refl, ap, sym, ◌∙◌, subst, add-one, append_assoc, length-append, arith}
-use Rattle.std.specs.Prelude.{fold, decimal, nat_eq}
-use Rattle.std.specs.List.{AllByRecursion, join_with_byte, list_any}
-use Rattle.std.proofs.lemmas.Grind.{common_steps, flat_map-append}
-use Rattle.std.proofs.lemmas.List.{append-nil, length-map, map-append, take_more}
+use Rattle.std.proofs.Common.{ℕ, zero, suc, ◌≡◌, ◌+◌, ◌<◌, ◌≤◌, Some, None, Ok, List, [], ◌∷◌, ◌++◌, length, map, take, get_or, refl, ap, sym, ◌∙◌, subst, add-one, length-append, arith}
+use Rattle.std.specs.Prelude.{decimal}
+use Rattle.std.specs.List.{AllByRecursion, join_with_byte}
+use Rattle.std.proofs.lemmas.Grind.{flat_map-append}
+use Rattle.std.proofs.lemmas.List.{append-nil, length-map, take_all, take_more}
 use Rattle.csv.specs.Machine.{next_record}
 use Rattle.csv.specs.Reading.{default_config, records, records_from, records_next, strip_bom}
 use Rattle.csv.specs.Writing.{default_writer, field_text, fields_text, is_blank, row_text}
@@ -11,15 +11,15 @@ use Rattle.csv.specs.declared.parser.State.TheVariants as st
 use Rattle.csv.proofs.RoundTrip.{read-write-many}
 use Rattle.five_tuple.specs.Printing.{prefix_text, range_text, proto_text}
 use Rattle.five_tuple.specs.Texts.{number_up_to, prefix_of, range_of, proto_of}
-use Rattle.policy_rules.specs.Policy.{HaveDistinctPriorities, priority_of, repeats}
+use Rattle.policy_rules.specs.Policy.{HaveDistinctPriorities}
 use Rattle.policy_rules.specs.Print.{action_text}
 use Rattle.policy_rules.specs.Read.{action_of}
 use Rattle.policy_rules.specs.declared.policy.Row.{Row}
 use Rattle.policy_file.specs.Printing.{line, policy_text, row_fields, rows_text}
-use Rattle.policy_file.specs.Reading.{has_priority, header_fields, policy_of, row_of, with_next}
+use Rattle.policy_file.specs.Reading.{IsReadUpTo, State, heading_fields, policy_of, row_of}
 use Rattle.policy_file.proofs.Plain.{ArePlain, IsPlain}
-use Rattle.policy_file.proofs.Rows.{new_row, taken_next}
-use Rattle.policy_file.proofs.Taking.{over}
+use Rattle.policy_file.proofs.Rows.{all_read}
+use Rattle.csv_records.proofs.Taking.{over}
 
 -- one line more
 pub rows_text-more : (rows : List Row) (i : ℕ) (d : Row) → i < length rows → rows_text (take (i + 1) rows) ≡ rows_text (take i rows) ++ line (row_fields (get_or rows i d))
@@ -58,13 +58,13 @@ lines_are_long (row ∷ rows) =
     let rest = lines_are_long rows in
     omega (arith, length-append (line (row_fields row)) (rows_text rows), length-append (join_with_byte 44 (row_fields row)) (10 ∷ []))
 
-records_of_text : (rows : List Row) → AllByRecursion (λ row. ArePlain (row_fields row)) rows → records default_config (policy_text rows) ≡ header_fields ∷ map row_fields rows
+records_of_text : (rows : List Row) → AllByRecursion (λ row. ArePlain (row_fields row)) rows → records default_config (policy_text rows) ≡ heading_fields ∷ map row_fields rows
 unfolding records_from
 records_of_text rows plain =
     let long = lines_are_long rows in
     rw (add-one (length (policy_text rows))) (
     ap (records_next (records_from default_config (length (policy_text rows)))) (one_record _ _ _ (rows_text rows) (refl, (refl, (refl, (refl, (refl, (refl, (refl, tt))))))))
-    ∙ ap (λ rest. header_fields ∷ rest) (records_of_lines rows (length (policy_text rows)) (omega (arith, length-append (line header_fields) (rows_text rows))) plain)
+    ∙ ap (λ rest. heading_fields ∷ rest) (records_of_lines rows (length (policy_text rows)) (omega (arith, length-append (line heading_fields) (rows_text rows))) plain)
     )
 
 -- a row's printed fields state the row
@@ -73,27 +73,20 @@ pub row_back : (row : Row) → number_up_to 4294967295 (decimal row.priority) �
     → row_of (row_fields row) ≡ Ok row
 row_back row priority src dst sport dport proto action = rw (priority, src, dst, sport, dport, proto, action) refl
 
--- no row before it has the priority of a row among rows of distinct priorities
-lacks_own : (done : List Row) (row : Row) (rest : List Row) → HaveDistinctPriorities (done ++ row ∷ rest) → has_priority done row.priority ≡ false
-lacks_own done row rest distinct =
-    let within : length done < length (done ++ row ∷ rest) = omega (arith, length-append done (row ∷ rest)) in
-    lacks_at (map priority_of done) row.priority (map priority_of rest) (length done) (sym (length-map done priority_of)) (ap (λ ps. repeats ps (length done)) (sym (map-append priority_of done (row ∷ rest))) ∙ distinct (length done) within)
-  where
-    lacks_at : (ps : List ℕ) (p : ℕ) (qs : List ℕ) (place : ℕ) → place ≡ length ps → repeats (ps ++ p ∷ qs) place ≡ false → list_any (nat_eq p) ps ≡ false
-    lacks_at ps p qs place is none = grind (arith, common_steps, none)
-
-rows_back : (done rest : List Row) → HaveDistinctPriorities (done ++ rest) → length (done ++ rest) ≤ 2000 → AllByRecursion (λ row. row_of (row_fields row) ≡ Ok row) rest
-    → fold with_next (Ok done) (map row_fields rest) ≡ Ok (done ++ rest)
-rows_back done [] distinct few back = ap Ok (sym (append-nil done))
-rows_back done (row ∷ rest) distinct few back =
-    let room : length done < 2000 = omega (arith, length-append done (row ∷ rest)) in
-    let next = new_row done (row_fields row) row room back.0 (lacks_own done row rest distinct) in
-    let same = append_assoc done (row ∷ []) rest in
-    taken_next done (row_fields row ∷ map row_fields rest) (map row_fields rest) (row_fields row) true row refl refl next
-    ∙ rows_back (done ++ row ∷ []) rest (subst HaveDistinctPriorities (sym same) distinct) (omega (arith, ap length same)) back.1
-    ∙ ap Ok same
-
 pub policy_back : (rows : List Row) → HaveDistinctPriorities rows → length rows ≤ 2000 → AllByRecursion (λ row. ArePlain (row_fields row)) rows
     → AllByRecursion (λ row. row_of (row_fields row) ≡ Ok row) rows → policy_of (policy_text rows) ≡ Ok rows
 unfolding policy_of strip_bom
-policy_back rows distinct few plain back = rw (records_of_text rows plain) (rows_back [] rows distinct few back)
+policy_back rows distinct few plain back =
+    let long : length (map row_fields rows) ≡ length rows = length-map rows row_fields in
+    let stated = states_back rows back in
+    let read : IsReadUpTo (map row_fields rows) rows None = record {
+      stated = subst (λ xs. State xs rows) (sym (take_all (length rows) (map row_fields rows) (omega arith))) stated;
+      few = few;
+      within = omega arith;
+      ends = long;
+    } in
+    rw (records_of_text rows plain) (all_read (map row_fields rows) rows read distinct)
+  where
+    states_back : (rows : List Row) → AllByRecursion (λ row. row_of (row_fields row) ≡ Ok row) rows → State (map row_fields rows) rows
+    states_back [] back = refl
+    states_back (row ∷ rows) back = ap (λ outcome. outcome ∷ map row_of (map row_fields rows)) back.0 ∙ ap (λ outcomes. Ok row ∷ outcomes) (states_back rows back.1)

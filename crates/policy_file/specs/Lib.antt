@@ -1,4 +1,3 @@
-pub mod Records
 pub mod Reading
 pub mod Ports
 pub mod Printing

@@ -13,4 +13,6 @@ has_port ports (Out port) = bit_at ports port == 1
 
 -- the first row, counted from 1, whose action names a port outside the mask
 abbrev pub first_without_port : ℕ → List Row → Option NoPort
-first_without_port ports rows = option_map (λ place. record { row = place + 1 }) (position (λ row. not (has_port ports row.action)) rows)
+first_without_port ports rows =
+    option_map (λ place. record { row = place + 1 })
+    (position (λ row. not (has_port ports row.action)) rows)

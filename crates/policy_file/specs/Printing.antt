@@ -1,11 +1,10 @@
 -- The text of a policy, as it is printed.
-use Rattle.std.specs.Prelude.{ℕ, ◌<◌, ◌^◌, List, [], ◌∷◌, ◌++◌, decimal, flat_map}
+use Rattle.std.specs.Prelude.{ℕ, List, [], ◌∷◌, ◌++◌, decimal, flat_map}
 use Rattle.std.specs.List.{join_with_byte}
-use Rattle.five_tuple.specs.Matching.{IsAddressBlock, IsPortRange, IsProtocol}
 use Rattle.five_tuple.specs.Printing.{prefix_text, range_text, proto_text}
 use Rattle.policy_rules.specs.Print.{action_text}
 use Rattle.policy_rules.specs.declared.policy.Row.{Row}
-use Rattle.policy_file.specs.Reading.{header_fields}
+use Rattle.policy_file.specs.Reading.{heading_fields}
 
 -- a record's line: its fields joined by commas, and a line feed
 abbrev pub line : List (List ℕ) → List ℕ
@@ -14,21 +13,13 @@ line fields = join_with_byte 44 fields ++ 10 ∷ []
 -- the printed forms of a row's fields
 abbrev pub row_fields : Row → List (List ℕ)
 row_fields row =
-    decimal row.priority ∷ prefix_text row.src ∷ prefix_text row.dst ∷ range_text row.sport ∷ range_text row.dport ∷ proto_text row.proto ∷ action_text row.action ∷ []
+    decimal row.priority ∷ prefix_text row.src ∷ prefix_text row.dst ∷ range_text row.sport
+    ∷ range_text row.dport ∷ proto_text row.proto ∷ action_text row.action ∷ []
 
 -- the lines of the rows
 abbrev pub rows_text : List Row → List ℕ
 rows_text rows = flat_map (λ row. line (row_fields row)) rows
 
--- the header record's line, and then the rows'
+-- the heading's line, and then the rows'
 abbrev pub policy_text : List Row → List ℕ
-policy_text rows = line header_fields ++ rows_text rows
-
--- each field of the row is within its type
-pub record IsRow (row : Row) : Type 0 where
-  pub priority : row.priority < 2 ^ 32
-  pub src : IsAddressBlock row.src
-  pub dst : IsAddressBlock row.dst
-  pub sport : IsPortRange row.sport
-  pub dport : IsPortRange row.dport
-  pub proto : IsProtocol row.proto
+policy_text rows = line heading_fields ++ rows_text rows

@@ -1,96 +1,140 @@
--- The policy that a text states, as CSV records (RFC 4180): a header record, and a record for each row.
-use Rattle.std.specs.Prelude.{ℕ, ◌≡◌, ◌+◌, ◌==◌, Bool, if◌then◌else◌, nat_eq, Option, Some, None, Result, Ok, Err, List, [], ◌∷◌, ◌++◌, length, map, fold, codes, bytes_eq}
+-- The policy that a text states, as CSV records: a heading, and a record for each row.
+use Rattle.std.specs.Prelude.{⊤, ℕ, zero, suc, ◌≡◌, ◌+◌, ◌<◌, ◌≤◌, ◌==◌, Bool, false, if◌then◌else◌, MatchOption, Option, Some, None, option_map, Result, Ok, Err, List, [], ◌∷◌, length, map, take, filter_map, slice_index_or, codes, bytes_eq}
 use Rattle.std.specs.List.{list_any}
-use Rattle.std.specs.Result.{result_map_both}
-use Rattle.csv.specs.Reading.{default_config, records, strip_bom}
+use Rattle.std.specs.Option.{option_map_or, option_or}
+use Rattle.std.specs.Result.{result_ok}
+use Rattle.csv_records.specs.Texts.{records_of}
 use Rattle.five_tuple.specs.Texts.{number_up_to, prefix_of, range_of, proto_of}
-use Rattle.policy_rules.specs.Policy.{priority_of}
 use Rattle.policy_rules.specs.Read.{action_of}
 use Rattle.policy_rules.specs.declared.policy.Row.{Row}
-use Rattle.policy_file.specs.declared.error.PolicyFault.{PolicyFault}
-use Rattle.policy_file.specs.declared.error.PolicyFault.TheVariants as fault
+use Rattle.policy_file.specs.declared.error.PolicyRefusal.{PolicyRefusal}
+use Rattle.policy_file.specs.declared.error.PolicyRefusal.TheVariants as why
 use Rattle.policy_file.specs.declared.error.PolicyError.{PolicyError}
 use Rattle.policy_file.specs.declared.error.PolicyError.TheVariants as error
 use lib.Pointwise.{pointwise}
 
--- the numbers by which faults are known outside
-abbrev pub code_of : PolicyFault → ℕ
-code_of fault.Header = 1
-code_of fault.Width = 2
-code_of fault.Priority = 3
-code_of fault.Src = 4
-code_of fault.Dst = 5
-code_of fault.Sport = 6
-code_of fault.Dport = 7
-code_of fault.Proto = 8
-code_of fault.Action = 9
-code_of fault.SamePriority = 10
-code_of fault.TooManyRows = 11
+-- the numbers by which refusals are known outside
+abbrev pub code_of : PolicyRefusal → ℕ
+code_of why.Heading = 1
+code_of why.Width = 2
+code_of why.Priority = 3
+code_of why.Src = 4
+code_of why.Dst = 5
+code_of why.Sport = 6
+code_of why.Dport = 7
+code_of why.Proto = 8
+code_of why.Action = 9
+code_of why.SamePriority = 10
+code_of why.TooManyRows = 11
 
--- what is wrong, and in which row, counted from 1; the header record is row 0
+-- why a text is refused, and in which row, counted from 1; the heading is row 0
 pub record Refusal : Type 0 where
-  pub fault : PolicyFault
+  pub refusal : PolicyRefusal
   pub row : ℕ
 
-abbrev pub header_fields : List (List ℕ)
-header_fields = codes "priority" ∷ codes "src" ∷ codes "dst" ∷ codes "sport" ∷ codes "dport" ∷ codes "proto" ∷ codes "action" ∷ []
+abbrev pub heading_fields : List (List ℕ)
+heading_fields =
+    codes "priority" ∷ codes "src" ∷ codes "dst" ∷ codes "sport" ∷ codes "dport" ∷ codes "proto"
+    ∷ codes "action" ∷ []
 
-abbrev pub is_header : List (List ℕ) → Bool
-is_header fields = pointwise bytes_eq fields header_fields
+abbrev pub is_heading : List (List ℕ) → Bool
+is_heading fields = pointwise bytes_eq fields heading_fields
 
--- what follows from a field's value; or its fault, where the text has none
-abbrev pub with_field : {X : Type 0} → Option X → PolicyFault → (X → Result Row PolicyFault) → Result Row PolicyFault
-with_field (Some value) fault next = next value
-with_field None fault next = Err fault
+-- what follows from a field's value; or why there is none, where the text has none
+abbrev pub with_field : {X : Type 0} → Option X → PolicyRefusal → (X → Result Row PolicyRefusal)
+    → Result Row PolicyRefusal
+with_field (Some value) refusal next = next value
+with_field None refusal next = Err refusal
 
--- the row that the fields state, or the first fault among them
-abbrev pub row_of : List (List ℕ) → Result Row PolicyFault
+-- the row that the fields state, or the first refusal among them
+abbrev pub row_of : List (List ℕ) → Result Row PolicyRefusal
 row_of (priority ∷ src ∷ dst ∷ sport ∷ dport ∷ proto ∷ action ∷ []) =
-    with_field (number_up_to 4294967295 priority) fault.Priority (λ priority.
-    with_field (prefix_of src) fault.Src (λ src.
-    with_field (prefix_of dst) fault.Dst (λ dst.
-    with_field (range_of sport) fault.Sport (λ sport.
-    with_field (range_of dport) fault.Dport (λ dport.
-    with_field (proto_of proto) fault.Proto (λ proto.
-    with_field (action_of action) fault.Action (λ action.
-    Ok (record { priority = priority; src = src; dst = dst; sport = sport; dport = dport; proto = proto; action = action }))))))))
-row_of _ = Err fault.Width
+    with_field (number_up_to 4294967295 priority) why.Priority (λ priority.
+    with_field (prefix_of src) why.Src (λ src.
+    with_field (prefix_of dst) why.Dst (λ dst.
+    with_field (range_of sport) why.Sport (λ sport.
+    with_field (range_of dport) why.Dport (λ dport.
+    with_field (proto_of proto) why.Proto (λ proto.
+    with_field (action_of action) why.Action (λ action.
+    Ok (record {
+      priority = priority;
+      src = src;
+      dst = dst;
+      sport = sport;
+      dport = dport;
+      proto = proto;
+      action = action;
+    }))))))))
+row_of _ = Err why.Width
 
--- whether one of the rows has the priority
-abbrev pub has_priority : List Row → ℕ → Bool
-has_priority rows priority = list_any (nat_eq priority) (map priority_of rows)
+-- the record states a row of this priority
+abbrev pub states_priority : ℕ → List (List ℕ) → Bool
+states_priority priority fields =
+    option_map_or (λ row. row.priority == priority) (result_ok (row_of fields)) false
 
--- a row, unless an earlier one has its priority
-abbrev pub unless_taken : List Row → Result Row PolicyFault → Result Row PolicyFault
-unless_taken earlier (Ok row) = if has_priority earlier row.priority then Err fault.SamePriority else Ok row
-unless_taken earlier (Err fault) = Err fault
+-- why a record is refused after the earlier ones: it states no row, or one of an earlier row's
+-- priority
+abbrev pub refusal_after : List (List (List ℕ)) → Result Row PolicyRefusal → Option PolicyRefusal
+refusal_after earlier (Err refusal) = Some refusal
+refusal_after earlier (Ok row) =
+    if list_any (states_priority row.priority) earlier then Some why.SamePriority else None
 
--- the row after the earlier ones, or the first fault of its record: a policy has at most 2,000 rows
-abbrev pub next_row : List Row → List (List ℕ) → Result Row PolicyFault
-next_row earlier fields = if length earlier == 2000 then Err fault.TooManyRows else unless_taken earlier (row_of fields)
+-- why the record at this place is refused, if it is: a policy has at most 2,000 rows
+abbrev pub refusal_at : List (List (List ℕ)) → ℕ → Option PolicyRefusal
+refusal_at records place =
+    if place == 2000 then Some why.TooManyRows
+    else refusal_after (take place records) (row_of (slice_index_or records place []))
 
--- the rows with the one that the next record states, or the first refusal
-abbrev pub with_next : Result (List Row) Refusal → List (List ℕ) → Result (List Row) Refusal
-with_next (Ok rows) fields = result_map_both (λ row. rows ++ row ∷ []) (λ fault. record { fault = fault; row = length rows + 1 }) (next_row rows fields)
-with_next (Err refusal) fields = Err refusal
+-- what the least of the numbers below n has that has something
+abbrev pub first_some : {X : Type 0} → (ℕ → Option X) → ℕ → Option X
+first_some at zero = None
+first_some at (suc n) = option_or (first_some at n) (at n)
 
--- the rows of the records in order, or the first refusal
+-- the same, with the row, counted from 1
+abbrev pub refused_at : List (List (List ℕ)) → ℕ → Option Refusal
+refused_at records place =
+    option_map (λ refusal. record { refusal = refusal; row = place + 1 }) (refusal_at records place)
+
+-- the first refusal among the records
+abbrev pub first_refusal : List (List (List ℕ)) → Option Refusal
+first_refusal records = first_some (refused_at records) (length records)
+
+-- the rows that the records state, one each, or the first refusal among them
 abbrev pub rows_of : List (List (List ℕ)) → Result (List Row) Refusal
-rows_of records = fold with_next (Ok []) records
+rows_of records =
+    option_map_or Err (first_refusal records)
+    (Ok (filter_map (λ fields. result_ok (row_of fields)) records))
 
-abbrev pub no_header : Result (List Row) Refusal
-no_header = Err (record { fault = fault.Header; row = 0 })
+abbrev pub no_heading : Result (List Row) Refusal
+no_heading = Err (record { refusal = why.Heading; row = 0 })
 
--- the rows under the header record
-abbrev pub rows_under_header : List (List (List ℕ)) → Result (List Row) Refusal
-rows_under_header [] = no_header
-rows_under_header (first ∷ records) = if is_header first then rows_of records else no_header
+-- the rows under the heading
+abbrev pub rows_under_heading : List (List (List ℕ)) → Result (List Row) Refusal
+rows_under_heading [] = no_heading
+rows_under_heading (first ∷ records) = if is_heading first then rows_of records else no_heading
 
--- the policy that a text states: its records are those that the crate `csv` defines, with its presets
+-- the policy that a text states
 unfoldable pub policy_of : List ℕ → Result (List Row) Refusal
-policy_of bytes = rows_under_header (records default_config (strip_bom bytes))
+policy_of bytes = rows_under_heading (records_of bytes)
 
--- a row's fault, or want of memory
+-- a refusal, or want of memory
 abbrev pub IsRefusal : Result (List Row) Refusal → PolicyError → Type 0
-IsRefusal policy (error.Refused fault row) = policy ≡ Err (record { fault = fault; row = row })
-IsRefusal policy error.NoMemory = Unit {0}
+IsRefusal policy (error.Refused refusal row) =
+    policy ≡ Err (record { refusal = refusal; row = row })
+IsRefusal policy error.NoMemory = ⊤
+
+-- ---- rows that were read of records
+
+-- the records state these rows, one each
+abbrev pub State : List (List (List ℕ)) → List Row → Type 0
+State records rows = map row_of records ≡ map (λ row. Ok row) rows
+
+-- the first records state these rows; then the records end, or the next is refused for this
+pub record IsReadUpTo (records : List (List (List ℕ))) (rows : List Row)
+    (end : Option PolicyRefusal) : Type 0 where
+  pub stated : State (take (length rows) records) rows
+  pub few : length rows ≤ 2000
+  pub within : length rows ≤ length records
+  pub ends : MatchOption end (length records ≡ length rows)
+      (λ refusal. (length rows < length records)
+      × (refusal_at records (length rows) ≡ Some refusal))

@@ -5,11 +5,11 @@ ghost use Rattle.policy_file.specs.declared.error.PolicyError.TheVariants.{NoMem
 use std::alloc::{AllocError, AllocFailed};
 use thiserror::Error;
 
-/// What is wrong with a policy's text.
+/// Why a policy's text is refused.
 #[derive(Clone, Copy, Debug, PartialEq, Eq)]
-pub enum PolicyFault {
-    /// There is no first record, or it is not the header record.
-    Header = 1,
+pub enum PolicyRefusal {
+    /// There is no first record, or it is not the heading.
+    Heading = 1,
     /// The row has other than seven fields.
     Width = 2,
     /// The priority is no number from 0 to 4294967295.
@@ -32,8 +32,8 @@ pub enum PolicyFault {
     TooManyRows = 11,
 }
 
-impl PolicyFault {
-    /// The fault's number, from 1 to 11 in the order of the variants.
+impl PolicyRefusal {
+    /// The refusal's number, from 1 to 11 in the order of the variants.
     pub fn code(self) -> u32
         ensures { result ≡ code_of self }
     {
@@ -44,9 +44,9 @@ impl PolicyFault {
 /// Why a text is read as no policy.
 #[derive(Clone, Copy, Debug, PartialEq, Eq, Error)]
 pub enum PolicyError {
-    /// The first fault in the text, and its row, counted from 1; the row of the header record is 0.
-    #[error("row {row}: {fault:?}")]
-    Refused { fault: PolicyFault, row: u32 },
+    /// The first refusal in the text, and its row, counted from 1; the row of the heading is 0.
+    #[error("row {row}: {refusal:?}")]
+    Refused { refusal: PolicyRefusal, row: u32 },
     #[error("no memory")]
     NoMemory,
 }

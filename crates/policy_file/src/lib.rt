@@ -1,21 +1,30 @@
-//! Policies as CSV text (RFC 4180): a header record, and a record of seven fields for each row.
+//! Policies as CSV text: a heading, and a record of seven fields for each row.
 //!
-//! `read_policy` promises the policy that the text states, or the first fault of the text and its row; `write_policy`
+//! `read_policy` promises the policy that the text states, or the first refusal in the text and its row; `write_policy`
 //! promises the policy's text, which is read back to the policy; `check_ports` finds the first row that names a port
-//! outside a set.
+//! outside a set. Which bytes make a record is what the crate `csv` defines.
+//!
+//! ```text
+//! fn tidy(alloc: Global, text: &[u8], ports: u64) -> anyhow::Result<Vec<u8>> {
+//!     let policy = read_policy(alloc, text)?;    // Refused { refusal, row }: the first refusal, and where it is
+//!     check_ports(&policy, ports)?;              // NoPort { row }: the first row whose port is not there
+//!     Ok(write_policy(alloc, &policy)?)          // read back, it gives the same policy
+//! }
+//! ```
 #![tactic(auto)]
 
 mod error;
 mod ports;
 mod read;
-mod records;
 mod row;
 #[cfg(test)]
 mod tests;
 mod write;
 
-pub use error::{PolicyError, PolicyFault};
+pub use csv_records::ByteRecord;
+pub use error::{PolicyError, PolicyRefusal};
 pub use policy_rules::{Action, Policy, PortRange, Prefix, Proto, Row};
 pub use ports::{NoPort, check_ports};
 pub use read::read_policy;
+pub use row::read_row;
 pub use write::{policy_texts_are_read_back, write_policy};

@@ -1,4 +1,4 @@
-ghost use Rattle.std.specs.Prelude.{◌≡◌, ◌<◌, ◌^◌, All, IfNone, IfSome, IsTrue, OnOk, length, not, position};
+ghost use Rattle.std.specs.Prelude.{◌≡◌, ◌<◌, All, IfNone, IfSome, IsTrue, OnOk, length, not, position};
 ghost use Rattle.std.specs.Result.{result_err};
 ghost use Rattle.policy_file.specs.Ports.{first_without_port, has_port};
 
@@ -36,7 +36,6 @@ fn place_without_port(ports: u64, rows: &[Row]) -> Option<usize>
 /// # Errors
 /// The first row whose action names another port; a port of 64 or more is in no mask.
 pub fn check_ports(policy: &Policy, ports: u64) -> Result<(), NoPort>
-    requires { length policy.now < 2 ^ 32 }
     ensures first { result_err result ≡ first_without_port ports policy.now }
     ensures all { OnOk result (All (λ row. IsTrue (has_port ports row.action)) policy.now) }
 {

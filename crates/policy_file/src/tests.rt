@@ -6,7 +6,7 @@ use std::alloc::{AllocError, Global};
 use std::fmt::Write;
 use std::test::Fail;
 
-fn under_header(alloc: Global, rows: &str) -> Result<Vec<u8>, AllocError> {
+fn under_heading(alloc: Global, rows: &str) -> Result<Vec<u8>, AllocError> {
     let text = format!(in alloc; "priority,src,dst,sport,dport,proto,action\n{rows}")?;
     Ok(text.into_bytes())
 }
@@ -14,7 +14,7 @@ fn under_header(alloc: Global, rows: &str) -> Result<Vec<u8>, AllocError> {
 // The code and the row of a refusal.
 fn refusal(outcome: Result<Policy, PolicyError>) -> Option<(u32, u32)> {
     match outcome {
-        Err(PolicyError::Refused { fault, row }) => Some((fault.code(), row)),
+        Err(PolicyError::Refused { refusal, row }) => Some((refusal.code(), row)),
         _ => None,
     }
 }
@@ -59,7 +59,7 @@ fn refuses_with_code_and_row(rt: HostRuntime) -> Result<(), Fail> {
         ("7,any,any,any,any,any,drop", 10),
     ] {
         let rows = format!(in alloc; "7,any,any,any,any,any,drop\n{row}\n")?;
-        let text = under_header(alloc, rows.as_str())?;
+        let text = under_heading(alloc, rows.as_str())?;
         assert_eq!(rt;
             refusal(read_policy(alloc, &text)),
             Some((code, 2)),
@@ -76,10 +76,10 @@ fn takes_2000_rows_and_no_more(rt: HostRuntime) -> Result<(), Fail> {
     for priority in 0..2000u32 {
         writeln!(rows, "{priority},any,any,any,any,any,drop")?;
     }
-    let text = under_header(alloc, rows.as_str())?;
+    let text = under_heading(alloc, rows.as_str())?;
     assert_eq!(rt; read_policy(alloc, &text)?.rows().len(), 2000);
     writeln!(rows, "short")?;
-    let text = under_header(alloc, rows.as_str())?;
+    let text = under_heading(alloc, rows.as_str())?;
     assert_eq!(rt; refusal(read_policy(alloc, &text)), Some((11, 2001)));
     Ok(())
 }
@@ -89,12 +89,12 @@ fn checks_ports_and_prints(rt: HostRuntime) -> Result<(), Fail> {
     let alloc = rt.alloc();
     let policy = read_policy(
         alloc,
-        &under_header(alloc, "1,any,any,any,any,any,out:2\n")?,
+        &under_heading(alloc, "1,any,any,any,any,any,out:2\n")?,
     )?;
     assert_eq!(rt; check_ports(&policy, 2), Err(NoPort { row: 1 }));
     assert_eq!(rt; check_ports(&policy, 4), Ok(()));
-    let text = under_header(alloc, "1,10.1.2.3/8,any,any,any,any,drop\n")?;
-    let printed = under_header(alloc, "1,10.0.0.0/8,any,any,any,any,drop\n")?;
+    let text = under_heading(alloc, "1,10.1.2.3/8,any,any,any,any,drop\n")?;
+    let printed = under_heading(alloc, "1,10.0.0.0/8,any,any,any,any,drop\n")?;
     let policy = read_policy(alloc, &text)?;
     assert!(rt; write_policy(alloc, &policy)?.as_slice() == printed.as_slice());
     policy_texts_are_read_back();

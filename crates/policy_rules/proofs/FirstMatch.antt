@@ -1,90 +1,140 @@
--- The first match among the rows so far, one row further.
-use Rattle.std.proofs.Common.{ℕ, ◌≡◌, ◌+◌, ◌<◌, ◌≤◌, Bool, true, false, cond, ◌&&◌, ltb, Option, Some, None, MatchOption, List, [], ◌∷◌, ◌++◌, length, take, get_or, filter, Contains, refl, ◌⊎◌, ⊎_elim, inl, inr, ap, ◌∙◌, sym, arith, subst}
-use Rattle.std.proofs.lemmas.List.Elements.{filter_more}
-use Rattle.std.proofs.lemmas.Bool.Decides.{nat_tests}
-use Rattle.std.proofs.lemmas.List.{append-nil}
-use Rattle.five_tuple.specs.declared.header.Fields.{Fields}
-use Rattle.five_tuple.specs.declared.header.Header.{Header}
+-- The first match: of the rows that match, the one that none exceeds in priority.
+use Rattle.std.proofs.Common.{ℕ, suc, ◌≡◌, ◌∙◌, ◌≤◌, ◌≢◌, Bool, true, false, cond, leb, ltb, Option, Some, None, MatchOption, List, [], ◌∷◌, ◌++◌, append-nil, get_or, filter, find, All, Contains, refl, sym, ap, subst, inl, inr, arith}
+use Rattle.std.specs.Borrow.{Bor}
+use Rattle.std.specs.Option.{option_map_or}
+use Rattle.std.proofs.lemmas.Bool.{cases_lt, leb-true, le-leb, ltb-true, ltb-false}
+use Rattle.std.proofs.lemmas.List.{get_or_default}
+use Rattle.std.proofs.lemmas.List.Kept.{AllPairs-filter}
+use Rattle.std.proofs.lemmas.List.Elements.{All-nil, All-cons, All-push, All-weaker, All-contains, Contains-append_left, Contains-push}
+use Rattle.std.proofs.lemmas.List.Sums.{AllPass-from_list_all, list_all-from_AllPass}
 use Rattle.five_tuple.specs.Header.{fields_of}
-use Rattle.std.proofs.lemmas.List.Elements.{Contains-append_right, Contains-append_cases, Contains-push_cases}
-use Rattle.std.proofs.lemmas.Bool.{cases_lt, lt-ltb, le-ltb}
+use Rattle.five_tuple.specs.declared.header.Header.{Header}
+use Rattle.policy_rules.specs.declared.policy.Action.{Action}
+use Rattle.policy_rules.specs.declared.policy.Hit.{Hit}
 use Rattle.policy_rules.specs.declared.policy.Row.{Row}
-use Rattle.policy_rules.specs.Policy.{row_matches, higher, highest, hit_of, scan_by, or_higher, scan, IsFirstMatch}
+use Rattle.policy_rules.specs.Policy.{HaveDistinctPriorities, IsFirstMatch, IsHighestIn, highest, hit_of, is_highest, row_matches, scan}
 
-and_true : (b : Bool) → (b && true) ≡ b
-and_true true = refl
-and_true false = refl
+-- ---- the first that passes
 
-and_false : (b : Bool) → (b && false) ≡ false
-and_false true = refl
-and_false false = refl
+in_tail : {X : Type 0} (y : X) (ys : List X) (x : X) → Contains ys x → Contains (y ∷ ys) x
+in_tail y ys x (k, within, is) = (suc k, omega arith, is)
 
-ap_cond : {A B : Type 0} (f : A → B) (b : Bool) (x y : A) → f (cond b x y) ≡ cond b (f x) (f y)
-ap_cond f true x y = refl
-ap_cond f false x y = refl
-
--- the better of a row so far and the next one, which wins only where it is higher
-abbrev pub then_higher : Option Row → Row → Row
-then_higher None next = next
-then_higher (Some best) next = cond (ltb best.priority next.priority) next best
-
-higher_first : (row next : Row) (best : Option Row) → higher row (Some (then_higher best next)) ≡ then_higher (Some (higher row best)) next
-higher_first row next None = refl
-higher_first row next (Some best) = grind (arith, nat_tests)
-
--- one more row at the end
-highest_push : (rows : List Row) (next : Row) → highest (rows ++ next ∷ []) ≡ Some (then_higher (highest rows) next)
-highest_push [] next = refl
-highest_push (row ∷ rows) next = ap (λ best. Some (higher row best)) (highest_push rows next) ∙ ap Some (higher_first row next (highest rows))
-
-hit_then : (next : Row) (f : Fields) (best : Option Row) → row_matches next f ≡ true → hit_of (Some (then_higher best next)) ≡ or_higher (hit_of best) next f
-hit_then next f None matches = rw matches refl
-hit_then next f (Some best) matches = rw (matches, and_true) (ap_cond (λ row. hit_of (Some row)) (ltb best.priority next.priority) next best)
-
-hit_more : (kept : List Row) (next : Row) (f : Fields) (matches : Bool) → row_matches next f ≡ matches → hit_of (highest (kept ++ cond matches (next ∷ []) [])) ≡ or_higher (hit_of (highest kept)) next f
-hit_more kept next f true matches = rw highest_push (hit_then next f (highest kept) matches)
-hit_more kept next f false other = ap (λ rows. hit_of (highest rows)) (append-nil kept) ∙ rw (other, and_false) refl
-
--- the first match among the rows so far, one row further
-pub scan_more : (rows : List Row) (f : Fields) (i : ℕ) (d : Row) → i < length rows → scan_by (take (i + 1) rows) f ≡ or_higher (scan_by (take i rows) f) (get_or rows i d) f
-scan_more rows f i d within =
-    ap (λ kept. hit_of (highest kept)) (filter_more (λ row. row_matches row f) rows i d within)
-    ∙ hit_more (filter (λ row. row_matches row f) (take i rows)) (get_or rows i d) f _ refl
-
--- the highest is among the rows, and none exceeds it
-pub HighestOf : List Row → Option Row → Type 0
-HighestOf rows best = MatchOption best (rows ≡ []) (λ row. Contains rows row × ((other : Row) → Contains rows other → other.priority ≤ row.priority))
-
--- what is in a list with one more in front
-in_cons : (row : Row) (rows : List Row) (other : Row) → Contains (row ∷ rows) other → (row ≡ other) ⊎ Contains rows other
-in_cons row rows other there = ⊎_elim (λ one. ⊎_elim (λ none. absurd (in_empty other none)) inl (Contains-push_cases [] row other one)) inr (Contains-append_cases (row ∷ []) rows other there)
+-- the first that passes is an element that passes; where there is none, none passes
+pub find_found : {X : Type 0} (p : X → Bool) (xs : List X) → MatchOption (find p xs) (All (λ x. p x ≡ false) xs) (λ x. Contains xs x × (p x ≡ true))
+find_found p [] = All-nil _
+find_found {X} p (x ∷ xs) = by_case (p x) refl (find p xs) (find_found p xs)
   where
-    in_empty : (x : Row) → Contains [] x → ⊥
-    in_empty x found = omega (arith, found.1)
+    by_case : (b : Bool) → p x ≡ b → (found : Option X) → MatchOption found (All (λ x. p x ≡ false) xs) (λ y. Contains xs y × (p y ≡ true))
+        → MatchOption (cond b (Some x) found) (All (λ x. p x ≡ false) (x ∷ xs)) (λ y. Contains (x ∷ xs) y × (p y ≡ true))
+    by_case true is found rest = ((0, omega arith, refl), is)
+    by_case false is None rest = All-cons (λ x. p x ≡ false) x xs is rest
+    by_case false is (Some y) rest = (in_tail x xs y rest.0, rest.1)
 
--- a bound on the rows and on one more in front
-bound_cons : (most : ℕ) (row : Row) (rows : List Row) → row.priority ≤ most → ((other : Row) → Contains rows other → other.priority ≤ most) → (other : Row) → Contains (row ∷ rows) other → other.priority ≤ most
-bound_cons most row rows here there other found = ⊎_elim (λ same. subst (λ (x : Row). x.priority ≤ most) same here) (there other) (in_cons row rows other found)
+-- ---- the highest of some rows
 
-higher_of : (row : Row) (rows : List Row) (best : Option Row) → HighestOf rows best → HighestOf (row ∷ rows) (Some (higher row best))
-unfolding HighestOf
-higher_of row rows None none = ((0, omega arith, refl), bound_cons row.priority row rows (omega arith) (λ other found. absurd (omega (arith, (rw none at found).1))))
-higher_of row rows (Some best) h = ⊎_elim
-    (λ lower. subst (λ b. HighestOf (row ∷ rows) (Some (cond b best row))) (sym (lt-ltb row.priority best.priority lower))
-    (Contains-append_right (row ∷ []) rows best h.0, bound_cons best.priority row rows (omega (arith, lower)) h.1))
-    (λ upper. subst (λ b. HighestOf (row ∷ rows) (Some (cond b best row))) (sym (le-ltb row.priority best.priority upper))
-    ((0, omega arith, refl), bound_cons row.priority row rows (omega arith) (λ other found. let least = h.1 other found in omega (arith, least, upper))))
-    (cases_lt row.priority best.priority)
+-- rows of distinct priorities that have one priority are one
+pub one_of_priority : (rows : List Row) → HaveDistinctPriorities rows → (x y : Row) → Contains rows x → Contains rows y → x.priority ≡ y.priority → x ≡ y
+one_of_priority rows distinct x y (i, within, is) (j, inside, also) same =
+    let here : get_or rows j x ≡ y = get_or_default rows j x y inside ∙ also in
+    let equal : (get_or rows i x).priority ≡ (get_or rows j x).priority = ap (λ (row : Row). row.priority) is ∙ same ∙ sym (ap (λ (row : Row). row.priority) here) in
+    elim (cases_lt i j) [
+      | inl less ↦ absurd (distinct i j x less inside equal)
+      | inr more ↦ elim (cases_lt j i) [
+        | inl less ↦ absurd (distinct j i x less within (sym equal))
+        | inr same_place ↦
+            let place : i ≡ j = omega arith in
+            sym is ∙ ap (λ k. get_or rows k x) place ∙ here
+      ]
+    ]
 
-pub highest_of : (rows : List Row) → HighestOf rows (highest rows)
-unfolding HighestOf
+passes : (rows : List Row) (row : Row) → All (λ (other : Row). other.priority ≤ row.priority) rows → is_highest rows row ≡ true
+passes rows row most = list_all-from_AllPass (λ (other : Row). leb other.priority row.priority) rows (λ k d within. le-leb _ _ (most k d within))
+
+bounds : (rows : List Row) (row : Row) → is_highest rows row ≡ true → All (λ (other : Row). other.priority ≤ row.priority) rows
+bounds rows row is k d within = leb-true _ _ (AllPass-from_list_all (λ (other : Row). leb other.priority row.priority) rows is k d within)
+
+-- among rows of distinct priorities one is the highest
+pub highest_is : (rows : List Row) (row : Row) → HaveDistinctPriorities rows → IsHighestIn rows row → highest rows ≡ Some row
+highest_is rows row distinct is = by_case (find (is_highest rows) rows) (find_found (is_highest rows) rows)
+  where
+    by_case : (found : Option Row) → MatchOption found (All (λ x. is_highest rows x ≡ false) rows) (λ x. Contains rows x × (is_highest rows x ≡ true)) → found ≡ Some row
+    by_case None none =
+        let test = passes rows row is.highest in
+        let not = All-contains (λ x. is_highest rows x ≡ false) rows row none is.member in
+        absurd (cc)
+    by_case (Some other) (there, test) =
+        let below = All-contains (λ (x : Row). x.priority ≤ row.priority) rows other is.highest there in
+        let above = All-contains (λ (x : Row). x.priority ≤ other.priority) rows row (bounds rows other test) is.member in
+        ap Some (one_of_priority rows distinct other row there is.member (omega (arith, below, above)))
+
+-- rows have a highest one
+top_of : (row : Row) (rows : List Row) → (best : Row) × IsHighestIn (row ∷ rows) best
+top_of row [] = (row, record { member = (0, omega arith, refl); highest = All-cons (λ (x : Row). x.priority ≤ row.priority) row [] (omega arith) (All-nil _) })
+top_of row (next ∷ rows) = by_case (top_of next rows)
+  where
+    by_case : (best : Row) × IsHighestIn (next ∷ rows) best → (best : Row) × IsHighestIn (row ∷ next ∷ rows) best
+    by_case (best, is) = elim (cases_lt best.priority row.priority) [
+      | inl lower ↦ (row, record { member = (0, omega arith, refl); highest = All-cons (λ (x : Row). x.priority ≤ row.priority) row (next ∷ rows) (omega arith) (All-weaker (λ (x : Row). x.priority ≤ best.priority) (λ (x : Row). x.priority ≤ row.priority) (λ x h. omega (arith, lower)) (next ∷ rows) is.highest) })
+      | inr upper ↦ (best, record { member = in_tail row (next ∷ rows) best is.member; highest = All-cons (λ (x : Row). x.priority ≤ best.priority) row (next ∷ rows) upper is.highest })
+    ]
+
+pub highest_of : (rows : List Row) → MatchOption (highest rows) (rows ≡ []) (IsHighestIn rows)
 highest_of [] = refl
-highest_of (row ∷ rows) = higher_of row rows (highest rows) (highest_of rows)
+highest_of (row ∷ rows) = by_case (top_of row rows) (find (is_highest (row ∷ rows)) (row ∷ rows)) (find_found (is_highest (row ∷ rows)) (row ∷ rows))
+  where
+    by_case : (best : Row) × IsHighestIn (row ∷ rows) best → (found : Option Row) → MatchOption found (All (λ x. is_highest (row ∷ rows) x ≡ false) (row ∷ rows)) (λ x. Contains (row ∷ rows) x × (is_highest (row ∷ rows) x ≡ true)) → MatchOption found (row ∷ rows ≡ []) (IsHighestIn (row ∷ rows))
+    by_case (best, is) None none =
+        let test = passes (row ∷ rows) best is.highest in
+        let not = All-contains (λ x. is_highest (row ∷ rows) x ≡ false) (row ∷ rows) best none is.member in
+        absurd (cc)
+    by_case top (Some found) (there, test) = record { member = there; highest = bounds (row ∷ rows) found test }
 
-first_match_of : (rows : List Row) (header : Header) (best : Option Row) → HighestOf (filter (λ row. row_matches row (fields_of header)) rows) best → IsFirstMatch rows header (hit_of best)
-unfolding HighestOf
-first_match_of rows header None h = (h, refl)
-first_match_of rows header (Some row) h = (row, h.0, refl, refl, h.1)
+first_match_of : (rows : List Row) (header : Header) (best : Option Row) → MatchOption best (filter (λ row. row_matches row (fields_of header)) rows ≡ []) (IsHighestIn (filter (λ row. row_matches row (fields_of header)) rows)) → IsFirstMatch rows header (hit_of best)
+first_match_of rows header None none = (none, refl)
+first_match_of rows header (Some row) is = (row, is, refl, refl)
 
+-- the scan is the first match
 pub first_match-scan : (rows : List Row) (header : Header) → IsFirstMatch rows header (scan rows header)
 first_match-scan rows header = first_match_of rows header _ (highest_of (filter (λ row. row_matches row (fields_of header)) rows))
+
+abbrev hit_with : Option ℕ → Action → Hit
+hit_with rule action = record { rule = rule; action = action }
+
+first_match_by : (rows : List Row) (header : Header) (rule : Option ℕ) (action : Action) → HaveDistinctPriorities rows → IsFirstMatch rows header (hit_with rule action) → hit_with rule action ≡ scan rows header
+first_match_by rows header None action distinct (none, drop) = ap (hit_with None) drop ∙ ap (λ matching. hit_of (highest matching)) (sym none)
+first_match_by rows header (Some priority) action distinct (row, is, names, acts) =
+    let kept = AllPairs-filter (λ (x y : Row). x.priority ≢ y.priority) (λ x. row_matches x (fields_of header)) rows distinct in
+    ap (λ n. hit_with (Some n) action) (sym names) ∙ ap (hit_with (Some row.priority)) (sym acts) ∙ sym (ap hit_of (highest_is _ row kept is))
+
+-- rows of distinct priorities have one first match
+pub first_match-only : (rows : List Row) (header : Header) (hit : Hit) → HaveDistinctPriorities rows → IsFirstMatch rows header hit → hit ≡ scan rows header
+first_match-only rows header hit = first_match_by rows header hit.rule hit.action
+
+-- ---- one more row
+
+-- the best of some rows, by reference
+abbrev pub IsBest : List Row → Option (Bor Row) → Type 0
+IsBest rows best = MatchOption best (rows ≡ []) (λ row. IsHighestIn rows row.now)
+
+-- a row that matches and exceeds the best so far is the best of the rows with it
+pub best_takes : (kept : List Row) (row : Row) (best new : Option (Bor Row)) (matches : Bool) (here : Bor Row) → new ≡ Some here → here.now ≡ row → matches ≡ true
+    → option_map_or (λ (other : Bor Row). ltb other.now.priority row.priority) best true ≡ true → IsBest kept best → IsBest (kept ++ cond matches (row ∷ []) []) new
+best_takes kept row best new false here is now matches exceeds known = cc matches
+best_takes kept row best new true here is now matches exceeds known =
+    let top : IsHighestIn (kept ++ row ∷ []) row = record { member = Contains-push kept row; highest = All-push (λ (x : Row). x.priority ≤ row.priority) kept row (lower best exceeds known) (omega arith) } in
+    subst (IsBest (kept ++ row ∷ [])) (sym is) (subst (IsHighestIn (kept ++ row ∷ [])) (sym now) top)
+  where
+    lower : (best : Option (Bor Row)) → option_map_or (λ (other : Bor Row). ltb other.now.priority row.priority) best true ≡ true → IsBest kept best → All (λ (x : Row). x.priority ≤ row.priority) kept
+    lower None exceeds none = subst (All (λ (x : Row). x.priority ≤ row.priority)) (sym none) (All-nil _)
+    lower (Some other) exceeds is =
+        let above = ltb-true other.now.priority row.priority exceeds in
+        All-weaker (λ (x : Row). x.priority ≤ other.now.priority) (λ (x : Row). x.priority ≤ row.priority) (λ x h. omega (arith, above)) kept is.highest
+
+-- another row changes nothing
+pub best_keeps : (kept : List Row) (row : Row) (best : Option (Bor Row)) (matches : Bool) → (matches ≡ true → option_map_or (λ (other : Bor Row). ltb other.now.priority row.priority) best true ≡ false)
+    → IsBest kept best → IsBest (kept ++ cond matches (row ∷ []) []) best
+best_keeps kept row best false lower is = subst (λ rows. IsBest rows best) (sym (append-nil kept)) is
+best_keeps kept row None true lower is = absurd (let e = lower refl in cc)
+best_keeps kept row (Some best) true lower is =
+    let below : row.priority ≤ best.now.priority = ltb-false best.now.priority row.priority (lower refl) in
+    record { member = Contains-append_left kept (row ∷ []) best.now is.member; highest = All-push (λ (x : Row). x.priority ≤ best.now.priority) kept row is.highest below }

@@ -1,10 +1,9 @@
 pub mod FirstMatch
-pub mod Repeats
+pub mod Distinct
 pub mod Finding
-pub mod Blocks
-pub mod Packing
 pub mod RowWords
 pub mod Ranks
 pub mod Sorting
 pub mod RuleLaw
 pub mod RuleShape
+pub mod CallerLemmas

@@ -1,5 +1,5 @@
 -- Ranks by place, as a list of rules grows.
-use Rattle.std.proofs.Common.{ℕ, ◌≡◌, ◌∙◌, ◌+◌, ◌*◌, ◌≤◌, take, length-take, List, [], ◌∷◌, ◌++◌, append_assoc, length, refl, ap, sym, arith, length-append}
+use Rattle.std.proofs.Common.{ℕ, ◌≡◌, ◌∙◌, ◌+◌, ◌*◌, ◌≤◌, List, [], ◌∷◌, ◌++◌, append_assoc, length, map, refl, ap, sym, arith, length-append}
 use Rattle.std.specs.List.{flat_map}
 use Rattle.std.proofs.lemmas.List.{length-map}
 use Rattle.std.proofs.lemmas.List.FromFn.{length-enumerate_from}
@@ -8,8 +8,9 @@ use Rattle.policy_rules.specs.declared.policy.Hit.{Hit}
 use Rattle.policy_rules.specs.declared.policy.Row.{Row}
 use Rattle.std.proofs.Math.Nat.{mul-le-mul_left}
 use Rattle.policy_rules.specs.declared.rules.Rule.{Rule}
-use Rattle.policy_rules.specs.RuleList.{ranked, ranked_from, entries_at, entries_of, word_count, word_total}
-use Rattle.policy_rules.specs.Words.{blocks_of}
+use Rattle.policy_rules.specs.RuleList.{ranked, ranked_from, entries_of, with_hit, word_count, word_total}
+use Rattle.five_tuple.specs.Cover.{Block, cover_of}
+use Rattle.policy_rules.specs.Words.{word_of_row, words_of_row}
 use Rattle.std.proofs.lemmas.List.Sums.{sum_by-cons}
 
 pub length-ranked_from : (n : ℕ) (xs : List (WordValue × Hit)) → length (ranked_from n xs) ≡ length xs
@@ -35,20 +36,26 @@ ranked_more old now new done more all is pushed joined =
 pub length_ranked : (old now : List Rule) (done : List (WordValue × Hit)) → now ≡ old ++ ranked_from (length old) done → length now ≡ length old + length done
 length_ranked old now done is = omega (arith, ap length is, length-append old (ranked_from (length old) done), length-ranked_from (length old) done)
 
--- a rule for each pair of blocks
-pub length-pairs : (row : Row) (destinations sources : List (ℕ × ℕ)) → length (flat_map (entries_at row destinations) sources) ≡ length sources * length destinations
+-- a word for each pair of blocks
+length-pairs : (row : Row) (destinations sources : List Block) → length (flat_map (λ source. map (word_of_row row source) destinations) sources) ≡ length sources * length destinations
 length-pairs row destinations [] = omega arith
 length-pairs row destinations (source ∷ sources) =
-    let here : length (entries_at row destinations source) ≡ length destinations = length-map _ _ in
-    omega (arith, length-append (entries_at row destinations source) (flat_map (entries_at row destinations) sources), here, length-pairs row destinations sources)
+    let here : length (map (word_of_row row source) destinations) ≡ length destinations = length-map _ _ in
+    omega (arith, length-append (map (word_of_row row source) destinations) (flat_map (λ source. map (word_of_row row source) destinations) sources), here, length-pairs row destinations sources)
 
--- of the first sources, at most 900
-pub few_pairs : (row : Row) (destinations sources : List (ℕ × ℕ)) (i : ℕ) → length destinations ≤ 30 → i ≤ 30 → length (flat_map (entries_at row destinations) (take i sources)) ≤ 900
-few_pairs row destinations sources i few most =
-    let n = length (take i sources) in
-    omega (arith, length-pairs row destinations (take i sources), mul-le-mul_left n few, length-take i sources)
+pub length-words_of_row : (row : Row) → length (words_of_row row) ≡ word_count row
+length-words_of_row row = length-pairs row (cover_of row.dport) (cover_of row.sport)
+
+-- of at most 30 blocks each, at most 900
+pub few_pairs : (row : Row) (destinations sources : List Block) → length destinations ≤ 30 → length sources ≤ 30 → length (with_hit row (flat_map (λ source. map (word_of_row row source) destinations) sources)) ≤ 900
+few_pairs row destinations sources few most =
+    let words = flat_map (λ source. map (word_of_row row source) destinations) sources in
+    let same : length (with_hit row words) ≡ length words = length-map _ _ in
+    omega (arith, same, length-pairs row destinations sources, mul-le-mul_left (length sources) few)
 
 -- as many entries as words
 pub length-entries : (rows : List Row) → length (flat_map entries_of rows) ≡ word_total rows
 length-entries [] = refl
-length-entries (row ∷ rows) = omega (arith, length-append (entries_of row) (flat_map entries_of rows), length-pairs row (blocks_of row.dport) (blocks_of row.sport), length-entries rows, sum_by-cons word_count row rows)
+length-entries (row ∷ rows) =
+    let same : length (entries_of row) ≡ length (words_of_row row) = length-map _ _ in
+    omega (arith, length-append (entries_of row) (flat_map entries_of rows), same, length-words_of_row row, length-entries rows, sum_by-cons word_count row rows)

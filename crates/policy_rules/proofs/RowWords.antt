@@ -1,22 +1,21 @@
 -- The word of a row and of two blocks: it is a word, and it holds what the row matches on the ports of the blocks.
-use Rattle.std.proofs.Common.{ℕ, ◌≡◌, ◌≢◌, ◌∙◌, ◌⊎◌, ◌-◌, ◌*◌, ◌/◌, ◌^◌, ◌<◌, ◌≤◌, ◌&&◌, eqb, Option, Some, None, IsSome, IsNone, IfSome, ◌↔◌, rules, bit_and, refl, ap, sym, inl, inr, arith}
+use Rattle.std.proofs.Common.{ℕ, ◌≡◌, ◌∙◌, ◌-◌, ◌*◌, ◌/◌, ◌^◌, ◌<◌, ◌&&◌, eqb, bit_and, refl, ap, sym, arith}
 use Rattle.std.proofs.Math.Nat.{mul-div_cancel}
 use Rattle.std.proofs.lemmas.Bool.Decides.{Decides-eqb, Decides-like, same_from_decides, nat_tests}
-use Rattle.std.proofs.lemmas.Nat.{and_le_l, shr_split, pow_pos}
+use Rattle.std.proofs.lemmas.Nat.{shr_split, pow_pos}
 use Rattle.std.specs.Int.Bits.{and_zero_r}
 use Rattle.std.proofs.lemmas.Nat.Bits.{and_high_mask}
-use Rattle.std.proofs.lemmas.Option.{MatchOption-at_some}
-use Rattle.five_tuple.specs.Header.{fields_of, number_of}
+use Rattle.five_tuple.specs.Header.{IsHeader, fields_of, number_of}
 use Rattle.five_tuple.specs.Matching.{AddressBlock, IsAddressBlock, IsProtocol, prefix_matches, proto_matches}
-use Rattle.five_tuple.specs.Cover.{IsMaskedPort, block_holds}
+use Rattle.five_tuple.specs.Cover.{Block, IsPortBlock, block_holds}
 use Rattle.five_tuple.specs.declared.header.Header.{Header}
 use Rattle.five_tuple.specs.declared.matching.Proto.{Proto}
 use Rattle.five_tuple.specs.declared.matching.Proto.TheVariants.{Any, Is}
-use Rattle.ternary.specs.Word.{WordValue, IsWord, holds}
+use Rattle.ternary.specs.Word.{IsWord, holds}
 use Rattle.policy_rules.specs.declared.policy.Row.{Row}
-use Rattle.policy_rules.specs.Rules.{IsHeader}
-use Rattle.policy_rules.specs.Words.{packed, prefix_mask, proto_mask, proto_value, word_of_row, HasSoundFields}
-use Rattle.policy_rules.proofs.Packing.{HasBits, and_packed, same_packed}
+use Rattle.policy_rules.specs.Policy.{IsSoundRow}
+use Rattle.policy_rules.specs.Words.{prefix_mask, proto_mask, proto_value, word_of_row}
+use Rattle.five_tuple.proofs.CallerLemmas.{HasBits, and_packed, masked_packed}
 
 -- the address of a block has no bit past those that the block fixes
 prefix_within : (p : AddressBlock) → IsAddressBlock p → bit_and p.address (prefix_mask p) ≡ p.address
@@ -55,56 +54,36 @@ masked_proto (Is this) number small bound =
     let same : bit_and number 255 ≡ number = and_high_mask 8 0 (omega arith) number bound ∙ omega arith in
     ap (λ n. eqb n this) same ∙ eqb_sym number this
 
-value_bits : (row : Row) (source destination : ℕ × ℕ) → HasSoundFields row → IsMaskedPort source → IsMaskedPort destination → HasBits row.dst.address source.0 destination.0 (proto_value row.proto)
+value_bits : (row : Row) (source destination : Block) → IsSoundRow row → IsPortBlock source → IsPortBlock destination → HasBits row.dst.address source.0 destination.0 (proto_value row.proto)
 value_bits row source destination sound s d = record { dst = sound.dst.address; sport = s.value; dport = d.value; proto = (proto_bound row.proto sound.proto).0 }
 
-mask_bits : (row : Row) (source destination : ℕ × ℕ) → HasSoundFields row → IsMaskedPort source → IsMaskedPort destination → HasBits (prefix_mask row.dst) source.1 destination.1 (proto_mask row.proto)
+mask_bits : (row : Row) (source destination : Block) → IsSoundRow row → IsPortBlock source → IsPortBlock destination → HasBits (prefix_mask row.dst) source.1 destination.1 (proto_mask row.proto)
 mask_bits row source destination sound s d = record { dst = mask_bound row.dst; sport = s.mask; dport = d.mask; proto = (proto_bound row.proto sound.proto).1 }
 
 -- no bit of the value is outside the mask, and the mask has the bits of a header's number
-pub IsWord-word_of_row : (row : Row) (source destination : ℕ × ℕ) → HasSoundFields row → IsMaskedPort source → IsMaskedPort destination → IsWord (word_of_row row source destination)
+pub IsWord-word_of_row : (row : Row) (source destination : Block) → IsSoundRow row → IsPortBlock source → IsPortBlock destination → IsWord (word_of_row row source destination)
 unfolding word_of_row
 IsWord-word_of_row row source destination sound s d =
-    let within = and_packed row.src.address row.dst.address source.0 destination.0 (proto_value row.proto) (prefix_mask row.src) (prefix_mask row.dst) source.1 destination.1 (proto_mask row.proto) (value_bits row source destination sound s d) (mask_bits row source destination sound s d) in
+    let bits = mask_bits row source destination sound s d in
+    let within = and_packed row.src.address row.dst.address source.0 destination.0 (proto_value row.proto) (prefix_mask row.src) (prefix_mask row.dst) source.1 destination.1 (proto_mask row.proto) (value_bits row source destination sound s d) bits in
     let src = prefix_within row.src sound.src in
     let dst = prefix_within row.dst sound.dst in
     let proto = proto_within row.proto sound.proto in
-    let bits = mask_bits row source destination sound s d in
     record {
       within = within ∙ rw (src, dst, s.inside, d.inside, proto) refl;
       bounded = omega (arith, mask_bound row.src, bits.dst, bits.sport, bits.dport, bits.proto);
     }
 
 -- the word holds a header that the row matches by addresses and protocol, and whose ports are in the blocks
-pub holds-word_of_row : (row : Row) (source destination : ℕ × ℕ) (h : Header) → HasSoundFields row → IsMaskedPort source → IsMaskedPort destination → IsHeader h →
+pub holds-word_of_row : (row : Row) (source destination : Block) (h : Header) → IsSoundRow row → IsPortBlock source → IsPortBlock destination → IsHeader h →
     holds (word_of_row row source destination) (number_of h) ≡ (prefix_matches row.src (fields_of h).src && prefix_matches row.dst (fields_of h).dst && block_holds (fields_of h).sport source && block_holds (fields_of h).dport destination && proto_matches row.proto (fields_of h).proto)
 unfolding word_of_row holds
 holds-word_of_row row source destination h sound s d bits =
     let f = fields_of h in
+    let w = word_of_row row source destination in
     let header : HasBits f.dst f.sport f.dport f.proto = record { dst = bits.dst; sport = bits.sport; dport = bits.dport; proto = bits.proto } in
     let masks = mask_bits row source destination sound s d in
     let values = value_bits row source destination sound s d in
-    let word = IsWord-word_of_row row source destination sound s d in
-    let masked = and_packed f.src f.dst f.sport f.dport f.proto (prefix_mask row.src) (prefix_mask row.dst) source.1 destination.1 (proto_mask row.proto) header masks in
-    let fields : HasBits (bit_and f.dst (prefix_mask row.dst)) (bit_and f.sport source.1) (bit_and f.dport destination.1) (bit_and f.proto (proto_mask row.proto)) = record {
-      dst = omega (arith, and_le_l f.dst (prefix_mask row.dst));
-      sport = omega (arith, and_le_l f.sport source.1);
-      dport = omega (arith, and_le_l f.dport destination.1);
-      proto = omega (arith, and_le_l f.proto (proto_mask row.proto));
-    } in
-    let w = word_of_row row source destination in
-    ap (λ n. eqb n (bit_and w.value w.mask)) masked
-    ∙ ap (eqb (packed (bit_and f.src (prefix_mask row.src)) (bit_and f.dst (prefix_mask row.dst)) (bit_and f.sport source.1) (bit_and f.dport destination.1) (bit_and f.proto (proto_mask row.proto)))) word.within
-    ∙ same_packed (bit_and f.src (prefix_mask row.src)) (bit_and f.dst (prefix_mask row.dst)) (bit_and f.sport source.1) (bit_and f.dport destination.1) (bit_and f.proto (proto_mask row.proto)) row.src.address row.dst.address source.0 destination.0 (proto_value row.proto) fields values
+    ap (eqb (bit_and (number_of h) w.mask)) (IsWord-word_of_row row source destination sound s d).within
+    ∙ masked_packed f.src f.dst f.sport f.dport f.proto (prefix_mask row.src) (prefix_mask row.dst) source.1 destination.1 (proto_mask row.proto) row.src.address row.dst.address source.0 destination.0 (proto_value row.proto) header masks values
     ∙ rw (masked_prefix row.src f.src sound.src bits.src, masked_prefix row.dst f.dst sound.dst bits.dst, masked_proto row.proto f.proto sound.proto bits.proto) refl
-
--- the pair of a word's value and mask is taken
-pub word_taken : (r : Option WordValue) (value mask : ℕ) (w : WordValue) → (IsNone r ↔ ((bit_and value mask ≢ value) ⊎ (2 ^ 104 ≤ mask))) → value ≡ w.value → mask ≡ w.mask → IsWord w → IsSome r
-word_taken (Some x) value mask w none v m word = search rules
-word_taken None value mask w none v m word =
-    let within : bit_and value mask ≡ value = rw (v, m) word.within in
-    absurd (elim (none.0 (search rules)) [ inl outside ↦ outside within | inr large ↦ omega (arith, large, m, word.bounded) ])
-
--- and gives this word
-pub word_given : (r : Option WordValue) (x : WordValue) (value mask : ℕ) (w : WordValue) → IfSome r (λ y. (y ≡ record { value = value; mask = mask }) × IsWord y) → r ≡ Some x → value ≡ w.value → mask ≡ w.mask → x ≡ w
-word_given r x value mask w pair is v m = (MatchOption-at_some _ _ x is pair).0 ∙ rw (v, m) refl

@@ -1,24 +1,26 @@
 -- The first rule that holds a header has the rule and the action of the policy's first match.
-use Rattle.std.proofs.Common.{bit_and, ℕ, ◌≡◌, ◌∙◌, ◌+◌, Bool, true, false, cond, ◌&&◌, ◌||◌, Option, Some, None, option_map, List, [], ◌∷◌, ◌++◌, append_assoc, find, get_or, refl, ap, sym, arith}
+use Rattle.std.proofs.Common.{bit_and, ℕ, ◌≡◌, ◌∙◌, ◌+◌, Bool, true, false, cond, ◌&&◌, ◌||◌, Option, Some, None, option_map, List, [], ◌∷◌, ◌++◌, append_assoc, find, get_or, map, refl, ap, sym, arith}
 use Rattle.std.specs.Option.{option_or}
 use Rattle.std.specs.Int.Bits.{and_zero_r}
 use Rattle.std.proofs.lemmas.Bool.{eq-eqb}
 use Rattle.std.specs.List.{All, list_any, flat_map}
 use Rattle.std.proofs.lemmas.List.Elements.{All-tail}
-use Rattle.std.proofs.lemmas.List.Folds.{find-append}
-use Rattle.five_tuple.specs.Header.{fields_of, number_of}
+use Rattle.std.proofs.lemmas.List.Folds.{find-append, list_any-append}
+use Rattle.std.proofs.lemmas.List.Sorted.{All-permutation}
+use Rattle.five_tuple.specs.Header.{IsHeader, fields_of, number_of}
 use Rattle.five_tuple.specs.Matching.{prefix_matches, proto_matches}
-use Rattle.five_tuple.specs.Cover.{IsMaskedPort, block_holds}
+use Rattle.five_tuple.specs.Cover.{Block, IsPortBlock, block_holds, cover_of}
+use Rattle.five_tuple.proofs.CoverOf.{is_cover_of}
 use Rattle.five_tuple.specs.declared.header.Header.{Header}
 use Rattle.ternary.specs.Word.{WordValue, any_word, holds}
 use Rattle.policy_rules.specs.declared.policy.Row.{Row}
 use Rattle.policy_rules.specs.declared.policy.Hit.{Hit}
-use Rattle.policy_rules.specs.Policy.{row_matches, hit_of, scan}
-use Rattle.policy_rules.specs.Rules.{IsHeader, is_held, first_rule}
-use Rattle.policy_rules.specs.Words.{word_of_row, blocks_of, IsSoundRow}
-use Rattle.policy_rules.specs.RuleList.{entries_at, entries_of, ranked, ranked_from, with_default, by_falling_priority, rules_of, hit_of_rule}
+use Rattle.policy_rules.specs.Policy.{IsPolicy, IsSoundRow, row_matches, hit_of, scan}
+use Rattle.policy_rules.specs.Rules.{is_held, first_rule}
+use Rattle.policy_rules.specs.Words.{word_of_row, words_of_row}
+use Rattle.policy_rules.specs.RuleList.{entries_of, with_hit, ranked, ranked_from, with_default, by_falling_priority, rules_of, hit_of_rule}
 use Rattle.policy_rules.proofs.RowWords.{holds-word_of_row}
-use Rattle.policy_rules.proofs.Sorting.{all_falling, find-by_falling_priority}
+use Rattle.policy_rules.proofs.Sorting.{IsPermutation-by_falling_priority, find-by_falling_priority}
 
 -- what the first word that holds a number says
 abbrev pub found : ℕ → List (WordValue × Hit) → Option Hit
@@ -44,26 +46,22 @@ found-append n xs ys = ap (option_map (λ (entry : WordValue × Hit). entry.1)) 
     map_or (Some x) = refl
     map_or None = refl
 
-found_one : (hit : Hit) (b c : Bool) → option_or (cond b (Some hit) None) (cond c (Some hit) None) ≡ cond (b || c) (Some hit) None
-found_one hit true c = refl
-found_one hit false c = refl
-
-found-entries_at : (n : ℕ) (row : Row) (source : ℕ × ℕ) (destinations : List (ℕ × ℕ)) → found n (entries_at row destinations source) ≡ cond (list_any (λ destination. holds (word_of_row row source destination) n) destinations) (Some (hit_of (Some row))) None
-found-entries_at n row source [] = refl
-found-entries_at n row source (d ∷ ds) = by_case (holds (word_of_row row source d) n) (found-entries_at n row source ds)
+found-with_hit : (n : ℕ) (row : Row) (words : List WordValue) → found n (with_hit row words) ≡ cond (list_any (λ word. holds word n) words) (Some (hit_of (Some row))) None
+found-with_hit n row [] = refl
+found-with_hit n row (word ∷ words) = by_case (holds word n) (found-with_hit n row words)
   where
-    by_case : (b : Bool) → found n (entries_at row ds source) ≡ cond (list_any (λ destination. holds (word_of_row row source destination) n) ds) (Some (hit_of (Some row))) None →
-        option_map (λ (e : WordValue × Hit). e.1) (cond b (Some (word_of_row row source d, hit_of (Some row))) (find (λ e. holds e.0 n) (entries_at row ds source))) ≡ cond (b || list_any (λ destination. holds (word_of_row row source destination) n) ds) (Some (hit_of (Some row))) None
+    by_case : (b : Bool) → found n (with_hit row words) ≡ cond (list_any (λ word. holds word n) words) (Some (hit_of (Some row))) None →
+        option_map (λ (e : WordValue × Hit). e.1) (cond b (Some (word, hit_of (Some row))) (find (λ e. holds e.0 n) (with_hit row words))) ≡ cond (b || list_any (λ word. holds word n) words) (Some (hit_of (Some row))) None
     by_case true rest = refl
     by_case false rest = rest
 
-found-pairs : (n : ℕ) (row : Row) (destinations sources : List (ℕ × ℕ)) → found n (flat_map (entries_at row destinations) sources) ≡ cond (list_any (λ source. list_any (λ destination. holds (word_of_row row source destination) n) destinations) sources) (Some (hit_of (Some row))) None
-found-pairs n row destinations [] = refl
-found-pairs n row destinations (s ∷ sources) =
-    let here = found-entries_at n row s destinations in
-    let there = found-pairs n row destinations sources in
-    found-append n (entries_at row destinations s) (flat_map (entries_at row destinations) sources)
-    ∙ rw (here, there) (found_one (hit_of (Some row)) _ _)
+list_any_map : {X Y : Type 0} (p : Y → Bool) (f : X → Y) (xs : List X) → list_any p (map f xs) ≡ list_any (λ x. p (f x)) xs
+list_any_map p f [] = refl
+list_any_map p f (x ∷ xs) = ap (λ b. p (f x) || b) (list_any_map p f xs)
+
+list_any_flat_map : {X Y : Type 0} (p : Y → Bool) (f : X → List Y) (xs : List X) → list_any p (flat_map f xs) ≡ list_any (λ x. list_any p (f x)) xs
+list_any_flat_map p f [] = refl
+list_any_flat_map p f (x ∷ xs) = list_any-append p (f x) (flat_map f xs) ∙ ap (λ b. list_any p (f x) || b) (list_any_flat_map p f xs)
 
 -- some element passes f where some passes y, within what does not depend on the element
 any_within : {X : Type 0} (w : Bool → Bool) (none : w false ≡ false) (f y : X → Bool) (xs : List X) → All (λ x. f x ≡ w (y x)) xs → list_any f xs ≡ w (list_any y xs)
@@ -91,20 +89,25 @@ none_passes true b = refl
 none_passes false b = refl
 
 -- some word of the row holds a header where the row matches it
-held-matches : (row : Row) (h : Header) → IsSoundRow row → IsHeader h → list_any (λ source. list_any (λ destination. holds (word_of_row row source destination) (number_of h)) (blocks_of row.dport)) (blocks_of row.sport) ≡ row_matches row (fields_of h)
-held-matches row h sound bits =
+pub holds-words_of_row : (row : Row) (h : Header) → IsSoundRow row → IsHeader h → list_any (λ word. holds word (number_of h)) (words_of_row row) ≡ row_matches row (fields_of h)
+holds-words_of_row row h sound bits =
     let f = fields_of h in
+    let n = number_of h in
+    let sources = is_cover_of row.sport sound.sport in
+    let destinations = is_cover_of row.dport sound.dport in
     let front = prefix_matches row.src f.src && prefix_matches row.dst f.dst in
     let last = proto_matches row.proto f.proto in
-    let inner = λ (source : ℕ × ℕ) (masked : IsMaskedPort source).
-    any_within (λ b. front && block_holds f.sport source && b && last) (none_passes (front && block_holds f.sport source) last) (λ destination. holds (word_of_row row source destination) (number_of h)) (block_holds f.dport) (blocks_of row.dport)
-    (λ k d within. holds-word_of_row row source (get_or (blocks_of row.dport) k d) h sound.fields masked (sound.destinations.masked k d within) bits) in
-    let outer = any_within (λ b. front && b && list_any (block_holds f.dport) (blocks_of row.dport) && last) (ap (λ b. b && last) (none_passes front (list_any (block_holds f.dport) (blocks_of row.dport)))) (λ source. list_any (λ destination. holds (word_of_row row source destination) (number_of h)) (blocks_of row.dport)) (block_holds f.sport) (blocks_of row.sport)
-    (λ k d within. inner (get_or (blocks_of row.sport) k d) (sound.sources.masked k d within)) in
-    outer ∙ rw (sound.sources.exact f.sport bits.sport, sound.destinations.exact f.dport bits.dport) refl
+    let inner = λ (source : Block) (masked : IsPortBlock source).
+    list_any_map (λ word. holds word n) (word_of_row row source) (cover_of row.dport)
+    ∙ any_within (λ b. front && block_holds f.sport source && b && last) (none_passes (front && block_holds f.sport source) last) (λ destination. holds (word_of_row row source destination) n) (block_holds f.dport) (cover_of row.dport)
+    (λ k d within. holds-word_of_row row source (get_or (cover_of row.dport) k d) h sound masked (destinations.masked k d within) bits) in
+    list_any_flat_map (λ word. holds word n) (λ source. map (word_of_row row source) (cover_of row.dport)) (cover_of row.sport)
+    ∙ any_within (λ b. front && b && list_any (block_holds f.dport) (cover_of row.dport) && last) (ap (λ b. b && last) (none_passes front (list_any (block_holds f.dport) (cover_of row.dport)))) (λ source. list_any (λ word. holds word n) (map (word_of_row row source) (cover_of row.dport))) (block_holds f.sport) (cover_of row.sport)
+    (λ k d within. inner (get_or (cover_of row.sport) k d) (sources.masked k d within))
+    ∙ rw (sources.exact f.sport bits.sport, destinations.exact f.dport bits.dport) refl
 
 found-row : (row : Row) (h : Header) → IsSoundRow row → IsHeader h → found (number_of h) (entries_of row) ≡ cond (row_matches row (fields_of h)) (Some (hit_of (Some row))) None
-found-row row h sound bits = found-pairs (number_of h) row (blocks_of row.dport) (blocks_of row.sport) ∙ ap (λ b. cond b (Some (hit_of (Some row))) None) (held-matches row h sound bits)
+found-row row h sound bits = found-with_hit (number_of h) row (words_of_row row) ∙ ap (λ b. cond b (Some (hit_of (Some row))) None) (holds-words_of_row row h sound bits)
 
 -- ---- all rows
 
@@ -126,9 +129,11 @@ found-rows (row ∷ rows) h sound bits =
     by_case true = refl
     by_case false = refl
 
-pub first_rule-rules_of : (rows : List Row) (h : Header) → All IsSoundRow rows → IsHeader h → option_map hit_of_rule (first_rule (rules_of rows) h) ≡ Some (scan rows h)
+-- the first rule that holds a header has the rule and the action of the first match
+pub first_rule-rules_of : (rows : List Row) (h : Header) → IsPolicy rows → IsHeader h → option_map hit_of_rule (first_rule (rules_of rows) h) ≡ Some (scan rows h)
 unfolding rules_of
-first_rule-rules_of rows h sound bits =
+first_rule-rules_of rows h policy bits =
+    let sorted = All-permutation IsSoundRow rows (by_falling_priority rows) (IsPermutation-by_falling_priority rows policy.sound) policy.sound in
     found-ranked (number_of h) 0 (with_default (by_falling_priority rows))
-    ∙ found-rows (by_falling_priority rows) h (all_falling IsSoundRow rows sound) bits
-    ∙ ap (λ best. Some (hit_of best)) (find-by_falling_priority (λ row. row_matches row (fields_of h)) rows)
+    ∙ found-rows (by_falling_priority rows) h sorted bits
+    ∙ ap (λ best. Some (hit_of best)) (find-by_falling_priority (λ row. row_matches row (fields_of h)) rows policy.sound policy.distinct)

@@ -1,21 +1,23 @@
 -- The shape of a list of rules: ranks by place, words, and the default at the end.
-use Rattle.std.proofs.Common.{ℕ, ◌≡◌, ◌∙◌, ◌+◌, ◌<◌, List, [], ◌∷◌, ◌++◌, length, length-append, get_or, None, ap, arith}
+use Rattle.std.proofs.Common.{ℕ, ◌≡◌, ◌∙◌, ◌+◌, ◌<◌, List, [], ◌∷◌, ◌++◌, length, length-append, map, get_or, Some, None, ap, arith}
 use Rattle.std.specs.List.{All, flat_map, enumerate_from}
 use Rattle.std.specs.Int.Bits.{and_zero_r}
-use Rattle.std.proofs.lemmas.List.Elements.{All-tail, All-cons, All-append}
+use Rattle.std.proofs.lemmas.List.Elements.{All-nil, All-tail, All-cons, All-append, All-map}
 use Rattle.std.proofs.lemmas.List.{get_or-map}
 use Rattle.std.proofs.lemmas.List.FromFn.{get_or-enumerate_from, length-enumerate_from}
-use Rattle.five_tuple.specs.Cover.{IsMaskedPort}
+use Rattle.std.proofs.lemmas.List.Sorted.{All-permutation, sum_by-IsPermutation}
+use Rattle.five_tuple.specs.Cover.{Block, IsPortBlock, cover_of}
+use Rattle.five_tuple.proofs.CoverOf.{is_cover_of}
 use Rattle.ternary.specs.Word.{WordValue, IsWord, any_word}
 use Rattle.policy_rules.specs.declared.policy.Row.{Row}
 use Rattle.policy_rules.specs.declared.policy.Hit.{Hit}
 use Rattle.policy_rules.specs.declared.rules.Rule.{Rule}
-use Rattle.policy_rules.specs.Policy.{hit_of}
-use Rattle.policy_rules.specs.Words.{blocks_of, IsSoundRow}
-use Rattle.policy_rules.specs.RuleList.{entries_at, entries_of, ranked, ranked_from, with_default, by_falling_priority, rules_of, word_count, word_total, default_rule, IsRuleList}
+use Rattle.policy_rules.specs.Policy.{IsPolicy, IsSoundRow, hit_of}
+use Rattle.policy_rules.specs.Words.{word_of_row, words_of_row}
+use Rattle.policy_rules.specs.RuleList.{entries_of, ranked, ranked_from, with_default, by_falling_priority, rules_of, word_count, word_total, default_rule, IsRuleList}
 use Rattle.policy_rules.proofs.RowWords.{IsWord-word_of_row}
 use Rattle.policy_rules.proofs.Ranks.{length-ranked_from, ranked_from-append, length-entries}
-use Rattle.policy_rules.proofs.Sorting.{all_falling, sum_falling}
+use Rattle.policy_rules.proofs.Sorting.{IsPermutation-by_falling_priority}
 
 HasWord : WordValue × Hit → Type 0
 HasWord entry = IsWord entry.0
@@ -23,20 +25,21 @@ HasWord entry = IsWord entry.0
 no_words : All HasWord []
 no_words = λ k d h. absurd (omega arith)
 
-words_at : (row : Row) (source : ℕ × ℕ) (destinations : List (ℕ × ℕ)) → IsSoundRow row → IsMaskedPort source → All IsMaskedPort destinations → All HasWord (entries_at row destinations source)
-unfolding HasWord
-words_at row source [] sound masked all = no_words
-words_at row source (d ∷ ds) sound masked all = All-cons HasWord _ (entries_at row ds source) (IsWord-word_of_row row source d sound.fields masked (all 0 d (omega arith))) (words_at row source ds sound masked (All-tail IsMaskedPort d ds all))
+words_at : (row : Row) (source : Block) (destinations : List Block) → IsSoundRow row → IsPortBlock source → All IsPortBlock destinations → All IsWord (map (word_of_row row source) destinations)
+words_at row source destinations sound masked all = All-map IsWord (word_of_row row source) destinations (λ k d within. IsWord-word_of_row row source (get_or destinations k d) sound masked (all k d within))
 
-words_of_pairs : (row : Row) (destinations sources : List (ℕ × ℕ)) → IsSoundRow row → All IsMaskedPort sources → All IsMaskedPort destinations → All HasWord (flat_map (entries_at row destinations) sources)
-words_of_pairs row destinations [] sound all masked = no_words
-words_of_pairs row destinations (s ∷ ss) sound all masked = All-append HasWord (entries_at row destinations s) (flat_map (entries_at row destinations) ss) (words_at row s destinations sound (all 0 s (omega arith)) masked) (words_of_pairs row destinations ss sound (All-tail IsMaskedPort s ss all) masked)
+words_of_pairs : (row : Row) (destinations sources : List Block) → IsSoundRow row → All IsPortBlock sources → All IsPortBlock destinations → All IsWord (flat_map (λ source. map (word_of_row row source) destinations) sources)
+words_of_pairs row destinations [] sound all masked = All-nil _
+words_of_pairs row destinations (s ∷ ss) sound all masked = All-append IsWord (map (word_of_row row s) destinations) (flat_map (λ source. map (word_of_row row source) destinations) ss) (words_at row s destinations sound (all 0 s (omega arith)) masked) (words_of_pairs row destinations ss sound (All-tail IsPortBlock s ss all) masked)
+
+pub IsWord-words_of_row : (row : Row) → IsSoundRow row → All IsWord (words_of_row row)
+IsWord-words_of_row row sound = words_of_pairs row (cover_of row.dport) (cover_of row.sport) sound (is_cover_of row.sport sound.sport).masked (is_cover_of row.dport sound.dport).masked
 
 words_of_rows : (rows : List Row) → All IsSoundRow rows → All HasWord (flat_map entries_of rows)
+unfolding HasWord
 words_of_rows [] sound = no_words
 words_of_rows (row ∷ rows) sound =
-    let here = sound 0 row (omega arith) in
-    All-append HasWord (entries_of row) (flat_map entries_of rows) (words_of_pairs row (blocks_of row.dport) (blocks_of row.sport) here here.sources.masked here.destinations.masked) (words_of_rows rows (All-tail IsSoundRow row rows sound))
+    All-append HasWord (entries_of row) (flat_map entries_of rows) (All-map HasWord (λ word. (word, hit_of (Some row))) (words_of_row row) (IsWord-words_of_row row (sound 0 row (omega arith)))) (words_of_rows rows (All-tail IsSoundRow row rows sound))
 
 words_ranked : (k : ℕ) (entries : List (WordValue × Hit)) → All HasWord entries → All (λ (rule : Rule). IsWord rule.word) (ranked_from k entries)
 unfolding HasWord ranked_from
@@ -55,21 +58,23 @@ rank_at entries place d within =
 any_is_word : IsWord any_word
 any_is_word = record { within = and_zero_r 0; bounded = omega arith }
 
-pub IsRuleList-rules_of : (rows : List Row) → All IsSoundRow rows → IsRuleList (rules_of rows)
+pub IsRuleList-rules_of : (rows : List Row) → IsPolicy rows → IsRuleList (rules_of rows)
 unfolding rules_of ranked_from HasWord
-IsRuleList-rules_of rows sound =
+IsRuleList-rules_of rows policy =
     let sorted = by_falling_priority rows in
     let entries = flat_map entries_of sorted in
     let last : WordValue × Hit = (any_word, hit_of None) in
+    let sound = All-permutation IsSoundRow rows sorted (IsPermutation-by_falling_priority rows policy.sound) policy.sound in
     record {
       ranks = rank_at (with_default sorted);
-      words = words_ranked 0 (with_default sorted) (All-append HasWord entries (last ∷ []) (words_of_rows sorted (all_falling IsSoundRow rows sound)) (All-cons HasWord last [] any_is_word no_words));
+      words = words_ranked 0 (with_default sorted) (All-append HasWord entries (last ∷ []) (words_of_rows sorted sound) (All-cons HasWord last [] any_is_word no_words));
       ends = (ranked_from 0 entries, ranked_from-append 0 entries (last ∷ []) ∙ ap (λ rank. ranked_from 0 entries ++ default_rule rank ∷ []) {x = 0 + length entries} {y = length (ranked_from 0 entries)} (omega (arith, length-ranked_from 0 entries)));
     }
 
-pub length-rules_of : (rows : List Row) → length (rules_of rows) ≡ word_total rows + 1
+pub length-rules_of : (rows : List Row) → IsPolicy rows → length (rules_of rows) ≡ word_total rows + 1
 unfolding rules_of
-length-rules_of rows =
+length-rules_of rows policy =
     let sorted = by_falling_priority rows in
     let entries = flat_map entries_of sorted in
-    omega (arith, length-ranked_from 0 (with_default sorted), length-append entries ((any_word, hit_of None) ∷ []), length-entries sorted, sum_falling word_count rows)
+    let total = sum_by-IsPermutation word_count rows sorted (IsPermutation-by_falling_priority rows policy.sound) in
+    omega (arith, length-ranked_from 0 (with_default sorted), length-append entries ((any_word, hit_of None) ∷ []), length-entries sorted, total)

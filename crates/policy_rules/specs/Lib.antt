@@ -3,6 +3,7 @@ pub mod Print
 pub mod Read
 pub mod Targets
 pub mod Rules
-pub mod Blocks
 pub mod Words
 pub mod RuleList
+pub mod Laws
+pub mod Partitions

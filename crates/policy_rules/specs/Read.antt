@@ -8,8 +8,8 @@ use Rattle.policy_rules.specs.declared.policy.Action.TheVariants.{Drop, Out}
 unfoldable pub action_of : List ℕ → Option Action
 action_of text =
     if bytes_eq text (codes "drop") then Some Drop
-    else if bytes_eq (take 4 text) (codes "out:") then option_map Out (number_up_to 63 (drop 4 text))
-    else None
+    else if bytes_eq (take 4 text) (codes "out:")
+    then option_map Out (number_up_to 63 (drop 4 text)) else None
 
 -- a port that an action may name has a number below 64
 abbrev pub HasSmallPort : Action → Type 0

@@ -1,9 +1,10 @@
 -- The list of a policy's rules: its rows by falling priority, each as words of a ternary memory.
-use Rattle.std.specs.Prelude.{⊤, ℕ, ◌≡◌, ◌*◌, ◌<◌, nat_lt, if◌then◌else◌, Some, None, List, [], ◌∷◌, ◌++◌, length, map, All, sum_by, slice_index_or}
+use Rattle.std.specs.Prelude.{⊤, ℕ, zero, suc, ◌≡◌, ◌*◌, ◌^◌, ◌<◌, ◌==◌, Some, None, List, [], ◌∷◌, ◌++◌, length, map, filter, All, sum_by, slice_index_or}
 use Rattle.std.specs.List.{flat_map, enumerate_from}
+use Rattle.five_tuple.specs.Cover.{cover_of}
 use Rattle.ternary.specs.Word.{WordValue, IsWord, any_word}
 use Rattle.policy_rules.specs.Policy.{hit_of}
-use Rattle.policy_rules.specs.Words.{blocks_of, word_of_row}
+use Rattle.policy_rules.specs.Words.{words_of_row}
 use Rattle.policy_rules.specs.declared.policy.Row.{Row}
 use Rattle.policy_rules.specs.declared.policy.Hit.{Hit}
 use Rattle.policy_rules.specs.declared.policy.Action.TheVariants.{Drop}
@@ -11,27 +12,28 @@ use Rattle.policy_rules.specs.declared.rules.Rule.{Rule}
 use Rattle.policy_rules.specs.declared.rule_list.RulesError.{RulesError}
 use Rattle.policy_rules.specs.declared.rule_list.RulesError.TheVariants.{TooManyWords, NoMemory}
 
--- the row at its place among rows by falling priority
-abbrev pub placed : Row → List Row → List Row
-placed row [] = row ∷ []
-placed row (other ∷ more) = if nat_lt row.priority other.priority then other ∷ placed row more else row ∷ other ∷ more
+-- of the rows whose priority is below this one: for each priority, from the greatest down, the rows that have it
+unfoldable pub falling_below : ℕ → List Row → List Row
+falling_below zero rows = []
+falling_below (suc priority) rows =
+    filter (λ row. row.priority == priority) rows ++ falling_below priority rows
 
--- the rows by falling priority
-abbrev pub by_falling_priority : List Row → List Row
-by_falling_priority [] = []
-by_falling_priority (row ∷ rows) = placed row (by_falling_priority rows)
+-- the rows by falling priority, which has 32 bits
+unfoldable pub by_falling_priority : List Row → List Row
+by_falling_priority rows = falling_below (2 ^ 32) rows
 
--- a word for a source port block and each destination port block, with what the row says of the headers of the word
-abbrev pub entries_at : Row → List (ℕ × ℕ) → ℕ × ℕ → List (WordValue × Hit)
-entries_at row destinations source = map (λ destination. (word_of_row row source destination, hit_of (Some row))) destinations
+-- words, with what the row says of their headers
+abbrev pub with_hit : Row → List WordValue → List (WordValue × Hit)
+with_hit row words = map (λ word. (word, hit_of (Some row))) words
 
--- the same for each pair of blocks, the source block outermost
+-- the same for the words of the row
 abbrev pub entries_of : Row → List (WordValue × Hit)
-entries_of row = flat_map (entries_at row (blocks_of row.dport)) (blocks_of row.sport)
+entries_of row = with_hit row (words_of_row row)
 
 -- a word and what becomes of its headers, as the rule of a rank
 abbrev pub ranked : ℕ × (WordValue × Hit) → Rule
-ranked (rank, entry) = record { word = entry.0; rank = rank; rule = entry.1.rule; action = entry.1.action }
+ranked (rank, entry) =
+    record { word = entry.0; rank = rank; rule = entry.1.rule; action = entry.1.action }
 
 -- ranks from this one on
 unfoldable pub ranked_from : ℕ → List (WordValue × Hit) → List Rule
@@ -51,7 +53,7 @@ rules_of rows = ranked_from 0 (with_default (by_falling_priority rows))
 
 -- how many words a row has
 abbrev pub word_count : Row → ℕ
-word_count row = length (blocks_of row.sport) * length (blocks_of row.dport)
+word_count row = length (cover_of row.sport) * length (cover_of row.dport)
 
 -- how many words the rows have together
 abbrev pub word_total : List Row → ℕ
@@ -72,6 +74,7 @@ hit_of_rule rule = record { rule = rule.rule; action = rule.action }
 
 -- rules by rank from 0, of which the last, the default, holds each header
 pub record IsRuleList (rules : List Rule) : Type 0 where
-  pub ranks : (place : ℕ) (d : Rule) → place < length rules → (slice_index_or rules place d).rank ≡ place
+  pub ranks : (place : ℕ) (d : Rule) → place < length rules
+      → (slice_index_or rules place d).rank ≡ place
   pub words : All (λ rule. IsWord rule.word) rules
   pub ends : (earlier : List Rule) × (rules ≡ earlier ++ default_rule (length earlier) ∷ [])

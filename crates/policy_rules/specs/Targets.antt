@@ -21,6 +21,8 @@ filled xs = record { places = xs ++ replicate (4 - length xs) 0; len = length xs
 -- the four places are those of the list that they hold
 pub filled-first_places : (t : Inside) → IsFilled t → filled (first_places t) ≡ t
 filled-first_places t h =
-    let len : length (take t.len t.places) ≡ t.len = omega (arith, length-take t.len t.places, h.places, h.few) in
-    let places : take t.len t.places ++ replicate (4 - t.len) 0 ≡ t.places = ap (λ rest. take t.len t.places ++ rest) (sym h.rest) ∙ take-append-drop t.len t.places in
+    let len : length (take t.len t.places) ≡ t.len =
+    omega (arith, length-take t.len t.places, h.places, h.few) in
+    let places : take t.len t.places ++ replicate (4 - t.len) 0 ≡ t.places =
+    ap (λ rest. take t.len t.places ++ rest) (sym h.rest) ∙ take-append-drop t.len t.places in
     rw (len, places)

@@ -1,13 +1,12 @@
 -- The words of a row.
-use Rattle.std.specs.Prelude.{ℕ, ◌≡◌, ◌-◌, ◌^◌, ◌<◌, List, All}
-use Rattle.std.specs.List.{list_any}
-use Rattle.five_tuple.specs.Header.{header_of, number_of}
-use Rattle.five_tuple.specs.Matching.{AddressBlock, IsAddressBlock, Ports, range_matches, IsProtocol}
-use Rattle.five_tuple.specs.Cover.{block_holds, IsMaskedPort}
+use Rattle.std.specs.Prelude.{ℕ, ◌-◌, ◌^◌, List, map}
+use Rattle.std.specs.List.{flat_map}
+use Rattle.five_tuple.specs.Header.{packed}
+use Rattle.five_tuple.specs.Matching.{AddressBlock}
+use Rattle.five_tuple.specs.Cover.{Block, cover_of}
 use Rattle.five_tuple.specs.declared.matching.Proto.{Proto}
 use Rattle.five_tuple.specs.declared.matching.Proto.TheVariants.{Any, Is}
 use Rattle.ternary.specs.Word.{WordValue}
-use Rattle.policy_rules.specs.Blocks.{cover_of}
 use Rattle.policy_rules.specs.declared.policy.Row.{Row}
 
 -- the first len of 32 bits
@@ -23,34 +22,17 @@ abbrev pub proto_value : Proto → ℕ
 proto_value Any = 0
 proto_value (Is number) = number
 
--- five numbers at the places that the fields have in a header's number
-abbrev pub packed : ℕ → ℕ → ℕ → ℕ → ℕ → ℕ
-packed src dst sport dport proto = number_of (header_of (record { src = src; dst = dst; sport = sport; dport = dport; proto = proto }))
-
 -- the word that fixes what the row says of the addresses and the protocol, and a block of each port
-unfoldable pub word_of_row : Row → ℕ × ℕ → ℕ × ℕ → WordValue
+unfoldable pub word_of_row : Row → Block → Block → WordValue
 word_of_row row source destination = record {
   value = packed row.src.address row.dst.address source.0 destination.0 (proto_value row.proto);
-  mask = packed (prefix_mask row.src) (prefix_mask row.dst) source.1 destination.1 (proto_mask row.proto);
+  mask =
+      packed (prefix_mask row.src) (prefix_mask row.dst) source.1 destination.1
+      (proto_mask row.proto);
 }
 
--- the blocks of a range
-abbrev pub blocks_of : Ports → List (ℕ × ℕ)
-blocks_of range = cover_of range.low range.high
-
--- the blocks of a range hold exactly its ports
-pub record HasExactBlocks (range : Ports) : Type 0 where
-  pub exact : (port : ℕ) → port < 2 ^ 16 → list_any (block_holds port) (blocks_of range) ≡ range_matches range port
-  pub masked : All IsMaskedPort (blocks_of range)
-
--- each field of a row is as its type has it
-pub record HasSoundFields (row : Row) : Type 0 where
-  pub src : IsAddressBlock row.src
-  pub dst : IsAddressBlock row.dst
-  pub proto : IsProtocol row.proto
-
--- a row whose words hold what it matches
-pub record IsSoundRow (row : Row) : Type 0 where
-  pub fields : HasSoundFields row
-  pub sources : HasExactBlocks row.sport
-  pub destinations : HasExactBlocks row.dport
+-- the words of a row: one for each pair of a block of its source ports and one of its destination ports, the source block
+-- outermost
+abbrev pub words_of_row : Row → List WordValue
+words_of_row row =
+    flat_map (λ source. map (word_of_row row source) (cover_of row.dport)) (cover_of row.sport)

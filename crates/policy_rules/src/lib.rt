@@ -3,9 +3,20 @@
 //!
 //! `Policy::scan` promises the first match by its definition: of all rows that match a header, the one that no
 //! matching row exceeds in priority, and a drop where no row matches. `to_rules` promises the defined list, in which the
-//! first rule that holds a header has the rule and the action of that first match.
+//! first rule that holds a header has the rule and the action of that first match. What holds of policies, of a row's
+//! words and of rule lists without a call stands in `policy_laws`, `row_words_laws` and `rule_list_laws`.
+//!
+//! ```text
+//! fn first_rule(alloc: Global, rows: Vec<Row>, header: &Header) -> anyhow::Result<Option<Rule>> {
+//!     let policy = Policy::new(alloc, rows)?;        // SamePriority, where two rows have one priority
+//!     let rules = to_rules(alloc, &policy)?;         // TooManyWords, where the rows have more than 4,096 words
+//!     let place = first_hit(&rules, header);         // always some: the last rule holds each header
+//!     Ok(place.map(|place| rules[place]))            // decides as policy.scan(header) does
+//! }
+//! ```
 #![tactic(auto)]
 
+mod laws;
 mod packet;
 mod policy;
 mod print;
@@ -16,14 +27,14 @@ mod targets;
 mod words;
 
 pub use five_tuple::{Fields, Header, PortRange, Prefix, Proto};
-pub use packet::{How, Leaving};
+pub use laws::{policy_laws, row_words_laws, rule_list_laws};
+pub use packet::{Cause, How, Leaving, Leg};
 pub use policy::{Action, Hit, NewPolicyError, Policy, Row};
 pub use print::RuleName;
 pub use read::{printed_actions_are_read_back, read_action};
-pub use rule_list::{RulesError, to_rules};
-pub use rules::{Partition, Rule, first_hit};
+pub use rule_list::{RulesError, count_words, to_rules};
+pub use rules::{Partition, Rule, Rules, first_hit};
 pub use targets::Targets;
-pub use words::covers_are_computed;
 
 #[cfg(test)]
 mod rule_tests;

@@ -20,3 +20,21 @@ pub enum How {
     /// Among its authority rules for a partition of the header space.
     Authority { switch: u32, partition: u32 },
 }
+
+/// Where a packet on its way is bound for.
+#[derive(Clone, Copy, Debug, PartialEq, Eq)]
+pub enum Leg {
+    /// An authority switch of this partition of this policy version.
+    Seek { version: u32, partition: u32 },
+    /// The switch of this port.
+    Exit { port: u32 },
+}
+
+/// Why a packet is stuck.
+#[derive(Clone, Copy, Debug, PartialEq, Eq)]
+pub enum Cause {
+    /// No known link ends at any of its authority switches.
+    NoAuthority,
+    /// No path of known links leads on.
+    NoRoute,
+}

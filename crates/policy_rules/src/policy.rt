@@ -1,5 +1,7 @@
-ghost use Rattle.std.specs.Prelude.{◌≡◌, ◌<◌, ◌^◌, IfOk, IfErr, OnOk, vec_len, length, Some};
-ghost use Rattle.policy_rules.specs.Policy.{row_matches, hit_of, scan, scan_by, or_higher, IsFirstMatch, HaveDistinctPriorities, Refuses};
+ghost use Rattle.std.specs.Prelude.{◌≡◌, ◌<◌, ◌^◌, nat_lt, true, IfOk, IfErr, OnOk, vec_len, length, Some};
+ghost use Rattle.std.specs.Option.{option_map_or};
+ghost use Rattle.five_tuple.specs.Matching.{IsPortRange, IsProtocol};
+ghost use Rattle.policy_rules.specs.Policy.{row_matches, hit_of, scan, IsFirstMatch, IsHighestMatch, IsPolicy, IsSoundRow, Refuses};
 ghost use Rattle.policy_rules.specs.declared.policy.NewPolicyError.TheVariants.{NoMemory};
 
 use five_tuple::{Fields, Header, PortRange, Prefix, Proto};
@@ -63,7 +65,8 @@ impl<T: Drop> From<AllocFailed<T>> for NewPolicyError {
     }
 }
 
-/// Rows of distinct priorities, in the order in which they were given. Contracts see the list of the rows.
+/// Rows of distinct priorities, in the order in which they were given. Contracts see the list of the rows, of which
+/// `IsPolicy` holds. A clone equals its policy.
 #[derive(Drop)]
 pub struct Policy {
     rows: Vec<Row>,
@@ -72,13 +75,13 @@ pub struct Policy {
 impl Model for Policy {
     ghost use Rattle.std.specs.Prelude.{List};
     ghost use Rattle.policy_rules.specs.declared.policy.Row.{Row};
-    ghost use Rattle.policy_rules.specs.Policy.{HaveDistinctPriorities};
+    ghost use Rattle.policy_rules.specs.Policy.{IsPolicy};
 
     ghost Value = { List Row };
 
     ghost view = { λ p. p.rows.items };
 
-    ghost invariant = { λ p. HaveDistinctPriorities p.rows.items };
+    ghost invariant = { λ p. IsPolicy p.rows.items };
 }
 
 impl Row {
@@ -110,21 +113,6 @@ impl Hit {
             action: row.action,
         }
     }
-
-    // This first match so far, or the next row where that one matches and is higher.
-    fn or_higher(self, row: &Row, fields: &Fields) -> Hit
-        ensures { result ≡ or_higher self row.now fields.now }
-    {
-        let yields = match self.rule {
-            None => true,
-            Some(best) => best < row.priority,
-        };
-        if yields && row.matches(fields) {
-            Hit::of(row)
-        } else {
-            self
-        }
-    }
 }
 
 impl Policy {
@@ -135,17 +123,17 @@ impl Policy {
     pub fn new(alloc: Global, rows: Vec<Row>) -> Result<Policy, NewPolicyError>
         requires { vec_len rows < 2 ^ 32 }
         ensures rows { IfOk result (λ policy. policy ≡ rows.items) }
-        ensures distinct { OnOk result (HaveDistinctPriorities rows.items) }
+        ensures policy { OnOk result (IsPolicy rows.items) }
         ensures refused { IfErr result (Refuses rows.items) }
     {
-        check_priorities(alloc, &rows)?;
+        check_rows(alloc, &rows)?;
         Ok(Policy { rows })
     }
 
     /// The rows as they were given.
     pub fn rows(&self) -> &[Row]
         ensures rows { result.now ≡ self.now }
-        ensures distinct { HaveDistinctPriorities self.now }
+        ensures policy { IsPolicy self.now }
     {
         &self.rows
     }
@@ -155,34 +143,88 @@ impl Policy {
         ensures value { result ≡ scan self.now header.now }
         ensures first_match { IsFirstMatch self.now header.now result }
     {
-        highest_match(&self.rows, &header.fields())
+        match highest_match(self.rows(), &header.fields()) {
+            None => Hit::DEFAULT,
+            Some(row) => Hit::of(row),
+        }
     }
 }
 
-// The first match among the rows: the matching row of the greatest priority, or the default.
-fn highest_match(rows: &[Row], fields: &Fields) -> Hit
-    ensures { result ≡ scan_by rows.now fields.now }
-{
-    let mut hit = Hit::DEFAULT;
-    for row in rows {
-        hit = hit.or_higher(row, fields);
+impl Clone for Policy {
+    ghost is_clone = { λ policy copy. copy ≡ policy };
+
+    fn clone(&self) -> Result<Policy, AllocError> {
+        let rows = Vec::from_slice(*self.rows.allocator(), self.rows())?;
+        Ok(Policy { rows })
     }
-    hit
+}
+
+// Of the rows that match, the one that none exceeds in priority.
+fn highest_match<'a>(rows: &'a [Row], fields: &Fields) -> Option<&'a Row>
+    ensures { IsHighestMatch rows.now fields.now result }
+{
+    let mut best: Option<&Row> = None;
+    for row in rows {
+        if row.matches(fields) && exceeds(row, best) {
+            best = Some(row);
+        }
+    }
+    best
+}
+
+// Whether the row exceeds the other in priority, or there is no other.
+fn exceeds(row: &Row, other: Option<&Row>) -> bool
+    ensures { result ≡
+        option_map_or (λ other. nat_lt other.now.priority row.now.priority) other.entry true }
+{
+    match other {
+        None => true,
+        Some(other) => other.priority < row.priority,
+    }
 }
 
 // Finds the first row that has an earlier row's priority.
-fn check_priorities(alloc: Global, rows: &[Row]) -> Result<(), NewPolicyError>
+fn check_rows(alloc: Global, rows: &[Row]) -> Result<(), NewPolicyError>
     requires { length rows.now < 2 ^ 32 }
-    ensures distinct { OnOk result (HaveDistinctPriorities rows.now) }
+    ensures policy { OnOk result (IsPolicy rows.now) }
     ensures refused { IfErr result (Refuses rows.now) }
 {
     let mut seen: HashSet<u32> = HashSet::new(alloc);
-    let mut row = 0u32;
-    for next in rows {
-        row += 1;
-        if !seen.insert(next.priority)? {
-            return Err(NewPolicyError::SamePriority { row });
+    let mut number = 0u32;
+    for row in rows {
+        number += 1;
+        row_is_sound(row);
+        if !seen.insert(row.priority)? {
+            return Err(NewPolicyError::SamePriority { row: number });
         }
     }
     Ok(())
+}
+
+// Each field of a row is as its type has it: known where the field is read.
+pub(crate) fn row_is_sound(row: &Row)
+    ensures { IsSoundRow row.now }
+{
+    let _priority = row.priority;
+    let _ = (row.src.len, row.dst.len);
+    range_is_sound(&row.sport);
+    range_is_sound(&row.dport);
+    proto_is_sound(&row.proto);
+}
+
+fn range_is_sound(range: &PortRange)
+    ensures { IsPortRange range.now }
+{
+    let PortRange {
+        low: _low,
+        high: _high,
+    } = *range;
+}
+
+fn proto_is_sound(proto: &Proto)
+    ensures { IsProtocol proto.now }
+{
+    if let Proto::Is(number) = proto {
+        let _number = *number;
+    }
 }

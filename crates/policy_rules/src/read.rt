@@ -22,7 +22,8 @@ pub fn read_action(text: &[u8]) -> Option<Action>
 
 /// Each printed action is read back to the action, where its port is below 64: a law on the texts alone.
 pub fn printed_actions_are_read_back()
-    ensures { (action : Action) → HasSmallPort action → action_of (action_text action) ≡ Some action }
+    ensures { (action : Action) → HasSmallPort action
+        → action_of (action_text action) ≡ Some action }
 {
     printed_forms_are_read_back();
 }

@@ -1,15 +1,18 @@
-ghost use Rattle.std.specs.Prelude.{◌≡◌, ◌+◌, ◌<◌, ◌≤◌, ◌^◌, ◌∷◌, [], IfOk, IfErr, OnOk, All, Some, option_map, length};
-ghost use Rattle.five_tuple.specs.Cover.{IsMaskedPort};
+ghost use Rattle.std.specs.Prelude.{◌≡◌, ◌+◌, ◌<◌, ◌≤◌, ◌^◌, ◌∷◌, [], IfOk, IfErr, OnOk, Some, map, option_map, length};
+ghost use Rattle.five_tuple.specs.Cover.{IsPortBlock, cover_of};
+ghost use Rattle.five_tuple.specs.Header.{IsHeader};
 ghost use Rattle.five_tuple.specs.declared.header.Header.{Header};
-ghost use Rattle.policy_rules.specs.Policy.{scan, HaveDistinctPriorities};
-ghost use Rattle.policy_rules.specs.Rules.{IsHeader, first_rule};
-ghost use Rattle.policy_rules.specs.Words.{IsSoundRow};
-ghost use Rattle.policy_rules.specs.RuleList.{Appends, by_falling_priority, entries_at, entries_of, ranked_from, with_default, rules_of, word_count, word_total, RefusesRules, hit_of_rule, IsRuleList};
+ghost use Rattle.policy_rules.specs.Policy.{scan, IsPolicy};
+ghost use Rattle.policy_rules.specs.Rules.{first_rule};
+ghost use Rattle.policy_rules.specs.Words.{word_of_row};
+ghost use Rattle.policy_rules.specs.RuleList.{Appends, by_falling_priority, entries_of, ranked_from, with_default, with_hit, rules_of, word_total, RefusesRules, hit_of_rule, IsRuleList};
 ghost use Rattle.policy_rules.specs.declared.rule_list.RulesError.TheVariants.{NoMemory};
 
-use crate::policy::{Hit, Policy, Row};
+use crate::laws::rule_list_laws;
+use crate::policy::{Hit, Policy, Row, row_is_sound};
 use crate::rules::Rule;
-use crate::words::{Block, blocks, fields_are_sound, word_of_row};
+use crate::words::word_of_row;
+use five_tuple::{PortBlock, count_blocks};
 use std::alloc::{AllocError, Global};
 use std::cmp::Reverse;
 use ternary::Word;
@@ -42,7 +45,6 @@ impl From<AllocError> for RulesError {
 /// # Errors
 /// `TooManyWords` exactly where the rows have more than 4,096 words together.
 pub fn to_rules(alloc: Global, policy: &Policy) -> Result<Vec<Rule>, RulesError>
-    requires { length policy.now < 2 ^ 32 }
     ensures rules { IfOk result (λ rules. rules.items ≡ rules_of policy.now) }
     ensures first_match { IfOk result (λ rules. (header : Header) → IsHeader header →
         option_map hit_of_rule (first_rule rules.items header) ≡ Some (scan policy.now header)) }
@@ -51,42 +53,36 @@ pub fn to_rules(alloc: Global, policy: &Policy) -> Result<Vec<Rule>, RulesError>
     ensures few { OnOk result (word_total policy.now ≤ 4096) }
     ensures refused { IfErr result (RefusesRules policy.now) }
 {
-    let rows = policy.rows();
-    let words = count_words(alloc, rows)?;
+    rule_list_laws();
+    let words = count_words(policy);
     if words > MOST_WORDS {
         return Err(RulesError::TooManyWords { words });
     }
-    let sorted = by_falling_priority(alloc, rows)?;
+    let sorted = by_falling_priority(alloc, policy.rows())?;
     let rules = list_rules(alloc, &sorted, words as usize + 1)?;
     Ok(rules)
 }
 
-// How many words the rows have.
-fn count_words(alloc: Global, rows: &[Row]) -> Result<u64, AllocError>
+/// How many words the rows of the policy have together: as many as it has rules, without the default.
+pub fn count_words(policy: &Policy) -> u64
+    ensures { result ≡ word_total policy.now }
+{
+    count_words_of(policy.rows())
+}
+
+fn count_words_of(rows: &[Row]) -> u64
     requires { length rows.now < 2 ^ 32 }
-    ensures total { IfOk result (λ words. words ≡ word_total rows.now) }
-    ensures sound { OnOk result (All IsSoundRow rows.now) }
+    ensures { result ≡ word_total rows.now }
 {
     let mut words = 0;
     for row in rows {
-        words += words_of_row(alloc, row)?;
+        words += u64::from(count_blocks(&row.sport) * count_blocks(&row.dport));
     }
-    Ok(words)
-}
-
-fn words_of_row(alloc: Global, row: &Row) -> Result<u64, AllocError>
-    ensures count { IfOk result (λ words. words ≡ word_count row.now) }
-    ensures few { IfOk result (λ words. words ≤ 900) }
-    ensures sound { OnOk result (IsSoundRow row.now) }
-{
-    fields_are_sound(row);
-    let sources = blocks(alloc, &row.sport)?.len();
-    let destinations = blocks(alloc, &row.dport)?.len();
-    Ok((sources * destinations) as u64)
+    words
 }
 
 fn by_falling_priority(alloc: Global, rows: &[Row]) -> Result<Vec<Row>, AllocError>
-    requires { HaveDistinctPriorities rows.now }
+    requires { IsPolicy rows.now }
     ensures { IfOk result (λ v. v.items ≡ by_falling_priority rows.now) }
 {
     let mut sorted = Vec::from_slice(alloc, rows)?;
@@ -101,37 +97,32 @@ fn list_rules(alloc: Global, rows: &[Row], room: usize) -> Result<Vec<Rule>, All
 {
     let mut rules = Vec::with_capacity(alloc, room)?;
     for row in rows {
-        push_row(alloc, &mut rules, row)?;
+        push_row(&mut rules, row)?;
     }
     push_rule(&mut rules, Word::any(), Hit::DEFAULT)?;
     Ok(rules)
 }
 
-fn push_row(alloc: Global, rules: &mut Vec<Rule>, row: &Row) -> Result<(), AllocError>
+fn push_row(rules: &mut Vec<Rule>, row: &Row) -> Result<(), AllocError>
     requires { length rules.old.items ≤ 4096 }
     ensures { OnOk result (Appends rules.old.items rules.new.items (entries_of row.now)) }
 {
-    let sources = blocks(alloc, &row.sport)?;
-    let destinations = blocks(alloc, &row.dport)?;
-    for source in &sources {
-        push_words(rules, row, *source, &destinations)?;
+    row_is_sound(row);
+    for source in row.sport.blocks() {
+        push_words(rules, row, source)?;
     }
     Ok(())
 }
 
-fn push_words(
-    rules: &mut Vec<Rule>,
-    row: &Row,
-    source: Block,
-    destinations: &[Block],
-) -> Result<(), AllocError>
-    requires few { length rules.old.items + length destinations.now < 2 ^ 32 }
-    requires source { IsMaskedPort source }
-    requires destinations { All IsMaskedPort destinations.now }
-    ensures { OnOk result (Appends rules.old.items rules.new.items (entries_at row.now destinations.now source)) }
+// The rules of the row's words for one block of its source ports.
+fn push_words(rules: &mut Vec<Rule>, row: &Row, source: PortBlock) -> Result<(), AllocError>
+    requires few { length rules.old.items ≤ 4996 }
+    requires source { IsPortBlock source }
+    ensures { OnOk result (Appends rules.old.items rules.new.items
+        (with_hit row.now (map (word_of_row row.now source) (cover_of row.now.dport)))) }
 {
-    for destination in destinations {
-        push_rule(rules, word_of_row(row, source, *destination), Hit::of(row))?;
+    for destination in row.dport.blocks() {
+        push_rule(rules, word_of_row(row, source, destination), Hit::of(row))?;
     }
     Ok(())
 }

@@ -106,6 +106,24 @@ fn refuses_many_words(rt: HostRuntime) -> Result<(), Fail> {
 }
 
 #[test]
+fn clones_equal_what_they_copy(rt: HostRuntime) -> Result<(), Fail> {
+    let alloc = rt.alloc();
+    let low = row(100, "10.0.0.0/8", ("any", "any"), Action::Out(2))?;
+    let policy = Policy::new(alloc, Vec::from_slice(alloc, &[low])?)?;
+    assert_eq!(rt; policy.clone()?.rows(), policy.rows());
+    assert_eq!(rt; count_words(&policy), 1);
+    let partition = Partition {
+        number: 0,
+        region: ternary::Word::any(),
+        rules: Rules::new(to_rules(alloc, &policy)?)?,
+    };
+    let copy = partition.clone()?;
+    assert_eq!(rt; copy.rules.items().len(), 2);
+    assert_eq!(rt; copy.rules.items(), partition.rules.items());
+    Ok(())
+}
+
+#[test]
 fn holds_targets(rt: HostRuntime) -> Result<(), Fail> {
     assert!(rt; Targets::new(&[]).is_none());
     assert!(rt; Targets::new(&[1, 2, 3, 4, 5]).is_none());

@@ -5,7 +5,7 @@ use Rattle.std.specs.List.{list_all, slice_split}
 use Rattle.std.specs.Option.{option_map, ok_or}
 use Rattle.five_tuple.specs.declared.header.Fields.{Fields}
 use Rattle.five_tuple.specs.Header.{header_of}
-use Rattle.five_tuple.specs.Texts.{number_up_to, address_of, proto_number_of}
+use Rattle.five_tuple.specs.Texts.{packet_fields_of}
 use Rattle.schedule.specs.declared.step.Event.{Event}
 use Rattle.schedule.specs.declared.step.Event.TheVariants.{One}
 use Rattle.schedule.specs.declared.step.Step.TheVariants.{Packet}
@@ -48,18 +48,7 @@ record_of line = parts_of 44 line
 
 -- the fields of a packet from their five texts, where each text is one
 abbrev pub fields_read : List (List ℕ) → Option Fields
-fields_read (src ∷ dst ∷ sport ∷ dport ∷ proto ∷ []) =
-    option_and_then (λ src.
-    option_and_then (λ dst.
-    option_and_then (λ sport.
-    option_and_then (λ dport.
-    option_map (λ proto.
-    record { src = src; dst = dst; sport = sport; dport = dport; proto = proto })
-    (proto_number_of proto))
-    (number_up_to 65535 dport))
-    (number_up_to 65535 sport))
-    (address_of dst))
-    (address_of src)
+fields_read (src ∷ dst ∷ sport ∷ dport ∷ proto ∷ []) = packet_fields_of src dst sport dport proto
 fields_read _ = None
 
 -- a packet at the one switch: the words `packet` and `s0`, and its five fields

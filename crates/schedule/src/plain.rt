@@ -1,14 +1,13 @@
 //! Plain schedules: printable lines cut at commas, without quotes.
 ghost use Rattle.std.specs.Prelude.{◌≡◌, ◌≤◌, Ok, vec_len, All, IfOk, IfErr, IfSome};
 ghost use Rattle.std.specs.Option.{option_map};
-ghost use Rattle.five_tuple.specs.Texts.{number_up_to};
 ghost use Rattle.schedule.specs.OneSwitch.{IsOfOneSwitch};
 ghost use Rattle.schedule.specs.Plain.{HasScheduleCode, RefusesSchedule, event_of, events_of, fields_read, is_plain, parts_left, record_of, schedule_of, without_last_feed};
 
 use crate::error::ScheduleError;
 use crate::split::first_part;
 use crate::step::{Event, Step};
-use five_tuple::{Fields, Header, read_address, read_number, read_proto_number};
+use five_tuple::{Fields, Header};
 use std::alloc::{AllocError, Global};
 
 /// The most rows of a schedule.
@@ -36,14 +35,6 @@ fn without_last_feed(bytes: &[u8]) -> &[u8]
     }
 }
 
-/// A port.
-fn read_port(text: &[u8]) -> Option<u16>
-    ensures { result ≡ number_up_to 65535 text.now }
-{
-    let port = read_number(text, 65535)?;
-    Some(port as u16)
-}
-
 /// The fields of a packet from their five texts, which commas separate.
 #[tactic(auto, using(crate::proofs::Splitting::no_sixth))]
 fn read_fields(texts: &[u8]) -> Option<Fields>
@@ -57,13 +48,7 @@ fn read_fields(texts: &[u8]) -> Option<Fields>
     let None = rest else {
         return None;
     };
-    Some(Fields {
-        src: read_address(src)?,
-        dst: read_address(dst)?,
-        sport: read_port(sport)?,
-        dport: read_port(dport)?,
-        proto: read_proto_number(proto)?,
-    })
+    five_tuple::read_fields(src, dst, sport, dport, proto)
 }
 
 /// A packet at the one switch, where the line is one.

@@ -30,7 +30,7 @@ own_match rows header (Some priority) a own match =
     let row = match.0 in
     let there = match.1 in
     let kept = All-filter (λ row. row_matches row (fields_of header)) (λ row. HasSmallPort row.action) rows own in
-    subst HasSmallPort match.3 (All-contains (λ row. HasSmallPort row.action) matching row kept there)
+    subst HasSmallPort match.3 (All-contains (λ row. HasSmallPort row.action) matching row kept there.member)
 
 own_scan : (rows : List Row) (header : Header) → NamesOwnPorts rows → HasSmallPort (scan rows header).action
 own_scan rows header own = own_match rows header (scan rows header).rule (scan rows header).action own (first_match-scan rows header)

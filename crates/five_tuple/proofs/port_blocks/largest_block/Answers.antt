@@ -1,9 +1,10 @@
-use Rattle.std.proofs.Common.{arith}
 use Rattle.five_tuple.proofs.Covers.{exponent_small}
+use Rattle.five_tuple.proofs.CoverOf.{largest_from_code}
 use Rattle.five_tuple.proofs.port_blocks.largest_block.Goals as goal
 
-pub loop-exponent-init : goal.loop-exponent-init
-loop-exponent-init c = record {
-  none_above = λ other block. exponent_small c.args.first c.args.high other block c.requires.high;
-  bound = omega arith;
-}
+pub returns-clause-largest : goal.returns-clause-largest
+returns-clause-largest c =
+    largest_from_code c.args.first c.args.high c.ilog2-fitting.result c.min.result c.requires.ordered c.requires.high c.ilog2-fitting.ensures.power_le c.ilog2-fitting.ensures.next_power_gt c.min.ensures
+
+pub returns-clause-bound : goal.returns-clause-bound
+returns-clause-bound c = exponent_small c.args.first c.args.high c.min.result (returns-clause-largest c).block c.requires.high

@@ -1,52 +1,78 @@
-use Rattle.std.proofs.Common.{refl, subst, Bool, not, [], ◌∷◌, ◌++◌, length-append, ◌∙◌, ◌≡◌, sym, ap, cond, false, nat_eq, true, arith}
-use Rattle.std.proofs.lemmas.Bool.{not-true}
+use Rattle.std.proofs.Common.{◌≡◌, ◌∙◌, ap, sym, subst, ◌+◌, ◌++◌, ◌<◌, [], ◌∷◌, length, length-append, take, drop, Ok, arith}
 use Rattle.std.specs.List.{All}
 use Rattle.std.proofs.lemmas.List.Elements.{All-push}
 use Rattle.csv.specs.Records.{fields_of}
-use Rattle.policy_rules.specs.declared.policy.Row.{Row}
 use Rattle.policy_rules.specs.Read.{HasSmallPort}
-use Rattle.policy_rules.specs.Policy.{HaveDistinctPriorities}
-use Rattle.policy_file.specs.Reading.{has_priority}
-use Rattle.policy_file.proofs.Rows.{distinct_push, fault_in_row, has_priority-push, new_row, refused_next, same_priority, taken_next, too_many}
+use Rattle.policy_rules.specs.declared.policy.Row.{Row}
+use Rattle.policy_file.specs.Reading.{State, row_of}
+use Rattle.policy_file.proofs.Rows.{ends_at, next_of, refused_row, state_push, too_many}
 use Rattle.policy_file.proofs.read.read_rows.Goals as goal
 
-not-false : (b : Bool) → not b ≡ false → b ≡ true
-not-false true e = refl
-not-false false e = cc e
-
-pub returns-in-Err-clause-refused : goal.returns-in-Err-clause-refused
-returns-in-Err-clause-refused c =
-    let inv = c.loop-earlier.invariant in
-    inv.rest ∙ refused_next c.loop-earlier.rows.items _ _ (fields_of c.read_next.new.fields) c.in_ok-read_next.field-0 c.in-Err.fault c.loop-earlier.earlier c.if-not-branch.false c.in_ok-read_next.ensures.takes inv.count
-    (fault_in_row c.loop-earlier.rows.items (fields_of c.read_next.new.fields) c.in-Err.fault (omega arith) (sym c.in-Err.ensures.row))
-
-pub returns-then-not-branch-2-clause-refused : goal.returns-then-not-branch-2-clause-refused
-returns-then-not-branch-2-clause-refused c =
-    let inv = c.loop-earlier.invariant in
-    let has : has_priority c.loop-earlier.rows.items c.in-Ok.next.priority ≡ true = sym (inv.seen _) ∙ not-false _ (sym c.in_ok-insert.ensures.added ∙ c.if-not-branch-2.true) in
-    inv.rest ∙ refused_next c.loop-earlier.rows.items _ _ (fields_of c.read_next.new.fields) c.in_ok-read_next.field-0 _ c.loop-earlier.earlier c.if-not-branch.false c.in_ok-read_next.ensures.takes inv.count
-    (same_priority c.loop-earlier.rows.items (fields_of c.read_next.new.fields) c.in-Ok.next (omega arith) (sym c.in-Ok.ensures.row) has)
-
-pub returns-clause-refused : goal.returns-clause-refused
-returns-clause-refused c =
-    let inv = c.loop-earlier.invariant in
-    let full : c.loop-earlier.earlier ≡ 2000 = omega arith in
-    inv.rest ∙ refused_next c.loop-earlier.rows.items _ _ (fields_of c.read_next-2.new.fields) c.in_ok-read_next-2.field-0 _ 2000 c.if-not-branch-3.false c.in_ok-read_next-2.ensures.takes (inv.count ∙ full)
-    (too_many c.loop-earlier.rows.items (fields_of c.read_next-2.new.fields) (inv.count ∙ full))
-
-pub loop-earlier-preserved : goal.loop-earlier-preserved
-loop-earlier-preserved c =
-    let inv = c.loop-earlier.invariant in
-    let rows = c.loop-earlier.rows.items in
-    let row = c.in-Ok.next in
-    let lacks : has_priority rows row.priority ≡ false = sym (inv.seen row.priority) ∙ not-true _ (sym c.in_ok-insert.ensures.added ∙ c.if-not-branch-2.false) in
-    let items : c.push.new.self.items ≡ rows ++ row ∷ [] = c.in_ok-push.ensures.items in
-    let next = new_row rows (fields_of c.read_next.new.fields) row (omega arith) (sym c.in-Ok.ensures.row) lacks in
+pub returns-then-not-branch-clause-read : goal.returns-then-not-branch-clause-read
+returns-then-not-branch-clause-read c =
+    let known = c.loop-records.invariant in
     record {
-      reading = c.in_ok-read_next.ensures.reading c.if-not-branch.false;
-      rest = rw items (inv.rest ∙ taken_next rows _ _ (fields_of c.read_next.new.fields) c.in_ok-read_next.field-0 row c.if-not-branch.false c.in_ok-read_next.ensures.takes next);
-      count = rw (items, length-append, inv.count) refl;
-      seen = λ q. c.in_ok-insert.ensures.updates.0 q ∙ ap (λ b. cond (nat_eq row.priority q) true b) (inv.seen q) ∙ sym (has_priority-push rows row q) ∙ ap (λ items. has_priority items q) (sym items);
-      small_ports = subst (All (λ (row : Row). HasSmallPort row.action)) (sym items) (All-push (λ (row : Row). HasSmallPort row.action) rows row inv.small_ports c.in-Ok.ensures.small_port);
-      distinct = subst HaveDistinctPriorities (sym items) (distinct_push rows row inv.distinct lacks);
+      stated = known.stated;
+      few = known.few;
+      within = known.within;
+      ends = ends_at c.args.records.now (length c.loop-records.rows.items) (fields_of c.read_next.new.fields) c.read_next.new.self c.loop-records.records c.in_ok-read_next.field-0 c.if-not-branch.true known.left c.in_ok-read_next.ensures.takes known.within;
+    }
+
+pub returns-in-Err-clause-read : goal.returns-in-Err-clause-read
+returns-in-Err-clause-read c =
+    let known = c.loop-records.invariant in
+    let n = length c.loop-records.rows.items in
+    let fields = fields_of c.read_next.new.fields in
+    let room : n < 2000 = omega arith in
+    let next = next_of c.args.records.now n fields c.read_next.new.self c.loop-records.records c.in_ok-read_next.field-0 c.if-not-branch.false known.left c.in_ok-read_next.ensures.takes in
+    record {
+      stated = known.stated;
+      few = known.few;
+      within = known.within;
+      ends = (next.within, refused_row c.args.records.now n fields c.read_next.new.self c.in-Err.refusal next room (sym c.in-Err.ensures.row));
+    }
+
+pub loop-records-preserved : goal.loop-records-preserved
+loop-records-preserved c =
+    let known = c.loop-records.invariant in
+    let records = c.args.records.now in
+    let rows = c.loop-records.rows.items in
+    let row = c.in-Ok.row in
+    let fields = fields_of c.read_next.new.fields in
+    let room : length rows < 2000 = omega arith in
+    let next = next_of records (length rows) fields c.read_next.new.self c.loop-records.records c.in_ok-read_next.field-0 c.if-not-branch.false known.left c.in_ok-read_next.ensures.takes in
+    let items : c.push.new.self.items ≡ rows ++ row ∷ [] = c.in_ok-push-in-Ok.ensures.items in
+    let len : length c.push.new.self.items ≡ length rows + 1 = omega (arith, ap length items, length-append rows (row ∷ [])) in
+    let is : row_of fields ≡ Ok row = sym c.in-Ok.ensures.row in
+    let pushed : State (take (length rows + 1) records) (rows ++ row ∷ []) = subst (λ xs. State xs (rows ++ row ∷ [])) (sym next.more) (state_push (take (length rows) records) rows fields row known.stated is) in
+    let stated : State (take (length rows + 1) records) c.push.new.self.items = subst (State (take (length rows + 1) records)) (sym items) pushed in
+    record {
+      stated = subst (λ k. State (take k records) c.push.new.self.items) (sym len) stated;
+      left = sym next.rest ∙ ap (λ k. drop k records) (sym len);
+      within = omega (arith, len, next.within);
+      few = omega (arith, len, room);
+      small_ports = subst (All (λ (row : Row). HasSmallPort row.action)) (sym items) (All-push (λ (row : Row). HasSmallPort row.action) rows row known.small_ports c.in-Ok.ensures.small_port);
+    }
+
+pub returns-then-not-branch-2-clause-read : goal.returns-then-not-branch-2-clause-read
+returns-then-not-branch-2-clause-read c =
+    let known = c.loop-records.invariant in
+    record {
+      stated = known.stated;
+      few = known.few;
+      within = known.within;
+      ends = ends_at c.args.records.now (length c.loop-records.rows.items) (fields_of c.read_next-2.new.fields) c.read_next-2.new.self c.loop-records.records c.in_ok-read_next-2.field-0 c.if-not-branch-2.true known.left c.in_ok-read_next-2.ensures.takes known.within;
+    }
+
+pub returns-clause-read : goal.returns-clause-read
+returns-clause-read c =
+    let known = c.loop-records.invariant in
+    let n = length c.loop-records.rows.items in
+    let full : n ≡ 2000 = omega arith in
+    let next = next_of c.args.records.now n (fields_of c.read_next-2.new.fields) c.read_next-2.new.self c.loop-records.records c.in_ok-read_next-2.field-0 c.if-not-branch-2.false known.left c.in_ok-read_next-2.ensures.takes in
+    record {
+      stated = known.stated;
+      few = known.few;
+      within = known.within;
+      ends = (next.within, too_many c.args.records.now n full);
     }

@@ -1,9 +1,7 @@
-use Rattle.std.proofs.Common.{◌≡◌, ◌∙◌, ap, sym, subst, take, ◌++◌, append_assoc, arith}
-use Rattle.std.specs.List.{All}
+use Rattle.std.proofs.Common.{◌≡◌, ◌∙◌, ap, sym, take, ◌++◌, append_assoc, arith}
 use Rattle.std.proofs.lemmas.List.{take_all}
-use Rattle.std.proofs.lemmas.List.Elements.{All-more}
-use Rattle.policy_file.specs.Printing.{IsRow, line, policy_text, row_fields, rows_text}
-use Rattle.policy_file.specs.Reading.{header_fields, policy_of}
+use Rattle.policy_file.specs.Printing.{line, policy_text, row_fields, rows_text}
+use Rattle.policy_file.specs.Reading.{heading_fields, policy_of}
 use Rattle.policy_file.proofs.Lines.{rows_text-more}
 use Rattle.policy_file.proofs.write.write_policy.Goals as goal
 
@@ -12,14 +10,11 @@ loop-row-preserved c =
     let rows = c.rows-row-items.result.now in
     let i = c.loop-row.row-index in
     let row = c.row-item.result in
-    record {
-      text = c.in_ok-writeln-2.ensures.bytes ∙ ap (λ text. text ++ line (row_fields row)) c.loop-row.invariant.text ∙ append_assoc (line header_fields) (rows_text (take i rows)) (line (row_fields row))
-          ∙ ap (λ last. line header_fields ++ (rows_text (take i rows) ++ line (row_fields last))) c.row-item.is ∙ ap (λ text. line header_fields ++ text) (sym (rows_text-more rows i row c.loop-row-test.true));
-      rows = All-more IsRow rows i row c.loop-row-test.true c.loop-row.invariant.rows (subst IsRow c.row-item.is c.is_row.ensures);
-    }
+    c.in_ok-writeln-2.ensures.bytes ∙ ap (λ text. text ++ line (row_fields row)) c.loop-row.invariant ∙ append_assoc (line heading_fields) (rows_text (take i rows)) (line (row_fields row))
+    ∙ ap (λ last. line heading_fields ++ (rows_text (take i rows) ++ line (row_fields last))) c.row-item.is ∙ ap (λ text. line heading_fields ++ text) (sym (rows_text-more rows i row c.loop-row-test.true))
 
 pub returns-clause-read_back : goal.returns-clause-read_back
 returns-clause-read_back c = λ few small.
     let all = take_all c.loop-row.row-index c.rows-row-items.result.now (omega arith) ∙ c.rows-row-items.ensures.rows in
-    let text : c.into_bytes.result.items ≡ policy_text c.args.policy.now = rw c.into_bytes.ensures.value (c.loop-row.invariant.text ∙ ap policy_text all) in
-    ap policy_of text ∙ c.policy_texts_are_read_back.ensures c.args.policy.now c.rows-row-items.ensures.distinct few (subst (All IsRow) all c.loop-row.invariant.rows) small
+    let text : c.into_bytes.result.items ≡ policy_text c.args.policy.now = rw c.into_bytes.ensures.value (c.loop-row.invariant ∙ ap policy_text all) in
+    ap policy_of text ∙ c.policy_texts_are_read_back.ensures c.args.policy.now c.rows-row-items.ensures.policy few small

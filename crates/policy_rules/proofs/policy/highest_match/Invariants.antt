@@ -1,6 +1,6 @@
-use Rattle.std.proofs.Common.{◌≡◌, take}
-use Rattle.policy_rules.specs.Policy.{scan_by}
+use Rattle.std.proofs.Common.{take}
+use Rattle.policy_rules.specs.Policy.{IsHighestMatch}
 use Rattle.policy_rules.proofs.policy.highest_match.Given as goal
 
 abbrev pub invariant-loop-row : goal.invariant-loop-row
-invariant-loop-row l = l.hit ≡ scan_by (take l.row-index l.rows) l.fields
+invariant-loop-row l = IsHighestMatch (take l.row-index l.rows) l.fields l.best

@@ -2,7 +2,7 @@ use Rattle.std.proofs.Common.{ℕ, rules}
 use Rattle.std.specs.declared.cmp.Reverse.{Reverse}
 use Rattle.std.proofs.lemmas.List.Sorted.{answers_always}
 use Rattle.policy_rules.specs.declared.policy.Row.{Row}
-use Rattle.policy_rules.proofs.Sorting.{same_sorted}
+use Rattle.policy_rules.proofs.Sorting.{falling_from_sorted, same_sorted}
 use Rattle.policy_rules.proofs.rule_list.by_falling_priority.Goals as goal
 
 pub returns : goal.returns
@@ -11,4 +11,4 @@ returns c =
     let key : Row → Reverse ℕ = λ row. record { 0 = row.priority } in
     let order = c.sort_unstable_by_key.ensures.sorted key (answers_always _ _ _ (λ f a r g called. search rules)) in
     let moved = rw c.in_ok-sorted.ensures.items at c.sort_unstable_by_key.ensures.permutation in
-    same_sorted c.args.rows.now sorted c.requires moved order
+    same_sorted c.args.rows.now sorted c.requires.sound c.requires.distinct moved (falling_from_sorted sorted order)

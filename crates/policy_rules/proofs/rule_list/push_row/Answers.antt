@@ -1,7 +1,12 @@
-use Rattle.std.proofs.Common.{◌∙◌, ◌≤◌, ap, sym, [], length, append-nil, arith, take}
+use Rattle.std.proofs.Common.{◌≡◌, ◌∙◌, ◌++◌, ap, sym, subst, [], length, append-nil, arith, map}
 use Rattle.std.specs.List.{flat_map}
-use Rattle.std.proofs.lemmas.List.{flat_map_more, take_more}
-use Rattle.policy_rules.specs.RuleList.{ranked_from, entries_at}
+use Rattle.std.proofs.lemmas.Iterator.Consumers.{YieldsList-from_first, YieldsList-end, YieldsList-turn}
+use Rattle.std.proofs.lemmas.List.{flat_map_more, map-append, map-id}
+use Rattle.five_tuple.proofs.CoverOf.{is_cover_of}
+use Rattle.five_tuple.specs.Blocks.{blocks_left}
+use Rattle.five_tuple.specs.Cover.{Block, IsPortBlock, cover_of}
+use Rattle.policy_rules.specs.Words.{word_of_row}
+use Rattle.policy_rules.specs.RuleList.{ranked_from, with_hit}
 use Rattle.policy_rules.proofs.Ranks.{ranked_more, length_ranked, few_pairs}
 use Rattle.policy_rules.proofs.rule_list.push_row.Goals as goal
 
@@ -11,18 +16,31 @@ loop-source-init c = sym (append-nil _)
 
 pub push_words-requires-clause-few : goal.push_words-requires-clause-few
 push_words-requires-clause-few c =
-    let destinations = c.in_ok-destinations.destinations in
-    let sources = c.in_ok-sources.sources in
-    let i = c.loop-source.source-index in
-    let few : length destinations.items ≤ 30 = omega (arith, c.in_ok-destinations.ensures.few) in
-    let some : i ≤ 30 = omega (arith, c.in_ok-sources.ensures.few, ap length c.deref-source-items.ensures.value) in
-    let pairs = few_pairs c.args.row.now destinations.items c.deref-source-items.result.now i few some in
-    omega (arith, pairs, few, length_ranked _ _ _ c.loop-source.invariant, ap length c.deref.ensures.value)
+    let row = c.args.row.now in
+    let done = c.loop-source.yielded in
+    let turn = YieldsList-turn (YieldsList-from_first (λ x. x) blocks_left (cover_of row.sport) (ap blocks_left c.into_iter-source-iterator.ensures.into_iter_gives ∙ c.blocks-source-items.ensures.blocks)) done _ c.loop-source.yielded_by c.next.result c.next.new.self c.in-Some.source c.in-Some.is c.next.ensures.steps in
+    let sources = (is_cover_of row.sport c.blocks-source-items.ensures.sound).few in
+    let pairs = few_pairs row (cover_of row.dport) done (is_cover_of row.dport c.row_is_sound.ensures.dport).few (omega (arith, turn.0, sources)) in
+    omega (arith, pairs, length_ranked _ _ _ c.loop-source.invariant)
+
+pub push_words-requires-clause-source : goal.push_words-requires-clause-source
+push_words-requires-clause-source c =
+    let range = c.args.row.now.sport in
+    let turn = YieldsList-turn (YieldsList-from_first (λ x. x) blocks_left (cover_of range) (ap blocks_left c.into_iter-source-iterator.ensures.into_iter_gives ∙ c.blocks-source-items.ensures.blocks)) c.loop-source.yielded _ c.loop-source.yielded_by c.next.result c.next.new.self c.in-Some.source c.in-Some.is c.next.ensures.steps in
+    subst IsPortBlock (sym turn.1) ((is_cover_of range c.blocks-source-items.ensures.sound).masked (length c.loop-source.yielded) c.in-Some.source turn.0)
 
 pub loop-source-preserved : goal.loop-source-preserved
 loop-source-preserved c =
-    let sources = c.deref-source-items.result.now in
-    let i = c.loop-source.source-index in
-    let f = entries_at c.args.row.now c.in_ok-destinations.destinations.items in
-    let more = take_more sources i _ c.loop-source-test.true in
-    ranked_more _ _ _ _ _ _ c.loop-source.invariant (rw c.deref.ensures.value at c.in_ok-push_words.ensures) (ap (flat_map f) more ∙ sym (flat_map_more f [] (take i sources) _))
+    let row = c.args.row.now in
+    let done = c.loop-source.yielded in
+    let f = λ (source : Block). map (word_of_row row source) (cover_of row.dport) in
+    ranked_more _ _ _ _ _ _ c.loop-source.invariant c.in_ok-push_words.ensures (ap (with_hit row) (sym (flat_map_more f [] done c.in-Some.source)) ∙ map-append _ (flat_map f done) (f c.in-Some.source))
+
+pub returns : goal.returns
+returns c =
+    let row = c.args.row.now in
+    let done = c.loop-source.yielded in
+    let f = λ (source : Block). map (word_of_row row source) (cover_of row.dport) in
+    let end = YieldsList-end (YieldsList-from_first (λ x. x) blocks_left (cover_of row.sport) (ap blocks_left c.into_iter-source-iterator.ensures.into_iter_gives ∙ c.blocks-source-items.ensures.blocks)) done _ c.loop-source.yielded_by c.next.result c.next.new.self c.in-None.is c.next.ensures.steps in
+    let all : done ≡ cover_of row.sport = sym (map-id done) ∙ end.0 in
+    c.loop-source.invariant ∙ ap (λ sources. c.args.rules.now.items ++ ranked_from (length c.args.rules.now.items) (with_hit row (flat_map f sources))) all

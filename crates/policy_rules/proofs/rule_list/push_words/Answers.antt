@@ -1,6 +1,11 @@
-use Rattle.std.proofs.Common.{◌≡◌, sym, length, append-nil, arith, take, length-take}
-use Rattle.std.proofs.lemmas.List.{map_more, length-map}
-use Rattle.policy_rules.specs.RuleList.{ranked_from, entries_at}
+use Rattle.std.proofs.Common.{◌≡◌, ◌∙◌, ◌++◌, ap, sym, subst, [], ◌∷◌, length, append-nil, arith, map}
+use Rattle.std.proofs.lemmas.Iterator.Consumers.{YieldsList-from_first, YieldsList-end, YieldsList-turn}
+use Rattle.std.proofs.lemmas.List.{length-map, map-append, map-id}
+use Rattle.five_tuple.proofs.CoverOf.{is_cover_of}
+use Rattle.five_tuple.specs.Blocks.{blocks_left}
+use Rattle.five_tuple.specs.Cover.{IsPortBlock, cover_of}
+use Rattle.policy_rules.specs.Words.{word_of_row}
+use Rattle.policy_rules.specs.RuleList.{ranked_from, with_hit}
 use Rattle.policy_rules.proofs.Ranks.{ranked_more, length_ranked}
 use Rattle.policy_rules.proofs.rule_list.push_words.Goals as goal
 
@@ -8,14 +13,33 @@ pub loop-destination-init : goal.loop-destination-init
 unfolding ranked_from
 loop-destination-init c = sym (append-nil _)
 
+pub word_of_row-requires-clause-destination : goal.word_of_row-requires-clause-destination
+word_of_row-requires-clause-destination c =
+    let range = c.args.row.now.dport in
+    let turn = YieldsList-turn (YieldsList-from_first (λ x. x) blocks_left (cover_of range) (ap blocks_left c.into_iter-destination-iterator.ensures.into_iter_gives ∙ c.blocks-destination-items.ensures.blocks)) c.loop-destination.yielded _ c.loop-destination.yielded_by c.next.result c.next.new.self c.in-Some.destination c.in-Some.is c.next.ensures.steps in
+    subst IsPortBlock (sym turn.1) ((is_cover_of range c.blocks-destination-items.ensures.sound).masked (length c.loop-destination.yielded) c.in-Some.destination turn.0)
+
 pub push_rule-requires : goal.push_rule-requires
 push_rule-requires c =
-    let i = c.loop-destination.destination-index in
-    let done = entries_at c.args.row.now (take i c.args.destinations.now) c.args.source in
-    let entries : length done ≡ length (take i c.args.destinations.now) = length-map _ _ in
-    omega (arith, entries, length-take i c.args.destinations.now, length_ranked _ _ done c.loop-destination.invariant)
+    let row = c.args.row.now in
+    let done = c.loop-destination.yielded in
+    let turn = YieldsList-turn (YieldsList-from_first (λ x. x) blocks_left (cover_of row.dport) (ap blocks_left c.into_iter-destination-iterator.ensures.into_iter_gives ∙ c.blocks-destination-items.ensures.blocks)) done _ c.loop-destination.yielded_by c.next.result c.next.new.self c.in-Some.destination c.in-Some.is c.next.ensures.steps in
+    let words = map (word_of_row row c.args.source) done in
+    let entries : length (with_hit row words) ≡ length words = length-map _ _ in
+    let some : length words ≡ length done = length-map _ _ in
+    omega (arith, entries, some, turn.0, (is_cover_of row.dport c.blocks-destination-items.ensures.sound).few, length_ranked _ _ (with_hit row words) c.loop-destination.invariant)
 
 pub loop-destination-preserved : goal.loop-destination-preserved
 loop-destination-preserved c =
-    let entries = map_more _ c.args.destinations.now c.loop-destination.destination-index _ c.loop-destination-test.true in
-    ranked_more _ _ _ _ _ _ c.loop-destination.invariant (rw (c.word_of_row.ensures, c.of.ensures) at c.in_ok-push_rule.ensures) entries
+    let row = c.args.row.now in
+    let done = c.loop-destination.yielded in
+    let g = word_of_row row c.args.source in
+    ranked_more _ _ _ _ _ _ c.loop-destination.invariant (rw (c.word_of_row.ensures, c.of.ensures) at c.in_ok-push_rule.ensures) (ap (with_hit row) (map-append g done (c.in-Some.destination ∷ [])) ∙ map-append _ (map g done) (g c.in-Some.destination ∷ []))
+
+pub returns : goal.returns
+returns c =
+    let row = c.args.row.now in
+    let done = c.loop-destination.yielded in
+    let end = YieldsList-end (YieldsList-from_first (λ x. x) blocks_left (cover_of row.dport) (ap blocks_left c.into_iter-destination-iterator.ensures.into_iter_gives ∙ c.blocks-destination-items.ensures.blocks)) done _ c.loop-destination.yielded_by c.next.result c.next.new.self c.in-None.is c.next.ensures.steps in
+    let all : done ≡ cover_of row.dport = sym (map-id done) ∙ end.0 in
+    c.loop-destination.invariant ∙ ap (λ ports. c.args.rules.now.items ++ ranked_from (length c.args.rules.now.items) (with_hit row (map (word_of_row row c.args.source) ports))) all

@@ -1,9 +1,15 @@
-use Rattle.std.proofs.Common.{◌≡◌, ap}
-use Rattle.policy_rules.specs.Policy.{scan}
-use Rattle.policy_rules.proofs.FirstMatch.{first_match-scan}
+use Rattle.std.proofs.Common.{◌∙◌, ◌≢◌, sym, ap, subst, filter}
+use Rattle.std.proofs.lemmas.List.Kept.{AllPairs-filter}
+use Rattle.policy_rules.specs.declared.policy.Row.{Row}
+use Rattle.policy_rules.specs.Policy.{HaveDistinctPriorities, hit_of, row_matches, scan_by}
+use Rattle.policy_rules.proofs.FirstMatch.{highest_is}
 use Rattle.policy_rules.proofs.policy.Policy.scan.Goals as goal
 
-pub returns-clause-first_match : goal.returns-clause-first_match
-returns-clause-first_match c =
-    let value : c.highest_match.result ≡ scan c.args.self.now c.args.header.now = rw (c.highest_match.ensures, c.deref.ensures.value, c.fields.ensures) (ap (λ rows. scan rows c.args.header.now) c.self.view_is) in
-    rw value (first_match-scan c.args.self.now c.args.header.now)
+pub returns-in-Some-clause-value : goal.returns-in-Some-clause-value
+returns-in-Some-clause-value c =
+    let rows = c.rows.result.now in
+    let f = c.fields.result in
+    let distinct = subst HaveDistinctPriorities (sym c.rows.ensures.rows) c.rows.ensures.policy.distinct in
+    let kept = AllPairs-filter (λ (x y : Row). x.priority ≢ y.priority) (λ row. row_matches row f) rows distinct in
+    let top = highest_is (filter (λ row. row_matches row f) rows) c.in-Some.row.now kept c.in-Some.ensures in
+    c.of.ensures ∙ ap hit_of (sym top) ∙ ap (λ rows. scan_by rows f) c.rows.ensures.rows ∙ ap (scan_by c.args.self.now) c.fields.ensures

@@ -1,0 +1,25 @@
+-- A reader of the crate `csv` in the middle of a text: the records that it has yet to give.
+use Rattle.std.specs.Prelude.{ℕ, ◌≡◌, ◌+◌, true, false, List, [], length, Option, Some}
+use Rattle.std.specs.Option.{option_map_or}
+use Rattle.std.specs.Borrow.{Bor}
+use Rattle.csv.specs.Reading.{Ready, default_config, has_failed, is_flexible, reader_config, reader_state, reader_trim, records_from, source_of}
+use Rattle.csv.specs.declared.reader.Reader.{Reader}
+use Rattle.csv.specs.declared.reader.Trim.TheVariants as trim
+
+-- the bytes that the reader has yet to read, unless it has failed
+abbrev pub bytes_left : Reader (Bor (List ℕ)) → Option (List ℕ)
+bytes_left reader = source_of (λ slice. Some slice.now) reader
+
+-- the records that it has yet to give: none after a failure
+abbrev pub records_left : Reader (Bor (List ℕ)) → List (List (List ℕ))
+records_left reader =
+    option_map_or (λ bytes. records_from default_config (length bytes + 1) (reader_state reader) bytes)
+    (bytes_left reader) []
+
+-- the reader has the presets of its crate, but for no header treatment and records of any width
+pub record IsReading (reader : Reader (Bor (List ℕ))) : Type 0 where
+  pub config : reader_config reader ≡ default_config
+  pub trim : reader_trim reader ≡ trim.None
+  pub flexible : is_flexible reader ≡ true
+  pub ready : Ready reader
+  pub going : has_failed reader ≡ false

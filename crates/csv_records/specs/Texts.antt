@@ -1,0 +1,12 @@
+-- The records of a text, each the list of its fields.
+use Rattle.std.specs.Prelude.{ℕ, ◌≡◌, Bool, true, false, List, [], ◌∷◌}
+use Rattle.csv.specs.Reading.{default_config, records, strip_bom}
+
+-- the records of a text are those that the crate `csv` defines, with its presets
+abbrev pub records_of : List ℕ → List (List (List ℕ))
+records_of text = records default_config (strip_bom text)
+
+-- a read gave these fields, the first of the records that were left; or it found none, and none was left
+abbrev pub TakesNext : List (List (List ℕ)) → Bool → List (List ℕ) → List (List (List ℕ)) → Type 0
+TakesNext before true fields after = before ≡ fields ∷ after
+TakesNext before false fields after = (before ≡ []) × (after ≡ [])

@@ -1,0 +1,20 @@
+use Rattle.std.proofs.Common.{ap, arith, length, rules}
+use Rattle.std.proofs.lemmas.Nat.{one_shl}
+use Rattle.five_tuple.proofs.CoverOf.{cover_of-past, cover_of-step}
+use Rattle.five_tuple.proofs.port_blocks.BlocksIterator.next.Goals as goal
+
+pub returns-then-self-clause-steps : goal.returns-then-self-clause-steps
+returns-then-self-clause-steps c =
+    let past = cover_of-past c.args.self.now.next c.args.self.now.high c.if-self.true in
+    (past, past)
+
+pub returns-clause-steps : goal.returns-clause-steps
+returns-clause-steps c =
+    let e = c.largest_block-size.result in
+    let size = one_shl e 32 (omega (arith, c.largest_block-size.ensures.bound)) in
+    cover_of-step c.args.self.now.next c.args.self.now.high e _ c.largest_block-size.ensures.largest size c.args.self.now.ports
+
+pub returns-clause-goes : goal.returns-clause-goes
+returns-clause-goes c =
+    let shorter = ap length (returns-clause-steps c) in
+    search rules

@@ -1,0 +1,7 @@
+-- What an iterator over the blocks of a range has left.
+use Rattle.std.specs.Prelude.{List}
+use Rattle.five_tuple.specs.declared.port_blocks.Blocks.{Blocks}
+use Rattle.five_tuple.specs.Cover.{Block, cover_of}
+
+abbrev pub blocks_left : Blocks → List Block
+blocks_left blocks = cover_of (record { low = blocks.next; high = blocks.high })

@@ -1,0 +1,46 @@
+-- The laws of header numbers, of covers and of printed forms: a function of the crate ensures the record of each.
+use Rattle.std.specs.Prelude.{ℕ, ◌≡◌, ◌^◌, ◌<◌, ◌≤◌, ◌↔◌, IsTrue, All, AllPairs, List, decimal, length}
+use Rattle.std.specs.List.{AllPass, list_any}
+use Rattle.five_tuple.specs.declared.header.Header.{Header}
+use Rattle.five_tuple.specs.declared.matching.Proto.{Proto}
+use Rattle.five_tuple.specs.Cover.{Block, IsPortBlock, block_holds, AreDisjoint, cover_of, IsCover}
+use Rattle.five_tuple.specs.Header.{IsHeader, number_of, header_numbered, header_eq}
+use Rattle.five_tuple.specs.Matching.{AddressBlock, IsAddressBlock, PortRangeValue, IsPortRange, range_matches, IsProtocol}
+use Rattle.five_tuple.specs.Printing.{is_plain_char, address_text, prefix_text, range_text, proto_number_text, proto_text}
+
+-- each number below 2 ^ 104 is that of exactly one header
+pub record HeaderLaws : Type 0 where
+  pub header : (n : ℕ) → n < 2 ^ 104 → IsHeader (header_numbered n)
+  pub bound : (h : Header) → IsHeader h → number_of h < 2 ^ 104
+  pub numbered : (n : ℕ) → n < 2 ^ 104 → number_of (header_numbered n) ≡ n
+  pub back : (h : Header) → IsHeader h → header_numbered (number_of h) ≡ h
+  pub equal : (a b : Header) → IsTrue (header_eq a b) ↔ (a ≡ b)
+  pub same : (a b : Header) → IsHeader a → IsHeader b → number_of a ≡ number_of b → a ≡ b
+
+-- the blocks of a range are ..
+pub record IsCoverOf (range : PortRangeValue) (blocks : List Block) : Type 0 where
+  -- .. exactly its ports, each in one block
+  pub exact : (port : ℕ) → port < 2 ^ 16
+      → list_any (block_holds port) blocks ≡ range_matches range port
+  pub disjoint : AllPairs AreDisjoint blocks
+  pub ascending : AllPairs (λ a b. a.0 < b.0) blocks
+  pub masked : All IsPortBlock blocks
+  pub some : 0 < length blocks
+  pub few : length blocks ≤ 30
+
+pub record CoverLaws : Type 0 where
+  pub cover : (range : PortRangeValue) → IsPortRange range → IsCoverOf range (cover_of range)
+  -- each is the largest block that begins at the first port not yet taken, and no other list is such
+  pub greedy : (range : PortRangeValue) → IsPortRange range
+      → IsCover range.low range.high (cover_of range)
+  pub only : (range : PortRangeValue) (blocks : List Block) → IsPortRange range
+      → IsCover range.low range.high blocks → blocks ≡ cover_of range
+
+-- each printed form has plain characters alone
+pub record PlainTextLaws : Type 0 where
+  pub number : (n : ℕ) → n < 2 ^ 64 → AllPass is_plain_char (decimal n)
+  pub address : (a : ℕ) → a < 2 ^ 32 → AllPass is_plain_char (address_text a)
+  pub prefix : (p : AddressBlock) → IsAddressBlock p → AllPass is_plain_char (prefix_text p)
+  pub range : (r : PortRangeValue) → IsPortRange r → AllPass is_plain_char (range_text r)
+  pub proto_number : (n : ℕ) → n < 2 ^ 8 → AllPass is_plain_char (proto_number_text n)
+  pub proto : (p : Proto) → IsProtocol p → AllPass is_plain_char (proto_text p)

@@ -1,0 +1,12 @@
+use Rattle.std.proofs.Common.{◌≡◌, ℕ, nat_eq, take, All}
+use Rattle.std.specs.HashSet.{contains}
+use Rattle.policy_rules.specs.Policy.{HaveDistinctPriorities, IsSoundRow, has_priority}
+use Rattle.policy_rules.proofs.policy.check_rows.Given as goal
+
+abbrev pub invariant-loop-row : goal.invariant-loop-row
+invariant-loop-row l = record {
+  counts : l.number ≡ l.row-index;
+  seen : (q : ℕ) → contains nat_eq l.seen q ≡ has_priority (take l.row-index l.rows) q;
+  sound : All IsSoundRow (take l.row-index l.rows);
+  distinct : HaveDistinctPriorities (take l.row-index l.rows);
+}

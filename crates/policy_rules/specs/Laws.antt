@@ -1,0 +1,45 @@
+-- The laws of policies and of their rule lists: a function of the crate ensures the record of each.
+use Rattle.std.specs.Prelude.{◌≡◌, ◌+◌, Some, List, length, All, option_map}
+use Rattle.std.specs.List.{list_any}
+use Rattle.std.specs.List.Sorted.{IsPermutation}
+use Rattle.five_tuple.specs.Header.{IsHeader, fields_of, number_of}
+use Rattle.five_tuple.specs.declared.header.Header.{Header}
+use Rattle.ternary.specs.Word.{IsWord, holds}
+use Rattle.policy_rules.specs.Policy.{IsFalling, IsFirstMatch, IsPolicy, IsSoundRow, row_matches, scan}
+use Rattle.policy_rules.specs.Rules.{first_rule}
+use Rattle.policy_rules.specs.RuleList.{IsRuleList, by_falling_priority, hit_of_rule, rules_of, word_count, word_total}
+use Rattle.policy_rules.specs.Words.{words_of_row}
+use Rattle.policy_rules.specs.declared.policy.Hit.{Hit}
+use Rattle.policy_rules.specs.declared.policy.Row.{Row}
+
+pub record PolicyLaws : Type 0 where
+  -- a policy has one first match of a header
+  pub one : (rows : List Row) (header : Header) (hit : Hit) → IsPolicy rows
+      → IsFirstMatch rows header hit → hit ≡ scan rows header
+  -- the scan of any rows is their first match
+  pub scan : (rows : List Row) (header : Header) → IsFirstMatch rows header (scan rows header)
+  -- the rows by falling priority are the rows in falling order, and no other list is that
+  pub sorted : (rows : List Row) → IsPolicy rows → IsPermutation rows (by_falling_priority rows)
+  pub falling : (rows : List Row) → IsFalling (by_falling_priority rows)
+  pub only : (rows sorted : List Row) → IsPolicy rows → IsPermutation rows sorted
+      → IsFalling sorted → sorted ≡ by_falling_priority rows
+
+-- the words of a sound row ..
+pub record RowWordsLaws : Type 0 where
+  pub words : (row : Row) → IsSoundRow row → All IsWord (words_of_row row)
+  -- .. are as many as pairs of blocks ..
+  pub count : (row : Row) → length (words_of_row row) ≡ word_count row
+  -- .. and hold exactly the headers that the row matches
+  pub holds : (row : Row) (header : Header) → IsSoundRow row → IsHeader header
+      → list_any (λ word. holds word (number_of header)) (words_of_row row)
+      ≡ row_matches row (fields_of header)
+
+-- the rules of a policy's rows ..
+pub record RuleListLaws : Type 0 where
+  -- .. are a rule list ..
+  pub list : (rows : List Row) → IsPolicy rows → IsRuleList (rules_of rows)
+  -- .. of one rule more than the rows have words, ..
+  pub count : (rows : List Row) → IsPolicy rows → length (rules_of rows) ≡ word_total rows + 1
+  -- .. of which the first that holds a header has the rule and the action of the first match
+  pub first_match : (rows : List Row) (header : Header) → IsPolicy rows → IsHeader header
+      → option_map hit_of_rule (first_rule (rules_of rows) header) ≡ Some (scan rows header)
