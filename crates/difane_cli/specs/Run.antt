@@ -25,8 +25,8 @@ pub record Unplayed (journal : List Item) (before now : Option (List ℕ)) : Typ
   pub nothing_played : journal ≡ []
   pub nothing_written : now ≡ before
 
--- the journal answers these inputs, which are the known ones where inputs are known; so it is a run of
--- the machine, and its ends have their causes
+-- the journal answers these inputs, which are the known ones where inputs are known; so it is a
+-- run of the machine, and its ends have their causes
 pub record IsAnswer (known : Known) (inputs : Inputs) (journal : List Item) : Type 0 where
   pub accepted : ForSome known (λ read. read ≡ Ok inputs)
   pub answers : Answers inputs.setting inputs.events journal
@@ -49,7 +49,8 @@ pub record CutShort (known : Known) (journal : List Item) (before now : Option (
 
 -- there are such inputs; the journal begins an answer to them, and the output gained some of its
 -- text
-pub record Begun (known : Known) (journal : List Item) (before now : Option (List ℕ)) : Type 0 where
+pub record Begun (known : Known) (journal : List Item) (before now : Option (List ℕ))
+    : Type 0 where
   pub inputs : Inputs
   pub accepted : ForSome known (λ read. read ≡ Ok inputs)
   pub begins : BeginsAnswer inputs.setting inputs.events journal

@@ -2,6 +2,7 @@
 ghost use Rattle.std.specs.Prelude.{◌≡◌, ◌≤◌, All, vec_len, IfOk, IfErr, Ok, Some};
 ghost use Rattle.std.specs.Option.{ForSome};
 ghost use Rattle.schedule.specs.OneSwitch.{IsOfOneSwitch, NamesOwnPorts};
+ghost use Rattle.schedule.specs.declared.plain.TheConstants.{MAX_EVENTS};
 ghost use Rattle.shelf.specs.Faults.{Rose};
 ghost use Rattle.shelf.specs.Shelf.{IsAfterReads};
 ghost use Rattle.difane_cli.specs.Inputs.{Refuses, Stops, StopsContent, content_of, inputs_of, most_reads, read_policy, read_schedule, schedule_in};
@@ -59,7 +60,7 @@ fn check_schedule(alloc: Global, name: &str, bytes: &[u8]) -> Result<Vec<Event>,
     ensures value { IfOk result (λ events. schedule_in name.now bytes.now ≡ Ok events.items) }
     ensures stopped { IfErr result (StopsContent (schedule_in name.now bytes.now)) }
     ensures one_switch { IfOk result (λ events. All IsOfOneSwitch events.items) }
-    ensures few { IfOk result (λ events. vec_len events ≤ 100000) }
+    ensures few { IfOk result (λ events. vec_len events ≤ MAX_EVENTS) }
 {
     match schedule::read_schedule(alloc, bytes) {
         Ok(events) => Ok(events),
@@ -78,7 +79,7 @@ fn read_schedule<F: Shelf>(alloc: Global, shelf: &mut F, name: &str) -> Result<V
         → Rose (F.state shelf.old).faults (F.state shelf.new).faults) }
     ensures shelf { IsAfterReads 1 (F.state shelf.old) (F.state shelf.new) }
     ensures one_switch { IfOk result (λ events. All IsOfOneSwitch events.items) }
-    ensures few { IfOk result (λ events. vec_len events ≤ 100000) }
+    ensures few { IfOk result (λ events. vec_len events ≤ MAX_EVENTS) }
 {
     let bytes = read_bytes(alloc, shelf, name)?;
     check_schedule(alloc, name, &bytes)
@@ -123,7 +124,7 @@ pub fn read_inputs<F: Shelf>(
         (most_reads (F.state shelf.old).files (Some (command_named words.entry)))
         (F.state shelf.old) (F.state shelf.new) }
     ensures one_switch { IfOk result (λ inputs. All IsOfOneSwitch inputs.events.items) }
-    ensures few { IfOk result (λ inputs. vec_len inputs.events ≤ 100000) }
+    ensures few { IfOk result (λ inputs. vec_len inputs.events ≤ MAX_EVENTS) }
     ensures own_ports { IfOk result (λ inputs. NamesOwnPorts inputs.policy) }
 {
     let events = read_schedule(alloc, shelf, words.schedule)?;

@@ -3,6 +3,7 @@ ghost use Rattle.std.specs.Prelude.{◌≡◌, ◌≤◌, ◌<◌, ◌+◌, Ok, 
 ghost use Rattle.std.specs.Option.{ForSome};
 ghost use Rattle.replay.specs.Text.{journal_text};
 ghost use Rattle.schedule.specs.OneSwitch.{IsOfOneSwitch, NamesOwnPorts};
+ghost use Rattle.schedule.specs.declared.plain.TheConstants.{MAX_EVENTS};
 ghost use Rattle.shelf.specs.Faults.{Rose};
 ghost use Rattle.shelf.specs.Sink.{GainedPart, gained};
 ghost use Rattle.update_machine.specs.Answers.{Answers};
@@ -25,7 +26,7 @@ const BLOCK: usize = 1_024;
 /// Plays the inputs and writes the journal. What comes of it is told for whatever is known of them.
 pub fn play<K: Sink>(alloc: Global, inputs: ReplayInputs, out: &mut K) -> (Status, Journal)
     requires one_switch { All IsOfOneSwitch inputs.events.items }
-    requires few { vec_len inputs.events ≤ 100000 }
+    requires few { vec_len inputs.events ≤ MAX_EVENTS }
     requires own_ports { NamesOwnPorts inputs.policy }
     ensures outcome { (known : Known) → ForSome known (λ read. read ≡ Ok (inputs_stated inputs))
         → Outcome known result.0 result.1 (K.state out.old).bytes (K.state out.new).bytes }
@@ -45,7 +46,7 @@ pub fn play<K: Sink>(alloc: Global, inputs: ReplayInputs, out: &mut K) -> (Statu
 }
 
 fn journal_of(alloc: Global, inputs: ReplayInputs) -> Result<Journal, AllocError>
-    requires { vec_len inputs.events ≤ 100000 }
+    requires { vec_len inputs.events ≤ MAX_EVENTS }
     ensures { IfOk result (λ journal.
         Answers (inputs_stated inputs).setting (inputs_stated inputs).events journal) }
 {

@@ -1,4 +1,5 @@
 ghost use Rattle.std.specs.Prelude.{◌≡◌, ◌++◌, ◌∷◌, [], ◌≤◌, ◌<◌, length, vec_len, IfOk, OnOk};
+ghost use Rattle.schedule.specs.declared.plain.TheConstants.{MAX_EVENTS};
 ghost use Rattle.update_machine.specs.Answers.{Answers, ending, next_packet, packet_piece, piece};
 
 use policy_rules::{Action, Header, Hit, How, Leaving, Policy};
@@ -22,7 +23,7 @@ pub struct Played {
 /// Want of memory alone.
 pub fn replay(alloc: Global, policies: Vec<Policy>, events: &[Event]) -> Result<Played, AllocError>
     requires some_policy { 0 < vec_len policies }
-    requires few_events { length events.now ≤ 100000 }
+    requires few_events { length events.now ≤ MAX_EVENTS }
     ensures { IfOk result (λ played.
         Answers (record { policies = policies.items }) events.now played.journal) }
 {

@@ -5,7 +5,7 @@
 //! it; faults, and the reads of a shelf, are counted by each kind. What is promised is exact where
 //! the content is known: a read answers the named file or says why not, and a write appends what it
 //! took. Where it isn't known, an error other than want of memory comes only where the count of
-//! faults rose.
+//! faults rose. No shelf answers more bytes than it was asked for.
 //!
 //! The kinds in memory can be ordered to fail at given calls, or never fail. The kinds over the
 //! system are a few lines that are trusted.

@@ -1,5 +1,5 @@
 //! The source of whole files, and a look-up among files in memory.
-ghost use Rattle.std.specs.Prelude.{◌≡◌, ◌≤◌, ◌↔◌, IfOk, IsErrOf, false, find, string_bytes};
+ghost use Rattle.std.specs.Prelude.{◌≡◌, ◌≤◌, ◌↔◌, IfOk, IsErrOf, false, find, length, string_bytes};
 ghost use Rattle.std.specs.Option.{ForSome, ForNone, option_copied};
 ghost use Rattle.std.specs.Str.{bytes_eq};
 ghost use Rattle.shelf.specs.Faults.{Rose, counted};
@@ -48,6 +48,8 @@ pub trait Shelf {
         ensures faults { (state self.old).faults ≤ (state self.new).faults }
         ensures failed { IsErrOf result ShelfError.Failed
             → Rose (state self.old).faults (state self.new).faults }
+
+        ensures within { IfOk result (λ content. length content.items ≤ limit) }
 
         // Where files are known, they decide what a call answers that is served.
         ensures content { IfOk result (λ content.

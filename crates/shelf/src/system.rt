@@ -51,7 +51,9 @@ fn read_file<R: Files + AllocGlobal>(
     system: &R,
     name: &str,
     limit: u64,
-) -> Result<Vec<u8>, ShelfError> {
+) -> Result<Vec<u8>, ShelfError>
+    ensures { IfOk result (λ content. length content.items ≤ limit) }
+{
     let file = File::open(system, name).map_err(|error| cause(error, ShelfError::Missing))?;
     let mut content = Vec::new(system.alloc());
     file.take(limit.saturating_add(1))
@@ -82,6 +84,7 @@ impl<R: Files + AllocGlobal + Drop> Shelf for DiskShelf<R> {
           reads = counted self.old.reads;
         } }
         ensures faults { self.old.faults ≤ self.new.faults }
+        ensures within { IfOk result (λ content. length content.items ≤ limit) }
     {
         self.reads = self.reads.saturating_add(1);
         let content = read_file(&self.system, name, limit);

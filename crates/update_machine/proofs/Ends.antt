@@ -15,7 +15,7 @@ use Rattle.schedule.specs.declared.step.Event.{Event}
 use Rattle.schedule.specs.declared.step.Event.TheVariants.{One}
 use Rattle.update_machine.specs.declared.journal.Item.{Item}
 use Rattle.update_machine.specs.Setting.{Setting, first_policy}
-use Rattle.update_machine.specs.Causes.{HasCause, HaveCauses, EndsHaveCauses, tells_entry, tells_decision}
+use Rattle.update_machine.specs.Causes.{HasCause, HaveCauses, EndsHaveCauses, tells_decision, tells_header, tells_place}
 use Rattle.update_machine.specs.Folds.{last_told}
 use Rattle.update_machine.specs.Answers.{AreFirstSteps, BeginsAnswer, StepOfRow, after_steps, ending, next_packet, piece}
 use Rattle.update_machine.proofs.FoldLemmas.{last_told_append}
@@ -36,9 +36,13 @@ own_scan : (rows : List Row) (header : Header) → NamesOwnPorts rows → HasSma
 own_scan rows header own = own_match rows header (scan rows header).rule (scan rows header).action own (first_match-scan rows header)
 
 -- what the items of a piece tell of their packet
-told_entry : (setting : Setting) (journal : List Item) (number row switch : ℕ) (header : Header) →
-    last_told (tells_entry number) (journal ++ decided_items setting number row switch header) ≡ Some (record { switch = switch; header = header })
-told_entry setting journal number row switch header = rw (last_told_append (tells_entry number) journal, eqb_itself number) refl
+told_place : (setting : Setting) (journal : List Item) (number row switch : ℕ) (header : Header) →
+    last_told (tells_place number) (journal ++ decided_items setting number row switch header) ≡ Some switch
+told_place setting journal number row switch header = rw (last_told_append (tells_place number) journal, eqb_itself number) refl
+
+told_header : (setting : Setting) (journal : List Item) (number row switch : ℕ) (header : Header) →
+    last_told (tells_header number) (journal ++ decided_items setting number row switch header) ≡ Some header
+told_header setting journal number row switch header = rw (last_told_append (tells_header number) journal, eqb_itself number) refl
 
 told_decision : (setting : Setting) (journal : List Item) (number row switch : ℕ) (header : Header) →
     last_told (tells_decision number) (journal ++ decided_items setting number row switch header) ≡ Some (record { version = 1; rule = (scan (first_policy setting) header).rule })
@@ -51,7 +55,8 @@ by_action setting journal number row switch header one (action.Out port) own =
     let last = ending number header (scan (first_policy setting) header) (action.Out port) in
     let cause : HasCause setting (journal ++ decided_items setting number row switch header) last = record {
       switch = switch;
-      stands = told_entry setting journal number row switch header;
+      stands = told_place setting journal number row switch header;
+      header = told_header setting journal number row switch header;
       has_port = (one, own);
       decided = told_decision setting journal number row switch header;
       number = refl;

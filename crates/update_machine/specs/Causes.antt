@@ -8,15 +8,17 @@ use Rattle.update_machine.specs.declared.journal.Item.TheVariants as item
 use Rattle.update_machine.specs.Folds.{last_told}
 use Rattle.update_machine.specs.Setting.{Setting}
 
--- where and with which header the packet came in
-pub record Entry : Type 0 where
-  pub switch : ℕ
-  pub header : Header
+-- where the packet stands: at the switch where it came in
+abbrev pub tells_place : ℕ → Item → Option ℕ
+tells_place number (item.Entered packet switch header) =
+    if packet == number then Some switch else None
+tells_place number _ = None
 
-abbrev pub tells_entry : ℕ → Item → Option Entry
-tells_entry number (item.Entered packet switch header) =
-    if packet == number then Some (record { switch = switch; header = header }) else None
-tells_entry number _ = None
+-- the header with which the packet came in
+abbrev pub tells_header : ℕ → Item → Option Header
+tells_header number (item.Entered packet switch header) =
+    if packet == number then Some header else None
+tells_header number _ = None
 
 -- which version decided the packet, by which rule
 pub record Decision : Type 0 where
@@ -32,8 +34,8 @@ tells_decision number _ = None
 pub record LeavesRightly (setting : Setting) (before : List Item) (packet port : ℕ)
     (leaving : Leaving) : Type 0 where
   pub switch : ℕ
-  pub stands : last_told (tells_entry packet) before
-      ≡ Some (record { switch = switch; header = leaving.header })
+  pub stands : last_told (tells_place packet) before ≡ Some switch
+  pub header : last_told (tells_header packet) before ≡ Some leaving.header
   pub has_port : HasPort switch port
   pub decided : last_told (tells_decision packet) before
       ≡ Some (record { version = leaving.version; rule = leaving.rule })
