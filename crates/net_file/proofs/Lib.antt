@@ -1,0 +1,6 @@
+pub mod Values
+pub mod Masks
+pub mod FreshPorts
+pub mod Steps
+pub mod Sound
+pub mod Places

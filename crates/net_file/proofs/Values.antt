@@ -1,0 +1,17 @@
+-- A `Value`'s items as a list.
+use Rattle.std.proofs.Common.{ℕ, ◌≡◌, ◌+◌, ◌<◌, ◌≤◌, List, [], ◌∷◌, length, drop, get_or, map, refl, ap, sym, ◌∙◌}
+use Rattle.std.proofs.lemmas.List.{drop_all, drop_more}
+use Rattle.toml.specs.View.{items_view, view}
+use Rattle.toml.specs.declared.value.Value.{Value}
+use Rattle.net_file.specs.Keys.{items_list}
+
+pub items_list_view : (vs : List Value) → items_list (items_view vs) ≡ map view vs
+items_list_view [] = refl
+items_list_view (v ∷ vs) = ap (λ ds. view v ∷ ds) (items_list_view vs)
+
+-- the values from one on, and past the last
+pub values_more : (vs : List Value) (i : ℕ) (v : Value) → i < length vs → v ≡ get_or vs i v → map view (drop i vs) ≡ view v ∷ map view (drop (i + 1) vs)
+values_more vs i v within is = ap (map view) (drop_more vs i v within) ∙ ap (λ x. view x ∷ map view (drop (i + 1) vs)) (sym is)
+
+pub values_end : (vs : List Value) (i : ℕ) → length vs ≤ i → map view (drop i vs) ≡ []
+values_end vs i past = ap (map view) (drop_all i vs past)

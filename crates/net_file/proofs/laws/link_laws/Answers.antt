@@ -1,0 +1,5 @@
+use Rattle.net_file.proofs.Places.{links}
+use Rattle.net_file.proofs.laws.link_laws.Goals as goal
+
+pub returns : goal.returns
+returns c = links

@@ -1,0 +1,5 @@
+use Rattle.net_file.proofs.Places.{names}
+use Rattle.net_file.proofs.laws.name_laws.Goals as goal
+
+pub returns : goal.returns
+returns c = names

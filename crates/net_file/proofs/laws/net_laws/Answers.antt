@@ -1,0 +1,5 @@
+use Rattle.net_file.proofs.Sound.{stated}
+use Rattle.net_file.proofs.laws.net_laws.Goals as goal
+
+pub returns-clause-stated : goal.returns-clause-stated
+returns-clause-stated c = stated

@@ -1,0 +1,35 @@
+use Rattle.std.proofs.Common.{◌||◌, take, take_all, ap, sym, ◌∙◌}
+use Rattle.std.specs.Prelude.{nat_eq}
+use Rattle.std.proofs.lemmas.List.Folds.{list_any_more}
+use Rattle.net_file.specs.Net.{are_linked, joins}
+use Rattle.net_file.proofs.FreshPorts.{or_nothing}
+use Rattle.net_file.proofs.Masks.{in_mask_with, mask_of_is}
+use Rattle.net_file.proofs.net.Net.links_of.Goals as goal
+use Rattle.net_file.proofs.net.Net.links_of.Goals.{in-Some, in_default}
+
+pub loop-link-preserved : goal.loop-link-preserved
+loop-link-preserved c =
+    let inv = c.loop-link.invariant in
+    let links = c.rows-link-items.result.now in
+    let i = c.loop-link.link-index in
+    let s = c.args.switch in
+    let mask = c.loop-link.mask in
+    elim c.match-other_end.branch [
+      | in-Some w ↦ record {
+        items = inv.items;
+        small = rw w.mask-is w.with-mask.ensures.small;
+        bits = λ k. rw (w.mask-is, w.with-mask.ensures.bits) (in_mask_with mask w.in-Some.other k ∙ ap (λ b. b || nat_eq k w.in-Some.other) (inv.bits k)
+            ∙ ap (λ b. are_linked (take i links) s k || b) (sym (w.in-Some.ensures.other k)) ∙ sym (list_any_more (joins s k) links i _ c.loop-link-test.true));
+      }
+      | in_default w ↦ record {
+        items = inv.items;
+        small = rw w.mask-is inv.small;
+        bits = λ k. rw w.mask-is (inv.bits k ∙ sym (or_nothing (are_linked (take i links) s k))
+            ∙ ap (λ b. are_linked (take i links) s k || b) (sym (w.in_default.ensures.none k)) ∙ sym (list_any_more (joins s k) links i _ c.loop-link-test.true));
+      }
+    ]
+
+pub returns : goal.returns
+returns c =
+    let inv = c.loop-link.invariant in
+    mask_of_is c.loop-link.mask _ inv.small (λ k. inv.bits k ∙ ap (λ links. are_linked links c.args.switch k) (take_all c.loop-link.link-index c.rows-link-items.result.now c.loop-link-test.false ∙ inv.items))

@@ -1,0 +1,11 @@
+use Rattle.std.proofs.Common.{inl, inr, sym, ◌∙◌}
+use Rattle.std.proofs.lemmas.Bool.{cases_lt}
+use Rattle.net_file.proofs.Places.{no_owner}
+use Rattle.net_file.proofs.net.Net.ports.Goals as goal
+
+pub returns : goal.returns
+returns c = λ port.
+    elim (cases_lt port 64) [
+      | inl small ↦ rw (← c.rows.ensures) (c.owners.ensures.owners port small)
+      | inr past ↦ c.owners.ensures.past port past ∙ sym (no_owner c.args.self.now.switches port c.requires.switches past)
+    ]

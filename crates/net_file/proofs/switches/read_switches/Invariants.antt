@@ -1,0 +1,13 @@
+use Rattle.std.proofs.Common.{◌≡◌, [], drop, map, length}
+use Rattle.toml.specs.View.{view}
+use Rattle.net_file.specs.Net.{IsMask, have_port}
+use Rattle.net_file.specs.Reading.{rows_from, switch_of}
+use Rattle.net_file.proofs.switches.read_switches.Given as goal
+
+abbrev pub invariant-loop-value : goal.invariant-loop-value
+invariant-loop-value l = record {
+  rest : rows_from 0 switch_of [] (map view l.values) ≡ rows_from 0 switch_of l.rows.items (map view (drop l.value-index l.values));
+  count : length l.rows.items ≡ l.value-index;
+  row : l.row ≡ l.value-index;
+  taken : IsMask l.taken (have_port l.rows.items);
+}

@@ -1,0 +1,31 @@
+-- The values of a TOML table: what stands at a key, and the refusal of what is absent, of another type or
+-- out of range.
+use Rattle.std.specs.Prelude.{ℕ, ℤ, pos, negsuc, ◌&&◌, nat_le, if◌then◌else◌, Option, Some, None, Result, Ok, Err, List, [], ◌∷◌}
+use Rattle.std.specs.Option.{option_map_or}
+use Rattle.toml.specs.Data.{Data, Items, no_items, item, Members, get_member}
+use Rattle.net_file.specs.declared.error.NetRefusal.{NetRefusal}
+use Rattle.net_file.specs.declared.error.NetRefusal.TheVariants as refusal
+
+-- the items of an array as a list
+abbrev pub items_list : Items → List Data
+items_list no_items = []
+items_list (item d ds) = d ∷ items_list ds
+
+-- a value of the type, or the refusal of another type
+abbrev pub of_type : {X : Type 0} → Option X → Result X NetRefusal
+of_type (Some value) = Ok value
+of_type None = Err refusal.WrongType
+
+-- what a key's value is read as, or what stands for it where the key is absent
+abbrev pub at_key : {X : Type 0} → (Data → Result X NetRefusal) → Result X NetRefusal → Members → List ℕ
+    → Result X NetRefusal
+at_key read absent table key = option_map_or read (get_member key table) absent
+
+-- the integer, if it lies from low to high
+abbrev pub within : ℕ → ℕ → ℤ → Option ℕ
+within low high (pos n) = if nat_le low n && nat_le n high then Some n else None
+within low high (negsuc n) = None
+
+-- an integer that must lie from low to high
+abbrev pub number_within : ℕ → ℕ → ℤ → Result ℕ NetRefusal
+number_within low high z = option_map_or Ok (within low high z) (Err refusal.Range)

@@ -1,0 +1,55 @@
+-- The laws of networks: `x_laws` of the crate ensures the record of each.
+use Rattle.std.specs.Prelude.{ℕ, ◌≡◌, ◌≢◌, ◌^◌, ◌<◌, ◌≤◌, ◌==◌, Bool, true, false, Some, is_some, List, All, length, slice_get, codes}
+use Rattle.std.specs.Int.{bit_at}
+use Rattle.net_file.specs.declared.net.SwitchRow.{SwitchRow}
+use Rattle.net_file.specs.declared.net.LinkRow.{LinkRow}
+use Rattle.net_file.specs.declared.net.Net.{Net}
+use Rattle.net_file.specs.Net.{IsMask, IsNet, are_linked, has_port, have_name, is_name, links_of, mask_of, owner_of, port_mask, switch_number}
+
+pub record MaskLaws : Type 0 where
+  pub small : (test : ℕ → Bool) → mask_of test < 2 ^ 64
+  pub bits : (test : ℕ → Bool) (k : ℕ) → k < 64 → (bit_at (mask_of test) k == 1) ≡ test k
+  -- a word of 64 bits is the mask of a test that says what bits it has
+  pub unique : (mask : ℕ) (test : ℕ → Bool) → mask < 2 ^ 64 → IsMask mask test → mask ≡ mask_of test
+
+-- the byte ends no field of a record, no word and no line
+pub record IsPlainByte (byte : ℕ) : Type 0 where
+  pub no_comma : byte ≢ 44
+  pub no_blank : byte ≢ 32
+  pub no_line_feed : byte ≢ 10
+
+pub record NameLaws : Type 0 where
+  pub plain : (name : List ℕ) → is_name name ≡ true → All IsPlainByte name
+  pub size : (name : List ℕ) → is_name name ≡ true → (1 ≤ length name) × (length name ≤ 16)
+  pub not_controller : (name : List ℕ) → is_name name ≡ true → name ≢ codes "controller"
+  -- the number of a name is that of the switch that has it
+  pub number : (net : Net) (s : ℕ) (row : SwitchRow) → IsNet net
+      → slice_get net.switches s ≡ Some row → switch_number net.switches row.name ≡ Some s
+  pub named : (switches : List SwitchRow) (name : List ℕ) (s : ℕ)
+      → switch_number switches name ≡ Some s
+      → (row : SwitchRow) × (slice_get switches s ≡ Some row) × (row.name ≡ name)
+  pub below : (switches : List SwitchRow) (name : List ℕ) (s : ℕ)
+      → switch_number switches name ≡ Some s → s < length switches
+  pub some : (switches : List SwitchRow) (name : List ℕ)
+      → is_some (switch_number switches name) ≡ have_name switches name
+
+pub record PortLaws : Type 0 where
+  -- the owner of a port is the one switch that has it
+  pub owner : (net : Net) (port s : ℕ) (row : SwitchRow) → IsNet net
+      → slice_get net.switches s ≡ Some row → has_port port row ≡ true
+      → owner_of net.switches port ≡ Some s
+  pub has : (switches : List SwitchRow) (port s : ℕ) → owner_of switches port ≡ Some s
+      → (row : SwitchRow) × (slice_get switches s ≡ Some row) × (has_port port row ≡ true)
+  pub below : (switches : List SwitchRow) (port s : ℕ) → owner_of switches port ≡ Some s
+      → s < length switches
+  pub small : (net : Net) (port s : ℕ) → IsNet net → owner_of net.switches port ≡ Some s → port < 64
+  pub mask : (net : Net) (port : ℕ) → IsNet net
+      → (bit_at (port_mask net.switches) port == 1) ≡ is_some (owner_of net.switches port)
+
+pub record LinkLaws : Type 0 where
+  pub both_ways : (links : List LinkRow) (s x : ℕ) → are_linked links s x ≡ are_linked links x s
+  pub not_itself : (net : Net) (s : ℕ) → IsNet net → are_linked net.links s s ≡ false
+  pub below : (net : Net) (s x : ℕ) → IsNet net → are_linked net.links s x ≡ true
+      → x < length net.switches
+  pub mask : (net : Net) (s : ℕ) → IsNet net
+      → IsMask (links_of net.links s) (are_linked net.links s)

@@ -1,0 +1,7 @@
+pub mod Refusals
+pub mod Keys
+pub mod Net
+pub mod Reading
+pub mod Owners
+pub mod Laws
+pub mod Stated

@@ -1,0 +1,158 @@
+-- The network that a text states: a TOML 1.1 document, checked in the order of the network file.
+use Rattle.std.specs.Prelude.{ℕ, ◌+◌, ◌==◌, Bool, true, ◌&&◌, not, nat_eq, nat_le, nat_lt, is_some, if◌then◌else◌, Option, Some, None, option_and_then, ok_or, Result, Ok, Err, List, [], ◌∷◌, ◌++◌, length, codes, filter_map}
+use Rattle.std.specs.List.{list_all, list_any}
+use Rattle.std.specs.Str.{is_utf8}
+use Rattle.toml.specs.Data.{Data, Members, as_integer, as_str, as_array, as_table}
+use Rattle.toml.specs.Parse.{parse_document}
+use Rattle.net_file.specs.Keys.{at_key, items_list, number_within, of_type, within}
+use Rattle.net_file.specs.Net.{are_linked, have_name, have_port, is_name, mask_of, switch_number}
+use Rattle.net_file.specs.Refusals.{Refusal, in_row, require, with_value}
+use Rattle.net_file.specs.declared.error.NetRefusal.{NetRefusal}
+use Rattle.net_file.specs.declared.error.NetRefusal.TheVariants as refusal
+use Rattle.net_file.specs.declared.net.SwitchRow.{SwitchRow}
+use Rattle.net_file.specs.declared.net.LinkRow.{LinkRow}
+use Rattle.net_file.specs.declared.net.Net.{Net}
+
+-- ---- kinds of values
+
+abbrev pub number_in : ℕ → ℕ → Data → Result ℕ NetRefusal
+number_in low high d = with_value (of_type (as_integer d)) (number_within low high)
+
+abbrev pub array_in : Data → Result (List Data) NetRefusal
+array_in d = with_value (of_type (as_array d)) (λ items. Ok (items_list items))
+
+abbrev pub name_in : Data → Result (List ℕ) NetRefusal
+name_in d = with_value (of_type (as_str d)) (λ text. require (is_name text) refusal.Range (Ok text))
+
+-- a port of the array `ports`
+abbrev pub port_of : Data → Option ℕ
+port_of d = option_and_then (within 0 63) (as_integer d)
+
+abbrev pub ports_of : List Data → List ℕ
+ports_of ds = filter_map port_of ds
+
+-- the ports of an array; each is looked at for its type before any for its range
+abbrev pub ports_in : Data → Result (List ℕ) NetRefusal
+ports_in d =
+    with_value (array_in d) (λ ports.
+    require (list_all (λ port. is_some (as_integer port)) ports) refusal.WrongType (
+    require (list_all (λ port. is_some (port_of port)) ports) refusal.Range (
+    Ok (ports_of ports))))
+
+-- exactly two texts
+abbrev pub texts_of : List Data → Option (List ℕ × List ℕ)
+texts_of (one ∷ two ∷ []) =
+    option_and_then (λ one. option_and_then (λ two. Some (one, two)) (as_str two)) (as_str one)
+texts_of _ = None
+
+abbrev pub ends_in : Data → Result (List ℕ × List ℕ) NetRefusal
+ends_in d = with_value (array_in d) (λ ends. of_type (texts_of ends))
+
+-- ---- settings
+
+-- a number of the document, or its default where the key is absent
+abbrev pub setting_of : Members → List ℕ → ℕ → ℕ → ℕ → Result ℕ NetRefusal
+setting_of table key low high default = at_key (number_in low high) (Ok default) table key
+
+-- ---- switches
+
+-- the array `switch` itself
+abbrev pub switch_array : Members → Result (List Data) NetRefusal
+switch_array table =
+    with_value (at_key array_in (Err refusal.MissingKey) table (codes "switch")) (λ switches.
+    require (nat_le (length switches) 64) refusal.TooMany (
+    require (nat_lt 0 (length switches)) refusal.Range (
+    Ok switches)))
+
+-- no number stands twice
+abbrev pub are_distinct : List ℕ → Bool
+are_distinct [] = true
+are_distinct (x ∷ xs) = not (list_any (nat_eq x) xs) && are_distinct xs
+
+-- the ports stand neither twice nor in an earlier switch
+abbrev pub are_new : List SwitchRow → List ℕ → Bool
+are_new earlier ports = are_distinct ports && not (list_any (have_port earlier) ports)
+
+abbrev pub name_of : Members → Result (List ℕ) NetRefusal
+name_of keys = at_key name_in (Err refusal.MissingKey) keys (codes "name")
+
+abbrev pub ports_at : Members → Result (List ℕ) NetRefusal
+ports_at keys = at_key ports_in (Ok []) keys (codes "ports")
+
+-- a list of ports as a mask
+abbrev pub port_bits : List ℕ → ℕ
+port_bits ports = mask_of (λ port. list_any (nat_eq port) ports)
+
+-- the switch that these keys state, after the earlier switches
+abbrev pub switch_with : List SwitchRow → Members → Result SwitchRow NetRefusal
+switch_with earlier keys =
+    with_value (name_of keys) (λ name.
+    with_value (ports_at keys) (λ ports.
+    with_value (setting_of keys (codes "authority") 0 8192 0) (λ room.
+    require (not (have_name earlier name)) refusal.DuplicateName (
+    require (are_new earlier ports) refusal.DuplicatePort (
+    Ok (record { name = name; ports = port_bits ports; room = room }))))))
+
+abbrev pub switch_of : List SwitchRow → Data → Result SwitchRow NetRefusal
+switch_of earlier d = with_value (of_type (as_table d)) (switch_with earlier)
+
+-- ---- links
+
+-- the array `link` itself
+abbrev pub link_array : Members → Result (List Data) NetRefusal
+link_array table =
+    with_value (at_key array_in (Ok []) table (codes "link")) (λ links.
+    require (nat_le (length links) 256) refusal.TooMany (
+    Ok links))
+
+abbrev pub end_of : List SwitchRow → List ℕ → Result ℕ NetRefusal
+end_of switches name = ok_or (switch_number switches name) refusal.UnknownName
+
+-- the link that these keys state, after the earlier links
+abbrev pub link_with : List SwitchRow → List LinkRow → Members → Result LinkRow NetRefusal
+link_with switches earlier keys =
+    with_value (at_key ends_in (Err refusal.MissingKey) keys (codes "ends")) (λ ends.
+    with_value (end_of switches ends.0) (λ one.
+    with_value (end_of switches ends.1) (λ two.
+    require (not (one == two)) refusal.SelfLink (
+    require (not (are_linked earlier one two)) refusal.DuplicateLink (
+    Ok (record { one = one; two = two }))))))
+
+abbrev pub link_of : List SwitchRow → List LinkRow → Data → Result LinkRow NetRefusal
+link_of switches earlier d = with_value (of_type (as_table d)) (link_with switches earlier)
+
+-- ---- documents
+
+-- the rows that values state, one after another behind the earlier ones; or the first refusal, whose row
+-- is base and the number of the value, counted from 1
+abbrev pub rows_from : {X : Type 0} → ℕ → (List X → Data → Result X NetRefusal) → List X → List Data
+    → Result (List X) Refusal
+rows_from base read earlier [] = Ok earlier
+rows_from base read earlier (d ∷ ds) =
+    with_value (in_row (base + (length earlier + 1)) (read earlier d)) (λ row. rows_from base read (earlier ++ row ∷ []) ds)
+
+abbrev pub switches_in : List Data → Result (List SwitchRow) Refusal
+switches_in ds = rows_from 0 switch_of [] ds
+
+abbrev pub links_in : List SwitchRow → List Data → Result (List LinkRow) Refusal
+links_in switches ds = rows_from 100 (link_of switches) [] ds
+
+-- the network that a document states, or its first refusal
+abbrev pub net_in : Members → Result Net Refusal
+net_in table =
+    with_value (in_row 0 (setting_of table (codes "leaf_rules") 1 8192 64)) (λ leaf_rules.
+    with_value (in_row 0 (setting_of table (codes "backups") 0 3 0)) (λ backups.
+    with_value (in_row 0 (setting_of table (codes "cache") 0 65536 256)) (λ cache.
+    with_value (in_row 0 (switch_array table)) (λ switch_values.
+    with_value (switches_in switch_values) (λ switches.
+    with_value (in_row 0 (link_array table)) (λ link_values.
+    with_value (links_in switches link_values) (λ links.
+    Ok (record { switches = switches; links = links; leaf_rules = leaf_rules; backups = backups; cache = cache }))))))))
+
+-- the document of some bytes, as the crate `toml` reads UTF-8
+abbrev pub document_of : List ℕ → Option Members
+document_of bytes = if is_utf8 bytes then parse_document bytes else None
+
+-- the network that a text states, or its first refusal
+unfoldable pub net_of : List ℕ → Result Net Refusal
+net_of bytes = with_value (in_row 0 (ok_or (document_of bytes) refusal.Toml)) net_in

@@ -1,0 +1,44 @@
+-- Why a text states no network.
+use Rattle.std.specs.Prelude.{ℕ, ◌≡◌, Bool, if◌then◌else◌, Result, Ok, Err}
+use Rattle.net_file.specs.declared.error.NetRefusal.{NetRefusal}
+use Rattle.net_file.specs.declared.error.NetRefusal.TheVariants as refusal
+use Rattle.net_file.specs.declared.error.NetError.{NetError}
+use Rattle.net_file.specs.declared.error.NetError.TheVariants as error
+
+-- the numbers by which refusals are known outside
+abbrev pub code_of : NetRefusal → ℕ
+code_of refusal.Toml = 1
+code_of refusal.MissingKey = 2
+code_of refusal.WrongType = 3
+code_of refusal.Range = 4
+code_of refusal.UnknownName = 5
+code_of refusal.DuplicateName = 6
+code_of refusal.DuplicatePort = 7
+code_of refusal.SelfLink = 8
+code_of refusal.DuplicateLink = 9
+code_of refusal.TooMany = 10
+
+-- what is wrong, and in which row: 0 for a key of the document, k for the k-th switch, 100 + k for the
+-- k-th link
+pub record Refusal : Type 0 where
+  pub refusal : NetRefusal
+  pub row : ℕ
+
+-- what follows from a value; or its refusal
+abbrev pub with_value : {X Y E : Type 0} → Result X E → (X → Result Y E) → Result Y E
+with_value (Ok value) next = next value
+with_value (Err refusal) next = Err refusal
+
+-- what follows, where the condition holds; or else the refusal
+abbrev pub require : {Y E : Type 0} → Bool → E → Result Y E → Result Y E
+require holds refusal next = if holds then next else Err refusal
+
+-- a value, or its refusal in this row
+abbrev pub in_row : {X : Type 0} → ℕ → Result X NetRefusal → Result X Refusal
+in_row row (Ok value) = Ok value
+in_row row (Err refusal) = Err (record { refusal = refusal; row = row })
+
+-- the error is the refusal, or want of memory
+abbrev pub IsRefusal : {X : Type 0} → Result X Refusal → NetError → Type 0
+IsRefusal read (error.Refused refusal row) = read ≡ Err (record { refusal = refusal; row = row })
+IsRefusal read error.NoMemory = Unit {0}

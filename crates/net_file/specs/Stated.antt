@@ -1,0 +1,6 @@
+-- What is read of a switch before its name is copied.
+use Rattle.net_file.specs.declared.net.SwitchRow.{SwitchRow}
+use Rattle.net_file.specs.declared.switches.Stated.{Stated}
+
+abbrev pub row_of : Stated → SwitchRow
+row_of stated = record { name = stated.name.now; ports = stated.ports; room = stated.room }

@@ -1,0 +1,76 @@
+ghost use Rattle.std.specs.Prelude.{◌≡◌};
+ghost use Rattle.net_file.specs.Refusals.{code_of};
+ghost use Rattle.net_file.specs.declared.error.NetError.TheVariants.{NoMemory, Refused};
+
+use std::alloc::{AllocError, AllocFailed};
+use thiserror::Error;
+
+/// What is wrong with a network's text.
+#[derive(Clone, Copy, Debug, PartialEq, Eq)]
+pub enum NetRefusal {
+    /// The bytes are no TOML document.
+    Toml = 1,
+    /// A key that must stand is absent: `switch`, `name` or `ends`.
+    MissingKey = 2,
+    /// A value is not of the type that its key wants.
+    WrongType = 3,
+    /// A number or a name is outside what its key takes, or there is no switch.
+    Range = 4,
+    /// An end of a link is no switch's name.
+    UnknownName = 5,
+    /// An earlier switch has the name.
+    DuplicateName = 6,
+    /// A port stands earlier in this or in another switch.
+    DuplicatePort = 7,
+    /// Both ends of a link are one switch.
+    SelfLink = 8,
+    /// An earlier link has these ends, in either order.
+    DuplicateLink = 9,
+    /// There are more than 64 switches, or more than 256 links.
+    TooMany = 10,
+}
+
+impl NetRefusal {
+    /// The refusal's number, from 1 to 10 in the order of the variants.
+    pub fn code(self) -> u32
+        ensures { result ≡ code_of self }
+    {
+        self as u32
+    }
+}
+
+/// Why a text is read as no network.
+#[derive(Clone, Copy, Debug, PartialEq, Eq, Error)]
+pub enum NetError {
+    /// The first refusal of the text, and its row: 0 for the keys of the document, k for the k-th
+    /// switch and 100 + k for the k-th link, both counted from 1.
+    #[error("row {row}: {refusal:?}")]
+    Refused { refusal: NetRefusal, row: u32 },
+    #[error("no memory")]
+    NoMemory,
+}
+
+/// A refusal of the document, or of one of its own keys, is in row 0.
+impl From<NetRefusal> for NetError {
+    ghost from_gives = { λ refusal e. e ≡ Refused refusal 0 };
+
+    fn from(refusal: NetRefusal) -> Self {
+        NetError::Refused { refusal, row: 0 }
+    }
+}
+
+impl From<AllocError> for NetError {
+    ghost from_gives = { λ _ e. e ≡ NoMemory };
+
+    fn from(_: AllocError) -> Self {
+        NetError::NoMemory
+    }
+}
+
+impl<T: Drop> From<AllocFailed<T>> for NetError {
+    ghost from_gives = { λ _ e. e ≡ NoMemory };
+
+    fn from(_: AllocFailed<T>) -> Self {
+        NetError::NoMemory
+    }
+}

@@ -1,0 +1,82 @@
+ghost use Rattle.std.specs.Prelude.{◌≡◌, option_map, map, Ok, Err, IfOk, IfErr};
+ghost use Rattle.toml.specs.Data.{as_str, as_table, get_member};
+ghost use Rattle.toml.specs.View.{table_view, view};
+ghost use Rattle.net_file.specs.Keys.{of_type, within};
+ghost use Rattle.net_file.specs.Reading.{array_in, number_in, setting_of};
+
+use crate::error::NetRefusal;
+use toml::{Table, Value};
+
+/// The value at a key of a table, if there is one.
+pub fn value_at<'a>(table: &'a Table, key: &str) -> Option<&'a Value>
+    ensures { option_map (λ v. view v.now) result ≡ get_member key.now (table_view table.now) }
+{
+    table.get(key)
+}
+
+/// The number, if it lies from low to high.
+pub fn within(low: u32, high: u32, number: i64) -> Option<u32>
+    ensures { result ≡ within low high number }
+{
+    if number < low as i64 || (high as i64) < number {
+        return None;
+    }
+    Some(number as u32)
+}
+
+/// The number that a value must be, from low to high.
+pub fn number_in(low: u32, high: u32, value: &Value) -> Result<u32, NetRefusal>
+    ensures { result ≡ number_in low high (view value.now) }
+{
+    let number = value.as_integer().ok_or(NetRefusal::WrongType)?;
+    within(low, high, number).ok_or(NetRefusal::Range)
+}
+
+/// The number at a key, from low to high, or the default where the key is absent.
+pub fn setting_of(
+    table: &Table,
+    key: &str,
+    low: u32,
+    high: u32,
+    default: u32,
+) -> Result<u32, NetRefusal>
+    ensures { result ≡ setting_of (table_view table.now) key.now low high default }
+{
+    match value_at(table, key) {
+        Some(value) => number_in(low, high, value),
+        None => Ok(default),
+    }
+}
+
+/// The values of an array.
+pub fn array_in(value: &Value) -> Result<&[Value], NetRefusal>
+    ensures values { IfOk result (λ values. array_in (view value.now) ≡ Ok (map view values.now)) }
+    ensures refused { IfErr result (λ refusal. array_in (view value.now) ≡ Err refusal) }
+{
+    match value.as_array() {
+        Some(values) => Ok(values.as_slice()),
+        None => Err(NetRefusal::WrongType),
+    }
+}
+
+/// The keys of a table.
+pub fn table_in(value: &Value) -> Result<&Table, NetRefusal>
+    ensures keys { IfOk result (λ keys. of_type (as_table (view value.now)) ≡ Ok (table_view keys.now)) }
+    ensures refused { IfErr result (λ refusal. of_type (as_table (view value.now)) ≡ Err refusal) }
+{
+    match value.as_table() {
+        Some(keys) => Ok(keys),
+        None => Err(NetRefusal::WrongType),
+    }
+}
+
+/// The text that a value must be.
+pub fn text_in(value: &Value) -> Result<&str, NetRefusal>
+    ensures text { IfOk result (λ text. of_type (as_str (view value.now)) ≡ Ok text.now) }
+    ensures refused { IfErr result (λ refusal. of_type (as_str (view value.now)) ≡ Err refusal) }
+{
+    match value.as_str() {
+        Some(text) => Ok(text),
+        None => Err(NetRefusal::WrongType),
+    }
+}

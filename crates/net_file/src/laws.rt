@@ -1,0 +1,32 @@
+ghost use Rattle.std.specs.Prelude.{◌≡◌, ℕ, List, Ok};
+ghost use Rattle.net_file.specs.Laws.{LinkLaws, MaskLaws, NameLaws, PortLaws};
+ghost use Rattle.net_file.specs.Net.{IsNet, solo_net};
+ghost use Rattle.net_file.specs.Reading.{net_of};
+ghost use Rattle.net_file.specs.declared.net.Net.{Net};
+
+/// What a mask of a test is.
+pub fn mask_laws()
+    ensures { MaskLaws }
+{}
+
+/// Names and numbers of switches stand for each other, and no byte of a name ends a field, a word
+/// or a line.
+pub fn name_laws()
+    ensures { NameLaws }
+{}
+
+/// A port has one owner, and the mask of all ports has exactly those with one.
+pub fn port_laws()
+    ensures { PortLaws }
+{}
+
+/// Links go both ways, between two different switches of the network.
+pub fn link_laws()
+    ensures { LinkLaws }
+{}
+
+/// The network that a text states is sound, and so is the one of one switch.
+pub fn net_laws()
+    ensures stated { (bytes : List ℕ) (net : Net) → net_of bytes ≡ Ok net → IsNet net }
+    ensures solo { IsNet solo_net }
+{}

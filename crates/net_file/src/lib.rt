@@ -1,0 +1,29 @@
+//! Networks as TOML text: switches with their ports and rooms, links, and three settings.
+//!
+//! `read_net` promises the network that a text states, or the text's first refusal and its row.
+//! `Net` answers which switch has a name or a port and which switches links join, without memory.
+//!
+//! ```text
+//! let net = read_net(alloc, b"switch = [{ name = \"a\", ports = [1] }]")?;
+//! let switch = net.ports().owner(1); // Some(0), the number of `a`
+//! ```
+#![tactic(auto)]
+
+mod error;
+mod keys;
+mod laws;
+mod links;
+mod mask;
+mod net;
+mod ports;
+mod read;
+mod switches;
+#[cfg(test)]
+mod tests;
+
+pub use error::{NetError, NetRefusal};
+pub use laws::{link_laws, mask_laws, name_laws, net_laws, port_laws};
+pub use net::{LinkRow, Links, Name, Net, SwitchRow, Switches, solo};
+pub use ports::Ports;
+pub use read::read_net;
+pub use switches::is_name;

@@ -1,0 +1,125 @@
+ghost use Rattle.std.specs.Prelude.{◌≡◌, ◌≤◌, ◌<◌, ◌^◌, Ok, Err, [], IfOk, IfErr, length, map};
+ghost use Rattle.toml.specs.View.{table_view, view};
+ghost use Rattle.net_file.specs.Net.{are_linked, joins};
+ghost use Rattle.net_file.specs.Reading.{end_of, ends_in, link_array, link_of, link_with, links_in};
+ghost use Rattle.net_file.specs.Refusals.{IsRefusal};
+
+use crate::error::{NetError, NetRefusal};
+use crate::keys::{array_in, table_in, value_at};
+use crate::net::{LinkRow, SwitchRow, number_in};
+use std::alloc::Global;
+use toml::{Table, Value};
+
+/// The most links of a network.
+const MOST_LINKS: usize = 256;
+
+/// The row of a link is its number above this.
+const LINK_ROWS: u32 = 100;
+
+/// The values of the array `link`.
+pub fn link_array(table: &Table) -> Result<&[Value], NetRefusal>
+    ensures values { IfOk result (λ values. link_array (table_view table.now) ≡ Ok (map view values.now)) }
+    ensures few { IfOk result (λ values. length values.now ≤ 256) }
+    ensures refused { IfErr result (λ refusal. link_array (table_view table.now) ≡ Err refusal) }
+{
+    let Some(value) = value_at(table, "link") else {
+        return Ok(&[]);
+    };
+    let values = array_in(value)?;
+    if values.len() > MOST_LINKS {
+        return Err(NetRefusal::TooMany);
+    }
+    Ok(values)
+}
+
+// The two names that a value must be.
+fn ends_in(value: &Value) -> Result<(&str, &str), NetRefusal>
+    ensures ends { IfOk result (λ ends. ends_in (view value.now) ≡ Ok (ends.0.now, ends.1.now)) }
+    ensures refused { IfErr result (λ refusal. ends_in (view value.now) ≡ Err refusal) }
+{
+    let [one, two] = array_in(value)? else {
+        return Err(NetRefusal::WrongType);
+    };
+    match (one.as_str(), two.as_str()) {
+        (Some(one), Some(two)) => Ok((one, two)),
+        _ => Err(NetRefusal::WrongType),
+    }
+}
+
+// The number of the switch with this name.
+fn end_of(switches: &[SwitchRow], name: &str) -> Result<u32, NetRefusal>
+    requires { length switches.now ≤ 64 }
+    ensures { result ≡ end_of switches.now name.now }
+{
+    number_in(switches, name.as_bytes()).ok_or(NetRefusal::UnknownName)
+}
+
+// Whether one of the links joins these two switches.
+fn are_linked(links: &[LinkRow], one: u32, two: u32) -> bool
+    ensures { result ≡ are_linked links.now one two }
+{
+    links.iter().any(|link| link.joins(one, two))
+}
+
+// The link that the keys state, behind the earlier links.
+fn read_keys(
+    switches: &[SwitchRow],
+    earlier: &[LinkRow],
+    keys: &Table,
+) -> Result<LinkRow, NetRefusal>
+    requires { length switches.now ≤ 64 }
+    ensures { result ≡ link_with switches.now earlier.now (table_view keys.now) }
+{
+    let Some(value) = value_at(keys, "ends") else {
+        return Err(NetRefusal::MissingKey);
+    };
+    let (one, two) = ends_in(value)?;
+    let one = end_of(switches, one)?;
+    let two = end_of(switches, two)?;
+    if one == two {
+        return Err(NetRefusal::SelfLink);
+    }
+    if are_linked(earlier, one, two) {
+        return Err(NetRefusal::DuplicateLink);
+    }
+    Ok(LinkRow { one, two })
+}
+
+// The link that a value states.
+fn read_link(
+    switches: &[SwitchRow],
+    earlier: &[LinkRow],
+    value: &Value,
+) -> Result<LinkRow, NetRefusal>
+    requires { length switches.now ≤ 64 }
+    ensures { result ≡ link_of switches.now earlier.now (view value.now) }
+{
+    read_keys(switches, earlier, table_in(value)?)
+}
+
+/// The links that the values of the array `link` state.
+///
+/// # Errors
+/// The first refusal, in the row of its link, or want of memory.
+pub fn read_links(
+    alloc: Global,
+    switches: &[SwitchRow],
+    values: &[Value],
+) -> Result<Vec<LinkRow>, NetError>
+    requires few_switches { length switches.now ≤ 64 }
+    requires few_links { length values.now ≤ 256 }
+    ensures links { IfOk result (λ rows. links_in switches.now (map view values.now) ≡ Ok rows.items) }
+    ensures refused { IfErr result (IsRefusal (links_in switches.now (map view values.now))) }
+{
+    let mut rows = Vec::new(alloc);
+    let mut row = LINK_ROWS;
+    for value in values {
+        row += 1;
+        let link = match read_link(switches, &rows, value) {
+            Ok(link) => link,
+            Err(refusal) => return Err(NetError::Refused { refusal, row }),
+        };
+        rows.push(link)?;
+    }
+    Ok(rows)
+}

@@ -1,0 +1,323 @@
+ghost use Rattle.std.specs.Prelude.{◌≡◌, ◌≤◌, ◌<◌, ◌==◌, ℕ, false, IfOk, IfNone, IfSome, length};
+ghost use Rattle.net_file.specs.Net.{IsLink, IsNet, joins, links_of, owner_of, port_mask, solo_net, switch_number};
+ghost use Rattle.net_file.specs.Owners.{AreOwners};
+
+use crate::mask::{has, with};
+use crate::ports::{Ports, owners};
+use std::alloc::{AllocError, AllocFailed, Global};
+use std::marker::Model;
+
+/// A switch's name. Contracts see its bytes.
+#[derive(Drop)]
+pub struct Name {
+    bytes: Vec<u8>,
+}
+
+impl Model for Name {
+    ghost use Rattle.std.specs.Prelude.{List, ℕ};
+
+    ghost Value = { List ℕ };
+
+    ghost view = { λ n. n.bytes.items };
+}
+
+/// A switch of a network.
+#[derive(Drop)]
+pub struct SwitchRow {
+    pub name: Name,
+    /// The switch's ports: bit p is 1 exactly where it has the port p.
+    pub ports: u64,
+    /// How many rules the switch has room for as an authority: 0 where it is none.
+    pub room: u32,
+}
+
+/// A link between two switches, which are named by their numbers.
+#[derive(Clone, Copy, Debug, PartialEq, Eq)]
+pub struct LinkRow {
+    pub one: u32,
+    pub two: u32,
+}
+
+/// The switches of a network in the order of its text: a switch's number is its place, from 0.
+/// Contracts see the list.
+#[derive(Drop)]
+pub struct Switches {
+    rows: Vec<SwitchRow>,
+}
+
+impl Model for Switches {
+    ghost use Rattle.std.specs.Prelude.{List};
+    ghost use Rattle.net_file.specs.declared.net.SwitchRow.{SwitchRow};
+
+    ghost Value = { List SwitchRow };
+
+    ghost view = { λ s. s.rows.items };
+}
+
+/// The links of a network in the order of its text. Contracts see the list.
+#[derive(Drop)]
+pub struct Links {
+    rows: Vec<LinkRow>,
+}
+
+impl Model for Links {
+    ghost use Rattle.std.specs.Prelude.{List};
+    ghost use Rattle.net_file.specs.declared.net.LinkRow.{LinkRow};
+
+    ghost Value = { List LinkRow };
+
+    ghost view = { λ l. l.rows.items };
+}
+
+/// A network, with the settings of the trees that are cut for it.
+#[derive(Drop)]
+pub struct Net {
+    pub switches: Switches,
+    pub links: Links,
+    /// The most rules of a leaf of a cut tree.
+    pub leaf_rules: u32,
+    /// How many more switches than one hold each region.
+    pub backups: u32,
+    /// The most entries of a switch's cache.
+    pub cache: u32,
+}
+
+impl LinkRow {
+    /// Whether the link joins these two switches, in either order.
+    pub fn joins(&self, one: u32, two: u32) -> bool
+        ensures { result ≡ joins one two self.now }
+    {
+        (self.one == one && self.two == two) || (self.one == two && self.two == one)
+    }
+
+    // The end of the link that is not this switch, if the other one is.
+    fn other_end(&self, switch: u32) -> Option<u32>
+        requires { IsLink 64 self.now }
+        ensures small { IfSome result (λ other. other < 64) }
+        ensures other { IfSome result (λ other. (x : ℕ) → joins switch x self.now ≡ (x == other)) }
+        ensures none { IfNone result ((x : ℕ) → joins switch x self.now ≡ false) }
+    {
+        if self.one == switch {
+            Some(self.two)
+        } else if self.two == switch {
+            Some(self.one)
+        } else {
+            None
+        }
+    }
+}
+
+impl Switches {
+    /// These switches, numbered from 0.
+    pub fn new(rows: Vec<SwitchRow>) -> Switches
+        ensures { result ≡ rows.items }
+    {
+        Switches { rows }
+    }
+
+    /// The switches in the order of their numbers.
+    pub fn rows(&self) -> &[SwitchRow]
+        ensures { result.now ≡ self.now }
+    {
+        &self.rows
+    }
+}
+
+impl Links {
+    /// These links.
+    pub fn new(rows: Vec<LinkRow>) -> Links
+        ensures { result ≡ rows.items }
+    {
+        Links { rows }
+    }
+
+    /// The links in the order of the text.
+    pub fn rows(&self) -> &[LinkRow]
+        ensures { result.now ≡ self.now }
+    {
+        &self.rows
+    }
+}
+
+impl Name {
+    /// A copy of these bytes as a name.
+    ///
+    /// # Errors
+    /// Want of memory alone.
+    pub fn new(alloc: Global, bytes: &[u8]) -> Result<Name, AllocError>
+        ensures { IfOk result (λ name. name ≡ bytes.now) }
+    {
+        let bytes = Vec::from_slice(alloc, bytes)?;
+        Ok(Name { bytes })
+    }
+
+    /// The name's bytes.
+    pub fn bytes(&self) -> &[u8]
+        ensures { result.now ≡ self.now }
+    {
+        &self.bytes
+    }
+}
+
+// The place of the switch with this name.
+fn place_of(switches: &[SwitchRow], name: &[u8]) -> Option<usize>
+    ensures place { result ≡ switch_number switches.now name.now }
+    ensures there { IfSome result (λ place. place < length switches.now) }
+{
+    switches.iter().position(|row| row.name.bytes() == name)
+}
+
+/// The number of the switch with this name.
+pub(crate) fn number_in(switches: &[SwitchRow], name: &[u8]) -> Option<u32>
+    requires { length switches.now ≤ 64 }
+    ensures { result ≡ switch_number switches.now name.now }
+{
+    match place_of(switches, name) {
+        Some(place) => Some(place as u32),
+        None => None,
+    }
+}
+
+// The place of the switch that has the port.
+fn owner_place(switches: &[SwitchRow], port: u32) -> Option<usize>
+    requires { port < 64 }
+    ensures place { result ≡ owner_of switches.now port }
+    ensures there { IfSome result (λ place. place < length switches.now) }
+{
+    switches.iter().position(|row| has(row.ports, port))
+}
+
+/// The number of the switch that has the port.
+pub(crate) fn owner_in(switches: &[SwitchRow], port: u32) -> Option<u32>
+    requires few { length switches.now ≤ 64 }
+    requires port { port < 64 }
+    ensures owner { result ≡ owner_of switches.now port }
+    ensures small { IfSome result (λ owner. owner < 64) }
+{
+    match owner_place(switches, port) {
+        Some(place) => Some(place as u32),
+        None => None,
+    }
+}
+
+/// The network of one switch `s0` with all ports, for trees of one leaf.
+///
+/// # Errors
+/// Want of memory alone.
+pub fn solo(alloc: Global) -> Result<Net, AllocError>
+    ensures net { IfOk result (λ net. net ≡ solo_net) }
+    ensures sound { IfOk result IsNet }
+{
+    let mut rows = Vec::new(alloc);
+    rows.push(SwitchRow {
+        name: Name::new(alloc, b"s0")?,
+        ports: u64::MAX,
+        room: 8192,
+    })?;
+    Ok(Net {
+        switches: Switches { rows },
+        links: Links {
+            rows: Vec::new(alloc),
+        },
+        leaf_rules: 8192,
+        backups: 0,
+        cache: 256,
+    })
+}
+
+impl Net {
+    /// The number of the switch with this name, or `None` where no switch has it.
+    pub fn number(&self, name: &[u8]) -> Option<u32>
+        requires { IsNet self.now }
+        ensures { result ≡ switch_number self.now.switches name.now }
+    {
+        number_in(self.switches.rows(), name)
+    }
+
+    /// The switches that a link joins to this one, as a mask of their numbers.
+    pub fn links_of(&self, switch: u32) -> u64
+        requires { IsNet self.now }
+        ensures { result ≡ links_of self.now.links switch }
+    {
+        let mut mask = 0;
+        for link in self.links.rows() {
+            if let Some(other) = link.other_end(switch) {
+                mask = with(mask, other);
+            }
+        }
+        mask
+    }
+
+    /// All ports of the network, as a mask.
+    pub fn port_mask(&self) -> u64
+        requires { IsNet self.now }
+        ensures { result ≡ port_mask self.now.switches }
+    {
+        let mut mask = 0;
+        for row in self.switches.rows() {
+            mask |= row.ports;
+        }
+        mask
+    }
+
+    /// Which switch has each port.
+    pub fn ports(&self) -> Ports
+        requires { IsNet self.now }
+        ensures { AreOwners self.now.switches result }
+    {
+        owners(self.switches.rows())
+    }
+}
+
+impl Clone for Name {
+    ghost is_clone = { λ name copy. copy ≡ name };
+
+    fn clone(&self) -> Result<Self, AllocError> {
+        Name::new(*self.bytes.allocator(), &self.bytes)
+    }
+}
+
+impl Clone for SwitchRow {
+    ghost is_clone = { λ row copy. copy ≡ row };
+
+    fn clone(&self) -> Result<Self, AllocError> {
+        Ok(SwitchRow {
+            name: self.name.clone()?,
+            ports: self.ports,
+            room: self.room,
+        })
+    }
+}
+
+impl Clone for Switches {
+    ghost is_clone = { λ switches copy. copy ≡ switches };
+
+    fn clone(&self) -> Result<Self, AllocError> {
+        Ok(Switches {
+            rows: self.rows.clone()?,
+        })
+    }
+}
+
+impl Clone for Links {
+    ghost is_clone = { λ links copy. copy ≡ links };
+
+    fn clone(&self) -> Result<Self, AllocError> {
+        let rows = Vec::from_slice(*self.rows.allocator(), &self.rows)?;
+        Ok(Links { rows })
+    }
+}
+
+impl Clone for Net {
+    ghost is_clone = { λ net copy. copy ≡ net };
+
+    fn clone(&self) -> Result<Self, AllocError> {
+        Ok(Net {
+            switches: self.switches.clone()?,
+            links: self.links.clone()?,
+            leaf_rules: self.leaf_rules,
+            backups: self.backups,
+            cache: self.cache,
+        })
+    }
+}

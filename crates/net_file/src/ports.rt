@@ -1,0 +1,40 @@
+ghost use Rattle.std.specs.Prelude.{◌≡◌, ◌<◌, ◌≤◌, ℕ, None, length};
+ghost use Rattle.net_file.specs.Net.{owner_of};
+ghost use Rattle.net_file.specs.Owners.{port_owner};
+
+use crate::net::{SwitchRow, owner_in};
+
+/// How many ports a network can have.
+pub(crate) const PORTS: usize = 64;
+
+/// Which switch has each port of a network. It is held in place, and takes no memory.
+#[derive(Clone, Copy, Debug)]
+pub struct Ports {
+    owners: [Option<u8>; PORTS],
+}
+
+impl Ports {
+    /// The number of the switch that has the port, if one has.
+    pub fn owner(&self, port: u32) -> Option<u32>
+        ensures { result ≡ port_owner self.now port }
+    {
+        if port < PORTS as u32 {
+            self.owners[port as usize].map(u32::from)
+        } else {
+            None
+        }
+    }
+}
+
+/// Which of the switches has each port.
+pub(crate) fn owners(switches: &[SwitchRow]) -> Ports
+    requires { length switches.now ≤ 64 }
+    ensures owners { (port : ℕ) → port < 64 → port_owner result port ≡ owner_of switches.now port }
+    ensures past { (port : ℕ) → 64 ≤ port → port_owner result port ≡ None }
+{
+    let mut owners = [None; PORTS];
+    for port in 0..PORTS {
+        owners[port] = owner_in(switches, port as u32).map(|owner| owner as u8);
+    }
+    Ports { owners }
+}

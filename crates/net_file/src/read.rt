@@ -1,0 +1,58 @@
+ghost use Rattle.std.specs.Prelude.{◌≡◌, Ok, Some, IfOk, IfErr, ok_or};
+ghost use Rattle.toml.specs.View.{table_view};
+ghost use Rattle.net_file.specs.Net.{IsNet};
+ghost use Rattle.net_file.specs.Reading.{document_of, net_in, net_of};
+ghost use Rattle.net_file.specs.Refusals.{IsRefusal, in_row};
+ghost use Rattle.net_file.specs.declared.error.NetRefusal.TheVariants.{Toml};
+
+use crate::error::{NetError, NetRefusal};
+use crate::keys::setting_of;
+use crate::links::{link_array, read_links};
+use crate::net::{Links, Net, Switches};
+use crate::switches::{read_switches, switch_array};
+use std::alloc::Global;
+use toml::Table;
+
+// The network that a document states.
+fn read_table(alloc: Global, table: &Table) -> Result<Net, NetError>
+    ensures net { IfOk result (λ net. net_in (table_view table.now) ≡ Ok net) }
+    ensures refused { IfErr result (IsRefusal (net_in (table_view table.now))) }
+{
+    let leaf_rules = setting_of(table, "leaf_rules", 1, 8192, 64)?;
+    let backups = setting_of(table, "backups", 0, 3, 0)?;
+    let cache = setting_of(table, "cache", 0, 65536, 256)?;
+    let switches = read_switches(alloc, switch_array(table)?)?;
+    let links = read_links(alloc, &switches, link_array(table)?)?;
+    Ok(Net {
+        switches: Switches::new(switches),
+        links: Links::new(links),
+        leaf_rules,
+        backups,
+        cache,
+    })
+}
+
+// The document of the bytes.
+fn read_document(alloc: Global, bytes: &[u8]) -> Result<Table, NetError>
+    ensures document { IfOk result (λ table. document_of bytes.now ≡ Some (table_view table)) }
+    ensures refused { IfErr result (IsRefusal (in_row 0 (ok_or (document_of bytes.now) Toml))) }
+{
+    match toml::table_from_slice(alloc, bytes) {
+        Ok(table) => Ok(table),
+        Err(error) if error.is_memory() => Err(NetError::NoMemory),
+        Err(_) => Err(NetRefusal::Toml.into()),
+    }
+}
+
+/// The network that the text states.
+///
+/// # Errors
+/// The first refusal of the text and its row, or want of memory.
+#[tactic(auto, unfolding(crate::specs::Reading::net_of))]
+pub fn read_net(alloc: Global, bytes: &[u8]) -> Result<Net, NetError>
+    ensures net { IfOk result (λ net. net_of bytes.now ≡ Ok net) }
+    ensures refused { IfErr result (IsRefusal (net_of bytes.now)) }
+    ensures sound { IfOk result IsNet }
+{
+    read_table(alloc, &read_document(alloc, bytes)?)
+}

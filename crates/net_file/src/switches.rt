@@ -1,0 +1,232 @@
+ghost use Rattle.std.specs.Prelude.{◌≡◌, ◌≤◌, ◌<◌, Ok, Err, [], IfOk, IfErr, IfSome, length, map, is_some, vec_len};
+ghost use Rattle.std.specs.List.{list_all};
+ghost use Rattle.toml.specs.Data.{as_integer};
+ghost use Rattle.toml.specs.View.{table_view, view};
+ghost use Rattle.net_file.specs.Net.{IsMask, are_name_bytes, have_name, have_port, is_label, is_name, is_name_byte};
+ghost use Rattle.net_file.specs.Reading.{are_new, name_of, port_bits, port_of, ports_at, ports_of, switch_array, switch_of, switch_with, switches_in};
+ghost use Rattle.net_file.specs.Refusals.{IsRefusal, in_row};
+ghost use Rattle.net_file.specs.Stated.{row_of};
+
+use crate::error::{NetError, NetRefusal};
+use crate::keys::{array_in, setting_of, table_in, text_in, value_at, within};
+use crate::mask::{has, with};
+use crate::net::{Name, SwitchRow};
+use std::alloc::Global;
+use toml::{Table, Value};
+
+/// The most switches of a network.
+const MOST_SWITCHES: usize = 64;
+
+/// The most rules that a switch has room for.
+const MOST_ROOM: u32 = 8192;
+
+/// The most bytes of a name behind its first.
+const MOST_MORE: usize = 15;
+
+/// The values of the array `switch`.
+pub fn switch_array(table: &Table) -> Result<&[Value], NetRefusal>
+    ensures values { IfOk result (λ values. switch_array (table_view table.now) ≡ Ok (map view values.now)) }
+    ensures few { IfOk result (λ values. length values.now ≤ 64) }
+    ensures refused { IfErr result (λ refusal. switch_array (table_view table.now) ≡ Err refusal) }
+{
+    let Some(value) = value_at(table, "switch") else {
+        return Err(NetRefusal::MissingKey);
+    };
+    let values = array_in(value)?;
+    if values.len() > MOST_SWITCHES {
+        return Err(NetRefusal::TooMany);
+    }
+    if values.is_empty() {
+        return Err(NetRefusal::Range);
+    }
+    Ok(values)
+}
+
+// Whether the byte may stand in a name.
+fn is_name_byte(byte: u8) -> bool
+    ensures { result ≡ is_name_byte byte }
+{
+    byte.is_ascii_alphanumeric() || byte == b'_' || byte == b'-'
+}
+
+// Whether each byte may stand in a name.
+fn are_name_bytes(bytes: &[u8]) -> bool
+    ensures { result ≡ are_name_bytes bytes.now }
+{
+    bytes.iter().all(|byte| is_name_byte(*byte))
+}
+
+// Whether the bytes are a letter and then up to 15 letters, digits, `_` or `-`.
+fn is_label(name: &[u8]) -> bool
+    ensures { result ≡ is_label name.now }
+{
+    match name {
+        [first, more @ ..] => {
+            first.is_ascii_alphabetic() && are_name_bytes(more) && more.len() <= MOST_MORE
+        }
+        [] => false,
+    }
+}
+
+/// Whether the bytes can be a switch's name: a letter and then up to 15 letters, digits, `_` or `-`,
+/// but not `controller`, which a journal calls the controller.
+pub fn is_name(name: &[u8]) -> bool
+    ensures { result ≡ is_name name.now }
+{
+    is_label(name) && name != b"controller".as_slice()
+}
+
+// The name of a switch.
+fn read_name(keys: &Table) -> Result<&str, NetRefusal>
+    ensures name { IfOk result (λ name. name_of (table_view keys.now) ≡ Ok name.now) }
+    ensures refused { IfErr result (λ refusal. name_of (table_view keys.now) ≡ Err refusal) }
+{
+    let Some(value) = value_at(keys, "name") else {
+        return Err(NetRefusal::MissingKey);
+    };
+    let name = text_in(value)?;
+    if !is_name(name.as_bytes()) {
+        return Err(NetRefusal::Range);
+    }
+    Ok(name)
+}
+
+// The port that a value is, if it is a number from 0 to 63.
+fn port_of(value: &Value) -> Option<u32>
+    ensures port { result ≡ port_of (view value.now) }
+    ensures small { IfSome result (λ port. port < 64) }
+{
+    within(0, 63, value.as_integer()?)
+}
+
+// Whether each value is an integer.
+fn are_integers(values: &[Value]) -> bool
+    ensures { result ≡ list_all (λ value. is_some (as_integer (view value))) values.now }
+{
+    values.iter().all(|value| value.is_integer())
+}
+
+// Whether each value is a port.
+fn are_ports(values: &[Value]) -> bool
+    ensures { result ≡ list_all (λ value. is_some (port_of (view value))) values.now }
+{
+    values.iter().all(|value| port_of(value).is_some())
+}
+
+// The values of the array `ports`, each of which is a port.
+fn read_ports(keys: &Table) -> Result<&[Value], NetRefusal>
+    ensures ports { IfOk result (λ values. ports_at (table_view keys.now) ≡ Ok (ports_of (map view values.now))) }
+    ensures refused { IfErr result (λ refusal. ports_at (table_view keys.now) ≡ Err refusal) }
+{
+    let Some(value) = value_at(keys, "ports") else {
+        return Ok(&[]);
+    };
+    let values = array_in(value)?;
+    if !are_integers(values) {
+        return Err(NetRefusal::WrongType);
+    }
+    if !are_ports(values) {
+        return Err(NetRefusal::Range);
+    }
+    Ok(values)
+}
+
+// Whether one of the switches has the name.
+fn have_name(rows: &[SwitchRow], name: &[u8]) -> bool
+    ensures { result ≡ have_name rows.now name.now }
+{
+    rows.iter().any(|row| row.name.bytes() == name)
+}
+
+// The mask of new ports: none stands twice, or in the mask of the earlier switches' ports.
+fn new_ports(values: &[Value], earlier: &[SwitchRow], taken: u64) -> Option<u64>
+    requires { IsMask taken (have_port earlier.now) }
+    ensures new { is_some result ≡ are_new earlier.now (ports_of (map view values.now)) }
+    ensures mask { IfSome result (λ mask. mask ≡ port_bits (ports_of (map view values.now))) }
+{
+    let mut seen = taken;
+    let mut ports = 0;
+    for value in values {
+        if let Some(port) = port_of(value) {
+            if has(seen, port) {
+                return None;
+            }
+            seen = with(seen, port);
+            ports = with(ports, port);
+        }
+    }
+    Some(ports)
+}
+
+// What the keys of a switch state, behind the earlier switches.
+struct Stated<'a> {
+    name: &'a str,
+    ports: u64,
+    room: u32,
+}
+
+// What the keys of a switch state. `taken` is the mask of the earlier switches' ports.
+fn read_keys<'a>(
+    earlier: &[SwitchRow],
+    taken: u64,
+    keys: &'a Table,
+) -> Result<Stated<'a>, NetRefusal>
+    requires { IsMask taken (have_port earlier.now) }
+    ensures stated { IfOk result (λ stated. switch_with earlier.now (table_view keys.now) ≡ Ok (row_of stated)) }
+    ensures refused { IfErr result (λ refusal. switch_with earlier.now (table_view keys.now) ≡ Err refusal) }
+{
+    let name = read_name(keys)?;
+    let values = read_ports(keys)?;
+    let room = setting_of(keys, "authority", 0, MOST_ROOM, 0)?;
+    if have_name(earlier, name.as_bytes()) {
+        return Err(NetRefusal::DuplicateName);
+    }
+    let ports = new_ports(values, earlier, taken).ok_or(NetRefusal::DuplicatePort)?;
+    Ok(Stated { name, ports, room })
+}
+
+// The switch that a value states. `taken` is the mask of the earlier switches' ports.
+fn read_switch(
+    alloc: Global,
+    earlier: &[SwitchRow],
+    taken: u64,
+    value: &Value,
+    row: u32,
+) -> Result<SwitchRow, NetError>
+    requires { IsMask taken (have_port earlier.now) }
+    ensures switch { IfOk result (λ switch. switch_of earlier.now (view value.now) ≡ Ok switch) }
+    ensures refused { IfErr result (IsRefusal (in_row row (switch_of earlier.now (view value.now)))) }
+{
+    let keys = match table_in(value) {
+        Ok(keys) => keys,
+        Err(refusal) => return Err(NetError::Refused { refusal, row }),
+    };
+    let Stated { name, ports, room } = match read_keys(earlier, taken, keys) {
+        Ok(stated) => stated,
+        Err(refusal) => return Err(NetError::Refused { refusal, row }),
+    };
+    let name = Name::new(alloc, name.as_bytes())?;
+    Ok(SwitchRow { name, ports, room })
+}
+
+/// The switches that the values of the array `switch` state.
+///
+/// # Errors
+/// The first refusal, in the row of its switch, or want of memory.
+pub fn read_switches(alloc: Global, values: &[Value]) -> Result<Vec<SwitchRow>, NetError>
+    requires { length values.now ≤ 64 }
+    ensures few { IfOk result (λ rows. vec_len rows ≤ 64) }
+    ensures switches { IfOk result (λ rows. switches_in (map view values.now) ≡ Ok rows.items) }
+    ensures refused { IfErr result (IsRefusal (switches_in (map view values.now))) }
+{
+    let mut rows = Vec::new(alloc);
+    let mut taken = 0;
+    let mut row = 0;
+    for value in values {
+        row += 1;
+        let switch = read_switch(alloc, &rows, taken, value, row)?;
+        taken |= switch.ports;
+        rows.push(switch)?;
+    }
+    Ok(rows)
+}
