@@ -1,0 +1,6 @@
+use Rattle.version_update.proofs.OneResult.{one_result, one_answer, settled_stay, least_of_numbers}
+use Rattle.version_update.proofs.Masks.{named}
+use Rattle.version_update.proofs.laws.settling_laws.Goals as goal
+
+pub returns : goal.returns
+returns c = record { one_result = one_result; one_answer = one_answer; idle = settled_stay; named = named; least = least_of_numbers }

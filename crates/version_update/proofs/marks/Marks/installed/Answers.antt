@@ -1,0 +1,12 @@
+use Rattle.std.proofs.Common.{◌≤◌, ap, subst, sym, arith}
+use Rattle.version_update.specs.declared.record.SwitchRecord.{SwitchRecord}
+use Rattle.version_update.specs.Record.{IsSoundRecord}
+use Rattle.version_update.specs.Marks.{MarksValue}
+use Rattle.version_update.proofs.Opening.{installed-sound}
+use Rattle.version_update.proofs.marks.Marks.installed.Goals as goal
+
+pub set_record-requires-clause-sound : goal.set_record-requires-clause-sound
+set_record-requires-clause-sound c =
+    let count = c.self.inside.ledger.count in
+    let last : c.args.version ≤ count = omega (arith, c.requires.last, ap (λ (m : MarksValue). m.count) c.self.view_is) in
+    subst (λ (k : SwitchRecord). IsSoundRecord count k) (sym c.installed-taken.ensures.after) (installed-sound count c.args.boot c.args.version _ c.requires.first last c.record-known.ensures.sound)

@@ -1,0 +1,9 @@
+use Rattle.std.proofs.Common.{take}
+use Rattle.std.specs.Prelude.{◌&&◌}
+use Rattle.version_update.specs.Record.{is_member}
+use Rattle.version_update.specs.Settling.{Names}
+use Rattle.version_update.proofs.switches.members_where.Given as goal
+
+-- the mask names those of the switches so far
+abbrev pub invariant-loop-s : goal.invariant-loop-s
+invariant-loop-s l = Names l.mask (λ known. l.told && is_member known.phase) (take l.s l.switches)

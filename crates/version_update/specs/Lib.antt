@@ -1,0 +1,4 @@
+pub mod Record
+pub mod Marks
+pub mod Settling
+pub mod Laws

@@ -1,0 +1,74 @@
+-- The marks of a policy's versions: how many there are, the current one, the last one that is
+-- retired, and what is known of each switch.
+use Rattle.std.specs.Prelude.{ℕ, ◌≡◌, ◌+◌, ◌-◌, ◌<◌, ◌≤◌, Bool, IsFalse, Option, unwrap_or, List, map, filter, replicate, length, min, All, slice_index_or, slice_set}
+use Rattle.std.specs.List.{list_all, reduce}
+use Rattle.version_update.specs.declared.record.SwitchRecord.{SwitchRecord}
+use Rattle.version_update.specs.Record.{is_member, has_acked, first_record, no_switch, IsSoundRecord, opens_at}
+
+-- the versions are 1 to count; those up to retired are retired; each switch is known at its number
+pub record MarksValue : Type 0 where
+  pub count : ℕ
+  pub current : ℕ
+  pub retired : ℕ
+  pub switches : List SwitchRecord
+
+-- at the start
+abbrev pub first_marks : ℕ → MarksValue
+first_marks number = record { count = 1; current = 1; retired = 0; switches = replicate number first_record }
+
+-- ---- switches
+
+abbrev pub record_of : MarksValue → ℕ → SwitchRecord
+record_of marks s = slice_index_or marks.switches s no_switch
+
+-- the marks with this change of what is known of switch s
+abbrev pub at_switch : ℕ → (SwitchRecord → SwitchRecord) → MarksValue → MarksValue
+at_switch s change marks = record marks { switches = slice_set marks.switches s (change (record_of marks s)) }
+
+-- the marks with one more version
+abbrev pub with_version : MarksValue → MarksValue
+with_version marks = record marks { count = marks.count + 1 }
+
+-- those that are members
+abbrev pub members : List SwitchRecord → List SwitchRecord
+members switches = filter (λ known. is_member known.phase) switches
+
+-- each member acknowledged the version
+abbrev pub all_acked : ℕ → List SwitchRecord → Bool
+all_acked version switches = list_all (λ known. has_acked known version) (members switches)
+
+-- the stamps that the members acknowledged
+abbrev pub stamps : List SwitchRecord → List ℕ
+stamps switches = map (λ known. known.acked_stamp) (members switches)
+
+-- ---- the rule of the marks
+
+-- the least of numbers, if there is one
+abbrev pub least_of : List ℕ → Option ℕ
+least_of numbers = reduce min numbers
+
+-- the least acknowledged stamp of the members less 1, and current less 1 where there is no member
+abbrev pub retired_of : MarksValue → ℕ
+retired_of marks = unwrap_or (least_of (stamps marks.switches)) marks.current - 1
+
+-- the marks are of 1 to 64 versions and of 1 to 64 switches
+pub record AreBounded (marks : MarksValue) : Type 0 where
+  pub first : 1 ≤ marks.current
+  pub last : marks.current ≤ marks.count
+  pub versions : marks.count ≤ 64
+  pub some : 1 ≤ length marks.switches
+  pub switches : length marks.switches ≤ 64
+  pub records : All (IsSoundRecord marks.count) marks.switches
+
+-- current can't rise, no joining switch can open, and retired is as far as the members allow
+pub record AreSettled (marks : MarksValue) : Type 0 where
+  pub bounds : AreBounded marks
+  pub stopped : marks.current < marks.count → IsFalse (all_acked (marks.current + 1) marks.switches)
+  pub opened : All (λ known. IsFalse (opens_at marks.current known)) marks.switches
+  pub retired : marks.retired ≡ retired_of marks
+  pub live : marks.retired < marks.count
+
+-- settled still, and of the same switches
+pub record StaySettled (old new : MarksValue) : Type 0 where
+  pub settled : AreSettled new
+  pub switches : length new.switches ≡ length old.switches

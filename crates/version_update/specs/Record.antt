@@ -1,0 +1,81 @@
+-- What the controller knows of one switch while versions of a policy are put in place, after the
+-- two-phase update of Reitblatt, Foster, Rexford, Schlesinger and Walker, "Abstractions for Network
+-- Update"; the acknowledgements are our own.
+use Rattle.std.specs.Prelude.{ℕ, ◌-◌, ◌^◌, ◌<◌, ◌≤◌, Bool, true, false, not, ◌&&◌, ◌==◌, nat_lt, max, if◌then◌else◌, bit_or, IsTrue}
+use Rattle.std.specs.Int.{bit_at}
+use Rattle.version_update.specs.declared.record.Phase.{Phase}
+use Rattle.version_update.specs.declared.record.Phase.TheVariants.{Joining, Member, Over}
+use Rattle.version_update.specs.declared.record.SwitchRecord.{SwitchRecord}
+
+-- ---- phases
+
+abbrev pub is_member : Phase → Bool
+is_member Member = true
+is_member _ = false
+
+abbrev pub is_joining : Phase → Bool
+is_joining Joining = true
+is_joining _ = false
+
+abbrev pub is_over : Phase → Bool
+is_over Over = true
+is_over _ = false
+
+-- ---- one switch
+
+-- the version is in the set of those that the switch acknowledged in its boot: version v is the bit
+-- v - 1
+abbrev pub has_acked : SwitchRecord → ℕ → Bool
+has_acked known version = bit_at known.acked (version - 1) == 1
+
+-- at the start: open at version 1 in boot 1
+abbrev pub first_record : SwitchRecord
+first_record = record { boot = 1; phase = Member; acked = 1; open_version = 1; acked_stamp = 1 }
+
+-- what is read where there is no switch
+abbrev pub no_switch : SwitchRecord
+no_switch = record { boot = 0; phase = Over; acked = 0; open_version = 0; acked_stamp = 0 }
+
+-- it speaks of the versions 1 to count alone, and what a member acknowledged is at least what it
+-- was opened at
+pub record IsSoundRecord (count : ℕ) (known : SwitchRecord) : Type 0 where
+  pub acked : known.acked < 2 ^ count
+  pub open_version : IsTrue (is_member known.phase) → 1 ≤ known.open_version
+  pub acked_stamp : IsTrue (is_member known.phase) → known.open_version ≤ known.acked_stamp
+  pub stamp_bound : known.acked_stamp ≤ count
+
+-- ---- what the controller hears of it
+
+-- a hello of a greater boot: nothing is acknowledged in that one
+abbrev pub takes_hello : ℕ → SwitchRecord → Bool
+takes_hello boot known = nat_lt known.boot boot
+
+abbrev pub after_hello : ℕ → SwitchRecord → SwitchRecord
+after_hello boot known = if takes_hello boot known then record { boot = boot; phase = Joining; acked = 0; open_version = 0; acked_stamp = 0 } else known
+
+-- a version is installed in the known boot of a switch that is not over
+abbrev pub takes_installed : ℕ → SwitchRecord → Bool
+takes_installed boot known = (known.boot == boot) && not (is_over known.phase)
+
+abbrev pub after_installed : ℕ → ℕ → SwitchRecord → SwitchRecord
+after_installed boot version known = if takes_installed boot known then record known { acked = bit_or known.acked (2 ^ (version - 1)) } else known
+
+-- a member stamps new packets with this version, in its known boot
+abbrev pub takes_stamped : ℕ → SwitchRecord → Bool
+takes_stamped boot known = (known.boot == boot) && is_member known.phase
+
+abbrev pub after_stamped : ℕ → ℕ → SwitchRecord → SwitchRecord
+after_stamped boot version known = if takes_stamped boot known then record known { acked_stamp = max known.acked_stamp version } else known
+
+-- it is gone
+abbrev pub after_over : SwitchRecord → SwitchRecord
+after_over known = record known { phase = Over }
+
+-- ---- opening
+
+-- a joining switch opens where it acknowledged the current version
+abbrev pub opens_at : ℕ → SwitchRecord → Bool
+opens_at current known = is_joining known.phase && has_acked known current
+
+abbrev pub opened_at : ℕ → SwitchRecord → SwitchRecord
+opened_at current known = if opens_at current known then record known { phase = Member; open_version = current; acked_stamp = current } else known

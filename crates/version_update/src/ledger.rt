@@ -1,0 +1,178 @@
+ghost use Rattle.std.specs.Prelude.{ℕ, ◌≡◌, ◌+◌, ◌<◌, ◌≤◌, length, map, replicate, slice_set};
+ghost use Rattle.version_update.specs.Record.{first_record, IsSoundRecord, opens_at, opened_at};
+ghost use Rattle.version_update.specs.Marks.{first_marks, record_of, AreBounded, StaySettled, retired_of};
+ghost use Rattle.version_update.specs.Settling.{Names, raised, RisesTo, Settles};
+
+use crate::marks::Settled;
+use crate::record::SwitchRecord;
+use crate::switches;
+use std::marker::Model;
+
+/// The most switches.
+const MOST_SWITCHES: usize = 64;
+
+/// The marks, settled or not.
+#[derive(Drop)]
+pub struct Ledger {
+    count: u32,
+    current: u32,
+    retired: u32,
+    /// How many switches there are; past them the records say nothing.
+    number: usize,
+    switches: [SwitchRecord; MOST_SWITCHES],
+}
+
+impl Model for Ledger {
+    ghost use Rattle.std.specs.Prelude.{◌≤◌, take};
+    ghost use Rattle.version_update.specs.Marks.{MarksValue, AreBounded};
+
+    ghost Value = { MarksValue };
+
+    ghost view = { λ l. record {
+      count = l.count;
+      current = l.current;
+      retired = l.retired;
+      switches = take l.number l.switches;
+    } };
+
+    ghost invariant = { λ l. (l.number ≤ 64) × AreBounded (record {
+      count = l.count;
+      current = l.current;
+      retired = l.retired;
+      switches = take l.number l.switches;
+    }) };
+}
+
+impl Ledger {
+    /// Each switch is a member in boot 1, with version 1.
+    pub fn begin(number: u32) -> Ledger
+        requires some { 1 ≤ number }
+        requires few { number ≤ 64 }
+        ensures { result ≡ first_marks number }
+    {
+        Ledger {
+            count: 1,
+            current: 1,
+            retired: 0,
+            number: number as usize,
+            switches: first_records(),
+        }
+    }
+
+    pub fn count(&self) -> u32
+        ensures { result ≡ self.now.count }
+    {
+        self.count
+    }
+
+    pub fn current(&self) -> u32
+        ensures { result ≡ self.now.current }
+    {
+        self.current
+    }
+
+    pub fn retired(&self) -> u32
+        ensures { result ≡ self.now.retired }
+    {
+        self.retired
+    }
+
+    fn switches(&self) -> &[SwitchRecord]
+        ensures switches { result.now ≡ self.now.switches }
+        ensures bounds { AreBounded self.now }
+    {
+        &self.switches[..self.number]
+    }
+
+    /// What is known of a switch.
+    pub fn record(&self, s: u32) -> SwitchRecord
+        requires { s < length self.now.switches }
+        ensures record { result ≡ record_of self.now s }
+        ensures sound { IsSoundRecord self.now.count result }
+    {
+        self.switches[s as usize]
+    }
+
+    /// Replaces what is known of a switch.
+    pub fn set_record(&mut self, s: u32, known: SwitchRecord)
+        requires switch { s < length self.old.switches }
+        requires sound { IsSoundRecord self.old.count known }
+        ensures { self.new ≡ record self.old { switches = slice_set self.old.switches s known } }
+    {
+        self.switches[s as usize] = known;
+    }
+
+    /// One more version.
+    pub fn add_version(&mut self)
+        requires { self.old.count < 64 }
+        ensures { self.new ≡ record self.old { count = self.old.count + 1 } }
+    {
+        self.count += 1;
+    }
+
+    /// Settles, and tells what rose and which switches are to be told.
+    pub fn settle(&mut self, taken: bool) -> Settled
+        ensures settled { Settles self.old self.new result }
+        ensures rule { StaySettled self.old self.new }
+        ensures taken { result.taken ≡ taken }
+    {
+        let current = self.risen();
+        let stamps = switches::members_where(self.current < current, self.switches());
+        let old_current = self.current;
+        let old_retired = self.retired;
+        self.current = current;
+        let opens = self.open_joining();
+        let retired = self.allowed();
+        self.retired = retired;
+        Settled {
+            taken,
+            current: raised(old_current, current),
+            stamps,
+            opens,
+            retired: raised(old_retired, retired),
+            collects: switches::members_where(old_retired < retired, self.switches()),
+        }
+    }
+
+    // The greatest version to which current rises.
+    fn risen(&self) -> u32
+        ensures { RisesTo self.now result }
+    {
+        let mut current = self.current;
+        while current < self.count && switches::all_acked(self.switches(), current + 1) {
+            current += 1;
+        }
+        current
+    }
+
+    fn open_joining(&mut self) -> u64
+        ensures opened { self.new
+            ≡ record self.old { switches = map (opened_at self.old.current) self.old.switches } }
+        ensures opens { Names result (opens_at self.old.current) self.old.switches }
+    {
+        let number = self.number;
+        let current = self.current;
+        switches::open_at(&mut self.switches[..number], current)
+    }
+
+    // The last version that the members allow to retire.
+    fn allowed(&self) -> u32
+        ensures allowed { result ≡ retired_of self.now }
+        ensures live { result < self.now.count }
+    {
+        switches::least_stamp(self.switches()).unwrap_or(self.current) - 1
+    }
+}
+
+fn first_records() -> [SwitchRecord; MOST_SWITCHES]
+    ensures { result ≡ replicate 64 first_record }
+{
+    [SwitchRecord::first(); MOST_SWITCHES]
+}
+
+// The new number, where it rose.
+fn raised(old: u32, new: u32) -> Option<u32>
+    ensures { result ≡ raised old new }
+{
+    (old < new).then_some(new)
+}

@@ -1,0 +1,233 @@
+ghost use Rattle.std.specs.Prelude.{ℕ, ◌≡◌, ◌≢◌, ◌+◌, ◌-◌, ◌<◌, ◌≤◌, ◌↔◌, length, IsTrue, IfOk, OnErr, Err};
+ghost use Rattle.version_update.specs.Record.{is_member, has_acked, takes_hello, after_hello, takes_installed, after_installed, takes_stamped, after_stamped, after_over};
+ghost use Rattle.version_update.specs.Marks.{first_marks, record_of, at_switch, with_version, AreSettled, StaySettled};
+ghost use Rattle.version_update.specs.Settling.{Settles};
+ghost use Rattle.version_update.specs.declared.marks.SubmitError.TheVariants.{TooManyLive, TooManyVersions};
+
+use crate::ledger::Ledger;
+use crate::record::Phase;
+use std::marker::Model;
+
+/// The most versions.
+const MOST_VERSIONS: u32 = 64;
+
+/// The most versions that are not retired.
+const MOST_LIVE: u32 = 8;
+
+/// What followed from a change: the numbers that rose, and the switches that are to be told.
+///
+/// Bit s of a mask names the switch s.
+#[derive(Clone, Copy, Debug, PartialEq, Eq)]
+pub struct Settled {
+    /// Whether what was told changed what is known.
+    pub taken: bool,
+    /// The current version, where it rose.
+    pub current: Option<u32>,
+    /// Where the current version rose, the members from before: each is to stamp packets with it.
+    pub stamps: u64,
+    /// The switches that became members: each is to open at the current version.
+    pub opens: u64,
+    /// The last retired version, where it rose.
+    pub retired: Option<u32>,
+    /// Where the last retired version rose, all members: each is to drop the tables up to it.
+    pub collects: u64,
+}
+
+/// Why no version was added.
+#[derive(Clone, Copy, Debug, PartialEq, Eq)]
+pub enum SubmitError {
+    /// 8 versions are not retired.
+    TooManyLive,
+    /// There are 64 versions.
+    TooManyVersions,
+}
+
+/// The marks of a policy's versions, settled after each call.
+///
+/// Versions are numbered from 1, switches from 0. Each call changes what is known of one switch, or
+/// the number of versions, and then settles: the current version rises as far as each member
+/// acknowledged every version on the way; the joining switches that acknowledged it open there; and
+/// the versions are retired that no member stamps packets with any more.
+#[derive(Drop)]
+pub struct Marks {
+    ledger: Ledger,
+}
+
+const _: () = prove!(size_of::<Marks>() <= 4096);
+
+impl Model for Marks {
+    ghost use Rattle.version_update.specs.Marks.{MarksValue, AreSettled};
+
+    ghost Value = { MarksValue };
+
+    ghost view = { λ m. m.ledger };
+
+    ghost invariant = { λ m. AreSettled m.ledger };
+}
+
+impl Marks {
+    /// Every switch is a member in boot 1, with version 1.
+    pub fn begin(switches: u32) -> Marks
+        requires some { 1 ≤ switches }
+        requires few { switches ≤ 64 }
+        ensures marks { result ≡ first_marks switches }
+        ensures rule { AreSettled result }
+    {
+        Marks {
+            ledger: Ledger::begin(switches),
+        }
+    }
+
+    /// The switch told this boot: it is taken where it is greater than the known one.
+    pub fn hello(&mut self, s: u32, boot: u32) -> Settled
+        requires { s < length self.old.switches }
+        ensures taken { result.taken ≡ takes_hello boot (record_of self.old s) }
+        ensures settled { Settles (at_switch s (after_hello boot) self.old) self.new result }
+        ensures rule { StaySettled self.old self.new }
+    {
+        let mut known = self.ledger.record(s);
+        let taken = known.hello(boot);
+        self.ledger.set_record(s, known);
+        self.ledger.settle(taken)
+    }
+
+    /// The switch told that it has this version's tables: it is taken in the known boot of a switch
+    /// that is not over.
+    pub fn installed(&mut self, s: u32, boot: u32, version: u32) -> Settled
+        requires switch { s < length self.old.switches }
+        requires first { 1 ≤ version }
+        requires last { version ≤ self.old.count }
+        ensures taken { result.taken ≡ takes_installed boot (record_of self.old s) }
+        ensures settled { Settles
+            (at_switch s (after_installed boot version) self.old) self.new result }
+        ensures rule { StaySettled self.old self.new }
+    {
+        let mut known = self.ledger.record(s);
+        let taken = known.installed(boot, version);
+        self.ledger.set_record(s, known);
+        self.ledger.settle(taken)
+    }
+
+    /// The switch told that it stamps packets with this version: it is taken in the known boot of a
+    /// member.
+    pub fn stamped(&mut self, s: u32, boot: u32, version: u32) -> Settled
+        requires switch { s < length self.old.switches }
+        requires first { 1 ≤ version }
+        requires last { version ≤ self.old.count }
+        ensures taken { result.taken ≡ takes_stamped boot (record_of self.old s) }
+        ensures settled { Settles
+            (at_switch s (after_stamped boot version) self.old) self.new result }
+        ensures rule { StaySettled self.old self.new }
+    {
+        let mut known = self.ledger.record(s);
+        let taken = known.stamped(boot, version);
+        self.ledger.set_record(s, known);
+        self.ledger.settle(taken)
+    }
+
+    /// The switch is gone until it tells a greater boot.
+    pub fn over(&mut self, s: u32) -> Settled
+        requires { s < length self.old.switches }
+        ensures taken { IsTrue result.taken }
+        ensures settled { Settles (at_switch s after_over self.old) self.new result }
+        ensures rule { StaySettled self.old self.new }
+    {
+        let mut known = self.ledger.record(s);
+        known.over();
+        self.ledger.set_record(s, known);
+        self.ledger.settle(true)
+    }
+
+    /// One more version.
+    ///
+    /// # Errors
+    /// `TooManyLive` exactly where 8 versions are not retired; otherwise `TooManyVersions` exactly
+    /// where there are 64. Nothing changed then.
+    pub fn submit(&mut self) -> Result<Settled, SubmitError>
+        ensures settled { IfOk result (λ answer. Settles (with_version self.old) self.new answer) }
+        ensures taken { IfOk result (λ answer. IsTrue answer.taken) }
+        ensures live { (result ≡ Err TooManyLive) ↔ (self.old.count - self.old.retired ≡ 8) }
+        ensures versions { (result ≡ Err TooManyVersions)
+            ↔ ((self.old.count - self.old.retired ≢ 8) × (self.old.count ≡ 64)) }
+        ensures refused { OnErr result (self.new ≡ self.old) }
+        ensures rule { StaySettled self.old self.new }
+    {
+        if self.count() - self.retired() == MOST_LIVE {
+            return Err(SubmitError::TooManyLive);
+        }
+        if self.count() == MOST_VERSIONS {
+            return Err(SubmitError::TooManyVersions);
+        }
+        self.ledger.add_version();
+        Ok(self.ledger.settle(true))
+    }
+
+    /// The version that every member has.
+    pub fn current(&self) -> u32
+        ensures current { result ≡ self.now.current }
+        ensures rule { AreSettled self.now }
+    {
+        self.ledger.current()
+    }
+
+    /// The last version that is retired, or 0.
+    pub fn retired(&self) -> u32
+        ensures retired { result ≡ self.now.retired }
+        ensures rule { AreSettled self.now }
+    {
+        self.ledger.retired()
+    }
+
+    /// How many versions there are.
+    pub fn count(&self) -> u32
+        ensures count { result ≡ self.now.count }
+        ensures rule { AreSettled self.now }
+    {
+        self.ledger.count()
+    }
+
+    /// How the switch stands.
+    pub fn phase(&self, s: u32) -> Phase
+        requires { s < length self.now.switches }
+        ensures { result ≡ (record_of self.now s).phase }
+    {
+        self.ledger.record(s).phase
+    }
+
+    /// The greatest boot that the switch told, or 1.
+    pub fn boot(&self, s: u32) -> u32
+        requires { s < length self.now.switches }
+        ensures { result ≡ (record_of self.now s).boot }
+    {
+        self.ledger.record(s).boot
+    }
+
+    /// Whether the switch acknowledged the version in the known boot.
+    pub fn has_acked(&self, s: u32, version: u32) -> bool
+        requires switch { s < length self.now.switches }
+        requires first { 1 ≤ version }
+        requires last { version ≤ self.now.count }
+        ensures { result ≡ has_acked (record_of self.now s) version }
+    {
+        let _ = self.count();
+        self.ledger.record(s).has_acked(version)
+    }
+
+    /// The version that a member was opened at.
+    pub fn open_version(&self, s: u32) -> u32
+        requires switch { s < length self.now.switches }
+        requires member { IsTrue (is_member (record_of self.now s).phase) }
+        ensures { result ≡ (record_of self.now s).open_version }
+    {
+        self.ledger.record(s).open_version
+    }
+
+    /// The greatest version that a member acknowledged to stamp packets with.
+    pub fn acked_stamp(&self, s: u32) -> u32
+        requires switch { s < length self.now.switches }
+        requires member { IsTrue (is_member (record_of self.now s).phase) }
+        ensures { result ≡ (record_of self.now s).acked_stamp }
+    {
+        self.ledger.record(s).acked_stamp
+    }
+}

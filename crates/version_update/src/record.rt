@@ -1,0 +1,119 @@
+ghost use Rattle.std.specs.Prelude.{◌≡◌, ◌<◌, ◌≤◌, ◌↔◌, IsTrue};
+ghost use Rattle.version_update.specs.Record.{is_member, is_joining, has_acked, first_record, takes_hello, after_hello, takes_installed, after_installed, takes_stamped, after_stamped, after_over, opens_at, opened_at};
+
+/// How a switch stands to the versions of a policy.
+#[derive(Clone, Copy, Debug, PartialEq, Eq)]
+pub enum Phase {
+    /// It told a boot, and was not opened in it yet.
+    Joining,
+    /// It was opened, and decides packets.
+    Member,
+    /// It was confirmed to be gone; a greater boot brings it back.
+    Over,
+}
+
+/// What the controller knows of one switch.
+#[derive(Clone, Copy)]
+pub struct SwitchRecord {
+    /// The greatest boot that the switch told.
+    pub boot: u32,
+    pub phase: Phase,
+    /// The versions that it acknowledged in this boot: version v is the bit v - 1.
+    pub acked: u64,
+    /// The version that a member was opened at.
+    pub open_version: u32,
+    /// The greatest version that a member acknowledged to stamp packets with.
+    pub acked_stamp: u32,
+}
+
+impl SwitchRecord {
+    /// Every switch at the start: a member in boot 1, with version 1.
+    pub fn first() -> SwitchRecord
+        ensures { result ≡ first_record }
+    {
+        SwitchRecord {
+            boot: 1,
+            phase: Phase::Member,
+            acked: 1,
+            open_version: 1,
+            acked_stamp: 1,
+        }
+    }
+
+    pub fn is_member(&self) -> bool
+        ensures { result ≡ is_member self.now.phase }
+    {
+        self.phase == Phase::Member
+    }
+
+    pub fn has_acked(&self, version: u32) -> bool
+        requires first { 1 ≤ version }
+        requires last { version ≤ 64 }
+        ensures { result ≡ has_acked self.now version }
+    {
+        (self.acked >> (version - 1)) & 1 == 1
+    }
+
+    pub fn hello(&mut self, boot: u32) -> bool
+        ensures taken { result ≡ takes_hello boot self.old }
+        ensures after { self.new ≡ after_hello boot self.old }
+    {
+        let taken = self.boot < boot;
+        if taken {
+            *self = SwitchRecord {
+                boot,
+                phase: Phase::Joining,
+                acked: 0,
+                open_version: 0,
+                acked_stamp: 0,
+            };
+        }
+        taken
+    }
+
+    pub fn installed(&mut self, boot: u32, version: u32) -> bool
+        requires first { 1 ≤ version }
+        requires last { version ≤ 64 }
+        ensures taken { result ≡ takes_installed boot self.old }
+        ensures after { self.new ≡ after_installed boot version self.old }
+    {
+        let taken = self.boot == boot && self.phase != Phase::Over;
+        if taken {
+            self.acked |= 1 << (version - 1);
+        }
+        taken
+    }
+
+    pub fn stamped(&mut self, boot: u32, version: u32) -> bool
+        ensures taken { result ≡ takes_stamped boot self.old }
+        ensures after { self.new ≡ after_stamped boot version self.old }
+    {
+        let taken = self.boot == boot && self.is_member();
+        if taken {
+            self.acked_stamp = self.acked_stamp.max(version);
+        }
+        taken
+    }
+
+    pub fn over(&mut self)
+        ensures { self.new ≡ after_over self.old }
+    {
+        self.phase = Phase::Over;
+    }
+
+    /// Opens a joining switch that acknowledged the current version, and tells whether it did.
+    pub fn open_at(&mut self, current: u32) -> bool
+        requires first { 1 ≤ current }
+        requires last { current ≤ 64 }
+        ensures opens { result ≡ opens_at current self.old }
+        ensures after { self.new ≡ opened_at current self.old }
+    {
+        let opens = self.phase == Phase::Joining && self.has_acked(current);
+        if opens {
+            self.phase = Phase::Member;
+            self.open_version = current;
+            self.acked_stamp = current;
+        }
+        opens
+    }
+}

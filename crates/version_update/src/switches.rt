@@ -1,0 +1,59 @@
+//! Questions over what is known of all switches, each answered in one walk.
+ghost use Rattle.std.specs.Prelude.{ℕ, ◌≡◌, ◌+◌, ◌-◌, ◌<◌, ◌≤◌, ◌&&◌, map, length};
+ghost use Rattle.version_update.specs.Record.{is_member, opens_at, opened_at};
+ghost use Rattle.version_update.specs.Marks.{all_acked, stamps, least_of};
+ghost use Rattle.version_update.specs.Settling.{Names};
+ghost use Rattle.version_update.specs.declared.record.SwitchRecord.{SwitchRecord};
+
+use crate::record::SwitchRecord;
+
+/// Where this is to be told, the members, as bits at their numbers; else none.
+pub fn members_where(told: bool, switches: &[SwitchRecord]) -> u64
+    requires { length switches.now ≤ 64 }
+    ensures { Names result (λ (known : SwitchRecord). told && is_member known.phase) switches.now }
+{
+    let mut mask = 0;
+    for (s, known) in switches.iter().enumerate() {
+        mask |= u64::from(told && known.is_member()) << s;
+    }
+    mask
+}
+
+/// Opens each joining switch that acknowledged the current version; these, as bits at their
+/// numbers.
+pub fn open_at(switches: &mut [SwitchRecord], current: u32) -> u64
+    requires few { length switches.old ≤ 64 }
+    requires first { 1 ≤ current }
+    requires last { current ≤ 64 }
+    ensures opened { switches.new ≡ map (opened_at current) switches.old }
+    ensures opens { Names result (opens_at current) switches.old }
+{
+    let mut mask = 0;
+    for (s, known) in switches.iter_mut().enumerate() {
+        mask |= u64::from(known.open_at(current)) << s;
+    }
+    mask
+}
+
+/// Whether each member acknowledged the version.
+pub fn all_acked(switches: &[SwitchRecord], version: u32) -> bool
+    requires first { 1 ≤ version }
+    requires last { version ≤ 64 }
+    ensures { result ≡ all_acked version switches.now }
+{
+    switches
+        .iter()
+        .filter(|known| known.is_member())
+        .all(|known| known.has_acked(version))
+}
+
+/// The least stamp that a member acknowledged; `None` where there is no member.
+pub fn least_stamp(switches: &[SwitchRecord]) -> Option<u32>
+    ensures { result ≡ least_of (stamps switches.now) }
+{
+    switches
+        .iter()
+        .filter(|known| known.is_member())
+        .map(|known| known.acked_stamp)
+        .min()
+}
