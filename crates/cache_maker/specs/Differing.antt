@@ -1,0 +1,19 @@
+-- The bits by which rules differ from a header.
+use Rattle.std.specs.Prelude.{ℕ, ◌≡◌, ◌<◌, bit_and, bit_xor, List, All}
+use Rattle.std.specs.Int.{bit_at}
+use Rattle.ternary.specs.Word.{WordValue}
+use Rattle.policy_rules.specs.declared.rules.Rule.{Rule}
+
+-- the bits that the word fixes to another value than that of h
+abbrev pub differing : ℕ → WordValue → ℕ
+differing h word = bit_and (bit_xor h word.value) word.mask
+
+-- of the bits of n, k is the highest
+pub record IsHighest (n k : ℕ) : Type 0 where
+  pub set : bit_at n k ≡ 1
+  pub above : (j : ℕ) → k < j → bit_at n j ≡ 0
+
+-- the mask has the highest bit by which each of the rules differs from h
+abbrev pub HaveHighest : ℕ → ℕ → List Rule → Type 0
+HaveHighest mask h rules =
+    All (λ rule. (k : ℕ) → IsHighest (differing h rule.word) k → bit_at mask k ≡ 1) rules

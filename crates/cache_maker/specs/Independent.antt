@@ -1,0 +1,37 @@
+-- The word of a cache rule, which has to decide as the rules that it stands for: the independent
+-- rules of Yu, Rexford, Freedman and Wang, "Scalable Flow-Based Networking with DIFANE". The order
+-- of the bits is our own.
+use Rattle.std.specs.Prelude.{ℕ, zero, suc, Bool, false, ◌&&◌, if◌then◌else◌, List, All, take, slice_get, is_none, IsNone, IsTrue, IsSomeAnd}
+use Rattle.std.specs.List.{list_all}
+use Rattle.std.specs.Option.{option_map_or}
+use Rattle.ternary.specs.Word.{WordValue, exact_word, covers_of, meet_of, free_of}
+use Rattle.policy_rules.specs.declared.rules.Rule.{Rule}
+
+-- the region and the rule at this place cover the word, and it meets no earlier rule's
+pub record IsIndependent (region : WordValue) (rules : List Rule) (index : ℕ) (word : WordValue) : Type 0 where
+  pub in_region : IsTrue (covers_of region word)
+  pub in_rule : IsSomeAnd (slice_get rules index) (λ rule. IsTrue (covers_of rule.word word))
+  pub earlier : All (λ rule. IsNone (meet_of word rule.word)) (take index rules)
+
+-- the test that a word meets none of these rules'
+unfoldable pub is_apart : WordValue → List Rule → Bool
+is_apart word rules = list_all (λ rule. is_none (meet_of word rule.word)) rules
+
+-- the test that it is independent
+unfoldable pub is_independent : WordValue → List Rule → ℕ → WordValue → Bool
+is_independent region rules index word =
+    covers_of region word && option_map_or (λ rule. covers_of rule.word word) (slice_get rules index) false
+    && is_apart word (take index rules)
+
+-- the word with this bit freed, where that is independent
+abbrev pub freed : WordValue → List Rule → ℕ → ℕ → WordValue → WordValue
+freed region rules index bit word = if is_independent region rules index (free_of word bit) then free_of word bit else word
+
+-- the word of the header h, its bits below n freed in turn
+unfoldable pub widened : ℕ → WordValue → List Rule → ℕ → ℕ → WordValue
+widened h region rules index zero = exact_word h
+widened h region rules index (suc n) = freed region rules index n (widened h region rules index n)
+
+-- all 104 bits in turn
+unfoldable pub widen : ℕ → WordValue → List Rule → ℕ → WordValue
+widen h region rules index = widened h region rules index 104

@@ -1,0 +1,22 @@
+ghost use Rattle.cache_maker.specs.Laws.{IndependentLaws, WidenLaws};
+
+use ternary::{covers_laws, exact_laws, free_laws, meet_laws};
+
+/// Of a list of rules, the one at the place of an independent word decides each header that the
+/// word holds.
+pub fn independent_laws()
+    ensures { IndependentLaws }
+{
+    covers_laws();
+    meet_laws();
+}
+
+/// The widened word of a header holds it, is independent, and has no fixed bit that can be freed.
+pub fn widen_laws()
+    ensures { WidenLaws }
+{
+    covers_laws();
+    meet_laws();
+    exact_laws();
+    free_laws();
+}
