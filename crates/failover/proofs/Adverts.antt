@@ -1,0 +1,125 @@
+-- What a database holds.
+use Rattle.std.proofs.Common.{◌≡◌, ◌≢◌, ℕ, ◌<◌, ◌⊎◌, Bool, true, false, cond, nat_lt, ◌&&◌, Option, Some, None, List, length, set, map, refl, sym, ◌∙◌, ap, subst, arith, get_or-set_same, get_or-set_other, length-set, inl, inr}
+use Rattle.std.proofs.lemmas.Bool.{cases_eq, cases_lt}
+use Rattle.std.proofs.lemmas.Bool.Decides.{nat_tests}
+use Rattle.std.proofs.lemmas.List.{get_or-replicate, length-replicate, get_or_past}
+use Rattle.std.proofs.lemmas.List.FromFn.{get_or-map-range_with_len, length-map-range_with_len}
+use Rattle.failover.specs.declared.advert.Advert.{Advert}
+use Rattle.failover.specs.Masks.{switches}
+use Rattle.failover.specs.Adverts.{held, is_news, after_hearing, no_adverts, first_of, first_adverts, AreByOrigin}
+
+-- an advert at the place of its origin
+set_by_origin : (adverts : List (Option Advert)) (advert : Advert) → AreByOrigin adverts →
+    advert.origin < 64 → (origin : ℕ) (found : Advert) →
+    held (set adverts advert.origin (Some advert)) origin ≡ Some found → found.origin ≡ origin
+set_by_origin adverts advert by fits origin found e = elim (cases_eq origin advert.origin) [
+  | inl same ↦ (let there : advert.origin < length adverts = omega (arith, by.places) in
+      let put : held (set adverts advert.origin (Some advert)) origin ≡ Some advert =
+      rw (same, get_or-set_same _ _ _ _ there) refl in
+      let it : Some advert ≡ Some found = sym put ∙ e in cc)
+  | inr apart ↦ by.origins origin found
+      (sym (get_or-set_other adverts advert.origin origin (Some advert) None apart) ∙ e)
+]
+
+pub by_origin-set : (adverts : List (Option Advert)) (advert : Advert) → AreByOrigin adverts →
+    advert.origin < 64 → AreByOrigin (set adverts advert.origin (Some advert))
+by_origin-set adverts advert by fits = record {
+  places = length-set adverts advert.origin (Some advert) ∙ by.places;
+  origins = set_by_origin adverts advert by fits;
+}
+
+pub by_origin-none : AreByOrigin no_adverts
+by_origin-none = record {
+  places = length-replicate {A = Option Advert} 64 None;
+  origins = λ origin found e. elim (cases_lt origin 64) [
+    | inl below ↦ (let none : held no_adverts origin ≡ None =
+        get_or-replicate 64 origin None None below in cc)
+    | inr past ↦ (let none : held no_adverts origin ≡ None =
+        get_or_past no_adverts origin None past in cc)
+  ];
+}
+
+first_of_origin : (test : Bool) (first : Advert) (found : Advert) →
+    cond test (Some first) None ≡ Some found → found ≡ first
+first_of_origin true first found e = cc
+first_of_origin false first found e = cc
+
+pub held-first : (near : List ℕ) (count origin : ℕ) → origin < 64 →
+    held (first_adverts near count) origin ≡ first_of near count origin
+unfolding first_adverts switches
+held-first near count origin below =
+    get_or-map-range_with_len (first_of near count) 0 64 origin origin None below (omega arith)
+
+pub by_origin-first : (near : List ℕ) (count : ℕ) → AreByOrigin (first_adverts near count)
+unfolding first_adverts switches
+by_origin-first near count = record {
+  places = length-map-range_with_len (first_of near count) 0 64;
+  origins = λ origin found e. elim (cases_lt origin 64) [
+    | inl below ↦ ap (λ (a : Advert). a.origin)
+        (first_of_origin (nat_lt origin count) _ found (sym (held-first near count origin below) ∙ e))
+    | inr past ↦ (let none : held (map (first_of near count) switches) origin ≡ None =
+        get_or_past (map (first_of near count) switches) origin None
+        (omega (arith, length-map-range_with_len (first_of near count) 0 64)) in cc)
+  ];
+}
+
+pub after_no_news : (adverts : List (Option Advert)) (advert : Advert) →
+    is_news adverts advert ≡ false → after_hearing adverts advert ≡ adverts
+unfolding after_hearing
+after_no_news adverts advert old = rw old refl
+
+pub after_news : (adverts : List (Option Advert)) (advert : Advert) →
+    is_news adverts advert ≡ true →
+    after_hearing adverts advert ≡ set adverts advert.origin (Some advert)
+unfolding after_hearing
+after_news adverts advert new = rw new refl
+
+-- ---- one advert heard
+
+abbrev WithTest : List (Option Advert) → Advert → (List (Option Advert) → Type 0) → Bool → Type 0
+WithTest adverts advert P test = is_news adverts advert ≡ test → P (after_hearing adverts advert)
+
+-- heard or not
+pub hearing : (adverts : List (Option Advert)) (advert : Advert) →
+    ((is_news adverts advert ≡ true)
+    × (after_hearing adverts advert ≡ set adverts advert.origin (Some advert)))
+    ⊎ ((is_news adverts advert ≡ false) × (after_hearing adverts advert ≡ adverts))
+hearing adverts advert = by_test (is_news adverts advert) refl
+  where
+    by_test : (test : Bool) → is_news adverts advert ≡ test →
+        ((is_news adverts advert ≡ true)
+        × (after_hearing adverts advert ≡ set adverts advert.origin (Some advert)))
+        ⊎ ((is_news adverts advert ≡ false) × (after_hearing adverts advert ≡ adverts))
+    by_test true e = inl (e, after_news adverts advert e)
+    by_test false e = inr (e, after_no_news adverts advert e)
+
+below_test : (origin : ℕ) (more : Bool) → (nat_lt origin 64 && more) ≡ true → origin < 64
+below_test origin more h = grind (arith, nat_tests)
+
+news_below : (adverts : List (Option Advert)) (advert : Advert) → is_news adverts advert ≡ true →
+    advert.origin < 64
+unfolding is_news
+news_below adverts advert h = below_test advert.origin _ h
+
+pub by_origin-hearing : (adverts : List (Option Advert)) (advert : Advert) → AreByOrigin adverts →
+    AreByOrigin (after_hearing adverts advert)
+by_origin-hearing adverts advert by = elim (hearing adverts advert) [
+  | inl news ↦ subst AreByOrigin (sym news.1)
+      (by_origin-set adverts advert by (news_below adverts advert news.0))
+  | inr old ↦ subst AreByOrigin (sym old.1) by
+]
+
+pub held_heard : (adverts : List (Option Advert)) (advert : Advert) → AreByOrigin adverts →
+    is_news adverts advert ≡ true → held (after_hearing adverts advert) advert.origin ≡ Some advert
+held_heard adverts advert by news =
+    ap (λ (all : List (Option Advert)). held all advert.origin) (after_news adverts advert news)
+    ∙ get_or-set_same adverts advert.origin (Some advert) None
+    (omega (arith, by.places, news_below adverts advert news))
+
+pub held_others : (adverts : List (Option Advert)) (advert : Advert) (origin : ℕ) →
+    origin ≢ advert.origin → held (after_hearing adverts advert) origin ≡ held adverts origin
+held_others adverts advert origin apart = elim (hearing adverts advert) [
+  | inl news ↦ ap (λ (all : List (Option Advert)). held all origin) news.1
+      ∙ get_or-set_other adverts advert.origin origin (Some advert) None apart
+  | inr old ↦ ap (λ (all : List (Option Advert)). held all origin) old.1
+]

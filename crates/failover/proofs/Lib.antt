@@ -1,0 +1,11 @@
+pub mod MaskLemmas
+pub mod Balls
+pub mod LeastPaths
+pub mod Searching
+pub mod Loops
+pub mod Adverts
+pub mod LinkSets
+pub mod Walking
+pub mod Rows
+pub mod Newest
+pub mod RowLoop

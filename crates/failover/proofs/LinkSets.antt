@@ -1,0 +1,166 @@
+-- Sets of links.
+use Rattle.std.proofs.Common.{◌≡◌, ◌≢◌, ℕ, ◌^◌, ◌<◌, ◌≤◌, ◌⊎◌, min, max, Bool, true, false, nat_lt, ◌&&◌, ◌==◌, ◌||◌, List, length, get_or, set, IsTrue, refl, sym, ◌∙◌, ap, arith, get_or-set_same, get_or-set_other, length-set, inl, inr}
+use Rattle.std.specs.Int.Bits.{bit_or}
+use Rattle.std.proofs.lemmas.Bool.{cases_eq, cases_lt}
+use Rattle.std.proofs.lemmas.Bool.Decides.{nat_tests}
+use Rattle.std.proofs.lemmas.List.{get_or-replicate, length-replicate, get_or_past, get_or_default, same_lists}
+use Rattle.failover.specs.Masks.{has}
+use Rattle.failover.specs.DownSet.{has_link, is_link_of, IsLinkSet, no_links, with_link}
+use Rattle.failover.proofs.Balls.{and_both, and_left, and_right, or_left, or_right, or_cases, apart_tests, false_of, same_number, number_test}
+use Rattle.failover.proofs.MaskLemmas.{has-or, has-zero, has-pow_same, has-pow_other, same_sets}
+
+no_row : (k : ℕ) → get_or no_links k 0 ≡ 0
+no_row k = elim (cases_lt k 64)
+    [ inl below ↦ get_or-replicate 64 k 0 0 below | inr past ↦ get_or_past no_links k 0 past ]
+
+no_link : {P : Type 0} (k x : ℕ) → IsTrue (has (get_or no_links k 0) x) → P
+no_link k x h = apart_tests (has 0 x) (ap (λ row. has row x) (sym (no_row k)) ∙ h) (has-zero x)
+
+pub none_is_link_set : IsLinkSet no_links
+none_is_link_set = record {
+  rows = length-replicate {A = ℕ} 64 0;
+  above = λ k x h. no_link k x h;
+  switches = λ k x h. no_link k x h;
+}
+
+-- the row of the lower number gains the higher one
+gained : (links : List ℕ) (low high k x : ℕ) →
+    IsTrue (has (get_or (set links low (bit_or (get_or links low 0) (2 ^ high))) k 0) x) →
+    low < length links → IsTrue (has (get_or links k 0) x) ⊎ ((k ≡ low) × (x ≡ high))
+gained links low high k x h there = elim (cases_eq k low) [
+  | inl same ↦ (let row : get_or (set links low (bit_or (get_or links low 0) (2 ^ high))) k 0 ≡
+      bit_or (get_or links low 0) (2 ^ high) = rw (same, get_or-set_same _ _ _ _ there) refl in
+      elim (or_cases _ _ (sym (has-or (get_or links low 0) (2 ^ high) x)
+      ∙ ap (λ n. has n x) (sym row) ∙ h)) [
+        | inl old ↦ inl (ap (λ n. has (get_or links n 0) x) same ∙ old)
+        | inr new ↦ elim (cases_eq x high)
+            [ inl at ↦ inr (same, at) | inr apart ↦ apart_tests _ new (has-pow_other high x apart) ]
+      ])
+  | inr apart ↦ inl (ap (λ n. has n x) (sym (get_or-set_other links low k _ 0 apart)) ∙ h)
+]
+
+pub with_link_is_link_set : (links : List ℕ) (one other : ℕ) → IsLinkSet links → one ≢ other →
+    one < 64 → other < 64 → IsLinkSet (with_link links one other)
+unfolding with_link
+with_link_is_link_set links one other set differ one_fits other_fits = record {
+  rows = length-set links (min one other) _ ∙ set.rows;
+  above = λ k x h. elim (gained links (min one other) (max one other) k x h
+      (omega (arith, set.rows))) [
+        | inl old ↦ set.above k x old
+        | inr new ↦ omega (arith, new.0, new.1)
+      ];
+  switches = λ k x h. elim (gained links (min one other) (max one other) k x h
+      (omega (arith, set.rows))) [
+        | inl old ↦ set.switches k x old
+        | inr new ↦ omega (arith, new.1)
+      ];
+}
+
+pub has_link-here : (links : List ℕ) (one other low high : ℕ) → low ≡ min one other →
+    high ≡ max one other → has (get_or links low 0) high ≡ has_link links one other
+unfolding has_link
+has_link-here links one other low high p q = rw (p, q) refl
+
+not_below : (high : ℕ) → 64 ≤ high → nat_lt high 64 ≡ false
+not_below high past = grind (arith, nat_tests)
+
+pub has_link-above : (links : List ℕ) (one other high : ℕ) → IsLinkSet links →
+    high ≡ max one other → 64 ≤ high → nat_lt high 64 ≡ has_link links one other
+unfolding has_link
+has_link-above links one other high set e past =
+    not_below high past ∙ sym (false_of _
+    (λ h. absurd (omega (arith, set.switches (min one other) (max one other) h))))
+
+pub with_link-rows : (links : List ℕ) (one other low high more : ℕ) → low ≡ min one other →
+    high ≡ max one other → more ≡ 2 ^ high →
+    set links low (bit_or (get_or links low 0) more) ≡ with_link links one other
+unfolding with_link
+with_link-rows links one other low high more p q e = rw (e, p, q) refl
+
+-- ---- the links of a set
+
+pub has_link-none : (x y : ℕ) → has_link no_links x y ≡ false
+unfolding has_link
+has_link-none x y = ap (λ row. has row (max x y)) (no_row (min x y)) ∙ has-zero (max x y)
+
+pub has_link-turned : (links : List ℕ) (x y : ℕ) → has_link links x y ≡ has_link links y x
+unfolding has_link
+has_link-turned links x y =
+    let low : min x y ≡ min y x = omega arith in
+    let high : max x y ≡ max y x = omega arith in
+    rw (low, high) refl
+
+same_pair : (one other x y : ℕ) → min x y ≡ min one other → max x y ≡ max one other →
+    is_link_of one other x y ≡ true
+same_pair one other x y low high = elim (cases_eq x one) [
+  | inl same ↦ or_left _ _ (and_both _ _ (number_test x one same)
+      (number_test y other (omega arith)))
+  | inr apart ↦ or_right _ _ (and_both _ _ (number_test x other (omega arith))
+      (number_test y one (omega arith)))
+]
+
+both_numbers : (a b c d : ℕ) → ((a == b) && (c == d)) ≡ true → (a ≡ b) × (c ≡ d)
+both_numbers a b c d h = (same_number a b (and_left _ _ h), same_number c d (and_right _ _ h))
+
+other_pair : (one other x y : ℕ) → (min x y ≡ min one other → max x y ≡ max one other → ⊥) →
+    is_link_of one other x y ≡ false
+other_pair one other x y apart =
+    false_of _ (λ h. elim (or_cases ((x == one) && (y == other)) ((x == other) && (y == one)) h) [
+      | inl straight ↦ (let both = both_numbers x one y other straight in apart (omega arith)
+          (omega arith))
+      | inr turned ↦ (let both = both_numbers x other y one turned in apart (omega arith) (omega arith))
+    ])
+
+or_false : (a : Bool) → (a || false) ≡ a
+or_false true = refl
+or_false false = refl
+
+row_gains : (row high z : ℕ) (pair : Bool) → (z ≡ high → pair ≡ true) →
+    ((z ≡ high → ⊥) → pair ≡ false) → has (bit_or row (2 ^ high)) z ≡ (has row z || pair)
+row_gains row high z pair here elsewhere = elim (cases_eq z high) [
+  | inl same ↦ (let set : has (2 ^ high) z ≡ true =
+      rw same (has-pow_same high) in rw (has-or, set, here same) refl)
+  | inr apart ↦ rw (has-or, has-pow_other high z apart, elsewhere apart) refl
+]
+
+pub has_link-with_link : (links : List ℕ) (one other x y : ℕ) → IsLinkSet links → one < 64 →
+    other < 64 → has_link (with_link links one other) x y ≡
+    (has_link links x y || is_link_of one other x y)
+unfolding has_link with_link
+has_link-with_link links one other x y set one_fits other_fits =
+    let there : min one other < length links = omega (arith, set.rows) in
+    elim (cases_eq (min x y) (min one other)) [
+      | inl same ↦ rw (same, get_or-set_same _ _ _ _ there)
+          (row_gains (get_or links (min one other) 0) (max one other) (max x y)
+          (is_link_of one other x y) (λ e. same_pair one other x y same e)
+          (λ apart. other_pair one other x y (λ low high. apart high)))
+      | inr apart ↦ rw (
+        get_or-set_other links (min one other)
+            (min x y) _ 0 apart,
+        other_pair one other x y (λ low high. apart low),
+      ) (sym (or_false _))
+    ]
+
+row_at : (links : List ℕ) (k x : ℕ) → k < x → has (get_or links k 0) x ≡ has_link links k x
+unfolding has_link
+row_at links k x less =
+    let low : min k x ≡ k = omega arith in
+    let high : max k x ≡ x = omega arith in
+    rw (low, high) refl
+
+not_above : (links : List ℕ) (k x : ℕ) → IsLinkSet links → x ≤ k → has (get_or links k 0) x ≡ false
+not_above links k x set past = false_of _ (λ h. absurd (omega (arith, set.above k x h)))
+
+same_rows : (a b : List ℕ) → IsLinkSet a → IsLinkSet b →
+    ((x y : ℕ) → has_link a x y ≡ has_link b x y) → (k : ℕ) → get_or a k 0 ≡ get_or b k 0
+same_rows a b one other same k = same_sets _ _ (λ x. elim (cases_lt k x) [
+  | inl less ↦ row_at a k x less ∙ same k x ∙ sym (row_at b k x less)
+  | inr past ↦ not_above a k x one past ∙ sym (not_above b k x other past)
+])
+
+pub same_link_sets : (a b : List ℕ) → IsLinkSet a → IsLinkSet b →
+    ((x y : ℕ) → has_link a x y ≡ has_link b x y) → a ≡ b
+same_link_sets a b one other same =
+    same_lists a b (one.rows ∙ sym other.rows)
+    (λ k d below. get_or_default a k d 0 below ∙ same_rows a b one other same k
+    ∙ sym (get_or_default b k d 0 (omega (arith, one.rows, other.rows))))

@@ -1,0 +1,132 @@
+-- Masks switch by switch.
+use Rattle.std.proofs.Common.{◌≡◌, ◌≢◌, ℕ, zero, suc, ◌+◌, ◌^◌, ◌<◌, ◌≤◌, min, max, Bool, true, false, ◌&&◌, ◌||◌, ◌==◌, List, [], ◌∷◌, length, get_or, refl, ap, arith}
+use Rattle.std.specs.Int.{w64}
+use Rattle.std.specs.Int.Bits.{bit_and, bit_or}
+use Rattle.std.proofs.lemmas.Bool.Decides.{nat_tests}
+use Rattle.std.proofs.lemmas.Nat.{pow_below, pow_pos, or_lt}
+use Rattle.std.proofs.lemmas.Nat.Bits.{bit_at_and, bit_at_or, bit_at-lt, bit_at-zero, bit_at-pow_same, bit_at-pow_other, bit_at_above, same_from_bits, same_from_bits_below, bit_at-trailing_zeros}
+use Rattle.failover.specs.Masks.{has, marks, only_if, least_in}
+
+-- ---- one switch of a mask
+
+bit_or_test : (a b c : ℕ) → a < 2 → b < 2 → c ≡ max a b → (c == 1) ≡ ((a == 1) || (b == 1))
+bit_or_test a b c a_fits b_fits e = grind (arith, nat_tests)
+
+bit_and_test : (a b c : ℕ) → a < 2 → b < 2 → c ≡ min a b → (c == 1) ≡ ((a == 1) && (b == 1))
+bit_and_test a b c a_fits b_fits e = grind (arith, nat_tests)
+
+pub has-or : (a b k : ℕ) → has (bit_or a b) k ≡ (has a k || has b k)
+unfolding has
+has-or a b k = bit_or_test _ _ _ (bit_at-lt a k) (bit_at-lt b k) (bit_at_or a b k)
+
+pub has-and : (a b k : ℕ) → has (bit_and a b) k ≡ (has a k && has b k)
+unfolding has
+has-and a b k = bit_and_test _ _ _ (bit_at-lt a k) (bit_at-lt b k) (bit_at_and a b k)
+
+pub has-zero : (k : ℕ) → has 0 k ≡ false
+unfolding has
+has-zero k = ap (λ d. d == 1) (bit_at-zero k)
+
+pub has-pow_same : (k : ℕ) → has (2 ^ k) k ≡ true
+unfolding has
+has-pow_same k = ap (λ d. d == 1) (bit_at-pow_same k)
+
+pub has-pow_other : (k j : ℕ) → j ≢ k → has (2 ^ k) j ≡ false
+unfolding has
+has-pow_other k j apart = ap (λ d. d == 1) (bit_at-pow_other k j apart)
+
+pub has_above : (mask k : ℕ) → mask < 2 ^ 64 → 64 ≤ k → has mask k ≡ false
+unfolding has
+has_above mask k fits past = ap (λ d. d == 1) (bit_at_above mask 64 k fits past)
+
+same_bit : (a b : ℕ) → a < 2 → b < 2 → (a == 1) ≡ (b == 1) → a ≡ b
+same_bit a b a_fits b_fits e = grind (arith, nat_tests)
+
+-- masks of the same switches are equal
+pub same_masks : (a b : ℕ) → a < 2 ^ 64 → b < 2 ^ 64 → ((k : ℕ) → k < 64 → has a k ≡ has b k) →
+    a ≡ b
+unfolding has
+same_masks a b a_fits b_fits h =
+    same_from_bits_below 64 a b a_fits b_fits
+    (λ k below. same_bit _ _ (bit_at-lt a k) (bit_at-lt b k) (h k below))
+
+pub has_only_same : (test : Bool) (k : ℕ) → has (only_if test k) k ≡ test
+has_only_same true k = has-pow_same k
+has_only_same false k = has-zero k
+
+pub has_only_other : (test : Bool) (k j : ℕ) → j ≢ k → has (only_if test k) j ≡ false
+has_only_other true k j apart = has-pow_other k j apart
+has_only_other false k j apart = has-zero j
+
+-- ---- marks
+
+or_false : (a : Bool) → (a || false) ≡ a
+or_false true = refl
+or_false false = refl
+
+pub marks_below : {X : Type 0} (test : X → Bool) (k : ℕ) (xs : List X) (z : ℕ) → z < k →
+    has (marks test k xs) z ≡ false
+unfolding marks
+marks_below test k [] z below = has-zero z
+marks_below test k (x ∷ xs) z below =
+    let apart : z ≢ k = omega arith in
+    let rest = marks_below test (k + 1) xs z (omega arith) in
+    rw (has-or, has_only_other _ _ _ apart, rest) refl
+
+pub marks_at : {X : Type 0} (test : X → Bool) (k : ℕ) (xs : List X) (d : X) (z j : ℕ) → z ≡ k + j →
+    j < length xs → has (marks test k xs) z ≡ test (get_or xs j d)
+unfolding marks
+marks_at test k [] d z j e below = absurd (omega arith)
+marks_at test k (x ∷ xs) d z zero e below =
+    let same : z ≡ k = omega arith in
+    rw (has-or, marks_below test (k + 1) xs z (omega arith), same, has_only_same) (or_false _)
+marks_at test k (x ∷ xs) d z (suc j) e below =
+    let apart : z ≢ k = omega arith in
+    rw (has-or, has_only_other _ _ _ apart)
+    (marks_at test (k + 1) xs d z j (omega arith) (omega arith))
+
+pub marks_past : {X : Type 0} (test : X → Bool) (k : ℕ) (xs : List X) (z : ℕ) → k + length xs ≤ z →
+    has (marks test k xs) z ≡ false
+unfolding marks
+marks_past test k [] z past = has-zero z
+marks_past test k (x ∷ xs) z past =
+    let apart : z ≢ k = omega arith in
+    rw (has-or, has_only_other _ _ _ apart) (marks_past test (k + 1) xs z (omega arith))
+
+pub only_if_lt : (test : Bool) (k n : ℕ) → k < n → only_if test k < 2 ^ n
+only_if_lt true k n below = pow_below k n below
+only_if_lt false k n below = pow_pos n
+
+pub marks_lt : {X : Type 0} (test : X → Bool) (k : ℕ) (xs : List X) (n : ℕ) → k + length xs ≤ n →
+    marks test k xs < 2 ^ n
+unfolding marks
+marks_lt test k [] n fits = pow_pos n
+marks_lt test k (x ∷ xs) n fits =
+    or_lt n _ _ (only_if_lt (test x) k n (omega arith)) (marks_lt test (k + 1) xs n (omega arith))
+
+-- ---- the least switch
+
+least_test : (d : ℕ) → d ≡ 1 → (d == 1) ≡ true
+least_test d e = grind (arith, nat_tests)
+
+zero_test : (d : ℕ) → d ≡ 0 → (d == 1) ≡ false
+zero_test d e = grind (arith, nat_tests)
+
+pub least_lt : (mask : ℕ) → 0 < mask → mask < 2 ^ 64 → least_in mask < 64
+unfolding least_in
+least_lt mask some fits = (bit_at-trailing_zeros w64 mask some fits).0
+
+pub has_least : (mask : ℕ) → 0 < mask → mask < 2 ^ 64 → has mask (least_in mask) ≡ true
+unfolding least_in has
+has_least mask some fits = least_test _ (bit_at-trailing_zeros w64 mask some fits).1
+
+pub least_below : (mask : ℕ) → 0 < mask → mask < 2 ^ 64 → (j : ℕ) → j < least_in mask →
+    has mask j ≡ false
+unfolding least_in has
+least_below mask some fits j below =
+    zero_test _ ((bit_at-trailing_zeros w64 mask some fits).2 j below)
+
+-- masks with the same switches are equal, whatever their width
+pub same_sets : (a b : ℕ) → ((k : ℕ) → has a k ≡ has b k) → a ≡ b
+unfolding has
+same_sets a b h = same_from_bits a b (λ k. same_bit _ _ (bit_at-lt a k) (bit_at-lt b k) (h k))

@@ -1,0 +1,235 @@
+-- The rows of known links.
+use Rattle.std.proofs.Common.{◌≡◌, ◌≢◌, ℕ, ◌+◌, ◌^◌, ◌<◌, ◌≤◌, Bool, true, false, not, ◌&&◌, ◌==◌, nat_le, List, [], ◌∷◌, length, get_or, ◌⊎◌, inl, inr, Option, map, length-set, get_or-set_same, get_or-set_other, None, ◌↔◌, IsTrue, refl, sym, ◌∙◌, ap, subst, arith}
+use Rattle.std.proofs.lemmas.Bool.Decides.{nat_tests}
+use Rattle.std.proofs.lemmas.Bool.{cases_lt}
+use Rattle.std.proofs.lemmas.List.{get_or_past, get_or-map, length-map}
+use Rattle.failover.specs.declared.advert.Advert.{Advert}
+use Rattle.failover.specs.Masks.{has, marks, switches, mask_of}
+use Rattle.failover.specs.DownSet.{has_link}
+use Rattle.failover.specs.Links.{told_links, is_link, link_row, known_links, is_isolated, names, neighbours_told}
+use Rattle.failover.specs.Paths.{IsIsolated}
+use Rattle.failover.proofs.MaskLemmas.{has-zero, marks_at, marks_past, marks_lt, same_sets}
+use Rattle.failover.proofs.Balls.{and_both, and_left, and_right, apart_tests, false_of, same_number, number_test}
+use Rattle.failover.proofs.LinkSets.{has_link-turned}
+use Rattle.failover.proofs.Searching.{length-known_links}
+use Rattle.failover.proofs.Loops.{length-switches, get_or-switches}
+
+marks_none : {X : Type 0} (test : X → Bool) (k : ℕ) (xs : List X) → ((x : X) → test x ≡ false) →
+    marks test k xs ≡ 0
+unfolding marks
+marks_none test k [] none = refl
+marks_none test k (x ∷ xs) none = rw (none x, marks_none test (k + 1) xs none) refl
+
+never : (a b c d : Bool) → b ≡ false → (a && b && c && d) ≡ false
+never true b c d e = rw e refl
+never false b c d e = refl
+
+strange : (told down : List ℕ) (one : ℕ) → length told ≤ one → (other : ℕ) →
+    is_link told down one other ≡ false
+unfolding is_link
+strange told down one past other =
+    never _ _ _ _ (ap (λ row. has row other) (get_or_past told one 0 past) ∙ has-zero other)
+
+is_zero : (n : ℕ) → n ≡ 0 → true ≡ (n == 0)
+is_zero n e = grind (arith, nat_tests)
+
+at_least : (n : ℕ) → 64 ≤ n → nat_le 64 n ≡ true
+at_least n past = grind (arith, nat_tests)
+
+pub no_row_past : (told down : List ℕ) (one : ℕ) → length told ≡ 64 → 64 ≤ one →
+    nat_le 64 one ≡ (link_row told down one == 0)
+unfolding mask_of
+no_row_past told down one rows past =
+    at_least one past ∙ is_zero _
+    (marks_none (is_link told down one) 0 switches (strange told down one (omega arith)))
+
+-- ---- known links
+
+pub has_mask : (test : ℕ → Bool) (k : ℕ) → k < 64 → has (mask_of test) k ≡ test k
+unfolding mask_of
+has_mask test k below = marks_at test 0 switches 0 k k (omega arith)
+    (omega (arith, length-switches)) ∙ ap test (get_or-switches k below)
+
+has_mask_past : (test : ℕ → Bool) (k : ℕ) → 64 ≤ k → has (mask_of test) k ≡ false
+unfolding mask_of
+has_mask_past test k past = marks_past test 0 switches k (omega (arith, length-switches))
+
+pub mask_of_lt : (test : ℕ → Bool) → mask_of test < 2 ^ 64
+unfolding mask_of
+mask_of_lt test = marks_lt test 0 switches 64 (omega (arith, length-switches))
+
+row_of : (adverts : List (Option Advert)) (at near : ℕ) (down : List ℕ) (one : ℕ) → one < 64 →
+    get_or (known_links adverts at near down) one 0 ≡ link_row (told_links adverts at near) down one
+unfolding known_links
+row_of adverts at near down one below =
+    get_or-map (link_row (told_links adverts at near) down) switches one 0 0
+    (omega (arith, length-switches))
+    ∙ ap (link_row (told_links adverts at near) down) (get_or-switches one below)
+
+pub has_known : (adverts : List (Option Advert)) (at near : ℕ) (down : List ℕ) (one other : ℕ) →
+    one < 64 → other < 64 → has (get_or (known_links adverts at near down) one 0) other ≡
+    is_link (told_links adverts at near) down one other
+has_known adverts at near down one other one_fits other_fits =
+    ap (λ row. has row other) (row_of adverts at near down one one_fits)
+    ∙ has_mask (is_link (told_links adverts at near) down one) other other_fits
+
+pub known_past : (adverts : List (Option Advert)) (at near : ℕ) (down : List ℕ) (one other : ℕ) →
+    (one < 64 → other < 64 → ⊥) →
+    has (get_or (known_links adverts at near down) one 0) other ≡ false
+known_past adverts at near down one other past = elim (cases_lt one 64) [
+  | inl below ↦ ap (λ row. has row other) (row_of adverts at near down one below)
+      ∙ has_mask_past (is_link (told_links adverts at near) down one) other
+      (elim (cases_lt other 64) [ inl fits ↦ absurd (past below fits) | inr more ↦ more ])
+  | inr more ↦ ap (λ row. has row other)
+      (get_or_past (known_links adverts at near down) one 0
+      (omega (arith, length-known_links adverts at near down))) ∙ has-zero other
+]
+
+swapped : (a b c d : Bool) → (a && b && c && d) ≡ (a && c && b && d)
+swapped true true true d = refl
+swapped true true false d = refl
+swapped true false true d = refl
+swapped true false false d = refl
+swapped false b c d = refl
+
+turned_number : (x y : ℕ) → (x == y) ≡ (y == x)
+turned_number x y = grind (arith, nat_tests)
+
+link_turned : (told down : List ℕ) (one other : ℕ) →
+    is_link told down one other ≡ is_link told down other one
+unfolding is_link
+link_turned told down one other =
+    rw (turned_number one other, has_link-turned down one other)
+    (swapped (not (other == one)) (has (get_or told one 0) other) (has (get_or told other 0) one)
+    (not (has_link down other one)))
+
+pub known_turned : (adverts : List (Option Advert)) (at near : ℕ) (down : List ℕ) (one other : ℕ) →
+    has (get_or (known_links adverts at near down) one 0) other ≡
+    has (get_or (known_links adverts at near down) other 0) one
+known_turned adverts at near down one other = elim (both_or_not one other) [
+  | inl fit ↦ has_known adverts at near down one other fit.0 fit.1
+      ∙ link_turned (told_links adverts at near) down one other
+      ∙ sym (has_known adverts at near down other one fit.1 fit.0)
+  | inr past ↦ known_past adverts at near down one other past
+      ∙ sym (known_past adverts at near down other one (λ p q. past q p))
+]
+  where
+    both_or_not : (one other : ℕ) → ((one < 64) × (other < 64)) ⊎ (one < 64 → other < 64 → ⊥)
+    both_or_not one other = elim (cases_lt one 64) [
+      | inl p ↦ elim (cases_lt other 64)
+          [ inl q ↦ inl (p, q) | inr q ↦ inr (λ _ r. absurd (omega arith)) ]
+      | inr p ↦ inr (λ r _. absurd (omega arith))
+    ]
+
+-- ---- isolated targets
+
+length-told_links : (adverts : List (Option Advert)) (at near : ℕ) →
+    length (told_links adverts at near) ≡ length adverts
+unfolding told_links
+length-told_links adverts at near =
+    length-set (map neighbours_told adverts) at near ∙ length-map adverts neighbours_told
+
+-- a row without switches
+bare_row : (adverts : List (Option Advert)) (at near : ℕ) (down : List ℕ) (target : ℕ) →
+    length adverts ≡ 64 → ((one : ℕ) →
+    has (get_or (known_links adverts at near down) one 0) target ≡ true → ⊥) → (other : ℕ) →
+    has (link_row (told_links adverts at near) down target) other ≡ false
+bare_row adverts at near down target rows linkless other = elim (cases_lt other 64) [
+  | inl below ↦ has_mask (is_link (told_links adverts at near) down target) other below
+      ∙ elim (cases_lt target 64) [
+        | inl fits ↦ sym (has_known adverts at near down target other fits below)
+            ∙ known_turned adverts at near down target other ∙ false_of _ (linkless other)
+        | inr past ↦ strange (told_links adverts at near) down target
+            (omega (arith, length-told_links adverts at near)) other
+      ]
+  | inr past ↦ has_mask_past (is_link (told_links adverts at near) down target) other past
+]
+
+joined_row : (adverts : List (Option Advert)) (at near : ℕ) (down : List ℕ) (target : ℕ) →
+    link_row (told_links adverts at near) down target ≡ 0 → (one : ℕ) →
+    has (get_or (known_links adverts at near down) one 0) target ≡ true → ⊥
+joined_row adverts at near down target bare one joined =
+    apart_tests _ (sym (known_turned adverts at near down one target) ∙ joined)
+    (elim (cases_lt target 64) [
+      | inl fits ↦ ap (λ row. has row one) (row_of adverts at near down target fits ∙ bare)
+          ∙ has-zero one
+      | inr past ↦ known_past adverts at near down target one (λ p q. absurd (omega arith))
+    ])
+
+not_test : (x y : ℕ) → x ≢ y → not (x == y) ≡ true
+not_test x y apart = grind (arith, nat_tests)
+
+apart_of : (x y : ℕ) → not (x == y) ≡ true → x ≢ y
+apart_of x y h = grind (arith, nat_tests)
+
+pub isolated_tells : (adverts : List (Option Advert)) (at target near : ℕ) (down : List ℕ) →
+    length adverts ≡ 64 → IsTrue (is_isolated adverts at target near down) ↔
+    IsIsolated (known_links adverts at near down) at target
+unfolding is_isolated
+isolated_tells adverts at target near down rows = (
+  (λ h. record {
+    other = apart_of target at (and_left _ _ h);
+    linkless = λ one joined. joined_row adverts at near down target
+        (same_number _ 0 (and_right _ _ h)) one joined;
+  }),
+  (λ isolated. and_both _ _ (not_test target at isolated.other)
+      (number_test _ 0 (same_sets _ 0
+      (λ other. bare_row adverts at near down target rows isolated.linkless other
+      ∙ sym (has-zero other))))),
+)
+
+pub isolated_answer : (adverts : List (Option Advert)) (at target near : ℕ) (down told : List ℕ)
+    (answer : Bool) → length adverts ≡ 64 → told ≡ told_links adverts at near →
+    answer ≡ (link_row told down target == 0) → target ≢ at →
+    IsTrue answer ↔ IsIsolated (known_links adverts at near down) at target
+unfolding is_isolated
+isolated_answer adverts at target near down told answer rows e linkless apart =
+    let same : answer ≡ is_isolated adverts at target near down =
+    rw (not_test target at apart) (linkless ∙ ap (λ t. link_row t down target == 0) e) in
+    subst (λ (b : Bool). IsTrue b ↔ IsIsolated (known_links adverts at near down) at target)
+    (sym same) (isolated_tells adverts at target near down rows)
+
+-- ---- what each switch names
+
+told_own : (adverts : List (Option Advert)) (at near : ℕ) → length adverts ≡ 64 → at < 64 →
+    get_or (told_links adverts at near) at 0 ≡ near
+unfolding told_links
+told_own adverts at near rows fits =
+    get_or-set_same (map neighbours_told adverts) at near 0
+    (omega (arith, length-map adverts neighbours_told, rows))
+
+told_other : (adverts : List (Option Advert)) (at near origin other : ℕ) → length adverts ≡ 64 →
+    origin < 64 → origin ≢ at → has (get_or (told_links adverts at near) origin 0) other ≡
+    names adverts origin other
+unfolding told_links names
+told_other adverts at near origin other rows fits apart =
+    ap (λ row. has row other) (get_or-set_other (map neighbours_told adverts) at origin near 0 apart
+    ∙ get_or-map neighbours_told adverts origin None 0 (omega (arith, rows)))
+
+link_test : (told down : List ℕ) (one other : ℕ) (a b : Bool) → one ≢ other →
+    has (get_or told one 0) other ≡ a → has (get_or told other 0) one ≡ b →
+    is_link told down one other ≡ (a && b && not (has_link down one other))
+unfolding is_link
+link_test told down one other a b apart p q = rw (not_test one other apart, p, q) refl
+
+pub own_link : (adverts : List (Option Advert)) (at near : ℕ) (down : List ℕ) (other : ℕ) →
+    length adverts ≡ 64 → at < 64 → other < 64 → at ≢ other →
+    has (get_or (known_links adverts at near down) at 0) other ≡
+    (has near other && names adverts other at && not (has_link down at other))
+own_link adverts at near down other rows fits other_fits apart =
+    has_known adverts at near down at other fits other_fits
+    ∙ link_test (told_links adverts at near) down at other (has near other)
+    (names adverts other at) apart
+    (ap (λ row. has row other) (told_own adverts at near rows fits))
+    (told_other adverts at near other at rows other_fits (λ e. apart (sym e)))
+
+pub link_elsewhere : (adverts : List (Option Advert)) (at near : ℕ) (down : List ℕ)
+    (one other : ℕ) → length adverts ≡ 64 → one < 64 → other < 64 → one ≢ other → one ≢ at →
+    other ≢ at → has (get_or (known_links adverts at near down) one 0) other ≡
+    (names adverts one other && names adverts other one && not (has_link down one other))
+link_elsewhere adverts at near down one other rows one_fits other_fits apart one_apart other_apart =
+    has_known adverts at near down one other one_fits other_fits
+    ∙ link_test (told_links adverts at near) down one other (names adverts one other)
+    (names adverts other one) apart
+    (told_other adverts at near one other rows one_fits one_apart)
+    (told_other adverts at near other one rows other_fits other_apart)

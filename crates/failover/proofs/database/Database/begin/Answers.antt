@@ -1,0 +1,10 @@
+use Rattle.std.proofs.Common.{None, arith}
+use Rattle.std.proofs.lemmas.List.FromFn.{fill_by_all}
+use Rattle.failover.specs.Masks.{switches}
+use Rattle.failover.specs.Adverts.{first_of, first_adverts}
+use Rattle.failover.proofs.database.Database.begin.Goals as goal
+
+pub returns : goal.returns
+unfolding first_adverts switches
+returns c = fill_by_all (first_of c.args.near.now c.args.switches) c.loop-origin.adverts 64 None
+    c.loop-origin.invariant.0 (λ k below. c.loop-origin.invariant.1 k (omega arith))

@@ -1,0 +1,7 @@
+use Rattle.std.proofs.Common.{◌≡◌, ℕ, ◌<◌, length, get_or, None}
+use Rattle.failover.specs.Adverts.{first_of}
+use Rattle.failover.proofs.database.Database.begin.Given as goal
+
+abbrev pub invariant-loop-origin : goal.invariant-loop-origin
+invariant-loop-origin l = (length l.adverts ≡ 64)
+    × ((k : ℕ) → k < l.origin → get_or l.adverts k None ≡ first_of l.near l.switches k)

@@ -1,0 +1,5 @@
+use Rattle.failover.proofs.Rows.{no_row_past}
+use Rattle.failover.proofs.links.is_linkless.Goals as goal
+
+pub returns-then-one-ge-SWITCHES : goal.returns-then-one-ge-SWITCHES
+returns-then-one-ge-SWITCHES c = no_row_past _ _ _ c.told-told c.if-one-ge-SWITCHES.true

@@ -1,0 +1,7 @@
+use Rattle.std.proofs.Common.{◌≡◌, drop}
+use Rattle.failover.specs.Routes.{first_route}
+use Rattle.failover.proofs.search.first_route.Given as goal
+
+abbrev pub invariant-loop-target : goal.invariant-loop-target
+invariant-loop-target l = first_route l.links l.from (drop l.target-index l.targets) ≡
+    first_route l.links l.from l.targets

@@ -1,0 +1,61 @@
+-- Link-state adverts, and the newest of each origin (OSPF, RFC 2328, section 13.1, with a boot
+-- number in the place of its ages).
+use Rattle.std.specs.Prelude.{ℕ, ◌≡◌, ◌≢◌, Bool, true, ◌&&◌, ◌||◌, ◌==◌, nat_lt, if◌then◌else◌, Option, Some, None, List, ◌∷◌, ◌++◌, map, fold, length, replicate, slice_index, slice_index_or, slice_set, All, IsTrue, IsFalse}
+use Rattle.std.specs.Option.{option_map_or}
+use Rattle.failover.specs.declared.advert.Advert.{Advert}
+use Rattle.failover.specs.Masks.{switches}
+
+-- (boot, seq) is greater, the boot compared first
+abbrev pub is_newer : Advert → Advert → Bool
+is_newer one other = nat_lt other.boot one.boot ||
+    ((other.boot == one.boot) && nat_lt other.seq one.seq)
+
+-- what is held of an origin, where adverts stand at the places of their origins
+abbrev pub held : List (Option Advert) → ℕ → Option Advert
+held adverts origin = slice_index_or adverts origin None
+
+-- none of its origin is held, or this one is newer
+unfoldable pub is_news : List (Option Advert) → Advert → Bool
+is_news adverts advert = nat_lt advert.origin 64 && option_map_or (is_newer advert)
+    (held adverts advert.origin) true
+
+-- what is held once the advert was heard
+unfoldable pub after_hearing : List (Option Advert) → Advert → List (Option Advert)
+after_hearing adverts advert =
+    if is_news adverts advert then slice_set adverts advert.origin (Some advert) else adverts
+
+-- what is held once these were heard, one after another
+abbrev pub after_hearing_all : List (Option Advert) → List Advert → List (Option Advert)
+after_hearing_all adverts heard = fold after_hearing adverts heard
+
+abbrev pub no_adverts : List (Option Advert)
+no_adverts = replicate 64 None
+
+-- the first advert of a switch, that has these neighbours
+abbrev pub first_advert : ℕ → ℕ → Advert
+first_advert origin up = record { origin = origin; boot = 1; seq = 1; up = up }
+
+-- the first advert of a switch below this number
+abbrev pub first_of : List ℕ → ℕ → ℕ → Option Advert
+first_of near count origin = if nat_lt origin count then Some
+    (first_advert origin (slice_index near origin)) else None
+
+-- the first adverts of the switches below a number
+unfoldable pub first_adverts : List ℕ → ℕ → List (Option Advert)
+first_adverts near count = map (first_of near count) switches
+
+-- each advert stands at the place of its origin, of 64
+pub record AreByOrigin (adverts : List (Option Advert)) : Type 0 where
+  pub places : length adverts ≡ 64
+  pub origins : (origin : ℕ) (advert : Advert) → held adverts origin ≡ Some advert →
+      advert.origin ≡ origin
+
+-- of these adverts the newest of an origin, and of equally new ones the first; none where none is
+-- of that origin
+abbrev pub IsNewest : ℕ → List Advert → Option Advert → Type 0
+IsNewest origin adverts None = All (λ advert. advert.origin ≢ origin) adverts
+IsNewest origin adverts (Some best) =
+    (before : List Advert) × (after : List Advert) × (adverts ≡ before ++ best ∷ after)
+    × (best.origin ≡ origin)
+    × All (λ advert. advert.origin ≡ origin → IsTrue (is_newer best advert)) before
+    × All (λ advert. advert.origin ≡ origin → IsFalse (is_newer advert best)) after

@@ -1,0 +1,84 @@
+-- The laws of adverts, of sets of links, of known links and of routes: `x_laws` of the crate
+-- ensures the record of each.
+use Rattle.std.specs.Prelude.{ℕ, ◌≡◌, ◌≢◌, ◌<◌, ◌↔◌, not, ◌&&◌, ◌||◌, false, Option, Some, List, ◌++◌, length, option_to_list, slice_index, IsTrue}
+use Rattle.failover.specs.declared.advert.Advert.{Advert}
+use Rattle.failover.specs.Masks.{has}
+use Rattle.failover.specs.Adverts.{held, is_news, after_hearing, after_hearing_all, no_adverts, first_of, first_adverts, AreByOrigin, IsNewest}
+use Rattle.failover.specs.DownSet.{has_link, no_links, with_link, is_link_of, IsLinkSet}
+use Rattle.failover.specs.Links.{names, told_links, is_link, known_links, is_isolated}
+use Rattle.failover.specs.Paths.{Leads, IsPath, IsReachable, IsIsolated, IsRoute}
+use Rattle.failover.specs.RouteList.{IsRouteList}
+use Rattle.failover.specs.Routes.{route_of}
+
+pub record AdvertLaws : Type 0 where
+  pub none : AreByOrigin no_adverts
+  pub first : (near : List ℕ) (count : ℕ) → AreByOrigin (first_adverts near count)
+  -- at first the advert of each switch is held, and no other
+  pub begun : (near : List ℕ) (count origin : ℕ) → origin < 64 →
+      held (first_adverts near count) origin ≡ first_of near count origin
+  pub kept : (adverts : List (Option Advert)) (advert : Advert) → AreByOrigin adverts →
+      AreByOrigin (after_hearing adverts advert)
+  -- an advert that is news is held, and those of other origins stay
+  pub heard : (adverts : List (Option Advert)) (advert : Advert) → AreByOrigin adverts →
+      IsTrue (is_news adverts advert) →
+      held (after_hearing adverts advert) advert.origin ≡ Some advert
+  pub others : (adverts : List (Option Advert)) (advert : Advert) (origin : ℕ) →
+      origin ≢ advert.origin → held (after_hearing adverts advert) origin ≡ held adverts origin
+  -- after any adverts the newest of each origin is held, where the one that was held at first
+  -- counts before them
+  pub newest : (adverts : List (Option Advert)) (heard : List Advert) (origin : ℕ) →
+      AreByOrigin adverts → origin < 64 →
+      IsNewest origin (option_to_list (held adverts origin) ++ heard)
+      (held (after_hearing_all adverts heard) origin)
+
+pub record LinkSetLaws : Type 0 where
+  pub none : IsLinkSet no_links
+  pub no_link : (x y : ℕ) → has_link no_links x y ≡ false
+  pub kept : (links : List ℕ) (one other : ℕ) → IsLinkSet links → one ≢ other → one < 64 →
+      other < 64 → IsLinkSet (with_link links one other)
+  pub added : (links : List ℕ) (one other x y : ℕ) → IsLinkSet links → one < 64 → other < 64 →
+      has_link (with_link links one other) x y ≡ (has_link links x y || is_link_of one other x y)
+  pub either_order : (links : List ℕ) (x y : ℕ) → has_link links x y ≡ has_link links y x
+  -- sets of the same links are equal
+  pub same : (a b : List ℕ) → IsLinkSet a → IsLinkSet b →
+      ((x y : ℕ) → has_link a x y ≡ has_link b x y) → a ≡ b
+
+pub record LinkLaws : Type 0 where
+  -- a link is known where both ends name each other
+  pub known : (adverts : List (Option Advert)) (at near : ℕ) (down : List ℕ) (one other : ℕ) →
+      one < 64 → other < 64 →
+      has (slice_index (known_links adverts at near down) one) other ≡
+      is_link (told_links adverts at near) down one other
+  -- a link of the switch itself, by its own mask and the other's advert
+  pub own : (adverts : List (Option Advert)) (at near : ℕ) (down : List ℕ) (other : ℕ) →
+      length adverts ≡ 64 → at < 64 → other < 64 → at ≢ other →
+      has (slice_index (known_links adverts at near down) at) other ≡
+      (has near other && names adverts other at && not (has_link down at other))
+  -- a link elsewhere, by both adverts
+  pub elsewhere : (adverts : List (Option Advert)) (at near : ℕ) (down : List ℕ) (one other : ℕ) →
+      length adverts ≡ 64 → one < 64 → other < 64 → one ≢ other → one ≢ at → other ≢ at →
+      has (slice_index (known_links adverts at near down) one) other ≡
+      (names adverts one other && names adverts other one && not (has_link down one other))
+  pub either_end : (adverts : List (Option Advert)) (at near : ℕ) (down : List ℕ) (one other : ℕ) →
+      has (slice_index (known_links adverts at near down) one) other ≡
+      has (slice_index (known_links adverts at near down) other) one
+  -- another switch is isolated where no link that is known ends at it
+  pub isolated : (adverts : List (Option Advert)) (at target near : ℕ) (down : List ℕ) →
+      length adverts ≡ 64 → IsTrue (is_isolated adverts at target near down) ↔
+      IsIsolated (known_links adverts at near down) at target
+
+pub record RouteLaws : Type 0 where
+  -- the function gives the defined route
+  pub computed : (adverts : List (Option Advert)) (from : ℕ) (targets : List ℕ) (near : ℕ)
+      (down : List ℕ) →
+      IsRoute (known_links adverts from near down) from targets
+      (route_of adverts from targets near down)
+  -- over the same links there is one route to the same targets
+  pub unique : (links : List ℕ) (from : ℕ) (targets : List ℕ) (one other : Option (List ℕ)) →
+      IsRoute links from targets one → IsRoute links from targets other → one ≡ other
+  -- a path has distinct switches, so at most 64
+  pub short : (links : List ℕ) (from target : ℕ) (path : List ℕ) → IsPath links from target path →
+      IsRouteList path
+  -- a way to the target that meets a switch again shows that a path leads there too
+  pub straightened : (links : List ℕ) (from target : ℕ) (rest : List ℕ) → length links ≡ 64 →
+      from < 64 → Leads links target from rest → IsReachable links from target

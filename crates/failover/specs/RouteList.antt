@@ -1,0 +1,37 @@
+-- One to 64 distinct switches, held in 64 places.
+use Rattle.std.specs.Prelude.{ℕ, ◌≡◌, ◌-◌, ◌<◌, ◌≤◌, nat_eq, List, ◌++◌, length, take, drop, replicate, All}
+use Rattle.std.specs.List.{IsDistinct}
+use Rattle.std.proofs.Common.{arith, length-take, take-append-drop, ap, sym, ◌∙◌}
+use Rattle.failover.specs.declared.path.Route.TheInside.{Inside}
+
+-- one or more distinct switches
+pub record IsRouteList (route : List ℕ) : Type 0 where
+  pub some : 0 < length route
+  pub few : length route ≤ 64
+  pub switches : All (λ x. x < 64) route
+  pub distinct : IsDistinct nat_eq route
+
+-- the list: the places before its length
+abbrev pub first_switches : Inside → List ℕ
+first_switches r = take r.len r.switches
+
+-- of the 64 places, those past the list are 0
+pub record IsFilled (r : Inside) : Type 0 where
+  pub places : length r.switches ≡ 64
+  pub few : r.len ≤ 64
+  pub rest : drop r.len r.switches ≡ replicate (64 - r.len) 0
+  pub list : IsRouteList (first_switches r)
+
+-- the 64 places that hold this list
+abbrev pub filled : List ℕ → Inside
+filled xs = record { switches = xs ++ replicate (64 - length xs) 0; len = length xs }
+
+-- the 64 places are those of the list that they hold
+pub filled-first_switches : (r : Inside) → IsFilled r → filled (first_switches r) ≡ r
+filled-first_switches r h =
+    let len : length (take r.len r.switches) ≡ r.len =
+    omega (arith, length-take r.len r.switches, h.places, h.few) in
+    let switches : take r.len r.switches ++ replicate (64 - r.len) 0 ≡ r.switches =
+    ap (λ rest. take r.len r.switches ++ rest) (sym h.rest)
+    ∙ take-append-drop r.len r.switches in
+    rw (len, switches)

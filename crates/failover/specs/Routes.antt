@@ -1,0 +1,54 @@
+-- The route as a function that computes: breadth first from the target (Moore, "The Shortest Path
+-- Through a Maze", 1959), then each
+-- time to the least switch that is one link nearer.
+use Rattle.std.specs.Prelude.{ℕ, zero, suc, ◌^◌, true, false, not, ◌&&◌, ◌==◌, nat_lt, Option, Some, None, option_map, List, [], ◌∷◌, bit_and, bit_or, slice_index}
+use Rattle.failover.specs.declared.advert.Advert.{Advert}
+use Rattle.failover.specs.Masks.{has, marks, least_in}
+use Rattle.failover.specs.Links.{known_links}
+
+-- a set of switches, and those that have a link into it
+unfoldable pub wider : List ℕ → ℕ → ℕ
+wider links ball = bit_or ball (marks (λ row. not (bit_and row ball == 0)) 0 links)
+
+-- the switches that are at most k links away from the target
+unfoldable pub ball : List ℕ → ℕ → ℕ → ℕ
+ball links target zero = 2 ^ target
+ball links target (suc k) = wider links (ball links target k)
+
+-- the least switch of a set to which this one has a link
+unfoldable pub nearer : List ℕ → ℕ → ℕ → ℕ
+nearer links within at = least_in (bit_and (slice_index links at) within)
+
+-- the switches after one that is k links away from the target
+unfoldable pub onward : List ℕ → ℕ → ℕ → ℕ → List ℕ
+onward links target zero at = []
+onward links target (suc k) at = let next =
+    nearer links (ball links target k) at in next ∷ onward links target k next
+
+-- how many links farther than this ball the first is that has the switch; none where balls no
+-- longer grow
+unfoldable pub links_away : ℕ → List ℕ → ℕ → ℕ → Option ℕ
+links_away zero links from within = None
+links_away (suc most) links from within = elim (has within from) [
+  | true ↦ Some 0
+  | false ↦ let wide = wider links within in elim
+      (wide == within) [ true ↦ None | false ↦ option_map suc (links_away most links from wide) ]
+]
+
+unfoldable pub route_to : List ℕ → ℕ → ℕ → Option (List ℕ)
+route_to links from target = elim (nat_lt from 64 && nat_lt target 64) [
+  | true ↦ option_map (λ k. from ∷ onward links target k from)
+      (links_away 64 links from (2 ^ target))
+  | false ↦ None
+]
+
+unfoldable pub first_route : List ℕ → ℕ → List ℕ → Option (List ℕ)
+first_route links from [] = None
+first_route links from (target ∷ targets) =
+    elim (route_to links from target)
+    [ Some route ↦ Some route | None ↦ first_route links from targets ]
+
+-- the route from a switch to the first target that it reaches by the links that it knows
+unfoldable pub route_of : List (Option Advert) → ℕ → List ℕ → ℕ → List ℕ → Option (List ℕ)
+route_of adverts from targets near down =
+    first_route (known_links adverts from near down) from targets

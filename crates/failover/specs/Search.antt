@@ -1,0 +1,23 @@
+-- What a breadth-first search has found, before its route is written down.
+use Rattle.std.specs.Prelude.{ℕ, zero, suc, ◌≡◌, ◌<◌, true, false, List, [], ◌∷◌, slice_index}
+use Rattle.failover.specs.Masks.{has}
+use Rattle.failover.specs.Routes.{ball, nearer}
+
+-- the switch is k links away from the target, and no fewer
+pub record IsAway (links : List ℕ) (target k at : ℕ) : Type 0 where
+  pub here : has (ball links target k) at ≡ true
+  pub later : (j : ℕ) → j < k → has (ball links target j) at ≡ false
+
+-- no 63 links lead from the switch to the target
+unfoldable pub IsOutOfReach : List ℕ → ℕ → ℕ → Type 0
+IsOutOfReach links target at = (k : ℕ) → k < 64 → has (ball links target k) at ≡ false
+
+-- at each place below k is the set of those at most so many links away
+unfoldable pub AreBalls : List ℕ → ℕ → List ℕ → ℕ → Type 0
+AreBalls links target balls k = (j : ℕ) → j < k → slice_index balls j ≡ ball links target j
+
+-- the switches after one that is k links away, where these are the balls
+unfoldable pub along : List ℕ → List ℕ → ℕ → ℕ → List ℕ
+along links balls zero at = []
+along links balls (suc k) at = let next =
+    nearer links (slice_index balls k) at in next ∷ along links balls k next

@@ -1,0 +1,65 @@
+ghost use Rattle.std.specs.Prelude.{◌≡◌, ◌≢◌, ◌<◌, ◌||◌, ℕ, false};
+ghost use Rattle.failover.specs.DownSet.{has_link, no_links, with_link, is_link_of};
+
+use crate::masks::{SWITCHES, has, only_if};
+use std::marker::Model;
+
+/// A set of links between two different switches below 64, as a packet finds them down on its way.
+///
+/// Contracts see one mask for each switch, of the greater switches to which it has a link in the
+/// set; so equal sets are equal values.
+#[derive(Clone, Copy, Debug, PartialEq, Eq)]
+pub struct DownSet {
+    rows: [u64; 64],
+}
+
+const _: () = prove!(size_of::<DownSet>() <= 512);
+
+impl Model for DownSet {
+    ghost use Rattle.std.specs.Prelude.{List, ℕ};
+    ghost use Rattle.failover.specs.DownSet.{IsLinkSet};
+
+    ghost Value = { List ℕ };
+
+    ghost view = { λ d. d.rows };
+
+    ghost invariant = { λ d. IsLinkSet d.rows };
+
+    ghost inverse = { λ rows. record { rows = rows } };
+}
+
+impl DownSet {
+    ghost use Rattle.failover.specs.DownSet.{IsLinkSet};
+
+    /// The set of no link.
+    pub fn empty() -> DownSet
+        ensures value { result ≡ no_links }
+        ensures links { (x y : ℕ) → has_link result x y ≡ false }
+    {
+        DownSet { rows: [0; 64] }
+    }
+
+    /// Adds the link of these two switches.
+    pub fn add(&mut self, one: u32, two: u32)
+        requires different { one ≢ two }
+        requires first { one < 64 }
+        requires second { two < 64 }
+        ensures value { self.new ≡ with_link self.old one two }
+        ensures links { (x y : ℕ) →
+            has_link self.new x y ≡ (has_link self.old x y || is_link_of one two x y) }
+    {
+        let low = one.min(two);
+        let high = one.max(two);
+        self.rows[low as usize] |= only_if(true, high);
+    }
+
+    /// Whether the link of these two switches, in either order, is in the set.
+    pub fn has(&self, one: u32, two: u32) -> bool
+        ensures link { result ≡ has_link self.now one two }
+        ensures set { IsLinkSet self.now }
+    {
+        let low = one.min(two);
+        let high = one.max(two);
+        high < SWITCHES && has(self.rows[low as usize], high)
+    }
+}

@@ -1,0 +1,31 @@
+//! Link-state adverts, and the routes that a switch finds over the links that both ends name.
+//!
+//! `Database` holds the newest advert of each origin. `Database::route` promises the defined route:
+//! the first target that a path of known links reaches, by the fewest links, and of those paths the
+//! least list; `None` exactly where no path reaches any target. Nothing here takes memory.
+//!
+//! ```text
+//! let mut base = Database::begin(&near, 4);
+//! base.hear(&advert);
+//! let route = base.route(0, &targets, near[0], &DownSet::empty())?;
+//! let next = route.items().get(1);
+//! ```
+#![tactic(auto)]
+
+mod advert;
+mod database;
+mod down_set;
+mod laws;
+mod links;
+mod masks;
+mod path;
+mod search;
+
+pub use advert::Advert;
+pub use database::Database;
+pub use down_set::DownSet;
+pub use laws::{advert_laws, link_laws, link_set_laws, route_laws};
+pub use path::Route;
+
+#[cfg(test)]
+mod tests;
