@@ -1,0 +1,2 @@
+pub mod Tunnel
+pub mod Moves

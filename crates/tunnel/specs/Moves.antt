@@ -1,0 +1,51 @@
+-- What becomes of a packet on its way: its place, and the links that it finds down.
+use Rattle.std.specs.Prelude.{ℕ, ◌+◌, Option, Some, None, List, slice_get, slice_index}
+use Rattle.five_tuple.specs.declared.header.Header.{Header}
+use Rattle.policy_rules.specs.declared.packet.Leg.{Leg}
+use Rattle.failover.specs.declared.advert.Advert.{Advert}
+use Rattle.failover.specs.DownSet.{with_link}
+use Rattle.failover.specs.Routes.{route_of}
+use Rattle.tunnel.specs.Tunnel.{TunnelValue}
+
+-- at the beginning of its route
+abbrev pub begun : ℕ → Header → ℕ → Leg → List ℕ → List ℕ → List ℕ → TunnelValue
+begun packet header ingress leg targets route down =
+    record {
+      packet = packet;
+      header = header;
+      ingress = ingress;
+      leg = leg;
+      targets = targets;
+      route = route;
+      place = 0;
+      down = down;
+    }
+
+-- the switch where it stands
+abbrev pub here : TunnelValue → ℕ
+here t = slice_index t.route t.place
+
+-- the switch after that one on its route
+abbrev pub next : TunnelValue → Option ℕ
+next t = slice_get t.route (t.place + 1)
+
+-- one place on
+abbrev pub advanced : TunnelValue → TunnelValue
+advanced t = record t { place = t.place + 1 }
+
+-- the link between this switch and another was found down
+abbrev pub marked_down : TunnelValue → ℕ → TunnelValue
+marked_down t other = record t { down = with_link t.down (here t) other }
+
+-- its route from here by the links that are known here, less those found down
+abbrev pub route_from_here : TunnelValue → List (Option Advert) → ℕ → Option (List ℕ)
+route_from_here t adverts near = route_of adverts (here t) t.targets near t.down
+
+-- it stands at the beginning of this route
+abbrev pub on_route : TunnelValue → List ℕ → TunnelValue
+on_route t route = record t { route = route; place = 0 }
+
+-- it takes the new route if there is one, and stays on its old route otherwise
+abbrev pub rerouted : TunnelValue → Option (List ℕ) → TunnelValue
+rerouted t None = t
+rerouted t (Some route) = on_route t route

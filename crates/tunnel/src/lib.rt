@@ -1,0 +1,28 @@
+//! Packets on their way from switch to switch, each in a tunnel to one of its leg's targets.
+//!
+//! `Tunnel` keeps the route and the place on it, and the links that the packet found down. It
+//! promises that a packet moves along its route one switch at a time, that a new route is the
+//! defined one less all links found down, and that nothing else of the packet ever changes. Nothing
+//! here takes memory.
+//!
+//! ```text
+//! match packet.next() {
+//!     None => {}
+//!     Some(next) if (near >> next) & 1 == 1 => packet.advance(),
+//!     Some(next) => {
+//!         packet.mark_down(next);
+//!         let is_stuck = !packet.reroute(&base, near);
+//!     }
+//! }
+//! ```
+#![tactic(auto)]
+
+mod way;
+
+pub use failover::{Database, DownSet, Route};
+pub use five_tuple::Header;
+pub use policy_rules::{Leg, Targets};
+pub use way::Tunnel;
+
+#[cfg(test)]
+mod tests;

@@ -1,0 +1,130 @@
+ghost use Rattle.std.specs.Prelude.{◌≡◌, ◌≢◌, ◌<◌, ◌+◌, ◌↔◌, length, is_some, slice_get, IfSome, IsSome};
+ghost use Rattle.tunnel.specs.Moves.{begun, here, next, advanced, marked_down, route_from_here, rerouted};
+
+use failover::{Database, DownSet, Route};
+use five_tuple::Header;
+use policy_rules::{Leg, Targets};
+use std::marker::Model;
+
+/// A packet on its way along a route. Contracts see its fields, with the place below the length of
+/// the route.
+#[derive(Clone, Copy, Debug, PartialEq, Eq)]
+pub struct Tunnel {
+    /// The packet's number.
+    pub packet: u32,
+    pub header: Header,
+    /// The switch where the packet entered.
+    pub ingress: u32,
+    pub leg: Leg,
+    /// The switches of the leg, the first of which is asked first.
+    pub targets: Targets,
+    pub route: Route,
+    /// The place on the route, from 0.
+    pub place: u32,
+    /// The links that the packet found down.
+    pub down: DownSet,
+}
+
+const _: () = prove!(size_of::<Tunnel>() < 900);
+
+impl Model for Tunnel {
+    ghost use Rattle.tunnel.specs.Tunnel.{TunnelValue, value_of, inside_of, IsOnRoute};
+
+    ghost Value = { TunnelValue };
+
+    ghost view = { value_of };
+
+    ghost invariant = { λ t. IsOnRoute t.route t.place };
+
+    ghost inverse = { inside_of };
+}
+
+impl Tunnel {
+    ghost use Rattle.tunnel.specs.Tunnel.{IsOnRoute};
+
+    /// A packet at the beginning of its route.
+    pub fn begin(
+        packet: u32,
+        header: Header,
+        ingress: u32,
+        leg: Leg,
+        targets: Targets,
+        route: Route,
+        down: DownSet,
+    ) -> Tunnel
+        ensures { result ≡ begun packet header ingress leg targets route down }
+    {
+        let _ = route.items();
+        Tunnel {
+            packet,
+            header,
+            ingress,
+            leg,
+            targets,
+            route,
+            place: 0,
+            down,
+        }
+    }
+
+    /// The switch where the packet stands.
+    pub fn here(&self) -> u32
+        ensures here { result ≡ here self.now }
+        ensures switch { result < 64 }
+        ensures on_route { IsOnRoute self.now.route self.now.place }
+    {
+        self.route.items()[self.place as usize]
+    }
+
+    /// The switch after that one on the route; `None` exactly at the route's end.
+    pub fn next(&self) -> Option<u32>
+        ensures next { result ≡ next self.now }
+        ensures more { IsSome result ↔ (self.now.place + 1 < length self.now.route) }
+        ensures other { IfSome result (λ other. (other ≢ here self.now) × (other < 64)) }
+    {
+        switch_after(&self.route, self.place)
+    }
+
+    /// Moves one place on.
+    pub fn advance(&mut self)
+        requires { self.old.place + 1 < length self.old.route }
+        ensures { self.new ≡ advanced self.old }
+    {
+        self.place += 1;
+    }
+
+    /// Adds the link between the switch where the packet stands and this other one to the links
+    /// found down.
+    pub fn mark_down(&mut self, other: u32)
+        requires different { other ≢ here self.old }
+        requires switch { other < 64 }
+        ensures { self.new ≡ marked_down self.old other }
+    {
+        let here = self.here();
+        self.down.add(here, other);
+    }
+
+    /// Takes the route from here to the first of its targets that a path of known links reaches,
+    /// without the links found down, and stands at its beginning. False exactly where there is
+    /// none; nothing changes then.
+    pub fn reroute(&mut self, base: &Database, near: u64) -> bool
+        ensures found { result ≡ is_some (route_from_here self.old base.now near) }
+        ensures after { self.new ≡ rerouted self.old (route_from_here self.old base.now near) }
+    {
+        match base.route(self.here(), &self.targets, near, &self.down) {
+            None => false,
+            Some(route) => {
+                self.route = route;
+                self.place = 0;
+                true
+            }
+        }
+    }
+}
+
+// The switch after this place on the route.
+fn switch_after(route: &Route, place: u32) -> Option<u32>
+    ensures { result ≡ slice_get route.now (place + 1) }
+{
+    route.items().get(place as usize + 1).copied()
+}
