@@ -1,0 +1,107 @@
+-- Placement of partitions on authority switches of limited room (the switches that keep a partition's rules: Yu, Rexford,
+-- Freedman and Wang, "Scalable Flow-Based Networking with DIFANE", SIGCOMM 2010; the rule of least load is this
+-- project's own). A placement gives each partition, by its number, the list of its targets.
+use Rattle.std.specs.Prelude.{⊤, ℕ, ◌≡◌, ◌+◌, ◌<◌, Bool, ◌&&◌, ◌||◌, ◌==◌, nat_lt, nat_le, nat_eq, if◌then◌else◌, Result, Ok, Err, MatchResult, List, [], ◌∷◌, length, take, filter, sum_by, slice_index, slice_index_or, slice_set, replicate, All, AllPairs, IsTrue, IsFalse}
+use Rattle.std.specs.List.{list_any, range_with_len}
+use Rattle.placement.specs.Order.{in_order}
+use Rattle.placement.specs.declared.PlaceError.{PlaceError}
+use Rattle.placement.specs.declared.PlaceError.TheVariants.{NoRoom, NoMemory}
+
+-- ---- which partition is placed first, and what the switches hold then
+
+-- partitions stand by falling size, then by number
+unfoldable pub is_earlier : List ℕ → ℕ → ℕ → Bool
+is_earlier sizes a b =
+    nat_lt (slice_index sizes b) (slice_index sizes a)
+    || ((slice_index sizes b == slice_index sizes a) && nat_lt a b)
+
+abbrev pub targets_of : List (List ℕ) → ℕ → List ℕ
+targets_of placement partition = slice_index_or placement partition []
+
+abbrev pub is_target : List (List ℕ) → ℕ → ℕ → Bool
+is_target placement partition switch = list_any (nat_eq switch) (targets_of placement partition)
+
+-- the load of a switch before a partition: the sum of the sizes of the earlier partitions whose targets contain it
+unfoldable pub load_before : List ℕ → List (List ℕ) → ℕ → ℕ → ℕ
+load_before sizes placement partition switch =
+    let held = λ (other : ℕ).
+    is_earlier sizes other partition && is_target placement other switch in
+    sum_by (slice_index sizes) (filter held (range_with_len 0 (length sizes)))
+
+-- ---- which switches a partition goes to
+
+-- the switch has room for so many rules above its load
+unfoldable pub has_room : (ℕ → ℕ) → List ℕ → ℕ → ℕ → Bool
+has_room load rooms size switch =
+    nat_lt switch (length rooms) && nat_le (load switch + size) (slice_index rooms switch)
+
+abbrev pub with_room : (ℕ → ℕ) → List ℕ → ℕ → List ℕ
+with_room load rooms size = filter (has_room load rooms size) (range_with_len 0 (length rooms))
+
+-- switches stand by load, then by number
+unfoldable pub is_lighter : (ℕ → ℕ) → ℕ → ℕ → Bool
+is_lighter load a b = nat_lt (load a) (load b) || ((load a == load b) && nat_lt a b)
+
+-- of the switches that have room, these are the first: every other one comes after all of them
+pub record AreFirst (load : ℕ → ℕ) (rooms : List ℕ) (size count : ℕ) (targets : List ℕ)
+    : Type 0 where
+  pub number : length targets ≡ count
+  pub fit : All (λ s. IsTrue (has_room load rooms size s)) targets
+  pub rising : AllPairs (λ a b. IsTrue (is_lighter load a b)) targets
+  pub least : (other : ℕ) → IsTrue (has_room load rooms size other)
+      → IsFalse (list_any (nat_eq other) targets)
+      → All (λ s. IsTrue (is_lighter load s other)) targets
+
+-- ---- a placement, and why there is none
+
+-- the partition has the targets that its turn gives it: one and the backups
+abbrev pub IsPlaced : List ℕ → List ℕ → ℕ → List (List ℕ) → ℕ → Type 0
+IsPlaced sizes rooms backups placement partition =
+    AreFirst (load_before sizes placement partition) rooms (slice_index sizes partition)
+    (1 + backups) (targets_of placement partition)
+
+-- each partition has its targets
+pub record IsPlacement (sizes rooms : List ℕ) (backups : ℕ) (placement : List (List ℕ))
+    : Type 0 where
+  pub number : length placement ≡ length sizes
+  pub placed : (partition : ℕ) → partition < length sizes
+      → IsPlaced sizes rooms backups placement partition
+
+-- the earlier partitions have their targets, and for this one too few switches have room
+pub record IsRefused (sizes rooms : List ℕ) (backups : ℕ) (partition : ℕ) : Type 0 where
+  pub there : partition < length sizes
+  pub placement : List (List ℕ)
+  pub earlier : (other : ℕ) → other < length sizes → IsTrue (is_earlier sizes other partition)
+      → IsPlaced sizes rooms backups placement other
+  pub fewer : (let load = load_before sizes placement partition in
+      length (with_room load rooms (slice_index sizes partition)) < 1 + backups)
+
+-- ---- the one placement
+
+-- partitions take their targets one after another
+abbrev pub placed_from : List ℕ → List ℕ → ℕ → List (List ℕ) → List ℕ → Result (List (List ℕ)) ℕ
+placed_from sizes rooms backups placement [] = Ok placement
+placed_from sizes rooms backups placement (partition ∷ later) =
+    let load = load_before sizes placement partition in
+    let found = in_order (is_lighter load) (with_room load rooms (slice_index sizes partition)) in
+    let chosen = take (1 + backups) found in
+    if nat_lt (length found) (1 + backups)
+    then Err partition
+    else placed_from sizes rooms backups (slice_set placement partition chosen) later
+
+-- the placement of partitions of these sizes on switches of these rooms, or the first partition that finds too few
+unfoldable pub placement_of : List ℕ → List ℕ → ℕ → Result (List (List ℕ)) ℕ
+placement_of sizes rooms backups =
+    let turns = in_order (is_earlier sizes) (range_with_len 0 (length sizes)) in
+    placed_from sizes rooms backups (replicate (length sizes) []) turns
+
+-- the definition by turns meets the one by loads
+abbrev pub MeetsPlacement : List ℕ → List ℕ → ℕ → Result (List (List ℕ)) ℕ → Type 0
+MeetsPlacement sizes rooms backups answer =
+    MatchResult answer (IsPlacement sizes rooms backups) (IsRefused sizes rooms backups)
+
+-- why there is no placement, or memory ran out
+abbrev pub RefusesPlacement : List ℕ → List ℕ → ℕ → PlaceError → Type 0
+RefusesPlacement sizes rooms backups (NoRoom partition) =
+    (placement_of sizes rooms backups ≡ Err partition) × IsRefused sizes rooms backups partition
+RefusesPlacement sizes rooms backups NoMemory = ⊤
