@@ -1,0 +1,7 @@
+pub mod CallerLemmas
+pub mod CountLemmas
+pub mod CutLemmas
+pub mod NarrowLaw
+pub mod NarrowLemmas
+pub mod SideLemmas
+pub mod TreeLemmas

@@ -1,0 +1,22 @@
+use Rattle.std.proofs.Common.{◌-◌, List, ℕ, sym, arith}
+use Rattle.std.proofs.lemmas.List.{at_drop_all}
+use Rattle.std.proofs.lemmas.Nat.Bits.{bit_at-lt, shr_and_one}
+use Rattle.std.specs.Prelude.{slice_index_or}
+use Rattle.cut_tree.specs.Counts.{count_at}
+use Rattle.cut_tree.proofs.CountLemmas.{rest_below}
+use Rattle.cut_tree.proofs.counters.Counters.count.Goals as goal
+
+pub loop-place-init : goal.loop-place-init
+loop-place-init c = record {
+  within = omega arith;
+  counted = sym (at_drop_all (λ (planes : List ℕ). count_at planes c.args.bit) c.args.self.now.planes 32 (omega arith));
+}
+
+pub overflow_mul-count : goal.overflow_mul-count
+overflow_mul-count c =
+    omega (arith, c.loop-place.invariant.counted, rest_below c.args.self.now.planes c.loop-place.place c.args.bit (omega arith) (omega arith))
+
+pub overflow_add-count : goal.overflow_add-count
+overflow_add-count c =
+    let plane = slice_index_or c.args.self.now.planes (c.loop-place.place - 1) 0 in
+    omega (arith, c.loop-place.invariant.counted, rest_below c.args.self.now.planes c.loop-place.place c.args.bit (omega arith) (omega arith), shr_and_one plane c.args.bit, bit_at-lt plane c.args.bit)

@@ -1,0 +1,9 @@
+use Rattle.ternary.specs.Word.{any_word}
+use Rattle.cut_tree.proofs.TreeLemmas.{one_tree, tree_defined}
+use Rattle.cut_tree.proofs.laws.tree_laws.Goals as goal
+
+pub returns : goal.returns
+returns c = record {
+  exists = tree_defined;
+  only = λ rules most a b. one_tree a b rules any_word most;
+}

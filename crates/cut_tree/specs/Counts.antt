@@ -1,0 +1,34 @@
+-- Counters for many bits at once.
+use Rattle.std.specs.Prelude.{ℕ, ◌≡◌, ◌+◌, ◌*◌, ◌≤◌, Bool, List, [], ◌∷◌, length, drop}
+use Rattle.std.specs.Int.{bit_at}
+use Rattle.ternary.specs.Word.{WordValue}
+use Rattle.policy_rules.specs.declared.rules.Rule.{Rule}
+use Rattle.cut_tree.specs.Cuts.{IsFreeBit, side_of}
+use Rattle.cut_tree.specs.declared.choice.Side.{Side}
+
+-- plane k holds the bits of weight 2 ^ k of all counters
+abbrev pub count_at : List ℕ → ℕ → ℕ
+count_at [] bit = 0
+count_at (plane ∷ planes) bit = bit_at plane bit + 2 * count_at planes bit
+
+-- what is counted for a bit
+abbrev pub count_of : Side → ℕ → ℕ
+count_of side bit = count_at side.counts.planes bit
+
+-- what will be counted for a bit in the end, where these rules are still to come
+abbrev pub expected : Side → WordValue → ℕ → List Rule → ℕ
+expected side region bit rules =
+    count_of side bit + bit_at side.open bit * length (side_of rules region bit side.one)
+
+-- the side has counted the rules before this place
+pub record IsCounting (side : Side) (upper : Bool) (rules : List Rule)
+    (region : WordValue) (place : ℕ) : Type 0 where
+  pub one : side.one ≡ upper
+  pub few : (bit : ℕ) → count_of side bit ≤ place
+  pub rest : (bit : ℕ) → IsFreeBit region bit →
+      expected side region bit (drop place rules) ≡ length (side_of rules region bit upper)
+
+-- the side has counted the rules of each half
+abbrev pub HasCounted : Side → Bool → List Rule → WordValue → Type 0
+HasCounted side one rules region =
+    (bit : ℕ) → IsFreeBit region bit → count_of side bit ≡ length (side_of rules region bit one)

@@ -1,0 +1,55 @@
+-- Which bit a region is cut at. The order of costs is this project's own; the cuts are those of
+-- Yu, Rexford, Freedman and Wang, "Scalable Flow-Based Networking with DIFANE", SIGCOMM 2010.
+use Rattle.std.specs.Prelude.{ℕ, zero, suc, ◌≡◌, ◌+◌, ◌<◌, ◌≤◌, ◌&&◌, ◌||◌, ◌==◌, if◌then◌else◌, nat_lt, max, Bool, true, false, Option, Some, None, IsFalse, List, length}
+use Rattle.ternary.specs.Word.{WordValue, is_fixed_of, fix_of}
+use Rattle.policy_rules.specs.declared.rules.Rule.{Rule}
+use Rattle.cut_tree.specs.Narrow.{narrow}
+use Rattle.cut_tree.specs.declared.choice.Cost.{Cost}
+
+-- the rules of the half in which the bit is 1, or 0
+abbrev pub side_of : List Rule → WordValue → ℕ → Bool → List Rule
+side_of rules region bit one = narrow rules (fix_of region bit one)
+
+-- the cost of a cut at this bit into sides of these sizes
+abbrev pub cost_from : ℕ → ℕ → ℕ → Cost
+cost_from bit low high = record { larger = max low high; sum = low + high; bit = bit }
+
+-- what it costs to cut the region at this bit
+abbrev pub cost_of : List Rule → WordValue → ℕ → Cost
+cost_of rules region bit =
+    cost_from bit
+    (length (side_of rules region bit false))
+    (length (side_of rules region bit true))
+
+-- a costs no more than b
+pub record IsAtMost (a b : Cost) : Type 0 where
+  pub larger : a.larger ≤ b.larger
+  pub sum : a.larger ≡ b.larger → a.sum ≤ b.sum
+  pub bit : a.larger ≡ b.larger → a.sum ≡ b.sum → a.bit ≤ b.bit
+
+-- a bit of a header that the region leaves free
+pub record IsFreeBit (region : WordValue) (bit : ℕ) : Type 0 where
+  pub bound : bit < 104
+  pub free : IsFalse (is_fixed_of region bit)
+
+-- of the cuts of the region, the one at this bit costs least
+pub record IsLeastCut (rules : List Rule) (region : WordValue) (bit : ℕ) : Type 0 where
+  pub cuts : IsFreeBit region bit
+  pub least : (other : ℕ) → IsFreeBit region other →
+      IsAtMost (cost_of rules region bit) (cost_of rules region other)
+
+-- a has the smaller larger side, or the smaller sum where these are equal
+abbrev pub is_cheaper : Cost → Cost → Bool
+is_cheaper a b = nat_lt a.larger b.larger || ((a.larger == b.larger) && nat_lt a.sum b.sum)
+
+-- of a cut and the least before it, the one that costs less
+abbrev pub cheaper : Cost → Option Cost → Cost
+cheaper cost None = cost
+cheaper cost (Some best) = if is_cheaper cost best then cost else best
+
+-- what the least cut at a bit below this number costs
+unfoldable pub least_below : ℕ → List Rule → WordValue → Option Cost
+least_below zero rules region = None
+least_below (suc bit) rules region =
+    if is_fixed_of region bit then least_below bit rules region
+    else Some (cheaper (cost_of rules region bit) (least_below bit rules region))

@@ -1,0 +1,71 @@
+-- The tree that a list of rules has: a test of a given tree, and the tree as a function.
+use Rattle.std.specs.Prelude.{⊤, ℕ, zero, suc, ◌≡◌, ◌<◌, ◌≤◌, nat_le, true, false, Option, Some, None, List, length}
+use Rattle.ternary.specs.Word.{WordValue, any_word, fix_of, free_bits}
+use Rattle.policy_rules.specs.declared.rules.Rule.{Rule}
+use Rattle.cut_tree.specs.Cuts.{IsLeastCut, least_below, side_of}
+use Rattle.cut_tree.specs.Shape.{Shape, End, Node, leaf_count}
+use Rattle.cut_tree.specs.declared.choice.Cost.{Cost}
+use Rattle.cut_tree.specs.declared.tree.BuildError.{BuildError}
+use Rattle.cut_tree.specs.declared.tree.BuildError.TheVariants.{TooManyLeaves, NoMemory}
+
+-- ---- the test
+
+-- a leaf of this region holds these rules, which are no more than the cap
+pub record IsLeafOf (rules : List Rule) (region : WordValue) (most : ℕ)
+    (leaf_region : WordValue) (leaf_rules : List Rule) : Type 0 where
+  pub same_region : leaf_region ≡ region
+  pub same_rules : leaf_rules ≡ rules
+  pub few : length rules ≤ most
+
+-- more rules than the cap are cut where it costs least
+pub record IsCutOf (rules : List Rule) (region : WordValue) (most bit : ℕ) : Type 0 where
+  pub many : most < length rules
+  pub least : IsLeastCut rules region bit
+
+-- this tree is the one of these rules in this region: each side of a cut is the tree of the
+-- rules of its half
+abbrev pub IsTreeOf : List Rule → WordValue → ℕ → Shape → Type 0
+IsTreeOf rules region most (End leaf_region leaf_rules) =
+    IsLeafOf rules region most leaf_region leaf_rules
+IsTreeOf rules region most (Node bit low high) =
+    IsCutOf rules region most bit
+    × IsTreeOf (side_of rules region bit false) (fix_of region bit false) most low
+    × IsTreeOf (side_of rules region bit true) (fix_of region bit true) most high
+
+-- the defined tree of a list, which is not narrowed at the root
+abbrev pub IsDefinedTree : List Rule → ℕ → Shape → Type 0
+IsDefinedTree rules most tree = IsTreeOf rules any_word most tree
+
+-- ---- the function
+
+abbrev pub free_count : WordValue → ℕ
+free_count region = length (free_bits region)
+
+-- both sides of a cut, if there is one, grown in this way
+abbrev pub cut_by : (List Rule → WordValue → Shape) → List Rule → WordValue → Option Cost → Shape
+cut_by grow rules region None = End region rules
+cut_by grow rules region (Some cost) =
+    Node cost.bit
+    (grow (side_of rules region cost.bit false) (fix_of region cost.bit false))
+    (grow (side_of rules region cost.bit true) (fix_of region cost.bit true))
+
+-- the tree with at most so many cuts one below another
+unfoldable pub tree_within : ℕ → ℕ → List Rule → WordValue → Shape
+tree_within zero most rules region = End region rules
+tree_within (suc depth) most rules region = elim (nat_le (length rules) most) [
+  | true ↦ End region rules
+  | false ↦ cut_by (tree_within depth most) rules region (least_below 104 rules region)
+]
+
+-- the tree of these rules in this region
+abbrev pub tree_at : ℕ → List Rule → WordValue → Shape
+tree_at most rules region = tree_within (free_count region) most rules region
+
+-- the defined tree of a list with this cap
+unfoldable pub tree_of : List Rule → ℕ → Shape
+tree_of rules most = tree_at most rules any_word
+
+-- why a tree is refused where there is room for so many leaves: it has more, or memory ran out
+abbrev pub Exceeds : Shape → ℕ → BuildError → Type 0
+Exceeds tree room TooManyLeaves = room < leaf_count tree
+Exceeds tree room NoMemory = ⊤

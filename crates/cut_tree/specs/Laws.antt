@@ -1,0 +1,26 @@
+-- The laws of narrowing and of trees: `x_laws` of the crate ensures the record of each.
+use Rattle.std.specs.Prelude.{ℕ, ◌≡◌, ◌<◌, List, IsTrue, find, option_map}
+use Rattle.ternary.specs.Word.{WordValue, holds, covers_of}
+use Rattle.policy_rules.specs.Rules.{is_held}
+use Rattle.policy_rules.specs.declared.rules.Rule.{Rule}
+use Rattle.cut_tree.specs.DefinedTree.{IsDefinedTree, tree_of}
+use Rattle.cut_tree.specs.Narrow.{narrow, narrowed}
+use Rattle.cut_tree.specs.Nodes.{AreWords}
+use Rattle.cut_tree.specs.Shape.{Shape}
+
+pub record NarrowLaws : Type 0 where
+  -- narrowed to a region, and then to one within it, is narrowed to the latter at once
+  pub twice : (rules : List Rule) (outer inner : WordValue) → IsTrue (covers_of outer inner) →
+      narrow (narrow rules outer) inner ≡ narrow rules inner
+  -- the first rule that holds a header of the region is that of the whole list, narrowed
+  pub first : (rules : List Rule) (region : WordValue) (header : ℕ) → IsTrue (holds region header) →
+      find (is_held header) (narrow rules region)
+      ≡ option_map (narrowed region) (find (is_held header) rules)
+
+pub record TreeLaws : Type 0 where
+  -- a list of rules has a tree for each cap of one or more
+  pub exists : (rules : List Rule) (cap : ℕ) → 0 < cap → AreWords rules →
+      IsDefinedTree rules cap (tree_of rules cap)
+  -- and no other
+  pub only : (rules : List Rule) (cap : ℕ) (a b : Shape) →
+      IsDefinedTree rules cap a → IsDefinedTree rules cap b → a ≡ b

@@ -1,0 +1,26 @@
+-- Narrowing a list of rules to a part of the header space, as Yu, Rexford, Freedman and Wang,
+-- "Scalable Flow-Based Networking with DIFANE", SIGCOMM 2010, cut the rules for their switches.
+use Rattle.std.specs.Prelude.{if◌then◌else◌, Bool, List, [], ◌∷◌, map, filter}
+use Rattle.ternary.specs.Word.{WordValue, joined, meets, covers_of}
+use Rattle.policy_rules.specs.declared.rules.Rule.{Rule}
+
+-- the list up to and including the first that passes
+abbrev pub up_to_first : {X : Type 0} → (X → Bool) → List X → List X
+up_to_first passes [] = []
+up_to_first passes (x ∷ xs) = x ∷ (if passes x then [] else up_to_first passes xs)
+
+abbrev pub meets_region : WordValue → Rule → Bool
+meets_region region rule = meets rule.word region
+
+abbrev pub covers_region : WordValue → Rule → Bool
+covers_region region rule = covers_of rule.word region
+
+-- the rule for those of its headers alone that lie in the region
+unfoldable pub narrowed : WordValue → Rule → Rule
+narrowed region rule = record rule { word = joined rule.word region }
+
+-- the rules that meet the region, up to and including the first that covers it, each for its
+-- headers there
+unfoldable pub narrow : List Rule → WordValue → List Rule
+narrow rules region =
+    map (narrowed region) (up_to_first (covers_region region) (filter (meets_region region) rules))

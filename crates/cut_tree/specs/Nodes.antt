@@ -1,0 +1,23 @@
+-- What holds of the rules at a node of a tree.
+use Rattle.std.specs.Prelude.{ℕ, ◌<◌, ◌≤◌, List, length, All, IsTrue}
+use Rattle.ternary.specs.Word.{WordValue, IsWord, covers_of, is_fixed_of}
+use Rattle.policy_rules.specs.declared.rules.Rule.{Rule}
+
+-- the region leaves no bit free: it is one header
+abbrev pub IsOneHeader : WordValue → Type 0
+IsOneHeader region = (bit : ℕ) → bit < 104 → IsTrue (is_fixed_of region bit)
+
+-- the region holds each header of the rule
+abbrev pub LiesIn : WordValue → Rule → Type 0
+LiesIn region rule = IsTrue (covers_of region rule.word)
+
+-- the words of the rules
+abbrev pub AreWords : List Rule → Type 0
+AreWords rules = All (λ rule. IsWord rule.word) rules
+
+-- each rule lies within the region, and one header has at most one rule
+pub record AreNodeRules (rules : List Rule) (region : WordValue) : Type 0 where
+  pub whole : IsWord region
+  pub words : AreWords rules
+  pub within : All (LiesIn region) rules
+  pub ended : IsOneHeader region → length rules ≤ 1

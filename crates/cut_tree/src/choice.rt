@@ -1,0 +1,153 @@
+ghost use Rattle.std.specs.Prelude.{ℕ, ◌≡◌, ◌+◌, ◌*◌, ◌<◌, ◌≤◌, ◌^◌, Bool, true, false, List, ◌∷◌, length, All, IsTrue, IsFalse};
+ghost use Rattle.std.specs.Int.{bit_at, from_bool};
+ghost use Rattle.ternary.specs.Word.{WordValue, admits, covers_of, fix_of, is_fixed_of};
+ghost use Rattle.policy_rules.specs.declared.rules.Rule.{Rule};
+ghost use Rattle.cut_tree.specs.Counts.{count_of, expected, HasCounted};
+ghost use Rattle.cut_tree.specs.Cuts.{IsFreeBit, cheaper, cost_from, least_below, side_of};
+ghost use Rattle.cut_tree.specs.Nodes.{LiesIn};
+
+use crate::counters::Counters;
+use policy_rules::Rule;
+use ternary::Word;
+
+/// The number of bits of a header number.
+const BITS: u32 = 104;
+
+/// What it costs to cut a region at a bit.
+#[derive(Clone, Copy)]
+pub struct Cost {
+    /// How many rules the larger side has.
+    pub larger: u32,
+    /// How many both sides have.
+    pub sum: u64,
+    pub bit: u32,
+}
+
+impl Cost {
+    fn new(bit: u32, low: u32, high: u32) -> Cost
+        ensures { result ≡ cost_from bit low high }
+    {
+        Cost {
+            larger: low.max(high),
+            sum: u64::from(low) + u64::from(high),
+            bit,
+        }
+    }
+
+    // This cost, or the least before it where that is no greater.
+    fn or_least(self, least: Option<Cost>) -> Cost
+        ensures { result ≡ cheaper self least }
+    {
+        match least {
+            None => self,
+            Some(least) => {
+                let fewer = self.larger == least.larger && self.sum < least.sum;
+                if self.larger < least.larger || fewer {
+                    self
+                } else {
+                    least
+                }
+            }
+        }
+    }
+}
+
+/// The cost of the least cut of the region; `None` where no bit is free.
+pub fn least_cut(rules: &[Rule], region: &Word) -> Option<Cost>
+    requires few { length rules.now < 2 ^ 32 }
+    requires within { All (LiesIn region.now) rules.now }
+    ensures { result ≡ least_below 104 rules.now region.now }
+{
+    let (low, high) = count_sides(rules, region);
+    let mut least = None;
+    for bit in 0..BITS {
+        if !region.is_fixed(bit) {
+            let cost = Cost::new(bit, low.counts.count(bit), high.counts.count(bit));
+            least = Some(cost.or_least(least));
+        }
+    }
+    least
+}
+
+// The rules of both halves at each bit, counted in one pass.
+fn count_sides(rules: &[Rule], region: &Word) -> (Side, Side)
+    requires few { length rules.now < 2 ^ 32 }
+    requires within { All (LiesIn region.now) rules.now }
+    ensures low { HasCounted result.0 false rules.now region.now }
+    ensures high { HasCounted result.1 true rules.now region.now }
+{
+    let mut low = Side::new(false);
+    let mut high = Side::new(true);
+    for rule in rules {
+        low.count(rule, region);
+        high.count(rule, region);
+    }
+    (low, high)
+}
+
+/// Of each pair of halves of a region the one with this value of the bit which parts them: how
+/// many rules it keeps.
+#[derive(Clone, Copy)]
+pub struct Side {
+    pub one: bool,
+    pub counts: Counters,
+    /// The bits whose half no rule has covered yet.
+    pub open: u128,
+}
+
+impl Side {
+    fn new(one: bool) -> Side
+        ensures one { result.one ≡ one }
+        ensures none { (bit : ℕ) → count_of result bit ≡ 0 }
+        ensures expected { (region : WordValue) (bit : ℕ) (rules : List Rule) → bit < 104 →
+            expected result region bit rules ≡ length (side_of rules region bit one) }
+    {
+        Side {
+            one,
+            counts: Counters::new(),
+            open: u128::MAX,
+        }
+    }
+
+    // Counts the next rule in each half that keeps it.
+    fn count(&mut self, rule: &Rule, region: &Word)
+        requires room { (bit : ℕ) → count_of self.old bit + 1 < 2 ^ 32 }
+        requires within { LiesIn region.now rule.now }
+        ensures one { self.new.one ≡ self.old.one }
+        ensures few { (bit : ℕ) → count_of self.new bit ≤ count_of self.old bit + 1 }
+        ensures expected { (bit : ℕ) (rules : List Rule) → IsFreeBit region.now bit →
+            expected self.new region.now bit rules
+            ≡ expected self.old region.now bit (rule.now ∷ rules) }
+    {
+        let open = self.open;
+        let met = halves_met(&rule.word, self.one);
+        let covered = halves_covered(&rule.word, region, self.one);
+        self.counts.add(open & met);
+        self.open = open & !covered;
+    }
+}
+
+// The bits whose half the word meets, where it meets the region.
+fn halves_met(word: &Word, one: bool) -> u128
+    ensures { (bit : ℕ) → bit < 104 → bit_at result bit ≡ from_bool (admits word.now bit one) }
+{
+    let value = word.value();
+    if one { value | !word.mask() } else { !value }
+}
+
+// The bits whose half the word covers.
+fn halves_covered(word: &Word, region: &Word, one: bool) -> u128
+    requires { IsTrue (covers_of region.now word.now) }
+    ensures { (bit : ℕ) → IsFreeBit region.now bit →
+        bit_at result bit ≡ from_bool (covers_of word.now (fix_of region.now bit one)) }
+{
+    let met = halves_met(word, one);
+    let fixed = word.mask() ^ region.mask();
+    if fixed == 0 {
+        met
+    } else if fixed == 1 << fixed.trailing_zeros() {
+        fixed & met
+    } else {
+        0
+    }
+}

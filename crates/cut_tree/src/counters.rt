@@ -1,0 +1,54 @@
+ghost use Rattle.std.specs.Prelude.{ℕ, ◌≡◌, ◌+◌, ◌<◌, ◌^◌, length};
+ghost use Rattle.std.specs.Int.{bit_at};
+ghost use Rattle.cut_tree.specs.Counts.{count_at};
+
+/// How many bits a counter has.
+const PLANES: usize = 32;
+
+/// A counter for each of 128 bits, all of them kept as binary numbers side by side: plane k holds
+/// of each counter the bit of weight 2^k. So a set of bits is counted in a few operations on words.
+#[derive(Clone, Copy)]
+pub struct Counters {
+    pub planes: [u128; PLANES],
+}
+
+impl Counters {
+    pub fn new() -> Counters
+        ensures { (bit : ℕ) → count_at result.planes bit ≡ 0 }
+    {
+        Counters {
+            planes: [0; PLANES],
+        }
+    }
+
+    /// Each bit of the set counts one more.
+    pub fn add(&mut self, bits: u128)
+        requires { (bit : ℕ) → count_at self.old.planes bit + 1 < 2 ^ 32 }
+        ensures { (bit : ℕ) →
+            count_at self.new.planes bit ≡ count_at self.old.planes bit + bit_at bits bit }
+    {
+        let mut carry = bits;
+        for place in 0..PLANES {
+            let plane = self.planes[place];
+            self.planes[place] = plane ^ carry;
+            carry = plane & carry;
+            if carry == 0 {
+                return;
+            }
+        }
+    }
+
+    /// How often this bit was counted.
+    pub fn count(&self, bit: u32) -> u32
+        requires { bit < 128 }
+        ensures { result ≡ count_at self.now.planes bit }
+    {
+        let mut count = 0;
+        let mut place = PLANES;
+        while place > 0 {
+            place -= 1;
+            count = 2 * count + ((self.planes[place] >> bit) & 1) as u32;
+        }
+        count
+    }
+}

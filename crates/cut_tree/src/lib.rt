@@ -1,0 +1,24 @@
+//! Cut trees: a list of rules is cut by a decision tree over the header space, so that no leaf has
+//! more rules than a cap.
+//!
+//! `build` promises the one defined tree: each cut is at the free bit that costs least, and the
+//! rules of a half are those of the whole narrowed to it. It refuses exactly the trees of more than
+//! 512 leaves, and never goes deeper than the 104 bits. `narrow_laws` and `tree_laws` say of the
+//! definitions alone that narrowing keeps the first rule of each header, and that each list has
+//! exactly one tree.
+//!
+//! ```text
+//! let rules = to_rules(alloc, &policy)?;
+//! let tree = build(alloc, &rules, 32)?;
+//! ```
+#![tactic(auto)]
+
+mod choice;
+mod counters;
+mod laws;
+mod narrowing;
+mod node;
+mod tree;
+
+pub use laws::{narrow_laws, tree_laws};
+pub use tree::{BuildError, Tree, build};

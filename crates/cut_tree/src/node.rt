@@ -1,0 +1,45 @@
+ghost use Rattle.std.specs.Prelude.{Bool, ◌≡◌, ◌<◌, ◌≤◌, ◌^◌, IfOk, IsSome, Some, length};
+ghost use Rattle.ternary.specs.Word.{fix_of};
+ghost use Rattle.cut_tree.specs.Cuts.{IsFreeBit, least_below, side_of};
+ghost use Rattle.cut_tree.specs.Nodes.{AreNodeRules};
+
+use crate::choice::{Cost, least_cut};
+use crate::narrowing::narrow;
+use policy_rules::Rule;
+use std::alloc::{AllocError, Global};
+use ternary::Word;
+
+/// A region, and the rules that decide its headers.
+#[derive(Drop)]
+pub struct Node {
+    pub rules: Vec<Rule>,
+    pub region: Word,
+    ghost sound: { AreNodeRules rules.items region },
+    ghost few: { length rules.items < 2 ^ 32 },
+}
+
+impl Node {
+    /// The least cut. More rules than one leave a bit to cut at.
+    pub fn least_cut(&self) -> Cost
+        requires { 1 < length self.now.rules.items }
+        ensures least { least_below 104 self.now.rules.items self.now.region ≡ Some result }
+        ensures free { IsFreeBit self.now.region result.bit }
+    {
+        match least_cut(&self.rules, &self.region) {
+            Some(cost) => cost,
+            None => unreachable!(),
+        }
+    }
+
+    /// The side of a cut at this bit on which it is 1, or 0.
+    pub fn half(&self, alloc: Global, bit: u32, one: bool) -> Result<Node, AllocError>
+        requires { IsFreeBit self.now.region bit }
+        ensures rules { IfOk result (λ half.
+            half.rules.items ≡ side_of self.now.rules.items self.now.region bit one) }
+        ensures region { IfOk result (λ half. half.region ≡ fix_of self.now.region bit one) }
+    {
+        let region = self.region.fix(bit, one);
+        let rules = narrow(alloc, &self.rules, &region)?;
+        Ok(Node { rules, region })
+    }
+}

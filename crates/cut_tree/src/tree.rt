@@ -1,0 +1,133 @@
+ghost use Rattle.std.specs.Prelude.{◌≡◌, ◌+◌, ◌<◌, ◌≤◌, ◌^◌, IfOk, IfErr, length};
+ghost use Rattle.cut_tree.specs.DefinedTree.{Exceeds, IsDefinedTree, IsTreeOf, tree_at, tree_of};
+ghost use Rattle.cut_tree.specs.Nodes.{AreWords};
+ghost use Rattle.cut_tree.specs.Shape.{End, leaf_count, shape_of};
+ghost use Rattle.cut_tree.specs.declared.tree.BuildError.TheVariants.{TooManyLeaves, NoMemory};
+
+use crate::node::Node;
+use policy_rules::{Rule, Rules};
+use std::alloc::{AllocError, Global};
+use ternary::Word;
+use thiserror::Error;
+
+/// The most leaves that a tree may have.
+const MOST_LEAVES: u32 = 512;
+
+/// A decision tree over the header space. It cuts at one bit after another; each leaf has the rules
+/// that decide the headers of its region.
+#[derive(Debug, Drop)]
+pub enum Tree {
+    Leaf {
+        region: Word,
+        rules: Rules,
+    },
+    /// The headers with a 0 at the bit are on the low side, those with a 1 on the high side.
+    Cut {
+        bit: u32,
+        low: Box<Tree>,
+        high: Box<Tree>,
+    },
+}
+
+/// Why rules have no tree.
+#[derive(Clone, Copy, Debug, PartialEq, Eq, Error)]
+pub enum BuildError {
+    #[error("the tree has more than {MOST_LEAVES} leaves")]
+    TooManyLeaves,
+    #[error("no memory")]
+    NoMemory,
+}
+
+impl From<AllocError> for BuildError {
+    ghost from_gives = { λ _ e. e ≡ NoMemory };
+
+    fn from(_: AllocError) -> Self {
+        BuildError::NoMemory
+    }
+}
+
+/// The tree of these rules: its root has them all, each side of a cut those of its half, and no
+/// leaf has more than the cap.
+///
+/// # Errors
+/// `TooManyLeaves` exactly where that tree has more than 512 leaves; no more of it is built then.
+pub fn build(alloc: Global, rules: &[Rule], cap: u32) -> Result<Tree, BuildError>
+    requires cap { 0 < cap }
+    requires few_rules { length rules.now < 2 ^ 32 }
+    requires words { AreWords rules.now }
+    ensures tree { IfOk result (λ tree. shape_of tree ≡ tree_of rules.now cap) }
+    ensures defined { IfOk result (λ tree. IsDefinedTree rules.now cap (shape_of tree)) }
+    ensures few { IfOk result (λ tree. leaf_count (shape_of tree) ≤ 512) }
+    ensures refused { IfErr result (Exceeds (tree_of rules.now cap) 512) }
+{
+    let root = Node {
+        rules: Vec::from_slice(alloc, rules)?,
+        region: Word::any(),
+    };
+    let mut room = MOST_LEAVES;
+    grow(alloc, root, cap, &mut room)
+}
+
+// The tree of the rules of a node, which takes of the room one for each leaf.
+fn grow(alloc: Global, node: Node, cap: u32, room: &mut u32) -> Result<Tree, BuildError>
+    requires cap { 0 < cap }
+    ensures tree { IfOk result (λ tree. shape_of tree ≡ tree_at cap node.rules.items node.region) }
+    ensures defined { IfOk result (λ tree.
+        IsTreeOf node.rules.items node.region cap (shape_of tree)) }
+    ensures room { IfOk result (λ tree. room.old ≡ room.new + leaf_count (shape_of tree)) }
+    ensures refused { IfErr result (Exceeds (tree_at cap node.rules.items node.region) room.old) }
+{
+    if node.rules.len() <= cap as usize {
+        return leaf(node, room);
+    }
+    let bit = node.least_cut().bit;
+    let low = node.half(alloc, bit, false)?;
+    let high = node.half(alloc, bit, true)?;
+    // The way down keeps the lists of the halves alone.
+    drop(node);
+    let low = grow(alloc, low, cap, room)?;
+    let high = grow(alloc, high, cap, room)?;
+    Ok(Tree::Cut {
+        bit,
+        low: boxed(alloc, low)?,
+        high: boxed(alloc, high)?,
+    })
+}
+
+fn leaf(node: Node, room: &mut u32) -> Result<Tree, BuildError>
+    ensures tree { IfOk result (λ tree. shape_of tree ≡ End node.region node.rules.items) }
+    ensures room { IfOk result (λ _. room.old ≡ room.new + 1) }
+    ensures refused { IfErr result (Exceeds (End node.region node.rules.items) room.old) }
+{
+    if *room == 0 {
+        return Err(BuildError::TooManyLeaves);
+    }
+    *room -= 1;
+    let Node { rules, region } = node;
+    let rules = Rules::new(rules)?;
+    Ok(Tree::Leaf { region, rules })
+}
+
+fn boxed(alloc: Global, tree: Tree) -> Result<Box<Tree>, AllocError>
+    ensures { IfOk result (λ boxed. boxed.value ≡ tree) }
+{
+    let boxed = Box::new(alloc, tree)?;
+    Ok(boxed)
+}
+
+#[cfg(test)]
+mod tests {
+    use super::*;
+    use std::test::Fail;
+
+    #[test]
+    fn no_rules_make_a_leaf(rt: HostRuntime) -> Result<(), Fail> {
+        let tree = build(rt.alloc(), &[], 1)?;
+        let Tree::Leaf { region, rules } = tree else {
+            return Err(Fail::from("a cut"));
+        };
+        assert_eq!(rt; region, Word::any());
+        assert_eq!(rt; rules.items().len(), 0);
+        Ok(())
+    }
+}
