@@ -1,0 +1,10 @@
+use Rattle.std.proofs.Common.{◌≡◌, drop, find}
+use Rattle.std.specs.List.{count_by}
+use Rattle.policy_rules.specs.Partitions.{is_in}
+use Rattle.partition.proofs.parts.find.Given as goal
+
+abbrev pub invariant-loop-part : goal.invariant-loop-part
+invariant-loop-part l = record {
+  one : count_by (is_in l.header) (drop l.part-index l.parts) ≡ 1;
+  first : find (is_in l.header) l.parts ≡ find (is_in l.header) (drop l.part-index l.parts);
+}

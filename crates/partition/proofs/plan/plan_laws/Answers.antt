@@ -1,0 +1,5 @@
+use Rattle.partition.proofs.PlanLemmas.{plan_holds}
+use Rattle.partition.proofs.plan.plan_laws.Goals as goal
+
+pub returns : goal.returns
+returns c = record { holds = plan_holds }

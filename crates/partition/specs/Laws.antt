@@ -1,0 +1,17 @@
+-- The laws of partitions: `partition_laws` of the crate ensures the record.
+use Rattle.std.specs.Prelude.{ℕ, ◌<◌, List}
+use Rattle.policy_rules.specs.Partitions.{AreSoundPartitions}
+use Rattle.policy_rules.specs.Policy.{IsPolicy}
+use Rattle.policy_rules.specs.RuleList.{rules_of}
+use Rattle.policy_rules.specs.declared.policy.Row.{Row}
+use Rattle.policy_rules.specs.declared.rules.Rule.{Rule}
+use Rattle.cut_tree.specs.Nodes.{AreWords}
+use Rattle.partition.specs.Parts.{DecideAs, partitions_of}
+
+pub record PartitionLaws : Type 0 where
+  -- the partitions of a list decide each header as the list does
+  pub decide : (rules : List Rule) (cap : ℕ) → 0 < cap → AreWords rules →
+      DecideAs rules (partitions_of rules cap)
+  -- those of a policy's rules are sound for the policy
+  pub sound : (rows : List Row) (cap : ℕ) → 0 < cap → IsPolicy rows →
+      AreSoundPartitions rows (partitions_of (rules_of rows) cap)

@@ -1,0 +1,67 @@
+-- The plan of a policy on a network: its partitions, each with the switches that decide its headers
+-- (the authority switches of Yu, Rexford, Freedman and Wang, "Scalable Flow-Based Networking with
+-- DIFANE", SIGCOMM 2010).
+use Rattle.std.specs.Prelude.{ℕ, ◌≡◌, ◌<◌, ◌≤◌, nat_lt, if◌then◌else◌, Result, Ok, Err, List, length, map, All}
+use Rattle.std.specs.List.{zip}
+use Rattle.std.specs.Result.{result_map_both}
+use Rattle.cut_tree.specs.DefinedTree.{tree_of}
+use Rattle.cut_tree.specs.Shape.{Shape, leaf_count}
+use Rattle.net_file.specs.Net.{IsNet}
+use Rattle.net_file.specs.declared.net.Net.{Net}
+use Rattle.placement.specs.Placement.{IsPlacement, placement_of}
+use Rattle.policy_rules.specs.Partitions.{AreSoundPartitions}
+use Rattle.policy_rules.specs.Policy.{IsPolicy}
+use Rattle.policy_rules.specs.RuleList.{rules_of, word_total}
+use Rattle.policy_rules.specs.declared.policy.Row.{Row}
+use Rattle.policy_rules.specs.declared.rules.Partition.{Partition}
+use Rattle.partition.specs.Parts.{parts_of}
+
+-- a partition with its targets
+abbrev pub Placed : Type 0
+Placed = Partition × List ℕ
+
+-- why a policy has no plan on a network
+pub data NoPlan : Type 0 where
+  -- its rows have this many words, which are more than 4,096
+  TooManyWords : ℕ → NoPlan
+  -- its tree has more than 512 leaves
+  TooManyLeaves : NoPlan
+  -- too few switches have room for the partition of this number
+  NoRoom : ℕ → NoPlan
+
+-- how many rules each partition has, and for how many each switch has room
+abbrev pub sizes_of : List Partition → List ℕ
+sizes_of parts = map (λ part. length part.rules) parts
+
+abbrev pub rooms_of : Net → List ℕ
+rooms_of net = map (λ row. row.room) net.switches
+
+-- these partitions, each with the targets that it has on the network
+abbrev pub placed_on : Net → List Partition → Result (List Placed) NoPlan
+placed_on net parts =
+    result_map_both (zip parts) NoRoom (placement_of (sizes_of parts) (rooms_of net) net.backups)
+
+abbrev pub plan_of_tree : Net → Shape → Result (List Placed) NoPlan
+plan_of_tree net tree =
+    if nat_lt 512 (leaf_count tree) then Err TooManyLeaves else placed_on net (parts_of tree)
+
+-- the plan of a policy: the partitions of its tree with the network's leaves, placed on the
+-- network's switches
+unfoldable pub plan_of : List Row → Net → Result (List Placed) NoPlan
+plan_of rows net = if nat_lt 4096 (word_total rows)
+    then Err (TooManyWords (word_total rows))
+    else plan_of_tree net (tree_of (rules_of rows) net.leaf_rules)
+
+-- what holds of each plan
+pub record IsPlan (rows : List Row) (net : Net) (plan : List Placed) : Type 0 where
+  pub sound : AreSoundPartitions rows (map (λ placed. placed.0) plan)
+  pub few : length plan ≤ 512
+  pub leaves : All (λ placed. length placed.0.rules ≤ net.leaf_rules) plan
+  pub placement : IsPlacement (sizes_of (map (λ placed. placed.0) plan)) (rooms_of net) net.backups
+      (map (λ placed. placed.1) plan)
+  pub targets : All (λ placed. All (λ s. s < length net.switches) placed.1) plan
+
+pub record PlanLaws : Type 0 where
+  -- its partitions are sound for the policy and small, and each is placed where there is room
+  pub holds : (rows : List Row) (net : Net) (plan : List Placed)
+      → IsPolicy rows → IsNet net → plan_of rows net ≡ Ok plan → IsPlan rows net plan

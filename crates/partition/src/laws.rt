@@ -1,0 +1,7 @@
+ghost use Rattle.partition.specs.Laws.{PartitionLaws};
+
+/// Each header lies in exactly one of the partitions of a list of rules, whose rules decide it as
+/// the whole list does: a law of the definitions alone.
+pub fn partition_laws()
+    ensures { PartitionLaws }
+{}

@@ -1,0 +1,76 @@
+ghost use Rattle.std.specs.Prelude.{ℕ, ◌≡◌, ◌+◌, ◌<◌, ◌^◌, ◌++◌, All, IfOk, OnOk, IsTrue, List, Some, count_by, find, length, option_map};
+ghost use Rattle.policy_rules.specs.Partitions.{AreSoundPartitions, is_in};
+ghost use Rattle.policy_rules.specs.Policy.{IsPolicy};
+ghost use Rattle.policy_rules.specs.RuleList.{rules_of};
+ghost use Rattle.policy_rules.specs.declared.policy.Row.{Row};
+ghost use Rattle.policy_rules.specs.declared.rules.Rule.{Rule};
+ghost use Rattle.cut_tree.specs.DefinedTree.{IsDefinedTree};
+ghost use Rattle.cut_tree.specs.Shape.{leaf_count, leaves_of, shape_of};
+ghost use Rattle.partition.specs.Parts.{DecideAs, numbered_from, parts_of};
+
+use cut_tree::Tree;
+use five_tuple::Header;
+use policy_rules::Partition;
+use std::alloc::{AllocError, Global};
+
+/// The partitions of a tree: its leaves, low side before high side, numbered from 0.
+///
+/// Those of the tree of a list of rules decide each header as the list does, and those of a
+/// policy's rules as its first match does.
+///
+/// # Errors
+/// Want of memory alone.
+pub fn list(alloc: Global, tree: &Tree) -> Result<Vec<Partition>, AllocError>
+    requires { leaf_count (shape_of tree.now) < 2 ^ 32 }
+    ensures parts { IfOk result (λ parts. parts.items ≡ parts_of (shape_of tree.now)) }
+    ensures count { IfOk result (λ parts. length parts.items ≡ leaf_count (shape_of tree.now)) }
+    ensures decide { IfOk result (λ parts. (rules : List Rule) (cap : ℕ) →
+        IsDefinedTree rules cap (shape_of tree.now) → DecideAs rules parts.items) }
+    ensures sound { IfOk result (λ parts. (rows : List Row) (cap : ℕ) →
+        IsPolicy rows → IsDefinedTree (rules_of rows) cap (shape_of tree.now) →
+        AreSoundPartitions rows parts.items) }
+{
+    let mut parts = Vec::new(alloc);
+    push_leaves(tree, &mut parts)?;
+    Ok(parts)
+}
+
+fn push_leaves(tree: &Tree, parts: &mut Vec<Partition>) -> Result<(), AllocError>
+    requires { length parts.old.items + leaf_count (shape_of tree.now) < 2 ^ 32 }
+    ensures { OnOk result (parts.new.items ≡ parts.old.items
+        ++ numbered_from (length parts.old.items) (leaves_of (shape_of tree.now))) }
+{
+    match tree {
+        Tree::Leaf { region, rules } => {
+            let number = parts.len() as u32;
+            let rules = rules.clone()?;
+            parts.push(Partition {
+                number,
+                region: *region,
+                rules,
+            })?;
+            Ok(())
+        }
+        Tree::Cut { low, high, .. } => {
+            push_leaves(low, parts)?;
+            push_leaves(high, parts)?;
+            Ok(())
+        }
+    }
+}
+
+/// The number of the one partition whose region holds the header.
+pub fn find(parts: &[Partition], header: &Header) -> u32
+    requires { count_by (is_in header.now) parts.now ≡ 1 }
+    ensures there { option_map (λ part. part.number)
+        (find (is_in header.now) parts.now) ≡ Some result }
+    ensures alone { All (λ part. IsTrue (is_in header.now part) → part.number ≡ result) parts.now }
+{
+    let number = header.number();
+    for part in parts {
+        if part.region.holds(number) {
+            return part.number;
+        }
+    }
+    unreachable!()
+}
