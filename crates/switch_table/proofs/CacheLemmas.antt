@@ -1,0 +1,90 @@
+-- What each call keeps of a cache.
+use Rattle.std.proofs.Common.{ℕ, zero, suc, ◌≡◌, ◌+◌, ◌≤◌, Bool, true, false, cond, leb, ◌||◌, nat_lt, List, [], ◌∷◌, ◌++◌, length, remove, drop, get_or, length-append, refl, ap, sym, subst, inl, inr, arith}
+use Rattle.std.specs.List.{list_any}
+use Rattle.std.proofs.lemmas.Bool.{cases_lt, lt-ltb, le-ltb}
+use Rattle.std.proofs.lemmas.List.Edits.{length-remove}
+use Rattle.std.proofs.lemmas.List.Kept.{AllPairs-filter}
+use Rattle.std.proofs.lemmas.List.Quantifiers.{all_pairs_push, all_pairs_remove}
+use Rattle.std.proofs.lemmas.List.Sums.{length-filter, count_by-le-length}
+use Rattle.switch_table.specs.Cache.{CacheValue, HaveDistinctKeys, IsCache, same_key, newest, accepted, expired, raised, cleared}
+use Rattle.switch_table.specs.declared.cache.CacheEntry.{CacheEntry}
+use Rattle.switch_table.proofs.QueueLemmas.{apart-sym, none_at}
+
+none_distinct : HaveDistinctKeys []
+none_distinct = λ i j d less within. absurd (omega arith)
+
+pub cache_begun : (capacity : ℕ) → IsCache (record { entries = []; capacity = capacity })
+cache_begun capacity = record { distinct = none_distinct; few = omega arith }
+
+pub cache_cleared : (cache : CacheValue) → IsCache cache → IsCache (cleared cache)
+cache_cleared cache is = record { distinct = none_distinct; few = omega arith }
+
+pub cache_raised : (stamp : ℕ) (cache : CacheValue) → IsCache cache → IsCache (raised stamp cache)
+cache_raised stamp cache is =
+    let kept = λ (entry : CacheEntry). leb stamp entry.version in
+    record {
+      distinct = AllPairs-filter (λ a b. same_key a b ≡ false) kept cache.entries is.distinct;
+      few = omega
+          (arith, length-filter kept cache.entries, count_by-le-length kept cache.entries, is.few);
+    }
+
+remove_past : (entries : List CacheEntry) (place : ℕ) → length entries ≤ place →
+    remove entries place ≡ entries
+remove_past [] zero past = refl
+remove_past [] (suc place) past = refl
+remove_past (x ∷ xs) zero past = absurd (omega arith)
+remove_past (x ∷ xs) (suc place) past = ap (λ rest. x ∷ rest) (remove_past xs place (omega arith))
+
+pub cache_expired : (place : ℕ) (cache : CacheValue) → IsCache cache → IsCache (expired place cache)
+cache_expired place cache is = elim (cases_lt place (length cache.entries)) [
+  | inl within ↦ record {
+    distinct = all_pairs_remove (λ a b. same_key a b ≡ false) cache.entries place within is.distinct;
+    few = omega (arith, length-remove cache.entries place within, is.few);
+  }
+  | inr past ↦ subst (λ entries. IsCache (record { entries = entries; capacity = cache.capacity }))
+      (sym (remove_past cache.entries place past)) is
+]
+
+rest_distinct : (entries : List CacheEntry) → HaveDistinctKeys entries →
+    HaveDistinctKeys (drop 1 entries)
+rest_distinct [] pairs = none_distinct
+rest_distinct (x ∷ xs) pairs = λ i j d less within. pairs (suc i) (suc j) d (omega arith) (omega arith)
+
+length-rest : (entries : List CacheEntry) (most : ℕ) → length entries ≤ most + 1 →
+    length (drop 1 entries) ≤ most
+length-rest [] most few = omega arith
+length-rest (x ∷ xs) most few = omega (arith, few)
+
+newest_is : (capacity : ℕ) (entries : List CacheEntry) → HaveDistinctKeys entries →
+    length entries ≤ capacity + 1 →
+    IsCache (record { entries = newest capacity entries; capacity = capacity })
+newest_is capacity entries pairs few =
+    let cache_by = λ (more : Bool).
+    IsCache (record { entries = cond more (drop 1 entries) entries; capacity = capacity }) in
+    elim (cases_lt capacity (length entries)) [
+      | inl more ↦ subst cache_by (sym (lt-ltb capacity (length entries) more)) (record {
+        distinct = rest_distinct entries pairs;
+        few = length-rest entries capacity few;
+      })
+      | inr fits ↦ subst cache_by (sym (le-ltb capacity (length entries) fits))
+          (record { distinct = pairs; few = fits })
+    ]
+
+pub cache_accepted : (stamp : ℕ) (entry : CacheEntry) (cache : CacheValue) → IsCache cache →
+    IsCache (accepted stamp entry cache)
+cache_accepted stamp entry cache is =
+    by_case (nat_lt entry.version stamp) (list_any (same_key entry) cache.entries) refl
+  where
+    with_it : List CacheEntry
+    with_it = cache.entries ++ entry ∷ []
+
+    by_case : (below there : Bool) → list_any (same_key entry) cache.entries ≡ there →
+        IsCache (cond (below || there) cache
+        (record { entries = newest cache.capacity with_it; capacity = cache.capacity }))
+    by_case true there _ = is
+    by_case false true _ = is
+    by_case false false absent = newest_is cache.capacity with_it
+        (all_pairs_push (λ a b. same_key a b ≡ false) cache.entries entry is.distinct
+        (λ k d within. apart-sym entry (get_or cache.entries k d)
+        (none_at (same_key entry) cache.entries k d absent within)))
+        (omega (arith, length-append cache.entries (entry ∷ []), is.few))

@@ -1,0 +1,11 @@
+use Rattle.switch_table.proofs.CacheLemmas.{cache_accepted, cache_begun, cache_cleared, cache_expired, cache_raised}
+use Rattle.switch_table.proofs.cache.cache_laws.Goals as goal
+
+pub returns : goal.returns
+returns c = record {
+  begun = cache_begun;
+  kept_by_accept = cache_accepted;
+  kept_by_expire = cache_expired;
+  kept_by_raise = cache_raised;
+  kept_by_clear = cache_cleared;
+}

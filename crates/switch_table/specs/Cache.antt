@@ -1,0 +1,50 @@
+-- Caches of a switch's rules: a list of entries, no two of one version and word, in the order in which they came.
+use Rattle.std.specs.Prelude.{ℕ, ◌≤◌, Bool, ◌&&◌, ◌||◌, ◌==◌, nat_lt, nat_le, if◌then◌else◌, Option, List, [], ◌∷◌, ◌++◌, length, drop, filter, remove, find, AllPairs, IsFalse}
+use Rattle.std.specs.List.{list_any}
+use Rattle.ternary.specs.Word.{holds, word_eq}
+use Rattle.switch_table.specs.declared.cache.CacheEntry.{CacheEntry}
+
+-- the entries in order, and how many there may be
+pub record CacheValue : Type 0 where
+  pub entries : List CacheEntry
+  pub capacity : ℕ
+
+-- the entries are of one version, and have one word
+unfoldable pub same_key : CacheEntry → CacheEntry → Bool
+same_key a b = (a.version == b.version) && word_eq a.word b.word
+
+abbrev pub HaveDistinctKeys : List CacheEntry → Type 0
+HaveDistinctKeys entries = AllPairs (λ a b. IsFalse (same_key a b)) entries
+
+-- where there are more than so many, the first one goes
+abbrev pub newest : ℕ → List CacheEntry → List CacheEntry
+newest capacity entries = if nat_lt capacity (length entries) then drop 1 entries else entries
+
+-- an entry is taken in last; one of a version below the stamp, or of a key that is there, changes nothing
+abbrev pub accepted : ℕ → CacheEntry → CacheValue → CacheValue
+accepted stamp entry cache =
+    if nat_lt entry.version stamp || list_any (same_key entry) cache.entries
+    then cache
+    else record cache { entries = newest cache.capacity (cache.entries ++ entry ∷ []) }
+
+-- the entry at a place goes, and those after it close up
+abbrev pub expired : ℕ → CacheValue → CacheValue
+expired place cache = record cache { entries = remove cache.entries place }
+
+-- the entries of versions below the stamp go
+abbrev pub raised : ℕ → CacheValue → CacheValue
+raised stamp cache =
+    record cache { entries = filter (λ entry. nat_le stamp entry.version) cache.entries }
+
+abbrev pub cleared : CacheValue → CacheValue
+cleared cache = record cache { entries = [] }
+
+-- what holds of each cache
+pub record IsCache (cache : CacheValue) : Type 0 where
+  pub distinct : HaveDistinctKeys cache.entries
+  pub few : length cache.entries ≤ cache.capacity
+
+-- the first entry of the version whose word holds the header number
+abbrev pub first_entry : ℕ → ℕ → List CacheEntry → Option CacheEntry
+first_entry version number entries =
+    find (λ entry. (entry.version == version) && holds entry.word number) entries

@@ -1,0 +1,5 @@
+pub mod Cache
+pub mod CacheLaws
+pub mod Queue
+pub mod Tables
+pub mod Lookup

@@ -1,0 +1,89 @@
+-- What the tables and the cache of a switch say of a header: cached rules first, then authority rules, then partition
+-- rules (Yu, Rexford, Freedman and Wang, "Scalable Flow-Based Networking with DIFANE", SIGCOMM 2010).
+use Rattle.std.specs.Prelude.{ℕ, ◌≡◌, ◌^◌, ◌<◌, if◌then◌else◌, Option, Some, List, [], length, map, All, find, position, unwrap_or, option_map, option_and_then, slice_get}
+use Rattle.std.specs.Option.{option_map_or}
+use Rattle.five_tuple.specs.Header.{IsHeader, number_of}
+use Rattle.five_tuple.specs.declared.header.Header.{Header}
+use Rattle.policy_rules.specs.Partitions.{AreSoundPartitions, is_in}
+use Rattle.policy_rules.specs.Policy.{scan}
+use Rattle.policy_rules.specs.RuleList.{hit_of_rule}
+use Rattle.policy_rules.specs.Rules.{is_held}
+use Rattle.policy_rules.specs.declared.policy.Row.{Row}
+use Rattle.policy_rules.specs.declared.rules.Partition.{Partition}
+use Rattle.policy_rules.specs.declared.rules.Rule.{Rule}
+use Rattle.switch_table.specs.Cache.{first_entry}
+use Rattle.switch_table.specs.Tables.{AreSoundTables, Placed, has_target, part_of, row_has, tables_of}
+use Rattle.switch_table.specs.declared.cache.CacheEntry.{CacheEntry}
+use Rattle.switch_table.specs.declared.tables.PartRow.{PartRow}
+use Rattle.switch_table.specs.declared.tables.Tables.{Tables}
+use Rattle.switch_table.specs.declared.search.Found.{Found}
+use Rattle.switch_table.specs.declared.search.Found.TheVariants.{Cached, Authority, Redirect}
+
+-- the first rule of the partition that holds the header, by its place
+abbrev pub authority_of : Header → Partition → Found
+authority_of header part =
+    Authority part.number (unwrap_or (position (is_held (number_of header)) part.rules) 0)
+
+-- the row that holds the header: its place, and its targets
+abbrev pub redirect_of : Header → List PartRow → Found
+redirect_of header rows =
+    Redirect (unwrap_or (position (row_has header) rows) 0)
+    (option_map_or (λ row. row.targets) (find (row_has header) rows) [])
+
+-- what the tables say of the header
+abbrev pub table_lookup : Tables → Header → Found
+table_lookup tables header =
+    option_map_or (authority_of header) (find (is_in header) tables.auth)
+    (redirect_of header tables.parts)
+
+-- what a cache of these entries and the tables say of the header: an entry of another version says nothing
+abbrev pub lookup_of : List CacheEntry → Tables → Header → Found
+lookup_of entries tables header =
+    option_map_or Cached (first_entry tables.version (number_of header) entries)
+    (table_lookup tables header)
+
+-- ---- where a plan's tables lead
+
+-- the partition decides the header at its targets; every other switch sends it to them
+abbrev pub lookup_in : ℕ → Header → Placed → Found
+lookup_in switch header placed = if has_target switch placed
+    then authority_of header (part_of placed)
+    else Redirect placed.0.number placed.1
+
+-- what a plan says of the header at a switch, by the partition that holds it
+abbrev pub plan_lookup : List Placed → ℕ → Header → Option Found
+plan_lookup plan switch header =
+    option_map (lookup_in switch header) (find (λ placed. is_in header (part_of placed)) plan)
+
+-- the rule at a place of the partition of a number
+abbrev pub rule_at : List Partition → ℕ → ℕ → Option Rule
+rule_at parts partition place =
+    option_and_then (λ part. slice_get part.rules place) (slice_get parts partition)
+
+-- an authority rule decides the header as the policy's first match does
+abbrev pub Decides : List Row → List Partition → Header → Found → Type 0
+Decides rows parts header (Authority partition place) =
+    option_map hit_of_rule (rule_at parts partition place) ≡ Some (scan rows header)
+Decides rows parts header _ = ⊥
+
+-- the tables decide the header, or send it to targets of which each one's tables decide it
+abbrev pub Leads : List Row → List Placed → ℕ → Header → Found → Type 0
+Leads rows plan version header (Redirect partition targets) =
+    let said = λ (switch : ℕ). table_lookup (tables_of plan version switch) header in
+    All (λ switch. Decides rows (map part_of plan) header (said switch)) targets
+Leads rows plan version header found = Decides rows (map part_of plan) header found
+
+pub record TablesLaws : Type 0 where
+  -- tables of a plan of sound partitions are sound ..
+  pub sound : (rows : List Row) (plan : List Placed) (version switch : ℕ)
+      → AreSoundPartitions rows (map part_of plan) → length plan < 2 ^ 32
+      → All (λ placed. length placed.0.rules < 2 ^ 32) plan
+      → AreSoundTables (tables_of plan version switch)
+  -- .. and lead each header to the policy's first match, at each switch and at each target
+  pub leads : (rows : List Row) (plan : List Placed) (version switch : ℕ) (header : Header)
+      → AreSoundPartitions rows (map part_of plan) → IsHeader header
+      → Leads rows plan version header (table_lookup (tables_of plan version switch) header)
+  -- .. and say what the plan says: the number of the partition that holds the header, and its rule or its targets
+  pub planned : (rows : List Row) (plan : List Placed) (version switch : ℕ) (header : Header) →
+      AreSoundPartitions rows (map part_of plan) → IsHeader header →
+      plan_lookup plan switch header ≡ Some (table_lookup (tables_of plan version switch) header)

@@ -1,0 +1,118 @@
+ghost use Rattle.std.specs.Prelude.{◌≡◌, [], slice_get, option_map, OnOk, OnErr};
+ghost use Rattle.switch_table.specs.Cache.{IsCache, accepted, expired, raised, cleared, first_entry};
+ghost use Rattle.switch_table.specs.CacheLaws.{CacheLaws};
+
+use crate::items::CacheItems;
+use crate::queue::EntryQueue;
+use policy_rules::Action;
+use std::alloc::{AllocError, Global};
+use std::marker::Model;
+use ternary::Word;
+
+/// A rule that a switch has learnt of an authority switch: what becomes of the headers of a word, by one version.
+#[derive(Clone, Copy, Debug, PartialEq, Eq)]
+pub struct CacheEntry {
+    pub version: u32,
+    pub word: Word,
+    /// The priority of the row, or `None` for the default.
+    pub rule: Option<u32>,
+    pub action: Action,
+    /// The number of the message that brought the entry.
+    pub message: u32,
+}
+
+/// The rules that a switch has learnt: at most as many as its capacity, no two of one version and word, in the order in
+/// which they came. Contracts see the list and the capacity.
+#[derive(Drop)]
+pub struct Cache {
+    queue: EntryQueue,
+    capacity: u32,
+}
+
+impl Model for Cache {
+    ghost use Rattle.std.specs.Prelude.{◌≤◌, length};
+    ghost use Rattle.switch_table.specs.Cache.{CacheValue};
+
+    ghost Value = { CacheValue };
+
+    ghost view = { λ c. record { entries = c.queue; capacity = c.capacity } };
+
+    ghost invariant = { λ c. length c.queue ≤ c.capacity };
+}
+
+impl Cache {
+    /// A cache without entries, for at most so many.
+    pub fn new(alloc: Global, capacity: u32) -> Cache
+        ensures { result ≡ record { entries = []; capacity = capacity } }
+    {
+        Cache {
+            queue: EntryQueue::new(alloc),
+            capacity,
+        }
+    }
+
+    /// A copy of each entry, in order.
+    pub fn entries(&self) -> CacheItems<'_>
+        ensures entries { result ≡ self.now.entries }
+        ensures cache { IsCache self.now }
+    {
+        let _capacity = self.capacity;
+        self.queue.iter()
+    }
+
+    /// Takes an entry in as the last one; where there are then more than the capacity, the first one goes. Nothing
+    /// changes where its version is below the stamp, or where an entry of its version and word is there.
+    ///
+    /// # Errors
+    /// Want of memory alone; nothing changes then.
+    pub fn accept(&mut self, stamp: u32, entry: CacheEntry) -> Result<(), AllocError>
+        ensures ok { OnOk result (self.new ≡ accepted stamp entry self.old) }
+        ensures err { OnErr result (self.new ≡ self.old) }
+    {
+        if entry.version < stamp || self.queue.has_key_of(&entry) {
+            return Ok(());
+        }
+        self.queue.push(&entry)?;
+        if self.queue.len() > self.capacity as usize {
+            self.queue.remove(0);
+        }
+        Ok(())
+    }
+
+    /// Takes the entry at this place, from 0, out and answers the number of its message; `None` where there is none.
+    pub fn expire(&mut self, k: u32) -> Option<u32>
+        ensures message { result
+            ≡ option_map (λ entry. entry.message) (slice_get self.old.entries k) }
+        ensures after { self.new ≡ expired k self.old }
+    {
+        let entry = self.queue.remove(k as usize)?;
+        Some(entry.message)
+    }
+
+    /// Takes out the entries of versions below the stamp.
+    pub fn raise(&mut self, stamp: u32)
+        ensures { self.new ≡ raised stamp self.old }
+    {
+        self.queue.keep_from(stamp);
+    }
+
+    /// Takes out all entries.
+    pub fn clear(&mut self)
+        ensures { self.new ≡ cleared self.old }
+    {
+        self.queue.clear();
+    }
+
+    /// The first entry of this version whose word holds the header number.
+    pub(crate) fn first_entry(&self, version: u32, number: u128) -> Option<CacheEntry>
+        ensures { result ≡ first_entry version number self.now.entries }
+    {
+        self.queue.iter().find(|entry| entry.version == version && entry.word.holds(number))
+    }
+}
+
+/// No call leaves a cache with two entries of one version and word, or with more entries than its
+/// capacity: a law on the definitions alone.
+pub fn cache_laws()
+    ensures { CacheLaws }
+{}
