@@ -1,0 +1,191 @@
+ghost use Rattle.std.specs.Prelude.{◌≡◌};
+ghost use Rattle.ctrl_msg.specs.Bodies.{body_boot, body_version, is_for_controller};
+
+use crate::shared::SharedTables;
+use failover::Advert;
+use policy_rules::Action;
+use std::alloc::AllocError;
+use ternary::Word;
+
+/// Whom a message is for.
+#[derive(Clone, Copy, Debug, PartialEq, Eq)]
+pub enum Place {
+    /// The switch of this number.
+    Switch(u32),
+    Controller,
+}
+
+/// What a message says. The first six are for a switch, the others for the controller.
+#[derive(Debug, Drop)]
+pub enum Body {
+    /// In this boot, keep these tables beside those of other versions.
+    Install {
+        boot: u32,
+        tables: SharedTables,
+    },
+    /// In this boot, serve, and stamp packets with this version.
+    OpenAt {
+        boot: u32,
+        version: u32,
+    },
+    /// In this boot, stamp packets with this version from now on.
+    Stamp {
+        boot: u32,
+        version: u32,
+    },
+    /// In this boot, drop the tables of the versions up to this one.
+    Collect {
+        boot: u32,
+        version: u32,
+    },
+    /// Under this version, the headers of the word are decided in this way.
+    CacheRule {
+        version: u32,
+        word: Word,
+        /// The priority of the row, or `None` for the default.
+        rule: Option<u32>,
+        action: Action,
+    },
+    /// A switch tells which links it can use.
+    Advertise {
+        advert: Advert,
+    },
+    /// The switch has begun this boot.
+    Hello {
+        switch: u32,
+        boot: u32,
+    },
+    /// In this boot, the switch has this version's tables.
+    Installed {
+        switch: u32,
+        boot: u32,
+        version: u32,
+    },
+    /// In this boot, the switch stamps packets with this version, or a later one.
+    Stamped {
+        switch: u32,
+        boot: u32,
+        version: u32,
+    },
+}
+
+/// A message on its way.
+#[derive(Debug, Drop)]
+pub struct Message {
+    pub to: Place,
+    pub body: Body,
+}
+
+impl Body {
+    /// The boot that the message is for or of; an advertisement and a cache rule carry none of their
+    /// own.
+    pub fn boot(&self) -> Option<u32>
+        ensures { result ≡ body_boot self.now }
+    {
+        match self {
+            Body::Install { boot, .. }
+            | Body::OpenAt { boot, .. }
+            | Body::Stamp { boot, .. }
+            | Body::Collect { boot, .. }
+            | Body::Hello { boot, .. }
+            | Body::Installed { boot, .. }
+            | Body::Stamped { boot, .. } => Some(*boot),
+            Body::CacheRule { .. } | Body::Advertise { .. } => None,
+        }
+    }
+
+    /// The version that the message speaks of, if it speaks of one.
+    pub fn version(&self) -> Option<u32>
+        ensures { result ≡ body_version self.now }
+    {
+        match self {
+            Body::Install { tables, .. } => Some(tables.tables().version),
+            Body::OpenAt { version, .. }
+            | Body::Stamp { version, .. }
+            | Body::Collect { version, .. }
+            | Body::CacheRule { version, .. }
+            | Body::Installed { version, .. }
+            | Body::Stamped { version, .. } => Some(*version),
+            Body::Advertise { .. } | Body::Hello { .. } => None,
+        }
+    }
+
+    /// Whether the message is one for the controller.
+    pub fn is_for_controller(&self) -> bool
+        ensures { result ≡ is_for_controller self.now }
+    {
+        match self {
+            Body::Hello { .. } | Body::Installed { .. } | Body::Stamped { .. } => true,
+            _ => false,
+        }
+    }
+}
+
+impl Clone for Body {
+    ghost is_clone = { λ body copy. copy ≡ body };
+
+    fn clone(&self) -> Result<Body, AllocError> {
+        let copy = match self {
+            Body::Install { boot, tables } => Body::Install {
+                boot: *boot,
+                tables: tables.clone()?,
+            },
+            Body::OpenAt { boot, version } => Body::OpenAt {
+                boot: *boot,
+                version: *version,
+            },
+            Body::Stamp { boot, version } => Body::Stamp {
+                boot: *boot,
+                version: *version,
+            },
+            Body::Collect { boot, version } => Body::Collect {
+                boot: *boot,
+                version: *version,
+            },
+            Body::CacheRule {
+                version,
+                word,
+                rule,
+                action,
+            } => Body::CacheRule {
+                version: *version,
+                word: *word,
+                rule: *rule,
+                action: *action,
+            },
+            Body::Advertise { advert } => Body::Advertise { advert: *advert },
+            Body::Hello { switch, boot } => Body::Hello {
+                switch: *switch,
+                boot: *boot,
+            },
+            Body::Installed {
+                switch,
+                boot,
+                version,
+            } => Body::Installed {
+                switch: *switch,
+                boot: *boot,
+                version: *version,
+            },
+            Body::Stamped {
+                switch,
+                boot,
+                version,
+            } => Body::Stamped {
+                switch: *switch,
+                boot: *boot,
+                version: *version,
+            },
+        };
+        Ok(copy)
+    }
+}
+
+impl Clone for Message {
+    ghost is_clone = { λ message copy. copy ≡ message };
+
+    fn clone(&self) -> Result<Message, AllocError> {
+        let body = self.body.clone()?;
+        Ok(Message { to: self.to, body })
+    }
+}
