@@ -1,0 +1,26 @@
+-- Plans: a policy with its partitions, each with its targets.
+use Rattle.std.specs.Prelude.{⊤, ◌≡◌, ◌^◌, ◌<◌, Err, List, length, map, All}
+use Rattle.net_file.specs.declared.net.Net.{Net}
+use Rattle.partition.specs.Plan.{Placed, plan_of}
+use Rattle.partition.specs.Plan as no_plan
+use Rattle.policy_rules.specs.Partitions.{AreSoundPartitions}
+use Rattle.policy_rules.specs.declared.policy.Row.{Row}
+use Rattle.controller.specs.declared.plan_error.PlanError.{PlanError}
+use Rattle.controller.specs.declared.plan_error.PlanError.TheVariants.{TooManyWords, TooManyLeaves, NoRoom, NoMemory}
+
+pub record PlanValue : Type 0 where
+  pub policy : List Row
+  pub placed : List Placed
+
+-- the partitions are sound for the policy, and their numbers and places have 32 bits
+pub record IsSoundPlan (plan : PlanValue) : Type 0 where
+  pub sound : AreSoundPartitions plan.policy (map (λ placed. placed.0) plan.placed)
+  pub few : length plan.placed < 2 ^ 32
+  pub few_rules : All (λ placed. length placed.0.rules < 2 ^ 32) plan.placed
+
+-- why a policy has no plan on a network, or memory ran out
+abbrev pub RefusesPlan : List Row → Net → PlanError → Type 0
+RefusesPlan rows net (TooManyWords words) = plan_of rows net ≡ Err (no_plan.TooManyWords words)
+RefusesPlan rows net TooManyLeaves = plan_of rows net ≡ Err no_plan.TooManyLeaves
+RefusesPlan rows net (NoRoom partition) = plan_of rows net ≡ Err (no_plan.NoRoom partition)
+RefusesPlan rows net NoMemory = ⊤

@@ -1,0 +1,138 @@
+ghost use Rattle.std.specs.Prelude.{◌≡◌, length, map, IfOk};
+ghost use Rattle.std.specs.List.{zip};
+ghost use Rattle.switch_table.specs.Tables.{row_of};
+ghost use Rattle.controller.specs.Plan.{IsSoundPlan};
+
+use policy_rules::{Partition, Policy, Targets};
+use std::alloc::{AllocError, Global};
+use std::marker::Model;
+use std::rc::Rc;
+use switch_table::{PartRow, PartRows};
+
+/// A policy with its partitions, each with its targets. A clone shares all of it. Contracts see the
+/// policy's rows and the list of the partitions with their targets, which are sound for the policy.
+#[derive(Drop)]
+pub struct Plan {
+    shared: Rc<PlanParts>,
+}
+
+// What the clones of a plan share.
+#[derive(Drop)]
+struct PlanParts {
+    policy: Policy,
+    placed: Vec<(Partition, Targets)>,
+    /// The regions with their targets, as each switch's tables share them.
+    rows: PartRows,
+}
+
+impl Model for Plan {
+    ghost use Rattle.std.specs.Prelude.{◌≡◌, map};
+    ghost use Rattle.switch_table.specs.Tables.{row_of};
+    ghost use Rattle.controller.specs.Plan.{PlanValue, IsSoundPlan};
+
+    ghost Value = { PlanValue };
+
+    ghost view = { λ p. record {
+      policy = p.shared.value.policy;
+      placed = p.shared.value.placed.items;
+    } };
+
+    ghost invariant = { λ p. IsSoundPlan (record {
+      policy = p.shared.value.policy;
+      placed = p.shared.value.placed.items;
+    }) × (p.shared.value.rows ≡ map row_of p.shared.value.placed.items) };
+}
+
+impl Plan {
+    /// The plan of these partitions, in order, with these targets, in order.
+    ///
+    /// # Errors
+    /// Want of memory alone.
+    pub fn new(
+        alloc: Global,
+        policy: Policy,
+        parts: &[Partition],
+        targets: &[Targets],
+    ) -> Result<Plan, AllocError>
+        requires each { length targets.now ≡ length parts.now }
+        requires sound { IsSoundPlan (record {
+          policy = policy;
+          placed = zip parts.now targets.now;
+        }) }
+        ensures policy { IfOk result (λ plan. plan.policy ≡ policy) }
+        ensures placed { IfOk result (λ plan. plan.placed ≡ zip parts.now targets.now) }
+    {
+        let placed = place_each(alloc, parts, targets)?;
+        let rows = rows_of(alloc, &placed)?;
+        let shared = Rc::new(
+            alloc,
+            PlanParts {
+                policy,
+                placed,
+                rows,
+            },
+        )?;
+        Ok(Plan { shared })
+    }
+
+    /// The policy.
+    pub fn policy(&self) -> &Policy
+        ensures { result.now ≡ self.now.policy }
+    {
+        &self.shared.policy
+    }
+
+    /// The partitions, by their numbers, each with its targets.
+    pub fn placed(&self) -> &[(Partition, Targets)]
+        ensures placed { result.now ≡ self.now.placed }
+        ensures sound { IsSoundPlan self.now }
+    {
+        &self.shared.placed
+    }
+
+    /// The regions with their targets, by the numbers of the partitions.
+    pub fn rows(&self) -> &PartRows
+        ensures { result.now ≡ map row_of self.now.placed }
+    {
+        &self.shared.rows
+    }
+}
+
+impl Clone for Plan {
+    ghost is_clone = { λ plan copy. copy ≡ plan };
+
+    fn clone(&self) -> Result<Plan, AllocError> {
+        let shared = self.shared.clone()?;
+        Ok(Plan { shared })
+    }
+}
+
+// The partitions with their targets.
+fn place_each(
+    alloc: Global,
+    parts: &[Partition],
+    targets: &[Targets],
+) -> Result<Vec<(Partition, Targets)>, AllocError>
+    requires { length targets.now ≡ length parts.now }
+    ensures { IfOk result (λ placed. placed.items ≡ zip parts.now targets.now) }
+{
+    let mut placed = Vec::with_capacity(alloc, parts.len())?;
+    for (place, part) in parts.iter().enumerate() {
+        placed.push((part.clone()?, targets[place]))?;
+    }
+    Ok(placed)
+}
+
+// The regions with their targets.
+fn rows_of(alloc: Global, placed: &[(Partition, Targets)]) -> Result<PartRows, AllocError>
+    ensures { IfOk result (λ rows. rows ≡ map row_of placed.now) }
+{
+    let mut rows = Vec::with_capacity(alloc, placed.len())?;
+    for (part, targets) in placed {
+        rows.push(PartRow {
+            region: part.region,
+            targets: *targets,
+        })?;
+    }
+    PartRows::new(rows)
+}

@@ -1,0 +1,60 @@
+ghost use Rattle.std.specs.Prelude.{◌≡◌, ◌^◌, ◌<◌, length, map, All, Ok, IfOk, IfErr};
+ghost use Rattle.net_file.specs.Net.{IsNet};
+ghost use Rattle.partition.specs.Plan.{plan_of, rooms_of, sizes_of};
+ghost use Rattle.controller.specs.Plan.{RefusesPlan};
+
+use crate::plan::Plan;
+use crate::plan_error::PlanError;
+use cut_tree::build;
+use net_file::Net;
+use partition::{list, plan_laws};
+use placement::place;
+use policy_rules::{Partition, Policy, to_rules};
+use std::alloc::{AllocError, Global};
+
+/// The plan of a policy on a network: the partitions of its tree with the network's leaves, placed
+/// on the switches.
+///
+/// # Errors
+/// `TooManyWords` where its rows have more than 4,096 words; otherwise `TooManyLeaves` where its
+/// tree has more than 512 leaves; otherwise `NoRoom` with the first partition, in the order of
+/// placing, that finds too few switches.
+pub fn compile(alloc: Global, policy: &Policy, net: &Net) -> Result<Plan, PlanError>
+    requires { IsNet net.now }
+    ensures plan { IfOk result (λ plan. plan_of policy.now net.now ≡ Ok plan.placed) }
+    ensures policy { IfOk result (λ plan. plan.policy ≡ policy.now) }
+    ensures refused { IfErr result (RefusesPlan policy.now net.now) }
+{
+    plan_laws();
+    // The rows of a policy are sound.
+    let _ = policy.rows();
+    let rules = to_rules(alloc, policy)?;
+    let tree = build(alloc, &rules, net.leaf_rules)?;
+    let parts = list(alloc, &tree)?;
+    let sizes = sizes_of(alloc, &parts)?;
+    let rooms = rooms_of(alloc, net)?;
+    let targets = place(alloc, &sizes, &rooms, net.backups)?;
+    let policy = policy.clone()?;
+    let plan = Plan::new(alloc, policy, &parts, &targets)?;
+    Ok(plan)
+}
+
+// How many rules each partition has.
+fn sizes_of(alloc: Global, parts: &[Partition]) -> Result<Vec<u32>, AllocError>
+    requires { All (λ part. length part.rules < 2 ^ 32) parts.now }
+    ensures { IfOk result (λ sizes. sizes.items ≡ sizes_of parts.now) }
+{
+    let mut sizes = Vec::with_capacity(alloc, parts.len())?;
+    for part in parts {
+        sizes.push(part.rules.items().len() as u32)?;
+    }
+    Ok(sizes)
+}
+
+// For how many rules each switch has room.
+fn rooms_of(alloc: Global, net: &Net) -> Result<Vec<u32>, AllocError>
+    ensures { IfOk result (λ rooms. rooms.items ≡ rooms_of net.now) }
+{
+    let rows = net.switches.rows();
+    rows.iter().map(|row| row.room).collect(alloc)
+}
