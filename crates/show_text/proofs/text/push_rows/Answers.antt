@@ -1,0 +1,19 @@
+use Rattle.std.proofs.Common.{◌++◌, ◌∙◌, ap, append_assoc, sym, take}
+use Rattle.std.specs.List.{enumerate_from, flat_map}
+use Rattle.std.specs.String.{string_bytes}
+use Rattle.show_text.specs.Text.{row_line}
+use Rattle.show_text.proofs.RowLemmas.{rows_more}
+use Rattle.show_text.proofs.text.push_rows.Goals as goal
+
+pub loop-number-preserved : goal.loop-number-preserved
+loop-number-preserved c =
+    let net = c.args.net.now in
+    let rows = c.args.rows.now in
+    let i = c.loop-number.number in
+    let row = c.index-rows-number.result in
+    let lines = flat_map (row_line net) (enumerate_from 0 (take i rows)) in
+    let text = string_bytes c.args.text.now in
+    c.in_ok-push_row.ensures
+    ∙ ap (λ b. b ++ row_line net (i, row)) c.loop-number.invariant
+    ∙ append_assoc text lines (row_line net (i, row))
+    ∙ ap (λ t. text ++ t) (sym (rows_more net rows i row c.loop-number-test.true c.index-rows-number.is))

@@ -1,0 +1,86 @@
+-- The texts of plans and of tables, one fact a line.
+use Rattle.std.specs.Prelude.{ℕ, List, [], ◌∷◌, ◌++◌, length, codes, decimal, slice_get}
+use Rattle.std.specs.List.{flat_map, enumerate_from}
+use Rattle.std.specs.Option.{option_map_or}
+use Rattle.net_file.specs.declared.net.Net.{Net}
+use Rattle.partition.specs.Plan.{Placed}
+use Rattle.policy_rules.specs.Print.{action_text, rule_text}
+use Rattle.policy_rules.specs.RuleList.{word_total}
+use Rattle.policy_rules.specs.declared.policy.Row.{Row}
+use Rattle.policy_rules.specs.declared.rules.Partition.{Partition}
+use Rattle.policy_rules.specs.declared.rules.Rule.{Rule}
+use Rattle.switch_table.specs.declared.tables.PartRow.{PartRow}
+use Rattle.switch_table.specs.declared.tables.Tables.{Tables}
+use Rattle.ternary.specs.Word.{WordValue, word_text}
+
+-- a line, with the line feed that ends it
+abbrev pub line : List ℕ → List ℕ
+line text = text ++ 10 ∷ []
+
+-- the name of the switch of this number; one that the network lacks has none
+abbrev pub name_of : Net → ℕ → List ℕ
+name_of net s = option_map_or (λ row. row.name) (slice_get net.switches s) []
+
+-- the names of the targets, each behind a blank
+abbrev pub targets_text : Net → List ℕ → List ℕ
+targets_text net targets =
+    codes " targets" ++ flat_map (λ s. codes " " ++ name_of net s) targets
+
+abbrev pub region_text : ℕ → WordValue → List ℕ
+region_text number region =
+    codes "part " ++ decimal number ++ codes " region " ++ word_text region
+
+-- a partition with the number of its rules
+abbrev pub part_text : Partition → List ℕ
+part_text part =
+    region_text part.number part.region ++ codes " rules " ++ decimal (length part.rules)
+
+abbrev pub rule_text_of : Rule → List ℕ
+rule_text_of rule =
+    codes "  rank " ++ decimal rule.rank ++ codes " rule " ++ rule_text rule.rule
+    ++ codes " word " ++ word_text rule.word ++ codes " " ++ action_text rule.action
+
+abbrev pub rule_lines : List Rule → List ℕ
+rule_lines rules = flat_map (λ rule. line (rule_text_of rule)) rules
+
+-- ---- a plan
+
+-- a partition with its targets, and its rules
+abbrev pub placed_lines : Net → Placed → List ℕ
+placed_lines net placed =
+    line (part_text placed.0 ++ targets_text net placed.1) ++ rule_lines placed.0.rules
+
+-- a plan of a policy: how many words its rows have, how many partitions there are, and each of them
+abbrev pub compile_text : List Row → List Placed → Net → List ℕ
+compile_text rows plan net =
+    line (codes "words " ++ decimal (word_total rows))
+    ++ line (codes "partitions " ++ decimal (length plan))
+    ++ flat_map (placed_lines net) plan
+
+-- ---- the tables of a switch
+
+-- one of its own partitions, and its rules
+abbrev pub own_lines : Partition → List ℕ
+own_lines part = line (part_text part) ++ rule_lines part.rules
+
+-- the partition rule of a region
+abbrev pub row_line : Net → ℕ × PartRow → List ℕ
+row_line net (number, row) =
+    line (region_text number row.region ++ targets_text net row.targets)
+
+-- the switch's own partitions
+unfoldable pub authority_text : List Partition → List ℕ
+authority_text parts = line (codes "authority " ++ decimal (length parts)) ++ flat_map own_lines parts
+
+-- the partition rules of all regions
+unfoldable pub regions_text : Net → List PartRow → List ℕ
+regions_text net rows =
+    line (codes "partitions " ++ decimal (length rows))
+    ++ flat_map (row_line net) (enumerate_from 0 rows)
+
+-- the switch and the version, its own partitions, and the partition rules of all regions
+abbrev pub table_text : ℕ → Tables → Net → List ℕ
+table_text s tables net =
+    line (codes "switch " ++ name_of net s ++ codes " version " ++ decimal tables.version)
+    ++ authority_text tables.auth
+    ++ regions_text net tables.parts

@@ -1,0 +1,13 @@
+//! The texts of plans and of tables, as a command prints them.
+//!
+//! `compile_text` and `table_text` promise exactly the lines that their definitions state, each
+//! ended by a line feed.
+#![tactic(auto)]
+
+mod lines;
+mod text;
+
+pub use text::{compile_text, table_text};
+
+#[cfg(test)]
+mod tests;
