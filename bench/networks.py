@@ -1,0 +1,91 @@
+#!/usr/bin/env python3
+"""Times `read_net` over a large network of 64 switches and 256 links, and over files of 16 MB that are refused.
+
+usage: bench/networks.py
+
+It makes a small program in a copy of `net_file`, lets `rt run` prove and build it, and prints what each file is answered
+and how many seconds of the processor that took, with reading the file. It needs `rt` on the path.
+"""
+import os
+import resource
+import shutil
+import subprocess
+import sys
+import tempfile
+
+MAIN = """//! Reads a network file.
+#![tactic(auto)]
+
+use net_file::{NetError, read_net};
+use std::{env, fs};
+
+fn main(rt: HostRuntime) -> anyhow::Result<()> {
+    for name in env::args(&rt)?.skip(1) {
+        let bytes = fs::read(&rt, &name)?;
+        match read_net(rt.alloc(), &bytes) {
+            Ok(net) => println!(rt; "{} switches", net.switches.rows().len())?,
+            Err(NetError::Refused { refusal, row }) => {
+                println!(rt; "code {} row {row}", refusal.code())?;
+            }
+            Err(NetError::NoMemory) => println!(rt; "no memory")?,
+        }
+    }
+    Ok(())
+}
+"""
+
+
+def large():
+    lines = []
+    for k in range(64):
+        lines += ["[[switch]]", 'name = "s%d"' % k, "ports = [%s]" % (k if k < 63 else ""), "authority = 8192"]
+    pairs = [(k, j) for k in range(64) for j in range(k)][:256]
+    for k, j in pairs:
+        lines += ["[[link]]", 'ends = ["s%d", "s%d"]' % (k, j)]
+    return "\n".join(lines) + "\n"
+
+
+def ports():
+    return '[[switch]]\nname = "a"\nports = [' + "1," * 8_000_000 + "1]\n"
+
+
+def switches():
+    return "switch = [" + "{}," * 5_000_000 + "{}]\n"
+
+
+def build(folder):
+    here = os.path.dirname(os.path.dirname(os.path.abspath(__file__)))
+    shutil.copytree(os.path.join(here, "crates", "net_file"), os.path.join(folder, "crates", "net_file"), ignore=shutil.ignore_patterns("out"))
+    with open(os.path.join(here, "crates.txt")) as listed:
+        lines = [line for line in listed if line.split(":")[0] == "net_file"]
+    with open(os.path.join(folder, "crates.txt"), "w") as file:
+        file.write("".join(lines) + "net_times: anyhow net_file\n")
+    source = os.path.join(folder, "crates", "net_times", "src")
+    os.makedirs(source)
+    with open(os.path.join(source, "main.rt"), "w") as file:
+        file.write(MAIN)
+    crate = os.path.dirname(source)
+    done = subprocess.run(["rt", "run"], cwd=crate, stdout=subprocess.PIPE, stderr=subprocess.STDOUT, text=True)
+    if done.returncode != 0:
+        sys.exit(done.stdout)
+    return os.path.join(crate, "out", "net_times")
+
+
+def seconds():
+    usage = resource.getrusage(resource.RUSAGE_CHILDREN)
+    return usage.ru_utime + usage.ru_stime
+
+
+def main():
+    with tempfile.TemporaryDirectory() as folder:
+        program = build(folder)
+        for name, case in (("64 switches, 256 links", large), ("8,000,001 ports", ports), ("5,000,001 switches", switches)):
+            path = os.path.join(folder, "net.toml")
+            with open(path, "w") as file:
+                file.write(case())
+            begun = seconds()
+            answer = subprocess.run([program, path], stdout=subprocess.PIPE, check=True, text=True).stdout.strip()
+            print("%-24s %-16s %.3f s" % (name, answer, seconds() - begun))
+
+
+main()
