@@ -8,7 +8,8 @@ use Rattle.ternary.specs.Word.{WordValue, exact_word, covers_of, meet_of, free_o
 use Rattle.policy_rules.specs.declared.rules.Rule.{Rule}
 
 -- the region and the rule at this place cover the word, and it meets no earlier rule's
-pub record IsIndependent (region : WordValue) (rules : List Rule) (index : ℕ) (word : WordValue) : Type 0 where
+pub record IsIndependent (region : WordValue) (rules : List Rule) (index : ℕ)
+    (word : WordValue) : Type 0 where
   pub in_region : IsTrue (covers_of region word)
   pub in_rule : IsSomeAnd (slice_get rules index) (λ rule. IsTrue (covers_of rule.word word))
   pub earlier : All (λ rule. IsNone (meet_of word rule.word)) (take index rules)
@@ -20,12 +21,14 @@ is_apart word rules = list_all (λ rule. is_none (meet_of word rule.word)) rules
 -- the test that it is independent
 unfoldable pub is_independent : WordValue → List Rule → ℕ → WordValue → Bool
 is_independent region rules index word =
-    covers_of region word && option_map_or (λ rule. covers_of rule.word word) (slice_get rules index) false
+    covers_of region word && option_map_or (λ rule. covers_of rule.word word)
+    (slice_get rules index) false
     && is_apart word (take index rules)
 
 -- the word with this bit freed, where that is independent
 abbrev pub freed : WordValue → List Rule → ℕ → ℕ → WordValue → WordValue
-freed region rules index bit word = if is_independent region rules index (free_of word bit) then free_of word bit else word
+freed region rules index bit word = if is_independent region rules index (free_of word bit) then
+    free_of word bit else word
 
 -- the word of the header h, its bits below n freed in turn
 unfoldable pub widened : ℕ → WordValue → List Rule → ℕ → ℕ → WordValue

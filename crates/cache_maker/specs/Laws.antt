@@ -6,14 +6,18 @@ use Rattle.policy_rules.specs.Rules.{is_held}
 use Rattle.cache_maker.specs.Independent.{IsIndependent, is_independent, widen}
 
 pub record IndependentLaws : Type 0 where
-  pub test : (region : WordValue) (rules : List Rule) (index : ℕ) (word : WordValue) → IsTrue (is_independent region rules index word) ↔ IsIndependent region rules index word
+  pub test : (region : WordValue) (rules : List Rule) (index : ℕ) (word : WordValue)
+      → IsTrue (is_independent region rules index word) ↔ IsIndependent region rules index word
   -- whatever header the word holds, this rule is the first to hold it
-  pub first_hit : (region : WordValue) (rules : List Rule) (index : ℕ) (word : WordValue) (h : ℕ) → IsIndependent region rules index word → IsTrue (holds word h) →
+  pub first_hit : (region : WordValue) (rules : List Rule) (index : ℕ) (word : WordValue) (h : ℕ)
+      → IsIndependent region rules index word → IsTrue (holds word h) →
       position (is_held h) rules ≡ Some index
-  pub within : (region : WordValue) (rules : List Rule) (index : ℕ) (word : WordValue) (h : ℕ) → IsIndependent region rules index word → IsTrue (holds word h) →
+  pub within : (region : WordValue) (rules : List Rule) (index : ℕ) (word : WordValue) (h : ℕ)
+      → IsIndependent region rules index word → IsTrue (holds word h) →
       IsTrue (holds region h)
   -- a smaller word is independent too
-  pub smaller : (region : WordValue) (rules : List Rule) (index : ℕ) (word part : WordValue) → IsTrue (covers_of word part) → IsIndependent region rules index word →
+  pub smaller : (region : WordValue) (rules : List Rule) (index : ℕ) (word part : WordValue)
+      → IsTrue (covers_of word part) → IsIndependent region rules index word →
       IsIndependent region rules index part
 
 -- the header is in the region, and the rule at this place is the first to hold it
@@ -25,12 +29,15 @@ pub record IsDecided (h : ℕ) (region : WordValue) (rules : List Rule) (index :
   pub first_hit : position (is_held h) rules ≡ Some index
 
 -- an independent word that holds the header, and none of whose fixed bits can be freed
-pub record IsWidest (h : ℕ) (region : WordValue) (rules : List Rule) (index : ℕ) (word : WordValue) : Type 0 where
+pub record IsWidest (h : ℕ) (region : WordValue) (rules : List Rule) (index : ℕ)
+    (word : WordValue) : Type 0 where
   pub is_word : IsWord word
   pub header : IsTrue (holds word h)
   pub independent : IsIndependent region rules index word
-  pub widest : (bit : ℕ) → bit < 104 → IsTrue (is_fixed_of word bit) → ¬ IsIndependent region rules index (free_of word bit)
+  pub widest : (bit : ℕ) → bit < 104 → IsTrue (is_fixed_of word bit)
+      → ¬ IsIndependent region rules index (free_of word bit)
 
 -- what `widen` ensures of its result, for proofs where no call runs
 pub record WidenLaws : Type 0 where
-  pub widest : (h : ℕ) (region : WordValue) (rules : List Rule) (index : ℕ) → IsDecided h region rules index → IsWidest h region rules index (widen h region rules index)
+  pub widest : (h : ℕ) (region : WordValue) (rules : List Rule) (index : ℕ)
+      → IsDecided h region rules index → IsWidest h region rules index (widen h region rules index)

@@ -13,7 +13,8 @@ bytes_left reader = source_of (λ slice. Some slice.now) reader
 -- the records that it has yet to give: none after a failure
 abbrev pub records_left : Reader (Bor (List ℕ)) → List (List (List ℕ))
 records_left reader =
-    option_map_or (λ bytes. records_from default_config (length bytes + 1) (reader_state reader) bytes)
+    option_map_or (λ bytes. records_from default_config (length bytes + 1) (reader_state reader)
+    bytes)
     (bytes_left reader) []
 
 -- the reader has the presets of its crate, but for no header treatment and records of any width

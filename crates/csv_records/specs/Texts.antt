@@ -6,7 +6,8 @@ use Rattle.csv.specs.Reading.{default_config, records, strip_bom}
 abbrev pub records_of : List ℕ → List (List (List ℕ))
 records_of text = records default_config (strip_bom text)
 
--- a read gave these fields, the first of the records that were left; or it found none, and none was left
+-- a read gave these fields, the first of the records that were left; or it found none, and none was
+-- left
 abbrev pub TakesNext : List (List (List ℕ)) → Bool → List (List ℕ) → List (List (List ℕ)) → Type 0
 TakesNext before true fields after = before ≡ fields ∷ after
 TakesNext before false fields after = (before ≡ []) × (after ≡ [])

@@ -1,9 +1,12 @@
-//! The records of a CSV text in memory, one after another, as the crate `csv` reads them with its presets.
+//! The records of a CSV text in memory, one after another, as the crate `csv` reads them with its
+//! presets.
 //!
-//! Which bytes make a record is what that crate defines: a byte-order mark, quotes, line ends and blank lines are as it
-//! reads them. Records may have any width, none is taken for column names, and no field is trimmed.
+//! Which bytes make a record is what that crate defines: a byte-order mark, quotes, line ends and
+//! blank lines are as it reads them. Records may have any width, none is taken for column names,
+//! and no field is trimmed.
 //!
-//! Contracts see a `Records` as the list of the records that it has yet to give, so a caller reasons about a plain list:
+//! Contracts see a `Records` as the list of the records that it has yet to give, so a caller
+//! reasons about a plain list:
 //!
 //! ```text
 //! let mut records = Records::new(alloc, text);

@@ -13,36 +13,59 @@ count_at-replicate (suc n) bit = omega (arith, count_at-replicate n bit, bit_at-
 
 pub count_at-lt : (planes : List ℕ) (bit : ℕ) → count_at planes bit < 2 ^ length planes
 count_at-lt [] bit = omega arith
-count_at-lt (plane ∷ planes) bit = omega (arith, count_at-lt planes bit, bit_at-lt plane bit, pow-suc 2 (length planes))
+count_at-lt (plane ∷ planes) bit =
+    omega (arith, count_at-lt planes bit, bit_at-lt plane bit, pow-suc 2 (length planes))
 
 -- a plane that is written changes each count by what its weight gives
-count_at-set : (planes : List ℕ) (place plane bit : ℕ) → place < length planes → count_at (set planes place plane) bit + 2 ^ place * bit_at (get_or planes place 0) bit ≡ count_at planes bit + 2 ^ place * bit_at plane bit
+count_at-set : (planes : List ℕ) (place plane bit : ℕ) → place < length planes
+    → count_at (set planes place plane) bit + 2 ^ place * bit_at (get_or planes place 0) bit
+    ≡ count_at planes bit + 2 ^ place * bit_at plane bit
 count_at-set [] place plane bit within = absurd (omega arith)
 count_at-set (old ∷ planes) zero plane bit within = omega arith
-count_at-set (old ∷ planes) (suc place) plane bit within = rw (pow-suc 2 place) (omega (arith, count_at-set planes place plane bit (omega arith)))
+count_at-set (old ∷ planes) (suc place) plane bit within = rw (pow-suc 2 place)
+    (omega (arith, count_at-set planes place plane bit (omega arith)))
 
 -- a plane and a carry are added bit by bit
-full_adder : (plane carry bit : ℕ) → bit_at (bit_xor plane carry) bit + 2 * bit_at (bit_and plane carry) bit ≡ bit_at plane bit + bit_at carry bit
-full_adder plane carry bit = omega (arith, bit_at_xor plane carry bit, bit_at_and plane carry bit, bit_at-lt plane bit, bit_at-lt carry bit)
+full_adder : (plane carry bit : ℕ) → bit_at (bit_xor plane carry) bit + 2 * bit_at
+    (bit_and plane carry) bit ≡ bit_at plane bit + bit_at carry bit
+full_adder plane carry bit =
+    omega (
+      arith,
+      bit_at_xor plane carry bit,
+      bit_at_and plane carry bit,
+      bit_at-lt plane bit,
+      bit_at-lt carry bit,
+    )
 
 -- what a carry adds into a plane, and carries on
-pub carried_on : (planes : List ℕ) (place carry bit : ℕ) → place < length planes → count_at (set planes place (bit_xor (get_or planes place 0) carry)) bit + 2 ^ (place + 1) * bit_at (bit_and (get_or planes place 0) carry) bit ≡ count_at planes bit + 2 ^ place * bit_at carry bit
+pub carried_on : (planes : List ℕ) (place carry bit : ℕ) → place < length planes
+    → count_at (set planes place (bit_xor (get_or planes place 0) carry))
+    bit + 2 ^ (place + 1) * bit_at (bit_and (get_or planes place 0) carry) bit ≡ count_at planes
+    bit + 2 ^ place * bit_at carry bit
 carried_on planes place carry bit within =
     let plane = get_or planes place 0 in
     let weight = 2 ^ place in
-    let sum : weight * (bit_at (bit_xor plane carry) bit + 2 * bit_at (bit_and plane carry) bit) ≡ weight * (bit_at plane bit + bit_at carry bit) = ap (λ n. weight * n) (full_adder plane carry bit) in
+    let sum : weight * (bit_at (bit_xor plane carry) bit + 2 * bit_at (bit_and plane carry) bit)
+    ≡ weight * (bit_at plane bit + bit_at carry bit) = ap (λ n. weight * n)
+    (full_adder plane carry bit) in
     let twice : 2 ^ (place + 1) ≡ weight * 2 = ap (λ n. 2 ^ n) (add-one place) ∙ pow-suc 2 place in
     rw twice (omega (arith, sum, count_at-set planes place (bit_xor plane carry) bit within))
 
 -- the same where nothing is carried on
-pub carried_out : (planes : List ℕ) (place carry bit : ℕ) → place < length planes → bit_and (get_or planes place 0) carry ≡ 0 → count_at (set planes place (bit_xor (get_or planes place 0) carry)) bit ≡ count_at planes bit + 2 ^ place * bit_at carry bit
+pub carried_out : (planes : List ℕ) (place carry bit : ℕ) → place < length planes
+    → bit_and (get_or planes place 0) carry ≡ 0
+    → count_at (set planes place (bit_xor (get_or planes place 0) carry)) bit ≡ count_at planes
+    bit + 2 ^ place * bit_at carry bit
 carried_out planes place carry bit within none =
-    let zero_bit : bit_at (bit_and (get_or planes place 0) carry) bit ≡ 0 = ap (λ n. bit_at n bit) none ∙ bit_at-zero bit in
-    let nothing : 2 ^ (place + 1) * bit_at (bit_and (get_or planes place 0) carry) bit ≡ 2 ^ (place + 1) * 0 = ap (λ n. 2 ^ (place + 1) * n) zero_bit in
+    let zero_bit : bit_at (bit_and (get_or planes place 0) carry) bit ≡ 0 = ap (λ n. bit_at n bit)
+    none ∙ bit_at-zero bit in
+    let nothing : 2 ^ (place + 1) * bit_at (bit_and (get_or planes place 0) carry) bit
+    ≡ 2 ^ (place + 1) * 0 = ap (λ n. 2 ^ (place + 1) * n) zero_bit in
     omega (arith, nothing, carried_on planes place carry bit within)
 
 -- the planes past the first count less than half as far
-pub rest_below : (planes : List ℕ) (place bit : ℕ) → length planes ≡ 32 → 0 < place → count_at (drop place planes) bit < 2 ^ 31
+pub rest_below : (planes : List ℕ) (place bit : ℕ) → length planes ≡ 32 → 0 < place
+    → count_at (drop place planes) bit < 2 ^ 31
 rest_below planes place bit whole past =
     let few : length (drop place planes) ≤ 31 = omega (arith, length-drop place planes) in
     omega (arith, count_at-lt (drop place planes) bit, pow_mono few)

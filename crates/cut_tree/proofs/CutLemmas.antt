@@ -11,18 +11,24 @@ pub least_none : (rules : List Rule) (region : WordValue) → least_below 0 rule
 unfolding least_below
 least_none rules region = refl
 
-at_fixed : (n : ℕ) (rules : List Rule) (region : WordValue) → is_fixed_of region n ≡ true → least_below (suc n) rules region ≡ least_below n rules region
+at_fixed : (n : ℕ) (rules : List Rule) (region : WordValue) → is_fixed_of region n ≡ true
+    → least_below (suc n) rules region ≡ least_below n rules region
 unfolding least_below
 at_fixed n rules region fixed = rw fixed
 
-at_free : (n : ℕ) (rules : List Rule) (region : WordValue) → is_fixed_of region n ≡ false → least_below (suc n) rules region ≡ Some (cheaper (cost_of rules region n) (least_below n rules region))
+at_free : (n : ℕ) (rules : List Rule) (region : WordValue) → is_fixed_of region n ≡ false
+    → least_below (suc n) rules region ≡ Some
+    (cheaper (cost_of rules region n) (least_below n rules region))
 unfolding least_below
 at_free n rules region free = rw free
 
-pub least_fixed : (bit : ℕ) (rules : List Rule) (region : WordValue) → is_fixed_of region bit ≡ true → least_below (bit + 1) rules region ≡ least_below bit rules region
+pub least_fixed : (bit : ℕ) (rules : List Rule) (region : WordValue) → is_fixed_of region bit ≡ true
+    → least_below (bit + 1) rules region ≡ least_below bit rules region
 least_fixed bit rules region fixed = rw add-one (at_fixed bit rules region fixed)
 
-pub least_free : (bit : ℕ) (rules : List Rule) (region : WordValue) → is_fixed_of region bit ≡ false → least_below (bit + 1) rules region ≡ Some (cheaper (cost_of rules region bit) (least_below bit rules region))
+pub least_free : (bit : ℕ) (rules : List Rule) (region : WordValue) → is_fixed_of region bit ≡ false
+    → least_below (bit + 1) rules region ≡ Some
+    (cheaper (cost_of rules region bit) (least_below bit rules region))
 least_free bit rules region free = rw add-one (at_free bit rules region free)
 
 -- ---- the function gives a least cut
@@ -32,15 +38,18 @@ record IsLeastBelow (n : ℕ) (rules : List Rule) (region : WordValue) (cost : C
   pub is : cost ≡ cost_of rules region cost.bit
   pub bound : cost.bit < n
   pub free : IsFalse (is_fixed_of region cost.bit)
-  pub least : (other : ℕ) → other < n → IsFalse (is_fixed_of region other) → IsAtMost cost (cost_of rules region other)
+  pub least : (other : ℕ) → other < n → IsFalse (is_fixed_of region other)
+      → IsAtMost cost (cost_of rules region other)
 
 at_most_self : (a : Cost) → IsAtMost a a
 at_most_self a = record { larger = omega arith; sum = λ e. omega arith; bit = λ e f. omega arith }
 
 at_most_trans : (a b c : Cost) → IsAtMost a b → IsAtMost b c → IsAtMost a c
-at_most_trans a b c p q = record { larger = omega arith; sum = λ e. omega arith; bit = λ e f. omega arith }
+at_most_trans a b c p q =
+    record { larger = omega arith; sum = λ e. omega arith; bit = λ e f. omega arith }
 
--- a cheaper cost of a higher bit is less, and one that is not cheaper is no less than that of a lower bit
+-- a cheaper cost of a higher bit is less, and one that is not cheaper is no less than that of a
+-- lower bit
 cheaper_less : (a b : Cost) → is_cheaper a b ≡ true → IsAtMost a b
 cheaper_less a b is = grind arith
 
@@ -48,18 +57,23 @@ not_cheaper : (a b : Cost) → b.bit < a.bit → is_cheaper a b ≡ false → Is
 not_cheaper a b lower is = grind arith
 
 -- no bit is free where there is no least cut
-pub least_missing : (n : ℕ) (rules : List Rule) (region : WordValue) → least_below n rules region ≡ None → (bit : ℕ) → bit < n → is_fixed_of region bit ≡ true
+pub least_missing : (n : ℕ) (rules : List Rule) (region : WordValue) → least_below n rules region
+    ≡ None → (bit : ℕ) → bit < n → is_fixed_of region bit ≡ true
 least_missing zero rules region none bit within = absurd (omega arith)
 least_missing (suc n) rules region none bit within = elim (cases_Bool (is_fixed_of region n)) [
   | inl fixed ↦ elim (cases_eq bit n) [
     | inl same ↦ ap (is_fixed_of region) same ∙ fixed
-    | inr other ↦ least_missing n rules region (sym (at_fixed n rules region fixed) ∙ none) bit (omega arith)
+    | inr other ↦ least_missing n rules region (sym (at_fixed n rules region fixed) ∙ none) bit
+        (omega arith)
   ]
   | inr free ↦ let never = sym (at_free n rules region free) ∙ none in cc
 ]
 
 -- what is known one bit further
-further : (n : ℕ) (rules : List Rule) (region : WordValue) (cost : Cost) → IsLeastBelow n rules region cost → (is_fixed_of region n ≡ false → IsAtMost cost (cost_of rules region n)) → IsLeastBelow (suc n) rules region cost
+further : (n : ℕ) (rules : List Rule) (region : WordValue) (cost : Cost)
+    → IsLeastBelow n rules region cost
+    → (is_fixed_of region n ≡ false → IsAtMost cost (cost_of rules region n))
+    → IsLeastBelow (suc n) rules region cost
 further n rules region cost below here = record {
   is = below.is;
   bound = omega (arith, below.bound);
@@ -73,7 +87,10 @@ further n rules region cost below here = record {
 }
 
 -- a new least cut
-newest : (n : ℕ) (rules : List Rule) (region : WordValue) → is_fixed_of region n ≡ false → ((other : ℕ) → other < n → IsFalse (is_fixed_of region other) → IsAtMost (cost_of rules region n) (cost_of rules region other)) → IsLeastBelow (suc n) rules region (cost_of rules region n)
+newest : (n : ℕ) (rules : List Rule) (region : WordValue) → is_fixed_of region n ≡ false
+    → ((other : ℕ) → other < n → IsFalse (is_fixed_of region other)
+    → IsAtMost (cost_of rules region n) (cost_of rules region other))
+    → IsLeastBelow (suc n) rules region (cost_of rules region n)
 newest n rules region free before = record {
   is = refl;
   bound = omega arith;
@@ -86,15 +103,23 @@ newest n rules region free before = record {
   ];
 }
 
-least_after : (n : ℕ) (rules : List Rule) (region : WordValue) (before : Option Cost) → least_below n rules region ≡ before → ((cost : Cost) → before ≡ Some cost → IsLeastBelow n rules region cost) → is_fixed_of region n ≡ false → IsLeastBelow (suc n) rules region (cheaper (cost_of rules region n) before)
-least_after n rules region None is known free = newest n rules region free (λ other within freed. absurd (both_ways _ freed (least_missing n rules region is other within)))
+least_after : (n : ℕ) (rules : List Rule) (region : WordValue) (before : Option Cost)
+    → least_below n rules region ≡ before
+    → ((cost : Cost) → before ≡ Some cost → IsLeastBelow n rules region cost)
+    → is_fixed_of region n ≡ false → IsLeastBelow (suc n) rules region
+    (cheaper (cost_of rules region n) before)
+least_after n rules region None is known free = newest n rules region free
+    (λ other within freed. absurd
+    (both_ways _ freed (least_missing n rules region is other within)))
 least_after n rules region (Some best) is known free =
     let cost = cost_of rules region n in
     let below = known best refl in
     elim (cases_Bool (is_cheaper cost best)) [
       | inl less ↦
           let same : cheaper cost (Some best) ≡ cost = cond-true _ cost best less in
-          rw same (newest n rules region free (λ other within freed. at_most_trans cost best _ (cheaper_less cost best less) (below.least other within freed)))
+          rw same (newest n rules region free
+          (λ other within freed. at_most_trans cost best _ (cheaper_less cost best less)
+          (below.least other within freed)))
       | inr more ↦
           let same : cheaper cost (Some best) ≡ best = cond-false _ cost best more in
           rw same (further n rules region best below (λ _. not_cheaper cost best below.bound more))
@@ -103,18 +128,25 @@ least_after n rules region (Some best) is known free =
 some_same : (a b : Cost) → Some a ≡ Some b → a ≡ b
 some_same a b e = cc
 
-least_some : (n : ℕ) (rules : List Rule) (region : WordValue) (cost : Cost) → least_below n rules region ≡ Some cost → IsLeastBelow n rules region cost
+least_some : (n : ℕ) (rules : List Rule) (region : WordValue) (cost : Cost)
+    → least_below n rules region ≡ Some cost → IsLeastBelow n rules region cost
 least_some zero rules region cost is = let never = sym (least_none rules region) ∙ is in cc
 least_some (suc n) rules region cost is = elim (cases_Bool (is_fixed_of region n)) [
   | inl fixed ↦
-      further n rules region cost (least_some n rules region cost (sym (at_fixed n rules region fixed) ∙ is)) (λ free. absurd (both_ways _ free fixed))
+      further n rules region cost
+      (least_some n rules region cost (sym (at_fixed n rules region fixed) ∙ is))
+      (λ free. absurd (both_ways _ free fixed))
   | inr free ↦
-      let same : cheaper (cost_of rules region n) (least_below n rules region) ≡ cost = some_same _ _ (sym (at_free n rules region free) ∙ is) in
-      subst (IsLeastBelow (suc n) rules region) same (least_after n rules region (least_below n rules region) refl (λ best known. least_some n rules region best known) free)
+      let same : cheaper (cost_of rules region n) (least_below n rules region) ≡ cost =
+      some_same _ _ (sym (at_free n rules region free) ∙ is) in
+      subst (IsLeastBelow (suc n) rules region) same
+      (least_after n rules region (least_below n rules region) refl
+      (λ best known. least_some n rules region best known) free)
 ]
 
 -- the least cut of all
-pub least_cuts : (rules : List Rule) (region : WordValue) (cost : Cost) → least_below 104 rules region ≡ Some cost → IsLeastCut rules region cost.bit
+pub least_cuts : (rules : List Rule) (region : WordValue) (cost : Cost)
+    → least_below 104 rules region ≡ Some cost → IsLeastCut rules region cost.bit
 least_cuts rules region cost is =
     let below = least_some 104 rules region cost is in
     let Goal : (ℕ → Cost → Type 0) = λ other best. IsAtMost best (cost_of rules region other) in
@@ -128,12 +160,19 @@ at_most_both : (a b : Cost) → IsAtMost a b → IsAtMost b a → a.bit ≡ b.bi
 at_most_both a b p q = grind arith
 
 -- and it is the only one
-pub least_only : (rules : List Rule) (region : WordValue) (a b : ℕ) → IsLeastCut rules region a → IsLeastCut rules region b → a ≡ b
-least_only rules region a b p q = at_most_both (cost_of rules region a) (cost_of rules region b) (p.least b q.cuts) (q.least a p.cuts)
+pub least_only : (rules : List Rule) (region : WordValue) (a b : ℕ) → IsLeastCut rules region a
+    → IsLeastCut rules region b → a ≡ b
+least_only rules region a b p q = at_most_both (cost_of rules region a) (cost_of rules region b)
+    (p.least b q.cuts) (q.least a p.cuts)
 
-found_by : (rules : List Rule) (region : WordValue) (bit : ℕ) → IsLeastCut rules region bit → (found : Option Cost) → least_below 104 rules region ≡ found → (cost : Cost) × (least_below 104 rules region ≡ Some cost) × (cost.bit ≡ bit)
-found_by rules region bit p None is = absurd (both_ways _ p.cuts.free (least_missing 104 rules region is bit p.cuts.bound))
-found_by rules region bit p (Some cost) is = (cost, is, least_only rules region cost.bit bit (least_cuts rules region cost is) p)
+found_by : (rules : List Rule) (region : WordValue) (bit : ℕ) → IsLeastCut rules region bit
+    → (found : Option Cost) → least_below 104 rules region ≡ found → (cost : Cost)
+    × (least_below 104 rules region ≡ Some cost) × (cost.bit ≡ bit)
+found_by rules region bit p None is =
+    absurd (both_ways _ p.cuts.free (least_missing 104 rules region is bit p.cuts.bound))
+found_by rules region bit p (Some cost) is =
+    (cost, is, least_only rules region cost.bit bit (least_cuts rules region cost is) p)
 
-pub least_found : (rules : List Rule) (region : WordValue) (bit : ℕ) → IsLeastCut rules region bit → (cost : Cost) × (least_below 104 rules region ≡ Some cost) × (cost.bit ≡ bit)
+pub least_found : (rules : List Rule) (region : WordValue) (bit : ℕ) → IsLeastCut rules region bit
+    → (cost : Cost) × (least_below 104 rules region ≡ Some cost) × (cost.bit ≡ bit)
 least_found rules region bit p = found_by rules region bit p (least_below 104 rules region) refl

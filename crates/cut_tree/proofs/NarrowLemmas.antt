@@ -6,7 +6,7 @@ use Rattle.std.proofs.lemmas.Bool.{cases_Bool}
 use Rattle.std.proofs.lemmas.List.{at_drop_more, at_drop_all}
 use Rattle.std.proofs.lemmas.List.Elements.{All-nil, All-cons, All-head, All-tail, All-same}
 use Rattle.ternary.specs.Word.{WordValue, IsWord, meets, joined, meet_of, covers_of}
-use Rattle.ternary.proofs.WordLemmas.{meet_within, meet_word, covers_full}
+use Rattle.ternary.proofs.CallerLemmas.{covers_full, meet_within, meet_word}
 use Rattle.policy_rules.specs.declared.rules.Rule.{Rule}
 use Rattle.cut_tree.specs.Narrow.{narrowed, narrow}
 use Rattle.cut_tree.specs.Nodes.{AreNodeRules, AreWords, IsOneHeader, LiesIn}
@@ -16,7 +16,8 @@ use Rattle.cut_tree.specs.Nodes.{AreNodeRules, AreWords, IsOneHeader, LiesIn}
 pub meet_some : (a b m : WordValue) → meet_of a b ≡ Some m → (meets a b ≡ true) × (joined a b ≡ m)
 unfolding meet_of
 meet_some a b m =
-    let P : Bool → Type 0 = λ t. cond t (Some (joined a b)) None ≡ Some m → (t ≡ true) × (joined a b ≡ m) in
+    let P : Bool → Type 0 = λ t. cond t (Some (joined a b)) None ≡ Some m → (t ≡ true)
+    × (joined a b ≡ m) in
     elim (meets a b) as P [ true ↦ λ e. (refl, cc) | false ↦ λ e. cc ]
 
 pub meet_none : (a b : WordValue) → meet_of a b ≡ None → meets a b ≡ false
@@ -27,15 +28,20 @@ meet_none a b =
 
 -- ---- one rule
 
-pub narrow_apart : (region : WordValue) (rule : Rule) (rules : List Rule) → meets rule.word region ≡ false → narrow (rule ∷ rules) region ≡ narrow rules region
+pub narrow_apart : (region : WordValue) (rule : Rule) (rules : List Rule)
+    → meets rule.word region ≡ false → narrow (rule ∷ rules) region ≡ narrow rules region
 unfolding narrow
 narrow_apart region rule rules apart = rw apart
 
-pub narrow_covered : (region : WordValue) (rule : Rule) (rules : List Rule) → meets rule.word region ≡ true → covers_of rule.word region ≡ true → narrow (rule ∷ rules) region ≡ narrowed region rule ∷ []
+pub narrow_covered : (region : WordValue) (rule : Rule) (rules : List Rule)
+    → meets rule.word region ≡ true → covers_of rule.word region ≡ true
+    → narrow (rule ∷ rules) region ≡ narrowed region rule ∷ []
 unfolding narrow
 narrow_covered region rule rules meet covers = rw (meet, covers)
 
-pub narrow_more : (region : WordValue) (rule : Rule) (rules : List Rule) → meets rule.word region ≡ true → covers_of rule.word region ≡ false → narrow (rule ∷ rules) region ≡ narrowed region rule ∷ narrow rules region
+pub narrow_more : (region : WordValue) (rule : Rule) (rules : List Rule)
+    → meets rule.word region ≡ true → covers_of rule.word region ≡ false
+    → narrow (rule ∷ rules) region ≡ narrowed region rule ∷ narrow rules region
 unfolding narrow
 narrow_more region rule rules meet past = rw (meet, past)
 
@@ -49,45 +55,67 @@ narrow_none region = refl
 abbrev with_word : Rule → WordValue → Rule
 with_word rule word = record rule { word = word }
 
-pub narrow_past : (rules : List Rule) (index : ℕ) (rule : Rule) (region : WordValue) → index < length rules → rule ≡ get_or rules index rule → meet_of rule.word region ≡ None → narrow (drop index rules) region ≡ narrow (drop (index + 1) rules) region
+pub narrow_past : (rules : List Rule) (index : ℕ) (rule : Rule) (region : WordValue)
+    → index < length rules → rule ≡ get_or rules index rule → meet_of rule.word region ≡ None
+    → narrow (drop index rules) region ≡ narrow (drop (index + 1) rules) region
 narrow_past rules index rule region within is none =
     let rest : List Rule = drop (index + 1) rules in
-    let from : narrow (drop index rules) region ≡ narrow (get_or rules index rule ∷ rest) region = at_drop_more (λ rs. narrow rs region) rules index rule within in
-    let head : narrow (get_or rules index rule ∷ rest) region ≡ narrow (rule ∷ rest) region = ap (λ r. narrow (r ∷ rest) region) (sym is) in
+    let from : narrow (drop index rules) region ≡ narrow (get_or rules index rule ∷ rest) region =
+    at_drop_more (λ rs. narrow rs region) rules index rule within in
+    let head : narrow (get_or rules index rule ∷ rest) region ≡ narrow (rule ∷ rest) region =
+    ap (λ r. narrow (r ∷ rest) region) (sym is) in
     from ∙ head ∙ narrow_apart region rule rest (meet_none _ _ none)
 
-pub narrow_last : (rules : List Rule) (index : ℕ) (rule : Rule) (region word : WordValue) → index < length rules → rule ≡ get_or rules index rule → meet_of rule.word region ≡ Some word → covers_of rule.word region ≡ true → narrow (drop index rules) region ≡ with_word rule word ∷ []
+pub narrow_last : (rules : List Rule) (index : ℕ) (rule : Rule) (region word : WordValue)
+    → index < length rules → rule ≡ get_or rules index rule → meet_of rule.word region ≡ Some word
+    → covers_of rule.word region ≡ true → narrow (drop index rules) region ≡ with_word rule
+    word ∷ []
 unfolding narrowed
 narrow_last rules index rule region word within is some covers =
     let rest : List Rule = drop (index + 1) rules in
-    let from : narrow (drop index rules) region ≡ narrow (get_or rules index rule ∷ rest) region = at_drop_more (λ rs. narrow rs region) rules index rule within in
-    let head : narrow (get_or rules index rule ∷ rest) region ≡ narrow (rule ∷ rest) region = ap (λ r. narrow (r ∷ rest) region) (sym is) in
+    let from : narrow (drop index rules) region ≡ narrow (get_or rules index rule ∷ rest) region =
+    at_drop_more (λ rs. narrow rs region) rules index rule within in
+    let head : narrow (get_or rules index rule ∷ rest) region ≡ narrow (rule ∷ rest) region =
+    ap (λ r. narrow (r ∷ rest) region) (sym is) in
     let met = meet_some _ _ _ some in
-    from ∙ head ∙ narrow_covered region rule rest met.0 covers ∙ ap (λ w. with_word rule w ∷ []) met.1
+    from ∙ head ∙ narrow_covered region rule rest met.0 covers
+    ∙ ap (λ w. with_word rule w ∷ []) met.1
 
-pub narrow_step : (rules : List Rule) (index : ℕ) (rule : Rule) (region word : WordValue) → index < length rules → rule ≡ get_or rules index rule → meet_of rule.word region ≡ Some word → covers_of rule.word region ≡ false → narrow (drop index rules) region ≡ with_word rule word ∷ narrow (drop (index + 1) rules) region
+pub narrow_step : (rules : List Rule) (index : ℕ) (rule : Rule) (region word : WordValue)
+    → index < length rules → rule ≡ get_or rules index rule → meet_of rule.word region ≡ Some word
+    → covers_of rule.word region ≡ false → narrow (drop index rules) region ≡ with_word rule
+    word ∷ narrow (drop (index + 1) rules) region
 unfolding narrowed
 narrow_step rules index rule region word within is some past =
     let rest : List Rule = drop (index + 1) rules in
-    let from : narrow (drop index rules) region ≡ narrow (get_or rules index rule ∷ rest) region = at_drop_more (λ rs. narrow rs region) rules index rule within in
-    let head : narrow (get_or rules index rule ∷ rest) region ≡ narrow (rule ∷ rest) region = ap (λ r. narrow (r ∷ rest) region) (sym is) in
+    let from : narrow (drop index rules) region ≡ narrow (get_or rules index rule ∷ rest) region =
+    at_drop_more (λ rs. narrow rs region) rules index rule within in
+    let head : narrow (get_or rules index rule ∷ rest) region ≡ narrow (rule ∷ rest) region =
+    ap (λ r. narrow (r ∷ rest) region) (sym is) in
     let met = meet_some _ _ _ some in
-    from ∙ head ∙ narrow_more region rule rest met.0 past ∙ ap (λ w. with_word rule w ∷ narrow rest region) met.1
+    from ∙ head ∙ narrow_more region rule rest met.0 past
+    ∙ ap (λ w. with_word rule w ∷ narrow rest region) met.1
 
-pub narrow_end : (rules : List Rule) (index : ℕ) (region : WordValue) → length rules ≤ index → narrow (drop index rules) region ≡ []
-narrow_end rules index region past = at_drop_all (λ rs. narrow rs region) rules index past ∙ narrow_none region
+pub narrow_end : (rules : List Rule) (index : ℕ) (region : WordValue) → length rules ≤ index
+    → narrow (drop index rules) region ≡ []
+narrow_end rules index region past = at_drop_all (λ rs. narrow rs region) rules index past
+    ∙ narrow_none region
 
 -- ---- what narrowed rules are
 
 -- narrowing keeps a fact of each narrowed rule
-all_narrowed : (P : Rule → Type 0) (rules : List Rule) (region : WordValue) → ((rule : Rule) → meets rule.word region ≡ true → P (narrowed region rule)) → All P (narrow rules region)
+all_narrowed : (P : Rule → Type 0) (rules : List Rule) (region : WordValue)
+    → ((rule : Rule) → meets rule.word region ≡ true → P (narrowed region rule))
+    → All P (narrow rules region)
 all_narrowed P [] region each = All-same P _ _ (narrow_none region) (All-nil P)
 all_narrowed P (rule ∷ rules) region each =
     let rest = all_narrowed P rules region each in
     elim (cases_Bool (meets rule.word region)) [
       | inl meet ↦ elim (cases_Bool (covers_of rule.word region)) [
-        | inl covers ↦ All-same P _ _ (narrow_covered region rule rules meet covers) (All-cons P (narrowed region rule) [] (each rule meet) (All-nil P))
-        | inr past ↦ All-same P _ _ (narrow_more region rule rules meet past) (All-cons P (narrowed region rule) (narrow rules region) (each rule meet) rest)
+        | inl covers ↦ All-same P _ _ (narrow_covered region rule rules meet covers)
+            (All-cons P (narrowed region rule) [] (each rule meet) (All-nil P))
+        | inr past ↦ All-same P _ _ (narrow_more region rule rules meet past)
+            (All-cons P (narrowed region rule) (narrow rules region) (each rule meet) rest)
       ]
       | inr apart ↦ All-same P _ _ (narrow_apart region rule rules apart) rest
     ]
@@ -100,11 +128,14 @@ pub met_joined : (a b : WordValue) → meets a b ≡ true → meet_of a b ≡ So
 unfolding meet_of
 met_joined a b meet = rw meet
 
-pub narrow_within : (rules : List Rule) (region : WordValue) → All (LiesIn region) (narrow rules region)
+pub narrow_within : (rules : List Rule) (region : WordValue)
+    → All (LiesIn region) (narrow rules region)
 unfolding narrowed
-narrow_within rules region = all_narrowed (LiesIn region) rules region (λ rule meet. (meet_within rule.word region _ (met_joined rule.word region meet)).1)
+narrow_within rules region = all_narrowed (LiesIn region) rules region
+    (λ rule meet. (meet_within rule.word region _ (met_joined rule.word region meet)).1)
 
-pub narrow_few : (rules : List Rule) (region : WordValue) → length (narrow rules region) ≤ length rules
+pub narrow_few : (rules : List Rule) (region : WordValue) → length (narrow rules region) ≤ length
+    rules
 narrow_few [] region = omega (arith, ap length (narrow_none region))
 narrow_few (rule ∷ rules) region =
     let rest = narrow_few rules region in
@@ -116,23 +147,30 @@ narrow_few (rule ∷ rules) region =
       | inr apart ↦ omega (arith, ap length (narrow_apart region rule rules apart))
     ]
 
-pub narrow_words : (rules : List Rule) (region : WordValue) → IsWord region → AreWords rules → AreWords (narrow rules region)
+pub narrow_words : (rules : List Rule) (region : WordValue) → IsWord region → AreWords rules
+    → AreWords (narrow rules region)
 unfolding narrowed
-narrow_words [] region whole words = All-same (λ rule. IsWord rule.word) _ _ (narrow_none region) (All-nil (λ (rule : Rule). IsWord rule.word))
+narrow_words [] region whole words = All-same (λ rule. IsWord rule.word) _ _ (narrow_none region)
+    (All-nil (λ (rule : Rule). IsWord rule.word))
 narrow_words (rule ∷ rules) region whole words =
     let P : Rule → Type 0 = λ rule. IsWord rule.word in
     let rest = narrow_words rules region whole (All-tail P rule rules words) in
-    let word : meets rule.word region ≡ true → P (narrowed region rule) = λ meet. meet_word rule.word region _ (All-head P rule rules words) whole (met_joined rule.word region meet) in
+    let word : meets rule.word region ≡ true → P (narrowed region rule) = λ meet.
+    meet_word rule.word region _ (All-head P rule rules words) whole
+    (met_joined rule.word region meet) in
     elim (cases_Bool (meets rule.word region)) [
       | inl meet ↦ elim (cases_Bool (covers_of rule.word region)) [
-        | inl covers ↦ All-same P _ _ (narrow_covered region rule rules meet covers) (All-cons P (narrowed region rule) [] (word meet) (All-nil P))
-        | inr past ↦ All-same P _ _ (narrow_more region rule rules meet past) (All-cons P (narrowed region rule) (narrow rules region) (word meet) rest)
+        | inl covers ↦ All-same P _ _ (narrow_covered region rule rules meet covers)
+            (All-cons P (narrowed region rule) [] (word meet) (All-nil P))
+        | inr past ↦ All-same P _ _ (narrow_more region rule rules meet past)
+            (All-cons P (narrowed region rule) (narrow rules region) (word meet) rest)
       ]
       | inr apart ↦ All-same P _ _ (narrow_apart region rule rules apart) rest
     ]
 
 -- one header has at most one rule, which covers it
-pub narrow_one : (rules : List Rule) (region : WordValue) → AreWords rules → IsOneHeader region → length (narrow rules region) ≤ 1
+pub narrow_one : (rules : List Rule) (region : WordValue) → AreWords rules → IsOneHeader region
+    → length (narrow rules region) ≤ 1
 narrow_one [] region words one = omega (arith, ap length (narrow_none region))
 narrow_one (rule ∷ rules) region words one =
     let P : Rule → Type 0 = λ rule. IsWord rule.word in
@@ -144,7 +182,8 @@ narrow_one (rule ∷ rules) region words one =
       | inr apart ↦ omega (arith, ap length (narrow_apart region rule rules apart))
     ]
 
-pub narrow_node : (rules : List Rule) (region : WordValue) → IsWord region → AreWords rules → AreNodeRules (narrow rules region) region
+pub narrow_node : (rules : List Rule) (region : WordValue) → IsWord region → AreWords rules
+    → AreNodeRules (narrow rules region) region
 narrow_node rules region whole words = record {
   whole = whole;
   words = narrow_words rules region whole words;

@@ -56,7 +56,8 @@ by_origin-first near count = record {
   places = length-map-range_with_len (first_of near count) 0 64;
   origins = λ origin found e. elim (cases_lt origin 64) [
     | inl below ↦ ap (λ (a : Advert). a.origin)
-        (first_of_origin (nat_lt origin count) _ found (sym (held-first near count origin below) ∙ e))
+        (first_of_origin (nat_lt origin count) _ found
+        (sym (held-first near count origin below) ∙ e))
     | inr past ↦ (let none : held (map (first_of near count) switches) origin ≡ None =
         get_or_past (map (first_of near count) switches) origin None
         (omega (arith, length-map-range_with_len (first_of near count) 0 64)) in cc)

@@ -108,7 +108,8 @@ other_pair one other x y apart =
     false_of _ (λ h. elim (or_cases ((x == one) && (y == other)) ((x == other) && (y == one)) h) [
       | inl straight ↦ (let both = both_numbers x one y other straight in apart (omega arith)
           (omega arith))
-      | inr turned ↦ (let both = both_numbers x other y one turned in apart (omega arith) (omega arith))
+      | inr turned ↦ (let both = both_numbers x other y one turned in apart (omega arith)
+          (omega arith))
     ])
 
 or_false : (a : Bool) → (a || false) ≡ a

@@ -106,7 +106,8 @@ pub row_goes_on : (told down : List ℕ) (one row rest other gain gone : ℕ) �
     IsRowSoFar told down one (bit_or row gain) (bit_xor rest gone)
 row_goes_on told down one row rest other gain gone so_far left fits gains goes =
     rw (gains, goes) (record {
-      row_fits = or_lt 64 _ _ so_far.row_fits (only_if_lt (is_link told down one other) other 64 fits);
+      row_fits = or_lt 64 _ _ so_far.row_fits
+          (only_if_lt (is_link told down one other) other 64 fits);
       rest_fits = xor_lt 64 _ _ so_far.rest_fits (pow_below other 64 fits);
       found = λ k below. elim (cases_eq k other) [
         | inl same ↦ rw (has-or, same, has_only_same, has_less-same rest other left)

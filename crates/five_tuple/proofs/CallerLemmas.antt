@@ -1,4 +1,7 @@
--- What proofs above cite: numbers that pack five fields, under masks that pack five masks.
+-- What proofs above cite: of covers, of the parts of a line, and of numbers that pack five fields,
+-- under masks that pack five masks.
+pub use Rattle.five_tuple.proofs.CoverOf.{is_cover_of}
+pub use Rattle.five_tuple.proofs.Parts.{parts_at, parts_none}
 use Rattle.std.proofs.Common.{ℕ, ◌≡◌, ◌∙◌, ◌+◌, ◌*◌, ◌^◌, ◌<◌, ◌&&◌, eqb, bit_and, ap, sym, arith}
 use Rattle.std.proofs.lemmas.Bool.Decides.{Decides-eqb, Decides-like, Decides-and, same_from_decides}
 use Rattle.std.proofs.lemmas.Nat.{and_le_l, and_block}
@@ -20,32 +23,43 @@ unfolding steps
 packed_steps s d p q r = omega arith
 
 module _ (s d p q r s' d' p' q' r' : ℕ) (h : HasBits d p q r) (h' : HasBits d' p' q' r') where
-  and_steps : bit_and (steps s d p q r) (steps s' d' p' q' r') ≡ steps (bit_and s s') (bit_and d d') (bit_and p p') (bit_and q q') (bit_and r r')
+  and_steps : bit_and (steps s d p q r) (steps s' d' p' q' r') ≡ steps (bit_and s s') (bit_and d d')
+      (bit_and p p') (bit_and q q') (bit_and r r')
   unfolding steps
   and_steps =
       let e1 = and_block 32 s s' d d' h.dst h'.dst in
       let e2 = and_block 16 (s * 2 ^ 32 + d) (s' * 2 ^ 32 + d') p p' h.sport h'.sport in
-      let e3 = and_block 16 ((s * 2 ^ 32 + d) * 2 ^ 16 + p) ((s' * 2 ^ 32 + d') * 2 ^ 16 + p') q q' h.dport h'.dport in
-      let e4 = and_block 8 (((s * 2 ^ 32 + d) * 2 ^ 16 + p) * 2 ^ 16 + q) (((s' * 2 ^ 32 + d') * 2 ^ 16 + p') * 2 ^ 16 + q') r r' h.proto h'.proto in
+      let e3 = and_block 16 ((s * 2 ^ 32 + d) * 2 ^ 16 + p) ((s' * 2 ^ 32 + d') * 2 ^ 16 + p') q q'
+      h.dport h'.dport in
+      let e4 = and_block 8 (((s * 2 ^ 32 + d) * 2 ^ 16 + p) * 2 ^ 16 + q)
+      (((s' * 2 ^ 32 + d') * 2 ^ 16 + p') * 2 ^ 16 + q') r r' h.proto h'.proto in
       rw (e4, e3, e2, e1)
 
   -- `and` of two packed numbers is that of each field
-  pub and_packed : bit_and (packed s d p q r) (packed s' d' p' q' r') ≡ packed (bit_and s s') (bit_and d d') (bit_and p p') (bit_and q q') (bit_and r r')
+  pub and_packed : bit_and (packed s d p q r) (packed s' d' p' q' r') ≡ packed (bit_and s s')
+      (bit_and d d') (bit_and p p') (bit_and q q') (bit_and r r')
   and_packed =
       ap (λ n. bit_and n (packed s' d' p' q' r')) (packed_steps s d p q r)
       ∙ ap (λ n. bit_and (steps s d p q r) n) (packed_steps s' d' p' q' r')
       ∙ and_steps
-      ∙ sym (packed_steps (bit_and s s') (bit_and d d') (bit_and p p') (bit_and q q') (bit_and r r'))
+      ∙ sym (packed_steps (bit_and s s') (bit_and d d') (bit_and p p') (bit_and q q')
+      (bit_and r r'))
 
   -- packed numbers are equal where each field is
-  pub same_packed : eqb (packed s d p q r) (packed s' d' p' q' r') ≡ (eqb s s' && eqb d d' && eqb p p' && eqb q q' && eqb r r')
+  pub same_packed : eqb (packed s d p q r) (packed s' d' p' q' r')
+      ≡ (eqb s s' && eqb d d' && eqb p p' && eqb q q' && eqb r r')
   same_packed =
       same_from_decides _ _
-      (Decides-like _ (λ e. ((((omega arith, omega arith), omega arith), omega arith), omega arith)) (λ w. omega (arith, w.0.0.0.0, w.0.0.0.1, w.0.0.1, w.0.1, w.1)) (Decides-eqb (packed s d p q r) (packed s' d' p' q' r')))
-      (Decides-and _ _ (Decides-and _ _ (Decides-and _ _ (Decides-and _ _ (Decides-eqb s s') (Decides-eqb d d')) (Decides-eqb p p')) (Decides-eqb q q')) (Decides-eqb r r'))
+      (Decides-like _ (λ e. ((((omega arith, omega arith), omega arith), omega arith), omega arith))
+      (λ w. omega (arith, w.0.0.0.0, w.0.0.0.1, w.0.0.1, w.0.1, w.1))
+      (Decides-eqb (packed s d p q r) (packed s' d' p' q' r')))
+      (Decides-and _ _ (Decides-and _ _
+      (Decides-and _ _ (Decides-and _ _ (Decides-eqb s s') (Decides-eqb d d'))
+      (Decides-eqb p p')) (Decides-eqb q q')) (Decides-eqb r r'))
 
 -- less bits than these
-fewer_bits : (d p q r d' p' q' r' : ℕ) → HasBits d p q r → HasBits (bit_and d d') (bit_and p p') (bit_and q q') (bit_and r r')
+fewer_bits : (d p q r d' p' q' r' : ℕ) → HasBits d p q r → HasBits (bit_and d d') (bit_and p p')
+    (bit_and q q') (bit_and r r')
 fewer_bits d p q r d' p' q' r' h = record {
   dst = omega (arith, and_le_l d d', h.dst);
   sport = omega (arith, and_le_l p p', h.sport);
@@ -54,7 +68,12 @@ fewer_bits d p q r d' p' q' r' h = record {
 }
 
 -- packed fields agree with packed values under packed masks where each field does
-pub masked_packed : (s d p q r s' d' p' q' r' vs vd vp vq vr : ℕ) → HasBits d p q r → HasBits d' p' q' r' → HasBits vd vp vq vr → eqb (bit_and (packed s d p q r) (packed s' d' p' q' r')) (packed vs vd vp vq vr) ≡ (eqb (bit_and s s') vs && eqb (bit_and d d') vd && eqb (bit_and p p') vp && eqb (bit_and q q') vq && eqb (bit_and r r') vr)
+pub masked_packed : (s d p q r s' d' p' q' r' vs vd vp vq vr : ℕ) → HasBits d p q r
+    → HasBits d' p' q' r' → HasBits vd vp vq vr
+    → eqb (bit_and (packed s d p q r) (packed s' d' p' q' r')) (packed vs vd vp vq vr)
+    ≡ (eqb (bit_and s s') vs && eqb (bit_and d d') vd && eqb (bit_and p p') vp
+    && eqb (bit_and q q') vq && eqb (bit_and r r') vr)
 masked_packed s d p q r s' d' p' q' r' vs vd vp vq vr fields masks values =
     ap (λ n. eqb n (packed vs vd vp vq vr)) (and_packed s d p q r s' d' p' q' r' fields masks)
-    ∙ same_packed (bit_and s s') (bit_and d d') (bit_and p p') (bit_and q q') (bit_and r r') vs vd vp vq vr (fewer_bits d p q r d' p' q' r' fields) values
+    ∙ same_packed (bit_and s s') (bit_and d d') (bit_and p p') (bit_and q q') (bit_and r r') vs vd
+    vp vq vr (fewer_bits d p q r d' p' q' r' fields) values

@@ -21,52 +21,90 @@ record IsLargestUpTo (k first high exponent : ℕ) : Type 0 where
 block_from : (first high e : ℕ) → fits_at first high e ≡ true → IsBlock first high e
 block_from first high e h =
     let parts = and_parts (eqb (first % 2 ^ e) 0) (leb (first + 2 ^ e) (high + 1)) h in
-    record { aligned = eqb-true (first % 2 ^ e) 0 parts.0; fits = leb-true (first + 2 ^ e) (high + 1) parts.1 }
+    record {
+      aligned = eqb-true (first % 2 ^ e) 0 parts.0;
+      fits = leb-true (first + 2 ^ e)
+          (high + 1) parts.1;
+    }
 
 block_test : (first high e : ℕ) → IsBlock first high e → fits_at first high e ≡ true
-block_test first high e b = rw (eq-eqb (first % 2 ^ e) 0 b.aligned, le-leb (first + 2 ^ e) (high + 1) b.fits)
+block_test first high e b =
+    rw (eq-eqb (first % 2 ^ e) 0 b.aligned, le-leb (first + 2 ^ e) (high + 1) b.fits)
 
-larger : (k first high e : ℕ) (b : Bool) → fits_at first high (suc k) ≡ b → IsLargestUpTo k first high e → IsLargestUpTo (suc k) first high (cond b (suc k) e)
-larger k first high e true is l = record { block = block_from first high (suc k) is; largest = λ other most _. most }
-larger k first high e false is l = record { block = l.block; largest = λ other most block. smaller other most block (cases_lt k other) }
+larger : (k first high e : ℕ) (b : Bool) → fits_at first high (suc k) ≡ b
+    → IsLargestUpTo k first high e → IsLargestUpTo (suc k) first high (cond b (suc k) e)
+larger k first high e true is l =
+    record { block = block_from first high (suc k) is; largest = λ other most _. most }
+larger k first high e false is l =
+    record {
+      block = l.block;
+      largest = λ other most block. smaller other most block
+          (cases_lt k other);
+    }
   where
-    smaller : (other : ℕ) → other ≤ suc k → IsBlock first high other → (k < other) ⊎ (other ≤ k) → other ≤ e
+    smaller : (other : ℕ) → other ≤ suc k → IsBlock first high other → (k < other) ⊎ (other ≤ k)
+        → other ≤ e
     smaller other most block (inr less) = l.largest other less block
     smaller other most block (inl more) =
         let same : other ≡ suc k = omega arith in
         let test = block_test first high (suc k) (subst (IsBlock first high) same block) in
         absurd (cc)
 
-largest_is : (k first high : ℕ) → first ≤ high → IsLargestUpTo k first high (largest_up_to k first high)
-largest_is zero first high h = record { block = record { aligned = mod-one first; fits = omega arith }; largest = λ other most _. most }
-largest_is (suc k) first high h = larger k first high (largest_up_to k first high) _ refl (largest_is k first high h)
+largest_is : (k first high : ℕ) → first ≤ high
+    → IsLargestUpTo k first high (largest_up_to k first high)
+largest_is zero first high h =
+    record {
+      block = record { aligned = mod-one first; fits = omega arith };
+      largest =
+          λ other most _. most;
+    }
+largest_is (suc k) first high h = larger k first high (largest_up_to k first high) _ refl
+    (largest_is k first high h)
 
-largest_of_all : (first high : ℕ) → first ≤ high → high < 2 ^ 16 → IsLargestBlock first high (largest_up_to 16 first high)
+largest_of_all : (first high : ℕ) → first ≤ high → high < 2 ^ 16
+    → IsLargestBlock first high (largest_up_to 16 first high)
 largest_of_all first high h bound =
     let l = largest_is 16 first high h in
-    record { block = l.block; largest = λ other block. l.largest other (exponent_small first high other block bound) block }
+    record {
+      block = l.block;
+      largest = λ other block. l.largest other
+          (exponent_small first high other block bound) block;
+    }
 
-covers_from : (most low high : ℕ) → high < 2 ^ 16 → high + 1 ≤ low + most → IsCover low high (blocks_from most low high)
+covers_from : (most low high : ℕ) → high < 2 ^ 16 → high + 1 ≤ low + most
+    → IsCover low high (blocks_from most low high)
 covers_from zero low high bound enough = omega arith
 covers_from (suc most) low high bound enough =
     let e = largest_up_to 16 low high in
     elim (cases_lt high low) [
       | inl past ↦ rw (lt-ltb high low past) past
-      | inr within ↦ rw (le-ltb high low within) (e, largest_of_all low high within bound, refl, covers_from most (low + 2 ^ e) high bound (omega (arith, pow_pos e)))
+      | inr within ↦ rw (le-ltb high low within) (
+        e,
+        largest_of_all low high within bound,
+        refl,
+        covers_from most (low + 2 ^ e) high bound
+            (omega (arith, pow_pos e)),
+      )
     ]
 
 -- the blocks of a range are its cover
-is_cover : (range : PortRangeValue) → range.high < 2 ^ 16 → IsCover range.low range.high (cover_of range)
+is_cover : (range : PortRangeValue) → range.high < 2 ^ 16
+    → IsCover range.low range.high (cover_of range)
 unfolding cover_of
-is_cover range bound = covers_from (range.high + 1 - range.low) range.low range.high bound (omega arith)
+is_cover range bound = covers_from (range.high + 1 - range.low) range.low range.high bound
+    (omega arith)
 
-pub greedy : (range : PortRangeValue) → IsPortRange range → IsCover range.low range.high (cover_of range)
+pub greedy : (range : PortRangeValue) → IsPortRange range
+    → IsCover range.low range.high (cover_of range)
 greedy range sound = is_cover range sound.bound
 
-pub only : (range : PortRangeValue) (blocks : List Block) → IsPortRange range → IsCover range.low range.high blocks → blocks ≡ cover_of range
-only range blocks sound c = same_cover range.low range.high blocks (cover_of range) c (greedy range sound)
+pub only : (range : PortRangeValue) (blocks : List Block) → IsPortRange range
+    → IsCover range.low range.high blocks → blocks ≡ cover_of range
+only range blocks sound c = same_cover range.low range.high blocks (cover_of range) c
+    (greedy range sound)
 
-some_block : (low high : ℕ) (blocks : List Block) → IsCover low high blocks → low ≤ high → 0 < length blocks
+some_block : (low high : ℕ) (blocks : List Block) → IsCover low high blocks → low ≤ high
+    → 0 < length blocks
 some_block low high [] c h = absurd (omega arith)
 some_block low high (b ∷ bs) c h = omega arith
 
@@ -86,13 +124,17 @@ is_cover_of range sound =
 
 pub cover_of-past : (low high : ℕ) → high < low → cover_of (record { low = low; high = high }) ≡ []
 unfolding cover_of
-cover_of-past low high past = let none : high + 1 - low ≡ 0 = omega arith in ap (λ most. blocks_from most low high) none
+cover_of-past low high past = let none : high + 1 - low ≡ 0 = omega arith in ap
+    (λ most. blocks_from most low high) none
 
-pub cover_of-step : (low high e size : ℕ) → IsLargestBlock low high e → size ≡ 2 ^ e → high < 2 ^ 16 → cover_of (record { low = low; high = high }) ≡ (low, 2 ^ 16 - size) ∷ cover_of (record { low = low + size; high = high })
+pub cover_of-step : (low high e size : ℕ) → IsLargestBlock low high e → size ≡ 2 ^ e → high < 2 ^ 16
+    → cover_of (record { low = low; high = high }) ≡ (low, 2 ^ 16 - size) ∷ cover_of
+    (record { low = low + size; high = high })
 cover_of-step low high e size l is bound =
     let rest = is_cover (record { low = low + size; high = high }) bound in
     let head = ap {B = Block} (λ s. (low, 2 ^ 16 - s)) is in
-    let tail = subst (λ s. IsCover (low + s) high (cover_of (record { low = low + size; high = high }))) is rest in
+    let tail = subst (λ s. IsCover (low + s) high
+    (cover_of (record { low = low + size; high = high }))) is rest in
     same_cover low high _ _ (is_cover (record { low = low; high = high }) bound) (e, l, head, tail)
 
 -- ---- the size of a block
@@ -113,11 +155,18 @@ bit_of_aligned n e aligned set =
     omega (arith, split, top, pow_pos e)
 
 -- at most so many of the low bits are 0, and so the block is at most so large
-largest_of_two : (first high zeros log e : ℕ) → first % 2 ^ zeros ≡ 0 → ((other : ℕ) → IsBlock first high other → other ≤ zeros) → 2 ^ log ≤ high + 1 - first → high + 1 - first < 2 * 2 ^ log → e ≡ min zeros log → IsLargestBlock first high e
+largest_of_two : (first high zeros log e : ℕ) → first % 2 ^ zeros ≡ 0
+    → ((other : ℕ) → IsBlock first high other → other ≤ zeros) → 2 ^ log ≤ high + 1 - first
+    → high + 1 - first < 2 * 2 ^ log → e ≡ min zeros log → IsLargestBlock first high e
 largest_of_two first high zeros log e aligned most fits next is =
-    let smaller : 2 ^ e ≤ 2 ^ log = pow-le-pow_right (omega arith) {i = e} {j = log} (omega arith) in
+    let smaller : 2 ^ e ≤ 2 ^ log = pow-le-pow_right (omega arith) {i = e} {j = log}
+    (omega arith) in
     record {
-      block = record { aligned = aligned_down first e zeros (omega arith) aligned; fits = omega (arith, pow_pos log) };
+      block = record {
+        aligned = aligned_down first e zeros (omega arith) aligned;
+        fits =
+            omega (arith, pow_pos log);
+      };
       largest = λ other block. omega (arith, most other block, below other block);
     }
   where
@@ -125,7 +174,8 @@ largest_of_two first high zeros log e aligned most fits next is =
     below other block =
         elim (cases_lt log other) [
           | inl more ↦
-              let p : 2 ^ suc log ≤ 2 ^ other = pow-le-pow_right (omega arith) {i = suc log} {j = other} (omega arith) in
+              let p : 2 ^ suc log ≤ 2 ^ other = pow-le-pow_right (omega arith) {i = suc log}
+              {j = other} (omega arith) in
               absurd (omega (arith, block.fits, pow-suc 2 log))
           | inr less ↦ less
         ]
@@ -134,12 +184,15 @@ largest_of_two first high zeros log e aligned most fits next is =
 below_lowest : (n zeros other : ℕ) → bit_at n zeros ≡ 1 → n % 2 ^ other ≡ 0 → other ≤ zeros
 below_lowest n zeros other set aligned =
     elim (cases_lt zeros other) [
-      | inl more ↦ absurd (bit_of_aligned n zeros (aligned_down n (suc zeros) other more aligned) set)
+      | inl more ↦ absurd (bit_of_aligned n zeros (aligned_down n (suc zeros) other more aligned)
+          set)
       | inr less ↦ less
     ]
 
 -- what the code computes
-pub largest_from_code : (first high log e : ℕ) → first ≤ high → high < 2 ^ 16 → 2 ^ log ≤ high + 1 - first → high + 1 - first < 2 * 2 ^ log → e ≡ min (trailing_zeros w32 first) log → IsLargestBlock first high e
+pub largest_from_code : (first high log e : ℕ) → first ≤ high → high < 2 ^ 16
+    → 2 ^ log ≤ high + 1 - first → high + 1 - first < 2 * 2 ^ log
+    → e ≡ min (trailing_zeros w32 first) log → IsLargestBlock first high e
 unfolding count_trailing_zeros
 largest_from_code first high log e within bound fits next is =
     elim (cases_lt 0 first) [
@@ -147,9 +200,12 @@ largest_from_code first high log e within bound fits next is =
           let none : first ≡ 0 = omega arith in
           let all : trailing_zeros w32 first ≡ 32 = ap (trailing_zeros w32) none in
           let aligned : first % 2 ^ 32 ≡ 0 = omega arith in
-          largest_of_two first high 32 log e aligned (λ other block. omega (arith, exponent_small first high other block bound)) fits next (is ∙ ap (λ z. min z log) all)
+          largest_of_two first high 32 log e aligned
+          (λ other block. omega (arith, exponent_small first high other block bound)) fits next
+          (is ∙ ap (λ z. min z log) all)
       | inl some ↦
           let zeros = trailing_zeros w32 first in
           let lowest = bit_at-trailing_zeros w32 first some (omega arith) in
-          largest_of_two first high zeros log e (low_zeros first zeros lowest.2) (λ other block. below_lowest first zeros other lowest.1 block.aligned) fits next is
+          largest_of_two first high zeros log e (low_zeros first zeros lowest.2)
+          (λ other block. below_lowest first zeros other lowest.1 block.aligned) fits next is
     ]

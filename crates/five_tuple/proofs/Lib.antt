@@ -1,9 +1,9 @@
-pub mod BitFields
-pub mod Parts
-pub mod Numbers
-pub mod Readings
-pub mod RoundTrip
-pub mod Covers
-pub mod CoverOf
-pub mod PlainTexts
+mod BitFields
+mod Parts
+mod Numbers
+mod Readings
+mod RoundTrip
+mod Covers
+mod CoverOf
+mod PlainTexts
 pub mod CallerLemmas

@@ -11,7 +11,8 @@ use Rattle.std.specs.Str.Parse.{digits_value}
 use Rattle.five_tuple.specs.Texts.{has_leading_zero, is_number, number_up_to}
 
 module _ (most : ℕ) (text : List ℕ) where
-  refused : is_number text && leb (digits_value 10 text) most ≡ false → None ≡ number_up_to most text
+  refused : is_number text && leb (digits_value 10 text) most ≡ false
+      → None ≡ number_up_to most text
   unfolding number_up_to
   refused e = rw e
 
@@ -21,13 +22,17 @@ module _ (most : ℕ) (text : List ℕ) where
   pub leading_zero : has_leading_zero text ≡ true → None ≡ number_up_to most text
   leading_zero e = refused (and_left _ _ (and_left _ _ (and_right _ _ (ap not e))))
 
-  pub other_byte : (i : ℕ) → i < length text → is_ascii_digit (get_or text i 0) ≡ false → None ≡ number_up_to most text
-  other_byte i h e = let d = list_all_at is_ascii_digit text i 0 h e in refused (and_left _ _ (and_right _ _ d))
+  pub other_byte : (i : ℕ) → i < length text → is_ascii_digit (get_or text i 0) ≡ false
+      → None ≡ number_up_to most text
+  other_byte i h e = let d = list_all_at is_ascii_digit text i 0 h e in refused
+      (and_left _ _ (and_right _ _ d))
 
   pub too_large : (i : ℕ) → most < digits_value 10 (take i text) → None ≡ number_up_to most text
-  too_large i h = let d = lt-leb (digits_value 10 text) most (omega (arith, digits_value-take-le 10 text i (omega arith))) in refused (and_right _ _ d)
+  too_large i h = let d = lt-leb (digits_value 10 text) most
+      (omega (arith, digits_value-take-le 10 text i (omega arith))) in refused (and_right _ _ d)
 
-  pub accepted : 0 < length text → has_leading_zero text ≡ false → list_all is_ascii_digit text ≡ true → digits_value 10 text ≤ most → Some (digits_value 10 text) ≡ number_up_to most text
+  pub accepted : 0 < length text → has_leading_zero text ≡ false → list_all is_ascii_digit text
+      ≡ true → digits_value 10 text ≤ most → Some (digits_value 10 text) ≡ number_up_to most text
   unfolding number_up_to
   accepted h z d l = rw (lt-ltb 0 (length text) h, z, d, le-leb (digits_value 10 text) most l)
 
@@ -35,5 +40,8 @@ digit_value_is : (c : ℕ) → is_ascii_digit c ≡ true → digit_value c ≡ c
 digit_value_is c h = grind (arith, nat_tests)
 
 -- one more digit
-pub next_digit : (text : List ℕ) (i : ℕ) → i < length text → is_ascii_digit (get_or text i 0) ≡ true → digits_value 10 (take (i + 1) text) ≡ digits_value 10 (take i text) * 10 + (get_or text i 0 - 48)
-next_digit text i h d = digits_value_more 10 text i h ∙ ap (λ n. digits_value 10 (take i text) * 10 + n) (digit_value_is (get_or text i 0) d)
+pub next_digit : (text : List ℕ) (i : ℕ) → i < length text → is_ascii_digit (get_or text i 0) ≡ true
+    → digits_value 10 (take (i + 1) text) ≡ digits_value 10
+    (take i text) * 10 + (get_or text i 0 - 48)
+next_digit text i h d = digits_value_more 10 text i h
+    ∙ ap (λ n. digits_value 10 (take i text) * 10 + n) (digit_value_is (get_or text i 0) d)

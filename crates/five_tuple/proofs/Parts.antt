@@ -11,9 +11,11 @@ use Rattle.std.specs.Str.Parse.{digits_value}
 use Rattle.five_tuple.specs.Texts.{is_number, number_up_to, parts_round}
 
 -- the first such byte stands at this place
-pub parts_at : (byte : ℕ) (text : List ℕ) (at : ℕ) → position (λ b. b == byte) text ≡ Some at → parts_round byte text ≡ take at text ∷ parts_round byte (drop (at + 1) text)
+pub parts_at : (byte : ℕ) (text : List ℕ) (at : ℕ) → position (λ b. b == byte) text ≡ Some at
+    → parts_round byte text ≡ take at text ∷ parts_round byte (drop (at + 1) text)
 parts_at byte text at e =
-    let p = cond_some (ltb (position_or_len (λ b. b == byte) text) (length text)) (position_or_len (λ b. b == byte) text) at e in
+    let p = cond_some (ltb (position_or_len (λ b. b == byte) text) (length text))
+    (position_or_len (λ b. b == byte) text) at e in
     rw (← p.1) (slice_split_first (λ b. b == byte) text 0 (ltb-true _ _ p.0))
 
 cond_none : {A : Type 0} (b : Bool) (x : A) → cond b (Some x) None ≡ None → b ≡ false
@@ -21,43 +23,64 @@ cond_none true x e = cc
 cond_none false x e = refl
 
 -- no such byte stands there
-pub parts_none : (byte : ℕ) (text : List ℕ) → position (λ b. b == byte) text ≡ None → parts_round byte text ≡ text ∷ []
+pub parts_none : (byte : ℕ) (text : List ℕ) → position (λ b. b == byte) text ≡ None
+    → parts_round byte text ≡ text ∷ []
 parts_none byte text e =
-    let l = cond_none (ltb (position_or_len (λ b. b == byte) text) (length text)) (position_or_len (λ b. b == byte) text) e in
-    slice_split_none (λ b. b == byte) text (λ k d h. fails_before_first (λ b. b == byte) text k d (omega (arith, ltb-false _ _ l)))
+    let l = cond_none (ltb (position_or_len (λ b. b == byte) text) (length text))
+    (position_or_len (λ b. b == byte) text) e in
+    slice_split_none (λ b. b == byte) text
+    (λ k d h. fails_before_first (λ b. b == byte) text k d (omega (arith, ltb-false _ _ l)))
 
-parts_nonempty : (xs : List (List ℕ)) → 0 < length xs → (q : List ℕ) × (more : List (List ℕ)) × (xs ≡ q ∷ more)
+parts_nonempty : (xs : List (List ℕ)) → 0 < length xs → (q : List ℕ) × (more : List (List ℕ))
+    × (xs ≡ q ∷ more)
 parts_nonempty [] h = absurd (omega arith)
 parts_nonempty (q ∷ more) h = (q, more, refl)
 
-cut_cases_at : (byte : ℕ) (text : List ℕ) (o : Option ℕ) → position (λ b. b == byte) text ≡ o → (parts_round byte text ≡ text ∷ []) ⊎ ((p q : List ℕ) × (more : List (List ℕ)) × (parts_round byte text ≡ p ∷ q ∷ more))
+cut_cases_at : (byte : ℕ) (text : List ℕ) (o : Option ℕ) → position (λ b. b == byte) text ≡ o
+    → (parts_round byte text ≡ text ∷ [])
+    ⊎ ((p q : List ℕ) × (more : List (List ℕ)) × (parts_round byte text ≡ p ∷ q ∷ more))
 cut_cases_at byte text None e = inl (parts_none byte text e)
 cut_cases_at byte text (Some at) e =
     let rest = drop (at + 1) text in
-    let w = parts_nonempty (parts_round byte rest) (omega (arith, length-slice_split (λ b. b == byte) rest)) in
+    let w = parts_nonempty (parts_round byte rest)
+    (omega (arith, length-slice_split (λ b. b == byte) rest)) in
     inr (take at text, w.0, w.1, parts_at byte text at e ∙ ap (λ xs. take at text ∷ xs) w.2)
 
 -- digits have no other byte among them
-pub digits_lack : (byte : ℕ) (text : List ℕ) → is_ascii_digit byte ≡ false → list_all is_ascii_digit text ≡ true → All (λ b. (b == byte) ≡ false) text
+pub digits_lack : (byte : ℕ) (text : List ℕ) → is_ascii_digit byte ≡ false
+    → list_all is_ascii_digit text ≡ true → All (λ b. (b == byte) ≡ false) text
 digits_lack byte text other digits k d h =
-    false_from_ne_true _ (λ same. both_ways _ (list_all_at is_ascii_digit text k d h (ap is_ascii_digit (eqb-true _ _ same) ∙ other)) digits)
+    false_from_ne_true _ (λ same. both_ways _
+    (list_all_at is_ascii_digit text k d h (ap is_ascii_digit (eqb-true _ _ same) ∙ other))
+    digits)
 
-pub digits_are_one_part : (byte : ℕ) (text : List ℕ) → is_ascii_digit byte ≡ false → list_all is_ascii_digit text ≡ true → parts_round byte text ≡ text ∷ []
-digits_are_one_part byte text other digits = slice_split_none (λ b. b == byte) text (digits_lack byte text other digits)
+pub digits_are_one_part : (byte : ℕ) (text : List ℕ) → is_ascii_digit byte ≡ false
+    → list_all is_ascii_digit text ≡ true → parts_round byte text ≡ text ∷ []
+digits_are_one_part byte text other digits = slice_split_none (λ b. b == byte) text
+    (digits_lack byte text other digits)
 
 -- a number has no other byte in it, so it is one part
-number_is_one_part : (byte most : ℕ) (text : List ℕ) (n : ℕ) → is_ascii_digit byte ≡ false → number_up_to most text ≡ Some n → parts_round byte text ≡ text ∷ []
+number_is_one_part : (byte most : ℕ) (text : List ℕ) (n : ℕ) → is_ascii_digit byte ≡ false
+    → number_up_to most text ≡ Some n → parts_round byte text ≡ text ∷ []
 unfolding number_up_to
 number_is_one_part byte most text n other e =
-    let number = (cond_some (is_number text && leb (digits_value 10 text) most) (digits_value 10 text) n e).0 in
+    let number = (cond_some (is_number text && leb (digits_value 10 text) most)
+    (digits_value 10 text) n e).0 in
     let parts = and_parts (is_number text) (leb (digits_value 10 text) most) number in
     digits_are_one_part byte text other (and_parts _ _ parts.0).1
 
-last_part_at : (byte most : ℕ) (text : List ℕ) → is_ascii_digit byte ≡ false → (o : Option ℕ) → number_up_to most text ≡ o → (parts_round byte text ≡ text ∷ []) ⊎ ((p q : List ℕ) × (more : List (List ℕ)) × (parts_round byte text ≡ p ∷ q ∷ more) × (number_up_to most text ≡ None))
+last_part_at : (byte most : ℕ) (text : List ℕ) → is_ascii_digit byte ≡ false → (o : Option ℕ)
+    → number_up_to most text ≡ o → (parts_round byte text ≡ text ∷ [])
+    ⊎ ((p q : List ℕ) × (more : List (List ℕ)) × (parts_round byte text ≡ p ∷ q ∷ more)
+    × (number_up_to most text ≡ None))
 last_part_at byte most text other (Some n) e = inl (number_is_one_part byte most text n other e)
 last_part_at byte most text other None e =
-    elim (cut_cases_at byte text (position (λ b. b == byte) text) refl) [ inl one ↦ inl one | inr w ↦ inr (w.0, w.1, w.2, w.3, e) ]
+    elim (cut_cases_at byte text (position (λ b. b == byte) text) refl)
+    [ inl one ↦ inl one | inr w ↦ inr (w.0, w.1, w.2, w.3, e) ]
 
 -- the last part: one where it is a number, whatever bytes stand in it else
-pub last_part : (byte most : ℕ) (text : List ℕ) → is_ascii_digit byte ≡ false → (parts_round byte text ≡ text ∷ []) ⊎ ((p q : List ℕ) × (more : List (List ℕ)) × (parts_round byte text ≡ p ∷ q ∷ more) × (number_up_to most text ≡ None))
+pub last_part : (byte most : ℕ) (text : List ℕ) → is_ascii_digit byte ≡ false
+    → (parts_round byte text ≡ text ∷ [])
+    ⊎ ((p q : List ℕ) × (more : List (List ℕ)) × (parts_round byte text ≡ p ∷ q ∷ more)
+    × (number_up_to most text ≡ None))
 last_part byte most text other = last_part_at byte most text other (number_up_to most text) refl

@@ -33,7 +33,8 @@ decimal_is_digits n h = digits_decimal own n h
 no_leading_zero : (n : ℕ) → n < 2 ^ 64 → has_leading_zero (decimal n) ≡ false
 no_leading_zero n h =
     elim (cases_lt 0 n) [
-      | inl more ↦ and_right _ _ (ne_eqb (get_or (decimal n) 0 0) 48 (λ e. omega (arith, first_decimal n more h)))
+      | inl more ↦ and_right _ _
+          (ne_eqb (get_or (decimal n) 0 0) 48 (λ e. omega (arith, first_decimal n more h)))
       | inr none ↦ let e : n ≡ 0 = omega arith in rw (e, decimal_digit 0 (omega arith)) refl
     ]
 
@@ -41,42 +42,66 @@ no_leading_zero n h =
 pub number_back : (most n : ℕ) → n ≤ most → n < 2 ^ 64 → number_up_to most (decimal n) ≡ Some n
 number_back most n l h =
     let value = digits_value-decimal own n h in
-    let e = accepted most (decimal n) (decimal_nonempty n h) (no_leading_zero n h) (decimal_is_digits n h) (omega arith) in
+    let e = accepted most (decimal n) (decimal_nonempty n h) (no_leading_zero n h)
+    (decimal_is_digits n h) (omega arith) in
     sym e ∙ ap Some value
 
 -- a text that begins with a digit is no word
-no_word : (text word : List ℕ) (c : ℕ) → is_ascii_digit (get_or text 0 0) ≡ true → is_ascii_digit c ≡ false → bytes_eq text (c ∷ word) ≡ false
+no_word : (text word : List ℕ) (c : ℕ) → is_ascii_digit (get_or text 0 0) ≡ true
+    → is_ascii_digit c ≡ false → bytes_eq text (c ∷ word) ≡ false
 no_word [] word c digit other = refl
-no_word (x ∷ text) word c digit other = and_left _ _ (false_from_ne_true _ (λ same. both_ways _ (ap is_ascii_digit (eqb-true x c same) ∙ other) digit))
+no_word (x ∷ text) word c digit other =
+    and_left _ _ (false_from_ne_true _
+    (λ same. both_ways _ (ap is_ascii_digit (eqb-true x c same) ∙ other) digit))
 
-digit_first : (text : List ℕ) → 0 < length text → list_all is_ascii_digit text ≡ true → is_ascii_digit (get_or text 0 0) ≡ true
-digit_first text h digits = true_from_ne_false _ (λ e. both_ways _ (list_all_at is_ascii_digit text 0 0 h e) digits)
+digit_first : (text : List ℕ) → 0 < length text → list_all is_ascii_digit text ≡ true
+    → is_ascii_digit (get_or text 0 0) ≡ true
+digit_first text h digits = true_from_ne_false _
+    (λ e. both_ways _ (list_all_at is_ascii_digit text 0 0 h e) digits)
 
-first_digit : (n : ℕ) (rest : List ℕ) → n < 2 ^ 64 → is_ascii_digit (get_or (decimal n ++ rest) 0 0) ≡ true
+first_digit : (n : ℕ) (rest : List ℕ) → n < 2 ^ 64 → is_ascii_digit (get_or (decimal n ++ rest) 0 0)
+    ≡ true
 first_digit n rest h =
     let some = decimal_nonempty n h in
-    ap is_ascii_digit (get_or_append_left (decimal n) rest 0 0 some) ∙ digit_first (decimal n) some (decimal_is_digits n h)
+    ap is_ascii_digit (get_or_append_left (decimal n) rest 0 0 some)
+    ∙ digit_first (decimal n) some (decimal_is_digits n h)
 
 -- a part of digits is taken off at the byte after it
-part_off : (byte n : ℕ) (rest : List ℕ) → n < 2 ^ 64 → is_ascii_digit byte ≡ false → parts_round byte (decimal n ++ byte ∷ rest) ≡ decimal n ∷ parts_round byte rest
-part_off byte n rest h other = slice_split_at (λ b. b == byte) (decimal n) byte rest (digits_lack byte (decimal n) other (decimal_is_digits n h)) (eq-eqb byte byte refl)
+part_off : (byte n : ℕ) (rest : List ℕ) → n < 2 ^ 64 → is_ascii_digit byte ≡ false
+    → parts_round byte (decimal n ++ byte ∷ rest) ≡ decimal n ∷ parts_round byte rest
+part_off byte n rest h other = slice_split_at (λ b. b == byte) (decimal n) byte rest
+    (digits_lack byte (decimal n) other (decimal_is_digits n h)) (eq-eqb byte byte refl)
 
-whole : (byte n : ℕ) → n < 2 ^ 64 → is_ascii_digit byte ≡ false → parts_round byte (decimal n) ≡ decimal n ∷ []
+whole : (byte n : ℕ) → n < 2 ^ 64 → is_ascii_digit byte ≡ false → parts_round byte (decimal n)
+    ≡ decimal n ∷ []
 whole byte n h other = digits_are_one_part byte (decimal n) other (decimal_is_digits n h)
 
-four_back : (a b c d : ℕ) → a < 2 ^ 8 → b < 2 ^ 8 → c < 2 ^ 8 → d < 2 ^ 8 → address_of (join_with_byte 46 (decimal a ∷ decimal b ∷ decimal c ∷ decimal d ∷ [])) ≡ Some (a * 2 ^ 24 + b * 2 ^ 16 + c * 2 ^ 8 + d)
+four_back : (a b c d : ℕ) → a < 2 ^ 8 → b < 2 ^ 8 → c < 2 ^ 8 → d < 2 ^ 8
+    → address_of (join_with_byte 46 (decimal a ∷ decimal b ∷ decimal c ∷ decimal d ∷ [])) ≡ Some
+    (a * 2 ^ 24 + b * 2 ^ 16 + c * 2 ^ 8 + d)
 four_back a b c d ha hb hc hd =
     let s = decimal c ++ 46 ∷ decimal d in
     let r = decimal b ++ 46 ∷ s in
-    let e = address_reads (decimal a ++ 46 ∷ r) (decimal a) (decimal b) (decimal c) (decimal d) r s (part_off 46 a r (omega arith) refl) (part_off 46 b s (omega arith) refl) (part_off 46 c (decimal d) (omega arith) refl) in
-    rw (e, number_back 255 a (omega arith) (omega arith), number_back 255 b (omega arith) (omega arith), number_back 255 c (omega arith) (omega arith), number_back 255 d (omega arith) (omega arith))
+    let e = address_reads (decimal a ++ 46 ∷ r) (decimal a) (decimal b) (decimal c) (decimal d) r s
+    (part_off 46 a r (omega arith) refl) (part_off 46 b s (omega arith) refl)
+    (part_off 46 c (decimal d) (omega arith) refl) in
+    rw (
+      e,
+      number_back 255 a (omega arith) (omega arith),
+      number_back 255 b (omega arith)
+          (omega arith),
+      number_back 255 c (omega arith) (omega arith),
+      number_back 255 d (omega arith) (omega arith),
+    )
 
 pub address_back : (a : ℕ) → a < 2 ^ 32 → address_of (address_text a) ≡ Some a
 unfolding address_text
 address_back a h =
-    four_back (a / 2 ^ 24) (a / 2 ^ 16 % 2 ^ 8) (a / 2 ^ 8 % 2 ^ 8) (a % 2 ^ 8) (omega arith) (omega arith) (omega arith) (omega arith) ∙ ap Some (omega arith)
+    four_back (a / 2 ^ 24) (a / 2 ^ 16 % 2 ^ 8) (a / 2 ^ 8 % 2 ^ 8) (a % 2 ^ 8) (omega arith)
+    (omega arith) (omega arith) (omega arith) ∙ ap Some (omega arith)
 
-keeps_first : (xs ys : List ℕ) → is_ascii_digit (get_or xs 0 0) ≡ true → is_ascii_digit (get_or (xs ++ ys) 0 0) ≡ true
+keeps_first : (xs ys : List ℕ) → is_ascii_digit (get_or xs 0 0) ≡ true
+    → is_ascii_digit (get_or (xs ++ ys) 0 0) ≡ true
 keeps_first [] ys e = absurd (false≢true e)
 keeps_first (x ∷ xs) ys e = e
 
@@ -85,20 +110,31 @@ unfolding address_text
 address_first a h = first_digit (a / 2 ^ 24) _ (omega arith)
 
 -- a byte that is neither a digit nor the dot
-joined_lack : (byte a : ℕ) (rest : List ℕ) → is_ascii_digit byte ≡ false → 46 == byte ≡ false → a < 2 ^ 64 → All (λ b. (b == byte) ≡ false) rest → All (λ b. (b == byte) ≡ false) (decimal a ++ 46 ∷ rest)
+joined_lack : (byte a : ℕ) (rest : List ℕ) → is_ascii_digit byte ≡ false → 46 == byte ≡ false
+    → a < 2 ^ 64 → All (λ b. (b == byte) ≡ false) rest
+    → All (λ b. (b == byte) ≡ false) (decimal a ++ 46 ∷ rest)
 joined_lack byte a rest other dot h lack =
-    All-append (λ b. (b == byte) ≡ false) (decimal a) (46 ∷ rest) (digits_lack byte (decimal a) other (decimal_is_digits a h)) (All-cons (λ b. (b == byte) ≡ false) 46 rest dot lack)
+    All-append (λ b. (b == byte) ≡ false) (decimal a) (46 ∷ rest)
+    (digits_lack byte (decimal a) other (decimal_is_digits a h))
+    (All-cons (λ b. (b == byte) ≡ false) 46 rest dot lack)
 
-address_lacks : (byte a : ℕ) → is_ascii_digit byte ≡ false → 46 == byte ≡ false → a < 2 ^ 32 → All (λ b. (b == byte) ≡ false) (address_text a)
+address_lacks : (byte a : ℕ) → is_ascii_digit byte ≡ false → 46 == byte ≡ false → a < 2 ^ 32
+    → All (λ b. (b == byte) ≡ false) (address_text a)
 unfolding address_text
 address_lacks byte a other dot h =
-    joined_lack byte _ _ other dot (omega arith) (joined_lack byte _ _ other dot (omega arith) (joined_lack byte _ _ other dot (omega arith) (digits_lack byte (decimal (a % 2 ^ 8)) other (decimal_is_digits (a % 2 ^ 8) (omega arith)))))
+    joined_lack byte _ _ other dot (omega arith)
+    (joined_lack byte _ _ other dot (omega arith)
+    (joined_lack byte _ _ other dot (omega arith)
+    (digits_lack byte (decimal (a % 2 ^ 8)) other
+    (decimal_is_digits (a % 2 ^ 8) (omega arith)))))
 
-made_block : (address len : ℕ) (p : AddressBlock) → address ≡ p.address → len ≡ p.len → ◌≡◌ {A = AddressBlock} (record { address = address; len = len }) p
+made_block : (address len : ℕ) (p : AddressBlock) → address ≡ p.address → len ≡ p.len
+    → ◌≡◌ {A = AddressBlock} (record { address = address; len = len }) p
 made_block address len p e f = rw (e, f)
 
 block_same : (p : AddressBlock) → IsAddressBlock p → block_round p.address p.len ≡ p
-block_same p v = let e : p.address / 2 ^ (32 - p.len) * 2 ^ (32 - p.len) ≡ p.address = omega (arith, shr_split p.address (32 - p.len), v.cleared) in rw e
+block_same p v = let e : p.address / 2 ^ (32 - p.len) * 2 ^ (32 - p.len) ≡ p.address =
+    omega (arith, shr_split p.address (32 - p.len), v.cleared) in rw e
 
 block_at_zero : (p : AddressBlock) → IsAddressBlock p → p.len ≡ 0 → block_round 0 0 ≡ p
 block_at_zero p v e =
@@ -113,31 +149,59 @@ prefix_back p v =
       | inl e ↦ rw e (ap Some (block_at_zero p v (eqb-true p.len 0 e)))
       | inr e ↦
           let text = address_text p.address ++ 47 ∷ decimal p.len in
-          let word = no_word text (110 ∷ 121 ∷ []) 97 (keeps_first (address_text p.address) (47 ∷ decimal p.len) (address_first p.address v.address)) refl in
-          let parts = slice_split_at (λ b. b == 47) (address_text p.address) 47 (decimal p.len) (address_lacks 47 p.address refl refl v.address) refl in
+          let word = no_word text (110 ∷ 121 ∷ []) 97
+          (keeps_first (address_text p.address) (47 ∷ decimal p.len)
+          (address_first p.address v.address)) refl in
+          let parts = slice_split_at (λ b. b == 47) (address_text p.address) 47 (decimal p.len)
+          (address_lacks 47 p.address refl refl v.address) refl in
           let read = block_reads text (address_text p.address) (decimal p.len) parts in
-          rw (e, word, read, address_back p.address v.address, number_back 32 p.len v.len (omega arith)) (ap Some (block_same p v))
+          rw (
+            e,
+            word,
+            read,
+            address_back p.address v.address,
+            number_back 32 p.len v.len
+                (omega arith),
+          ) (ap Some (block_same p v))
     ]
 
 -- a number is no word, whatever the word
-number_no_word : (n c : ℕ) (word : List ℕ) → n < 2 ^ 64 → is_ascii_digit c ≡ false → bytes_eq (decimal n) (c ∷ word) ≡ false
-number_no_word n c word h other = no_word (decimal n) word c (digit_first (decimal n) (decimal_nonempty n h) (decimal_is_digits n h)) other
+number_no_word : (n c : ℕ) (word : List ℕ) → n < 2 ^ 64 → is_ascii_digit c ≡ false
+    → bytes_eq (decimal n) (c ∷ word) ≡ false
+number_no_word n c word h other = no_word (decimal n) word c
+    (digit_first (decimal n) (decimal_nonempty n h) (decimal_is_digits n h)) other
 
 one_port_back : (n : ℕ) → n < 2 ^ 16 → range_of (decimal n) ≡ Some (record { low = n; high = n })
 unfolding range_of
-one_port_back n h = rw (number_no_word n 97 (110 ∷ 121 ∷ []) (omega arith) refl, whole 45 n (omega arith) refl, number_back 65535 n (omega arith) (omega arith), le-leb n n (omega arith))
+one_port_back n h = rw (
+  number_no_word n 97 (110 ∷ 121 ∷ []) (omega arith) refl,
+  whole 45 n (omega arith) refl,
+  number_back 65535 n (omega arith) (omega arith),
+  le-leb n n (omega arith),
+)
 
-two_ports_back : (m n : ℕ) → m ≤ n → n < 2 ^ 16 → range_of (decimal m ++ 45 ∷ decimal n) ≡ Some (record { low = m; high = n })
+two_ports_back : (m n : ℕ) → m ≤ n → n < 2 ^ 16 → range_of (decimal m ++ 45 ∷ decimal n) ≡ Some
+    (record { low = m; high = n })
 unfolding range_of
 two_ports_back m n l h =
-    let word = no_word (decimal m ++ 45 ∷ decimal n) (110 ∷ 121 ∷ []) 97 (first_digit m (45 ∷ decimal n) (omega arith)) refl in
-    let read = range_reads (decimal m ++ 45 ∷ decimal n) (decimal m) (decimal n) (part_off 45 m (decimal n) (omega arith) refl) in
-    rw (word, read, number_back 65535 m (omega arith) (omega arith), number_back 65535 n (omega arith) (omega arith), le-leb m n l)
+    let word = no_word (decimal m ++ 45 ∷ decimal n) (110 ∷ 121 ∷ []) 97
+    (first_digit m (45 ∷ decimal n) (omega arith)) refl in
+    let read = range_reads (decimal m ++ 45 ∷ decimal n) (decimal m) (decimal n)
+    (part_off 45 m (decimal n) (omega arith) refl) in
+    rw (
+      word,
+      read,
+      number_back 65535 m (omega arith) (omega arith),
+      number_back 65535 n (omega arith) (omega arith),
+      le-leb m n l,
+    )
 
-made_ports : (low high : ℕ) (r : PortRangeValue) → low ≡ r.low → high ≡ r.high → ◌≡◌ {A = PortRangeValue} (record { low = low; high = high }) r
+made_ports : (low high : ℕ) (r : PortRangeValue) → low ≡ r.low → high ≡ r.high
+    → ◌≡◌ {A = PortRangeValue} (record { low = low; high = high }) r
 made_ports low high r e f = rw (e, f)
 
-every_port_back : (r : PortRangeValue) → r.low ≡ 0 → r.high ≡ 65535 → range_of (codes "any") ≡ Some r
+every_port_back : (r : PortRangeValue) → r.low ≡ 0 → r.high ≡ 65535
+    → range_of (codes "any") ≡ Some r
 unfolding range_of
 every_port_back r e f = ap Some (made_ports 0 65535 r (sym e) (sym f))
 
@@ -145,9 +209,11 @@ pub range_back : (r : PortRangeValue) → IsPortRange r → range_of (range_text
 unfolding range_text
 range_back r v =
     elim (cases_Bool (r.low == 0 && r.high == 65535)) [
-      | inl e ↦ let p = and_parts _ _ e in rw e (every_port_back r (eqb-true r.low 0 p.0) (eqb-true r.high 65535 p.1))
+      | inl e ↦ let p = and_parts _ _ e in rw e
+          (every_port_back r (eqb-true r.low 0 p.0) (eqb-true r.high 65535 p.1))
       | inr e ↦ elim (cases_Bool (r.low == r.high)) [
-        | inl f ↦ rw (e, f) (one_port_back r.low (omega (arith, v.ordered, v.bound)) ∙ ap Some (made_ports r.low r.low r refl (eqb-true r.low r.high f)))
+        | inl f ↦ rw (e, f) (one_port_back r.low (omega (arith, v.ordered, v.bound))
+            ∙ ap Some (made_ports r.low r.low r refl (eqb-true r.low r.high f)))
         | inr f ↦ rw (e, f) (two_ports_back r.low r.high v.ordered v.bound)
       ]
     ]
@@ -161,15 +227,26 @@ proto_number_back n h =
         | inl f ↦ rw (e, f) (ap Some (sym (eqb-true n 6 f)))
         | inr f ↦ elim (cases_Bool (n == 17)) [
           | inl g ↦ rw (e, f, g) (ap Some (sym (eqb-true n 17 g)))
-          | inr g ↦ rw (e, f, g, number_no_word n 105 _ (omega arith) refl, number_no_word n 116 _ (omega arith) refl, number_no_word n 117 _ (omega arith) refl) (number_back 255 n (omega arith) (omega arith))
+          | inr g ↦ rw (
+            e,
+            f,
+            g,
+            number_no_word n 105 _ (omega arith) refl,
+            number_no_word n 116 _
+                (omega arith) refl,
+            number_no_word n 117 _ (omega arith) refl,
+          )
+              (number_back 255 n (omega arith) (omega arith))
         ]
       ]
     ]
 
 -- `any` is no protocol's name
-not_any : (text : List ℕ) (n : ℕ) → proto_number_of text ≡ Some n → bytes_eq text (codes "any") ≡ false
+not_any : (text : List ℕ) (n : ℕ) → proto_number_of text ≡ Some n → bytes_eq text (codes "any")
+    ≡ false
 unfolding proto_number_of number_up_to
-not_any text n h = false_from_ne_true _ (λ same. let e = (bytes_eq-Decides text (codes "any")).0 same in none-some n (rw e at h))
+not_any text n h = false_from_ne_true _
+    (λ same. let e = (bytes_eq-Decides text (codes "any")).0 same in none-some n (rw e at h))
 
 pub proto_back : (p : Proto) → IsProtocol p → proto_of (proto_text p) ≡ Some p
 unfolding proto_text proto_of

@@ -1,5 +1,5 @@
--- A range of ports as aligned blocks whose sizes are powers of two (V. Srinivasan, G. Varghese, S. Suri, M. Waldvogel:
--- Fast and Scalable Layer Four Switching, where ranges become prefixes).
+-- A range of ports as aligned blocks whose sizes are powers of two (V. Srinivasan, G. Varghese, S.
+-- Suri, M. Waldvogel: Fast and Scalable Layer Four Switching, where ranges become prefixes).
 use Rattle.std.specs.Prelude.{ℕ, zero, suc, ◌≡◌, ◌+◌, ◌-◌, ◌%◌, ◌^◌, ◌<◌, ◌≤◌, Bool, ◌&&◌, ◌==◌, nat_lt, nat_le, if◌then◌else◌, IsTrue, List, [], ◌∷◌, bit_and}
 use Rattle.five_tuple.specs.Matching.{PortRangeValue}
 
@@ -41,8 +41,8 @@ largest_up_to zero first high = 0
 largest_up_to (suc exponent) first high =
     if fits_at first high (suc exponent) then suc exponent else largest_up_to exponent first high
 
--- blocks from `low` on, each the largest that begins where the one before it ends, until no port is left or there are this
--- many
+-- blocks from `low` on, each the largest that begins where the one before it ends, until no port is
+-- left or there are this many
 abbrev pub blocks_from : ℕ → ℕ → ℕ → List Block
 blocks_from zero low high = []
 blocks_from (suc most) low high =

@@ -1,4 +1,5 @@
--- A header and its number: addresses and protocol of RFC 791, ports of RFC 768 and RFC 793; the packing is our own.
+-- A header and its number: addresses and protocol of RFC 791, ports of RFC 768 and RFC 793; the
+-- packing is our own.
 use Rattle.std.specs.Prelude.{ℕ, ◌+◌, ◌*◌, ◌/◌, ◌%◌, ◌^◌, ◌<◌, Bool, ◌&&◌, ◌==◌}
 use Rattle.five_tuple.specs.declared.header.Fields.{Fields}
 use Rattle.five_tuple.specs.declared.header.Header.{Header}

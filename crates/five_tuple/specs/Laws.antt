@@ -1,4 +1,5 @@
--- The laws of header numbers, of covers and of printed forms: a function of the crate ensures the record of each.
+-- The laws of header numbers, of covers and of printed forms: a function of the crate ensures the
+-- record of each.
 use Rattle.std.specs.Prelude.{ℕ, ◌≡◌, ◌^◌, ◌<◌, ◌≤◌, ◌↔◌, IsTrue, All, AllPairs, List, decimal, length}
 use Rattle.std.specs.List.{AllPass, list_any}
 use Rattle.five_tuple.specs.declared.header.Header.{Header}
@@ -30,7 +31,8 @@ pub record IsCoverOf (range : PortRangeValue) (blocks : List Block) : Type 0 whe
 
 pub record CoverLaws : Type 0 where
   pub cover : (range : PortRangeValue) → IsPortRange range → IsCoverOf range (cover_of range)
-  -- each is the largest block that begins at the first port not yet taken, and no other list is such
+  -- each is the largest block that begins at the first port not yet taken, and no other list is
+  -- such
   pub greedy : (range : PortRangeValue) → IsPortRange range
       → IsCover range.low range.high (cover_of range)
   pub only : (range : PortRangeValue) (blocks : List Block) → IsPortRange range

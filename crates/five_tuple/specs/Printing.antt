@@ -7,7 +7,8 @@ use Rattle.five_tuple.specs.declared.matching.Proto.{Proto}
 use Rattle.five_tuple.specs.declared.matching.Proto.TheVariants.{Any, Is}
 use Rattle.five_tuple.specs.Matching.{AddressBlock, PortRangeValue}
 
--- a digit, a lower-case letter, a dash, a dot or a slash: none of which ends or quotes a field of a CSV file
+-- a digit, a lower-case letter, a dash, a dot or a slash: none of which ends or quotes a field of a
+-- CSV file
 abbrev pub is_plain_char : ℕ → Bool
 is_plain_char c = is_ascii_digit c || is_ascii_lowercase c || c == 45 || c == 46 || c == 47
 

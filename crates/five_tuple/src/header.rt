@@ -2,7 +2,8 @@ ghost use Rattle.std.specs.Prelude.{◌≡◌, ◌^◌, ◌<◌};
 ghost use Rattle.five_tuple.specs.Header.{IsHeader, fields_of, header_numbered, header_of, number_of};
 ghost use Rattle.five_tuple.specs.Laws.{HeaderLaws};
 
-/// The five fields of a packet: IPv4 addresses (RFC 791), ports (RFC 768, RFC 793) and the protocol number.
+/// The five fields of a packet: IPv4 addresses (RFC 791), ports (RFC 768, RFC 793) and the protocol
+/// number.
 ///
 /// In this project every header has two ports, whatever its protocol.
 #[derive(Clone, Copy, Debug, PartialEq, Eq, Hash)]
@@ -21,8 +22,8 @@ pub struct Fields {
 
 /// A packet's header: its five fields, which are also one number below 2^104.
 ///
-/// In the number the protocol has the bits 0 to 7, the destination port 8 to 23, the source port 24 to 39, the
-/// destination 40 to 71 and the source 72 to 103.
+/// In the number the protocol has the bits 0 to 7, the destination port 8 to 23, the source port 24
+/// to 39, the destination 40 to 71 and the source 72 to 103.
 #[derive(Clone, Copy, Debug, PartialEq, Eq, Hash)]
 pub struct Header {
     fields: Fields,

@@ -25,7 +25,8 @@ impl Model for Prefix {
 }
 
 impl Prefix {
-    /// The block of this length that the address lies in: the bits past the first `len` are cleared.
+    /// The block of this length that the address lies in: the bits past the first `len` are
+    /// cleared.
     pub fn new(address: u32, len: u32) -> Prefix
         requires { len ≤ 32 }
         ensures block { result ≡ block_round address len }

@@ -6,10 +6,12 @@ ghost use Rattle.five_tuple.specs.Matching.{IsPortRange};
 use crate::matching::PortRange;
 use std::alloc::{AllocError, Global};
 
-/// A block of ports as a value and a mask: it holds the ports that agree with the value in the bits of the mask.
+/// A block of ports as a value and a mask: it holds the ports that agree with the value in the bits
+/// of the mask.
 pub type PortBlock = (u16, u16);
 
-/// The largest power of two, by its exponent, whose aligned block begins at `first` and ends at or below `high`.
+/// The largest power of two, by its exponent, whose aligned block begins at `first` and ends at or
+/// below `high`.
 fn largest_block(first: u32, high: u32) -> u32
     requires ordered { first ≤ high }
     requires high { high < 2 ^ 16 }
@@ -68,8 +70,8 @@ impl PortRange {
 
 /// The range as aligned blocks: exactly its ports, in at most 30 blocks.
 ///
-/// From the low end on, each block is the largest that begins at the first port not yet taken and ends at or below the
-/// high end. A block of 2^k ports has the mask 65536 - 2^k.
+/// From the low end on, each block is the largest that begins at the first port not yet taken and
+/// ends at or below the high end. A block of 2^k ports has the mask 65536 - 2^k.
 pub fn cover(alloc: Global, range: &PortRange) -> Result<Vec<PortBlock>, AllocError>
     ensures cover { IfOk result (λ v. v.items ≡ cover_of range.now) }
     ensures blocks { IfOk result (λ v. IsCoverOf range.now v.items) }
@@ -92,7 +94,8 @@ pub fn count_blocks(range: &PortRange) -> u32
     range.blocks().count() as u32
 }
 
-/// The blocks of a range are exactly its ports, and each is the largest that begins at the first port not yet taken.
+/// The blocks of a range are exactly its ports, and each is the largest that begins at the first
+/// port not yet taken.
 pub fn cover_laws()
     ensures { CoverLaws }
 {}

@@ -6,7 +6,8 @@ ghost use Rattle.five_tuple.specs.Texts.{address_from, fields_from, packet_field
 use crate::header::Fields;
 use crate::matching::{PortRange, Prefix, Proto};
 
-/// The number that the text writes in decimal digits; `None` unless it is a number of at most `most`.
+/// The number that the text writes in decimal digits; `None` unless it is a number of at most
+/// `most`.
 ///
 /// A number has no sign, and a first digit 0 only where it stands alone.
 pub fn read_number(text: &[u8], most: u64) -> Option<u64>
@@ -99,8 +100,8 @@ pub fn read_address(text: &[u8]) -> Option<u32>
 
 /// The block of addresses that the text names; `None` for a text that names none.
 ///
-/// `any` is every address, an address stands for itself alone, and after a slash comes the block's length, at most
-/// 32 (RFC 4632, section 3.1). The address's bits past the length are cleared.
+/// `any` is every address, an address stands for itself alone, and after a slash comes the block's
+/// length, at most 32 (RFC 4632, section 3.1). The address's bits past the length are cleared.
 #[tactic(auto, using(crate::proofs::Readings::block_reads), unfolding(crate::specs::Texts::prefix_of))]
 pub fn read_prefix(text: &[u8]) -> Option<Prefix>
     ensures value { result ≡ prefix_of text.now }
@@ -135,7 +136,8 @@ fn range_from(low: Option<u16>, high: Option<u16>) -> Option<PortRange>
 
 /// The ports that the text names; `None` for a text that names none.
 ///
-/// `any` is every port, a number is one port, and two joined by a dash are the ends, the first at most the second.
+/// `any` is every port, a number is one port, and two joined by a dash are the ends, the first at
+/// most the second.
 #[tactic(auto, unfolding(crate::specs::Texts::range_of))]
 pub fn read_range(text: &[u8]) -> Option<PortRange>
     ensures value { result ≡ range_of text.now }
@@ -156,7 +158,8 @@ pub fn read_range(text: &[u8]) -> Option<PortRange>
     }
 }
 
-/// The protocol's number: `icmp`, `tcp` and `udp` stand for 1, 6 and 17, and each number from 0 to 255 for itself.
+/// The protocol's number: `icmp`, `tcp` and `udp` stand for 1, 6 and 17, and each number from 0 to
+/// 255 for itself.
 #[tactic(auto, unfolding(crate::specs::Texts::proto_number_of))]
 pub fn read_proto_number(text: &[u8]) -> Option<u8>
     ensures value { result ≡ proto_number_of text.now }

@@ -58,7 +58,8 @@ impl fmt::Display for Prefix {
     }
 }
 
-/// Printed as `any` where it is every port, as one number where it is one port, else as both ends joined by a dash.
+/// Printed as `any` where it is every port, as one number where it is one port, else as both ends
+/// joined by a dash.
 #[tactic(auto, unfolding(crate::specs::Printing::range_text))]
 impl fmt::Display for PortRange {
     ghost output = { λ r. Some (range_text r) };
@@ -130,7 +131,8 @@ pub fn write_prefix(alloc: Global, prefix: &Prefix) -> Result<Vec<u8>, AllocErro
     Ok(text.into_bytes())
 }
 
-/// The range: `any` where it is every port, one number where it is one port, else both ends joined by a dash.
+/// The range: `any` where it is every port, one number where it is one port, else both ends joined
+/// by a dash.
 #[tactic(auto, using(crate::proofs::RoundTrip::range_back))]
 pub fn write_range(alloc: Global, range: &PortRange) -> Result<Vec<u8>, AllocError>
     ensures text { IfOk result (λ t. t.items ≡ range_text range.now) }
@@ -170,8 +172,8 @@ pub fn printed_forms_are_read_back()
     ensures proto { (p : Proto) → IsProtocol p → proto_of (proto_text p) ≡ Some p }
 {}
 
-/// Each printed form has digits, lower-case letters, dots, slashes and dashes alone: a field of a CSV file that needs no
-/// quotes.
+/// Each printed form has digits, lower-case letters, dots, slashes and dashes alone: a field of a
+/// CSV file that needs no quotes.
 pub fn printed_forms_are_plain()
     ensures { PlainTextLaws }
 {}

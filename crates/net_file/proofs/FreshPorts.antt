@@ -28,12 +28,16 @@ or_swap false false c d = refl
 eqb_turn : (a b : ℕ) → nat_eq a b ≡ nat_eq b a
 eqb_turn a b = grind (arith, nat_tests)
 
-any_with : (mask p : ℕ) (ports : List ℕ) → list_any (in_mask (bit_or mask (2 ^ p))) ports ≡ (list_any (in_mask mask) ports || list_any (nat_eq p) ports)
+any_with : (mask p : ℕ) (ports : List ℕ) → list_any (in_mask (bit_or mask (2 ^ p))) ports
+    ≡ (list_any (in_mask mask) ports || list_any (nat_eq p) ports)
 any_with mask p [] = refl
 any_with mask p (q ∷ ports) =
-    rw (in_mask_with mask p q, any_with mask p ports, eqb_turn q p) (or_swap (in_mask mask q) (nat_eq p q) (list_any (in_mask mask) ports) (list_any (nat_eq p) ports))
+    rw (in_mask_with mask p q, any_with mask p ports, eqb_turn q p)
+    (or_swap (in_mask mask q) (nat_eq p q) (list_any (in_mask mask) ports)
+    (list_any (nat_eq p) ports))
 
-one_more : (taken distinct seen again : Bool) → (not taken && (distinct && not (seen || again))) ≡ ((not again && distinct) && not (taken || seen))
+one_more : (taken distinct seen again : Bool) → (not taken && (distinct && not (seen || again)))
+    ≡ ((not again && distinct) && not (taken || seen))
 one_more true true seen true = refl
 one_more true true seen false = refl
 one_more true false seen true = refl
@@ -45,24 +49,32 @@ one_more false true false false = refl
 one_more false false seen true = refl
 one_more false false seen false = refl
 
-pub are_fresh_is : (mask : ℕ) (ports : List ℕ) → are_fresh mask ports ≡ (are_distinct ports && not (list_any (in_mask mask) ports))
+pub are_fresh_is : (mask : ℕ) (ports : List ℕ)
+    → are_fresh mask ports ≡ (are_distinct ports && not (list_any (in_mask mask) ports))
 are_fresh_is mask [] = refl
 are_fresh_is mask (p ∷ ports) =
-    rw (are_fresh_is (bit_or mask (2 ^ p)) ports, any_with mask p ports) (one_more (in_mask mask p) (are_distinct ports) (list_any (in_mask mask) ports) (list_any (nat_eq p) ports))
+    rw (are_fresh_is (bit_or mask (2 ^ p)) ports, any_with mask p ports)
+    (one_more (in_mask mask p) (are_distinct ports) (list_any (in_mask mask) ports)
+    (list_any (nat_eq p) ports))
 
-pub any_same : (s t : ℕ → Bool) (ports : List ℕ) → ((k : ℕ) → s k ≡ t k) → list_any s ports ≡ list_any t ports
+pub any_same : (s t : ℕ → Bool) (ports : List ℕ) → ((k : ℕ) → s k ≡ t k)
+    → list_any s ports ≡ list_any t ports
 any_same s t [] same = refl
 any_same s t (p ∷ ports) same = rw (same p, any_same s t ports same) refl
 
 -- the ports of an array are new where they are fresh behind the mask of the earlier switches
-pub are_new_is : (taken : ℕ) (earlier : List SwitchRow) (ports : List ℕ) → IsMask taken (have_port earlier) → are_new earlier ports ≡ are_fresh taken ports
+pub are_new_is : (taken : ℕ) (earlier : List SwitchRow) (ports : List ℕ)
+    → IsMask taken (have_port earlier) → are_new earlier ports ≡ are_fresh taken ports
 are_new_is taken earlier ports mask =
-    sym (are_fresh_is taken ports ∙ ap (λ b. are_distinct ports && not b) (any_same (in_mask taken) (have_port earlier) ports mask))
+    sym (are_fresh_is taken ports ∙ ap (λ b. are_distinct ports && not b)
+    (any_same (in_mask taken) (have_port earlier) ports mask))
 
-pub fresh_next : (mask p : ℕ) (ports : List ℕ) → in_mask mask p ≡ false → are_fresh mask (p ∷ ports) ≡ are_fresh (bit_or mask (2 ^ p)) ports
+pub fresh_next : (mask p : ℕ) (ports : List ℕ) → in_mask mask p ≡ false → are_fresh mask (p ∷ ports)
+    ≡ are_fresh (bit_or mask (2 ^ p)) ports
 fresh_next mask p ports e = rw e refl
 
-pub fresh_stop : (mask p : ℕ) (ports : List ℕ) → in_mask mask p ≡ true → are_fresh mask (p ∷ ports) ≡ false
+pub fresh_stop : (mask p : ℕ) (ports : List ℕ) → in_mask mask p ≡ true → are_fresh mask (p ∷ ports)
+    ≡ false
 fresh_stop mask p ports e = rw e refl
 
 or_assoc : (a b c : Bool) → (a || (b || c)) ≡ ((a || b) || c)
@@ -73,20 +85,34 @@ pub or_nothing : (b : Bool) → (b || false) ≡ b
 or_nothing true = refl
 or_nothing false = refl
 
-pub any_next : (mask p : ℕ) (ports : List ℕ) (k : ℕ) → (in_mask mask k || list_any (nat_eq k) (p ∷ ports)) ≡ (in_mask (bit_or mask (2 ^ p)) k || list_any (nat_eq k) ports)
-any_next mask p ports k = or_assoc (in_mask mask k) (nat_eq k p) (list_any (nat_eq k) ports) ∙ ap (λ b. b || list_any (nat_eq k) ports) (sym (in_mask_with mask p k))
+pub any_next : (mask p : ℕ) (ports : List ℕ) (k : ℕ)
+    → (in_mask mask k || list_any (nat_eq k) (p ∷ ports))
+    ≡ (in_mask (bit_or mask (2 ^ p)) k || list_any (nat_eq k) ports)
+any_next mask p ports k = or_assoc (in_mask mask k) (nat_eq k p) (list_any (nat_eq k) ports)
+    ∙ ap (λ b. b || list_any (nat_eq k) ports) (sym (in_mask_with mask p k))
 
 -- the ports of the values from one on
-pub ports_more : (ds more : List Data) (d : Data) (p : ℕ) → ds ≡ d ∷ more → Some p ≡ port_of d → filter_map port_of ds ≡ p ∷ filter_map port_of more
+pub ports_more : (ds more : List Data) (d : Data) (p : ℕ) → ds ≡ d ∷ more → Some p ≡ port_of d
+    → filter_map port_of ds ≡ p ∷ filter_map port_of more
 ports_more ds more d p split is = rw (split, ← is) refl
 
-pub ports_less : (ds more : List Data) (d : Data) → ds ≡ d ∷ more → None ≡ port_of d → filter_map port_of ds ≡ filter_map port_of more
+pub ports_less : (ds more : List Data) (d : Data) → ds ≡ d ∷ more → None ≡ port_of d
+    → filter_map port_of ds ≡ filter_map port_of more
 ports_less ds more d split is = rw (split, ← is) refl
 
-pub have_port_push : (rows : List SwitchRow) (row : SwitchRow) (k : ℕ) → have_port (rows ++ row ∷ []) k ≡ (have_port rows k || has_port k row)
-have_port_push rows row k = list_any-append (has_port k) rows (row ∷ []) ∙ ap (λ b. have_port rows k || b) (or_nothing (has_port k row))
+pub have_port_push : (rows : List SwitchRow) (row : SwitchRow) (k : ℕ)
+    → have_port (rows ++ row ∷ []) k ≡ (have_port rows k || has_port k row)
+have_port_push rows row k = list_any-append (has_port k) rows (row ∷ [])
+    ∙ ap (λ b. have_port rows k || b) (or_nothing (has_port k row))
 
 -- what the checks of an array of ports say of its values
 pub ports_in_values : (d : Data) (vs : List Value) → array_in d ≡ Ok (map view vs)
-    → ports_in d ≡ require (list_all (λ v. is_some (as_integer (view v))) vs) refusal.WrongType (require (list_all (λ v. is_some (port_of (view v))) vs) refusal.Range (Ok (filter_map port_of (map view vs))))
-ports_in_values d vs e = rw (e, list_all-map (λ port. is_some (as_integer port)) view vs, list_all-map (λ port. is_some (port_of port)) view vs) refl
+    → ports_in d ≡ require (list_all (λ v. is_some (as_integer (view v))) vs) refusal.WrongType
+    (require (list_all (λ v. is_some (port_of (view v))) vs) refusal.Range
+    (Ok (filter_map port_of (map view vs))))
+ports_in_values d vs e =
+    rw (
+      e,
+      list_all-map (λ port. is_some (as_integer port)) view vs,
+      list_all-map (λ port. is_some (port_of port)) view vs,
+    ) refl

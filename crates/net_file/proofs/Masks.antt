@@ -19,7 +19,8 @@ one_of_max (suc (suc a)) b p q = absurd (omega arith)
 one_of_max a (suc (suc b)) p q = absurd (omega arith)
 
 pub in_mask_or : (a b k : ℕ) → in_mask (bit_or a b) k ≡ (in_mask a k || in_mask b k)
-in_mask_or a b k = ap (λ n. eqb n 1) (bit_at_or a b k) ∙ one_of_max (bit_at a k) (bit_at b k) (bit_at-lt a k) (bit_at-lt b k)
+in_mask_or a b k = ap (λ n. eqb n 1) (bit_at_or a b k) ∙ one_of_max (bit_at a k) (bit_at b k)
+    (bit_at-lt a k) (bit_at-lt b k)
 
 pub in_mask_pow : (p k : ℕ) → in_mask (2 ^ p) k ≡ nat_eq k p
 in_mask_pow p k =
@@ -41,7 +42,8 @@ small_step false p m h = omega arith
 
 pub mask_below_small : (test : ℕ → Bool) (n : ℕ) → mask_below test n < 2 ^ n
 mask_below_small test zero = omega arith
-mask_below_small test (suc n) = rw (pow-suc 2 n) (small_step (test n) (2 ^ n) (mask_below test n) (mask_below_small test n))
+mask_below_small test (suc n) =
+    rw (pow-suc 2 n) (small_step (test n) (2 ^ n) (mask_below test n) (mask_below_small test n))
 
 from_bool_is : (b : Bool) → eqb (from_bool b) 1 ≡ b
 from_bool_is true = refl
@@ -54,17 +56,24 @@ bit_at_from_bool false = refl
 lowest : (b : Bool) (n : ℕ) → bit_at (from_bool b) (n - n) ≡ from_bool b
 lowest b n = let none : n - n ≡ 0 = omega arith in rw none (bit_at_from_bool b)
 
-pub bit_at_mask_below : (test : ℕ → Bool) (n k : ℕ) → k < n → bit_at (mask_below test n) k ≡ from_bool (test k)
+pub bit_at_mask_below : (test : ℕ → Bool) (n k : ℕ) → k < n → bit_at (mask_below test n) k
+    ≡ from_bool (test k)
 bit_at_mask_below test zero k h = absurd (omega arith)
 bit_at_mask_below test (suc n) k h =
     elim (cases_eq k n) [
-      | inl same ↦ rw (same, bit_at_cat_high (from_bool (test n)) n (mask_below test n) n (mask_below_small test n) (omega arith)) (lowest (test n) n)
-      | inr other ↦ bit_at_cat_low (from_bool (test n)) n (mask_below test n) k (omega arith) ∙ bit_at_mask_below test n k (omega arith)
+      | inl same ↦ rw (
+        same,
+        bit_at_cat_high (from_bool (test n)) n (mask_below test n) n
+            (mask_below_small test n) (omega arith),
+      ) (lowest (test n) n)
+      | inr other ↦ bit_at_cat_low (from_bool (test n)) n (mask_below test n) k (omega arith)
+          ∙ bit_at_mask_below test n k (omega arith)
     ]
 
 pub in_mask_of : (test : ℕ → Bool) (k : ℕ) → k < 64 → in_mask (mask_of test) k ≡ test k
 unfolding mask_of
-in_mask_of test k small = ap (λ n. eqb n 1) (bit_at_mask_below test 64 k small) ∙ from_bool_is (test k)
+in_mask_of test k small = ap (λ n. eqb n 1) (bit_at_mask_below test 64 k small)
+    ∙ from_bool_is (test k)
 
 pub mask_of_small : (test : ℕ → Bool) → mask_of test < 2 ^ 64
 unfolding mask_of
@@ -82,6 +91,9 @@ bit_from_test (suc (suc a)) b test p q e f = absurd (omega arith)
 bit_from_test a (suc (suc b)) test p q e f = absurd (omega arith)
 
 -- a mask is the one of a test that says what bits it has
-pub mask_of_is : (mask : ℕ) (test : ℕ → Bool) → mask < 2 ^ 64 → ((k : ℕ) → in_mask mask k ≡ test k) → mask ≡ mask_of test
+pub mask_of_is : (mask : ℕ) (test : ℕ → Bool) → mask < 2 ^ 64 → ((k : ℕ) → in_mask mask k ≡ test k)
+    → mask ≡ mask_of test
 mask_of_is mask test small same =
-    same_from_bits_below 64 mask (mask_of test) small (mask_of_small test) (λ k h. bit_from_test _ _ (test k) (bit_at-lt mask k) (bit_at-lt (mask_of test) k) (same k) (in_mask_of test k h))
+    same_from_bits_below 64 mask (mask_of test) small (mask_of_small test)
+    (λ k h. bit_from_test _ _ (test k) (bit_at-lt mask k) (bit_at-lt (mask_of test) k) (same k)
+    (in_mask_of test k h))

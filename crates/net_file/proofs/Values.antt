@@ -10,8 +10,10 @@ items_list_view [] = refl
 items_list_view (v ∷ vs) = ap (λ ds. view v ∷ ds) (items_list_view vs)
 
 -- the values from one on, and past the last
-pub values_more : (vs : List Value) (i : ℕ) (v : Value) → i < length vs → v ≡ get_or vs i v → map view (drop i vs) ≡ view v ∷ map view (drop (i + 1) vs)
-values_more vs i v within is = ap (map view) (drop_more vs i v within) ∙ ap (λ x. view x ∷ map view (drop (i + 1) vs)) (sym is)
+pub values_more : (vs : List Value) (i : ℕ) (v : Value) → i < length vs → v ≡ get_or vs i v
+    → map view (drop i vs) ≡ view v ∷ map view (drop (i + 1) vs)
+values_more vs i v within is = ap (map view) (drop_more vs i v within)
+    ∙ ap (λ x. view x ∷ map view (drop (i + 1) vs)) (sym is)
 
 pub values_end : (vs : List Value) (i : ℕ) → length vs ≤ i → map view (drop i vs) ≡ []
 values_end vs i past = ap (map view) (drop_all i vs past)

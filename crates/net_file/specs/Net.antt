@@ -33,7 +33,8 @@ are_name_bytes bytes = list_all is_name_byte bytes
 -- a letter, then up to 15 letters, digits, `_` or `-`
 abbrev pub is_label : List ℕ → Bool
 is_label [] = false
-is_label (first ∷ more) = is_ascii_alphabetic first && are_name_bytes more && nat_le (length more) 15
+is_label (first ∷ more) = is_ascii_alphabetic first && are_name_bytes more
+    && nat_le (length more) 15
 
 -- a label, but not the controller's name
 abbrev pub is_name : List ℕ → Bool

@@ -123,13 +123,14 @@ link_of switches earlier d = with_value (of_type (as_table d)) (link_with switch
 
 -- ---- documents
 
--- the rows that values state, one after another behind the earlier ones; or the first refusal, whose row
--- is base and the number of the value, counted from 1
+-- the rows that values state, one after another behind the earlier ones; or the first refusal,
+-- whose row is base and the number of the value, counted from 1
 abbrev pub rows_from : {X : Type 0} → ℕ → (List X → Data → Result X NetRefusal) → List X → List Data
     → Result (List X) Refusal
 rows_from base read earlier [] = Ok earlier
 rows_from base read earlier (d ∷ ds) =
-    with_value (in_row (base + (length earlier + 1)) (read earlier d)) (λ row. rows_from base read (earlier ++ row ∷ []) ds)
+    with_value (in_row (base + (length earlier + 1)) (read earlier d))
+    (λ row. rows_from base read (earlier ++ row ∷ []) ds)
 
 abbrev pub switches_in : List Data → Result (List SwitchRow) Refusal
 switches_in ds = rows_from 0 switch_of [] ds
@@ -147,7 +148,13 @@ net_in table =
     with_value (switches_in switch_values) (λ switches.
     with_value (in_row 0 (link_array table)) (λ link_values.
     with_value (links_in switches link_values) (λ links.
-    Ok (record { switches = switches; links = links; leaf_rules = leaf_rules; backups = backups; cache = cache }))))))))
+    Ok (record {
+      switches = switches;
+      links = links;
+      leaf_rules = leaf_rules;
+      backups = backups;
+      cache = cache;
+    }))))))))
 
 -- the document of some bytes, as the crate `toml` reads UTF-8
 abbrev pub document_of : List ℕ → Option Members

@@ -18,8 +18,8 @@ code_of refusal.SelfLink = 8
 code_of refusal.DuplicateLink = 9
 code_of refusal.TooMany = 10
 
--- what is wrong, and in which row: 0 for a key of the document, k for the k-th switch, 100 + k for the
--- k-th link
+-- what is wrong, and in which row: 0 for a key of the document, k for the k-th switch, 100 + k for
+-- the k-th link
 pub record Refusal : Type 0 where
   pub refusal : NetRefusal
   pub row : ℕ

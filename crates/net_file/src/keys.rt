@@ -61,7 +61,8 @@ pub fn array_in(value: &Value) -> Result<&[Value], NetRefusal>
 
 /// The keys of a table.
 pub fn table_in(value: &Value) -> Result<&Table, NetRefusal>
-    ensures keys { IfOk result (λ keys. of_type (as_table (view value.now)) ≡ Ok (table_view keys.now)) }
+    ensures keys { IfOk result (λ keys.
+        of_type (as_table (view value.now)) ≡ Ok (table_view keys.now)) }
     ensures refused { IfErr result (λ refusal. of_type (as_table (view value.now)) ≡ Err refusal) }
 {
     match value.as_table() {

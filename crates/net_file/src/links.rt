@@ -18,7 +18,8 @@ const LINK_ROWS: u32 = 100;
 
 /// The values of the array `link`.
 pub fn link_array(table: &Table) -> Result<&[Value], NetRefusal>
-    ensures values { IfOk result (λ values. link_array (table_view table.now) ≡ Ok (map view values.now)) }
+    ensures values { IfOk result (λ values.
+        link_array (table_view table.now) ≡ Ok (map view values.now)) }
     ensures few { IfOk result (λ values. length values.now ≤ 256) }
     ensures refused { IfErr result (λ refusal. link_array (table_view table.now) ≡ Err refusal) }
 {
@@ -108,7 +109,8 @@ pub fn read_links(
 ) -> Result<Vec<LinkRow>, NetError>
     requires few_switches { length switches.now ≤ 64 }
     requires few_links { length values.now ≤ 256 }
-    ensures links { IfOk result (λ rows. links_in switches.now (map view values.now) ≡ Ok rows.items) }
+    ensures links { IfOk result (λ rows.
+        links_in switches.now (map view values.now) ≡ Ok rows.items) }
     ensures refused { IfErr result (IsRefusal (links_in switches.now (map view values.now))) }
 {
     let mut rows = Vec::new(alloc);

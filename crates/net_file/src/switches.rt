@@ -25,7 +25,8 @@ const MOST_MORE: usize = 15;
 
 /// The values of the array `switch`.
 pub fn switch_array(table: &Table) -> Result<&[Value], NetRefusal>
-    ensures values { IfOk result (λ values. switch_array (table_view table.now) ≡ Ok (map view values.now)) }
+    ensures values { IfOk result (λ values.
+        switch_array (table_view table.now) ≡ Ok (map view values.now)) }
     ensures few { IfOk result (λ values. length values.now ≤ 64) }
     ensures refused { IfErr result (λ refusal. switch_array (table_view table.now) ≡ Err refusal) }
 {
@@ -68,8 +69,8 @@ fn is_label(name: &[u8]) -> bool
     }
 }
 
-/// Whether the bytes can be a switch's name: a letter and then up to 15 letters, digits, `_` or `-`,
-/// but not `controller`, which a journal calls the controller.
+/// Whether the bytes can be a switch's name: a letter and then up to 15 letters, digits, `_` or
+/// `-`, but not `controller`, which a journal calls the controller.
 pub fn is_name(name: &[u8]) -> bool
     ensures { result ≡ is_name name.now }
 {
@@ -115,7 +116,8 @@ fn are_ports(values: &[Value]) -> bool
 
 // The values of the array `ports`, each of which is a port.
 fn read_ports(keys: &Table) -> Result<&[Value], NetRefusal>
-    ensures ports { IfOk result (λ values. ports_at (table_view keys.now) ≡ Ok (ports_of (map view values.now))) }
+    ensures ports { IfOk result (λ values.
+        ports_at (table_view keys.now) ≡ Ok (ports_of (map view values.now))) }
     ensures refused { IfErr result (λ refusal. ports_at (table_view keys.now) ≡ Err refusal) }
 {
     let Some(value) = value_at(keys, "ports") else {
@@ -172,8 +174,10 @@ fn read_keys<'a>(
     keys: &'a Table,
 ) -> Result<Stated<'a>, NetRefusal>
     requires { IsMask taken (have_port earlier.now) }
-    ensures stated { IfOk result (λ stated. switch_with earlier.now (table_view keys.now) ≡ Ok (row_of stated)) }
-    ensures refused { IfErr result (λ refusal. switch_with earlier.now (table_view keys.now) ≡ Err refusal) }
+    ensures stated { IfOk result (λ stated.
+        switch_with earlier.now (table_view keys.now) ≡ Ok (row_of stated)) }
+    ensures refused { IfErr result (λ refusal.
+        switch_with earlier.now (table_view keys.now) ≡ Err refusal) }
 {
     let name = read_name(keys)?;
     let values = read_ports(keys)?;
@@ -195,7 +199,8 @@ fn read_switch(
 ) -> Result<SwitchRow, NetError>
     requires { IsMask taken (have_port earlier.now) }
     ensures switch { IfOk result (λ switch. switch_of earlier.now (view value.now) ≡ Ok switch) }
-    ensures refused { IfErr result (IsRefusal (in_row row (switch_of earlier.now (view value.now)))) }
+    ensures refused { IfErr result (IsRefusal (in_row row (switch_of earlier.now
+        (view value.now)))) }
 {
     let keys = match table_in(value) {
         Ok(keys) => keys,

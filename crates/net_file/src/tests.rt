@@ -44,9 +44,13 @@ fn states_pair(alloc: Global, text: &str) -> bool {
 fn reads_each_spelling(rt: HostRuntime) -> Result<(), Fail> {
     let alloc = rt.alloc();
     for text in [
-        "[[switch]]\nname = \"a\"\nports = [1]\n[[switch]]\nname = \"b\"\nports = [2, 63]\nauthority = 100\n[[link]]\nends = [\"a\", \"b\"]\n",
-        "\u{feff}other = 1.5\r\n[[switch]]\r\nname = \"a\"\r\nports = [1]\r\nrack = 4\r\n[[switch]]\r\nname = \"b\"\r\nports = [63, 2]\r\nauthority = 100\r\n[[link]]\r\nends = [\"b\", \"a\"]\r\ncable = true\r\n",
-        "switch = [{name = \"a\", ports = [1], at.rack = 4}, {name = \"b\", ports = [2, 63], authority = 100}]\nlink = [{ends = [\"a\", \"b\"]}]",
+        "[[switch]]\nname = \"a\"\nports = [1]\n[[switch]]\nname = \"b\"\nports = [2, 63]\n\
+          authority = 100\n[[link]]\nends = [\"a\", \"b\"]\n",
+        "\u{feff}other = 1.5\r\n[[switch]]\r\nname = \"a\"\r\nports = [1]\r\nrack = 4\r\n\
+          [[switch]]\r\nname = \"b\"\r\nports = [63, 2]\r\nauthority = 100\r\n[[link]]\r\n\
+          ends = [\"b\", \"a\"]\r\ncable = true\r\n",
+        "switch = [{name = \"a\", ports = [1], at.rack = 4}, \
+          {name = \"b\", ports = [2, 63], authority = 100}]\nlink = [{ends = [\"a\", \"b\"]}]",
     ] {
         assert!(rt; states_pair(alloc, text), "at {text}");
     }
@@ -57,7 +61,8 @@ fn reads_each_spelling(rt: HostRuntime) -> Result<(), Fail> {
 fn refuses_with_code_and_row(rt: HostRuntime) -> Result<(), Fail> {
     let alloc = rt.alloc();
     let pair =
-        "[[switch]]\nname = \"a\"\n[[switch]]\nname = \"b\"\n[[link]]\nends = [\"a\", \"b\"]\n[[link]]\n";
+        "[[switch]]\nname = \"a\"\n[[switch]]\nname = \"b\"\n[[link]]\nends = [\"a\", \"b\"]\n\
+          [[link]]\n";
     for (before, after, code, row) in [
         ("", "", 2, 0),
         ("switch", "", 1, 0),
@@ -129,8 +134,9 @@ fn counts_switches_and_links(rt: HostRuntime) -> Result<(), Fail> {
 #[test]
 fn answers_on_numbers_ports_and_links(rt: HostRuntime) -> Result<(), Fail> {
     let alloc = rt.alloc();
-    let text =
-        "[[switch]]\nname = \"a\"\nports = [1]\n[[switch]]\nname = \"b\"\nports = [63]\n[[switch]]\nname = \"c\"\n[[link]]\nends = [\"a\", \"c\"]\n[[link]]\nends = [\"c\", \"b\"]\n";
+    let text = "[[switch]]\nname = \"a\"\nports = [1]\n[[switch]]\nname = \"b\"\nports = [63]\n\
+          [[switch]]\nname = \"c\"\n[[link]]\nends = [\"a\", \"c\"]\n[[link]]\n\
+          ends = [\"c\", \"b\"]\n";
     let net = read_net(alloc, text.as_bytes())?;
     assert_eq!(rt; net.number(b"c"), Some(2));
     assert_eq!(rt; net.number(b"d"), None);

@@ -12,7 +12,7 @@ use Rattle.std.proofs.lemmas.Nat.Bits.{bit_at-lt}
 use Rattle.five_tuple.specs.Header.{number_of}
 use Rattle.five_tuple.specs.declared.header.Header.{Header}
 use Rattle.ternary.specs.Word.{WordValue, holds, covers_of, any_word, is_fixed_of, fix_of}
-use Rattle.ternary.proofs.WordLemmas.{any_holds, covers_held, covers_reflexive, covers_transitive, fix_holds, fix_within}
+use Rattle.ternary.proofs.CallerLemmas.{any_holds, covers_held, covers_reflexive, covers_transitive, fix_holds, fix_within}
 use Rattle.policy_rules.specs.Policy.{IsPolicy, scan}
 use Rattle.policy_rules.specs.RuleList.{hit_of_rule, rules_of}
 use Rattle.policy_rules.specs.Rules.{first_rule, is_held}
@@ -36,7 +36,9 @@ hit_at header rules = option_map hit_of_rule (find (is_held header) rules)
 
 -- ---- a leaf for each header
 
-one_digit : (t : Bool) (digit : ℕ) → digit < 2 → from_bool (t && (digit == from_bool false)) + from_bool (t && (digit == from_bool true)) ≡ from_bool t
+one_digit : (t : Bool) (digit : ℕ) → digit < 2
+    → from_bool (t && (digit == from_bool false)) + from_bool (t && (digit == from_bool true))
+    ≡ from_bool t
 one_digit true zero small = refl
 one_digit true (suc zero) small = refl
 one_digit true (suc (suc digit)) small = absurd (omega arith)
@@ -47,7 +49,9 @@ counted true = refl
 counted false = refl
 
 -- a header of the region is in exactly one half
-one_half : (region : WordValue) (bit header : ℕ) → IsFalse (is_fixed_of region bit) → from_bool (holds (fix_of region bit false) header) + from_bool (holds (fix_of region bit true) header) ≡ from_bool (holds region header)
+one_half : (region : WordValue) (bit header : ℕ) → IsFalse (is_fixed_of region bit)
+    → from_bool (holds (fix_of region bit false) header) + from_bool
+    (holds (fix_of region bit true) header) ≡ from_bool (holds region header)
 one_half region bit header free =
     let low = fix_holds region bit false free header in
     let high = fix_holds region bit true free header in
@@ -57,41 +61,57 @@ one_half region bit header free =
 abbrev leaves_at : ℕ → List (WordValue × List Rule) → ℕ
 leaves_at header leaves = count_by (λ (leaf : WordValue × List Rule). holds leaf.0 header) leaves
 
-leaf_count_at : (tree : Shape) (rules : List Rule) (region : WordValue) (most header : ℕ) → IsTreeOf rules region most tree → leaves_at header (leaves_of tree) ≡ from_bool (holds region header)
-leaf_count_at (End r rs) rules region most header is = rw is.same_region (omega (arith, counted (holds region header)))
+leaf_count_at : (tree : Shape) (rules : List Rule) (region : WordValue) (most header : ℕ)
+    → IsTreeOf rules region most tree → leaves_at header (leaves_of tree) ≡ from_bool
+    (holds region header)
+leaf_count_at (End r rs) rules region most header is = rw is.same_region
+    (omega (arith, counted (holds region header)))
 leaf_count_at (Node bit low high) rules region most header is =
-    let below = leaf_count_at low (side_of rules region bit false) (fix_of region bit false) most header is.1 in
-    let above = leaf_count_at high (side_of rules region bit true) (fix_of region bit true) most header is.2 in
-    let both : leaves_at header (leaves_of low ++ leaves_of high) ≡ leaves_at header (leaves_of low) + leaves_at header (leaves_of high) = sum_by-append (λ (leaf : WordValue × List Rule). cond (holds leaf.0 header) 1 0) (leaves_of low) (leaves_of high) in
+    let below = leaf_count_at low (side_of rules region bit false) (fix_of region bit false) most
+    header is.1 in
+    let above = leaf_count_at high (side_of rules region bit true) (fix_of region bit true) most
+    header is.2 in
+    let both : leaves_at header (leaves_of low ++ leaves_of high) ≡ leaves_at header
+    (leaves_of low) + leaves_at header (leaves_of high) =
+    sum_by-append (λ (leaf : WordValue × List Rule). cond (holds leaf.0 header) 1 0)
+    (leaves_of low) (leaves_of high) in
     omega (arith, both, below, above, one_half region bit header is.0.least.cuts.free)
 
 -- ---- a leaf decides as the whole list
 
 -- a leaf lies within the region, and decides its headers as these rules do
-record IsLeafThatDecides (rules : List Rule) (region : WordValue) (header : ℕ) (leaf : WordValue × List Rule) : Type 0 where
+record IsLeafThatDecides (rules : List Rule) (region : WordValue) (header : ℕ)
+    (leaf : WordValue × List Rule) : Type 0 where
   pub within : IsTrue (covers_of region leaf.0)
   pub few : length leaf.1 ≤ length rules
   pub same : IsTrue (holds leaf.0 header) → hit_at header leaf.1 ≡ hit_at header rules
 
-hit_narrowed : (region : WordValue) (rule : Rule) → hit_of_rule (narrowed region rule) ≡ hit_of_rule rule
+hit_narrowed : (region : WordValue) (rule : Rule) → hit_of_rule (narrowed region rule) ≡ hit_of_rule
+    rule
 unfolding narrowed
 hit_narrowed region rule = refl
 
-hits_narrowed : (region : WordValue) (rule : Option Rule) → option_map hit_of_rule (option_map (narrowed region) rule) ≡ option_map hit_of_rule rule
+hits_narrowed : (region : WordValue) (rule : Option Rule)
+    → option_map hit_of_rule (option_map (narrowed region) rule) ≡ option_map hit_of_rule rule
 hits_narrowed region None = refl
 hits_narrowed region (Some rule) = ap Some (hit_narrowed region rule)
 
 -- a leaf of a half is one of the whole
-widened : (rules : List Rule) (region half : WordValue) (header : ℕ) → IsTrue (covers_of region half) → (leaf : WordValue × List Rule) → IsLeafThatDecides (narrow rules half) half header leaf → IsLeafThatDecides rules region header leaf
+widened : (rules : List Rule) (region half : WordValue) (header : ℕ)
+    → IsTrue (covers_of region half) → (leaf : WordValue × List Rule)
+    → IsLeafThatDecides (narrow rules half) half header leaf → IsLeafThatDecides rules region header
+    leaf
 widened rules region half header within leaf decides = record {
   within = covers_transitive region half leaf.0 within decides.within;
   few = omega (arith, decides.few, narrow_few rules half);
   same = λ held.
       let here = covers_held half leaf.0 header decides.within held in
-      decides.same held ∙ ap (option_map hit_of_rule) (narrow_first rules half header here) ∙ hits_narrowed half (find (is_held header) rules);
+      decides.same held ∙ ap (option_map hit_of_rule) (narrow_first rules half header here)
+      ∙ hits_narrowed half (find (is_held header) rules);
 }
 
-leaves_decide : (tree : Shape) (rules : List Rule) (region : WordValue) (most header : ℕ) → IsTreeOf rules region most tree → All (IsLeafThatDecides rules region header) (leaves_of tree)
+leaves_decide : (tree : Shape) (rules : List Rule) (region : WordValue) (most header : ℕ)
+    → IsTreeOf rules region most tree → All (IsLeafThatDecides rules region header) (leaves_of tree)
 leaves_decide (End r rs) rules region most header is =
     All-cons (IsLeafThatDecides rules region header) (r, rs) [] (record {
       within = rw is.same_region (covers_reflexive region);
@@ -104,8 +124,14 @@ leaves_decide (Node bit low high) rules region most header is =
     let below = leaves_decide low (side_of rules region bit false) (half false) most header is.1 in
     let above = leaves_decide high (side_of rules region bit true) (half true) most header is.2 in
     All-append (IsLeafThatDecides rules region header) (leaves_of low) (leaves_of high)
-    (All-weaker (IsLeafThatDecides (narrow rules (half false)) (half false) header) (IsLeafThatDecides rules region header) (widened rules region (half false) header (fix_within region bit false free)) (leaves_of low) below)
-    (All-weaker (IsLeafThatDecides (narrow rules (half true)) (half true) header) (IsLeafThatDecides rules region header) (widened rules region (half true) header (fix_within region bit true free)) (leaves_of high) above)
+    (All-weaker (IsLeafThatDecides (narrow rules (half false)) (half false) header)
+    (IsLeafThatDecides rules region header)
+    (widened rules region (half false) header (fix_within region bit false free))
+    (leaves_of low) below)
+    (All-weaker (IsLeafThatDecides (narrow rules (half true)) (half true) header)
+    (IsLeafThatDecides rules region header)
+    (widened rules region (half true) header (fix_within region bit true free)) (leaves_of high)
+    above)
 
 -- ---- leaves with numbers
 
@@ -113,71 +139,114 @@ pub numbered_none : (number : ℕ) → numbered_from number [] ≡ []
 unfolding numbered_from
 numbered_none number = refl
 
-pub numbered_more : (number : ℕ) (leaf : WordValue × List Rule) (leaves : List (WordValue × List Rule)) → numbered_from number (leaf ∷ leaves) ≡ numbered (number, leaf) ∷ numbered_from (number + 1) leaves
+pub numbered_more : (number : ℕ) (leaf : WordValue × List Rule)
+    (leaves : List (WordValue × List Rule)) → numbered_from number (leaf ∷ leaves) ≡ numbered
+    (number, leaf) ∷ numbered_from (number + 1) leaves
 unfolding numbered_from
 numbered_more number leaf leaves = refl
 
-numbered_count : (number : ℕ) (leaves : List (WordValue × List Rule)) (header : Header) → count_by (is_in header) (numbered_from number leaves) ≡ leaves_at (number_of header) leaves
+numbered_count : (number : ℕ) (leaves : List (WordValue × List Rule)) (header : Header)
+    → count_by (is_in header) (numbered_from number leaves) ≡ leaves_at (number_of header) leaves
 numbered_count number [] header = ap (count_by (is_in header)) (numbered_none number)
 numbered_count number (leaf ∷ leaves) header =
     let parts = numbered_from (number + 1) leaves in
-    let more : count_by (is_in header) (numbered_from number (leaf ∷ leaves)) ≡ count_by (is_in header) (numbered (number, leaf) ∷ parts) = ap (count_by (is_in header)) (numbered_more number leaf leaves) in
-    let part : count_by (is_in header) (numbered (number, leaf) ∷ parts) ≡ cond (holds leaf.0 (number_of header)) 1 0 + count_by (is_in header) parts = sum_by-cons (λ part. cond (is_in header part) 1 0) (numbered (number, leaf)) parts in
-    let front : leaves_at (number_of header) (leaf ∷ leaves) ≡ cond (holds leaf.0 (number_of header)) 1 0 + leaves_at (number_of header) leaves = sum_by-cons (λ (leaf : WordValue × List Rule). cond (holds leaf.0 (number_of header)) 1 0) leaf leaves in
+    let more : count_by (is_in header) (numbered_from number (leaf ∷ leaves)) ≡ count_by
+    (is_in header) (numbered (number, leaf) ∷ parts) = ap (count_by (is_in header))
+    (numbered_more number leaf leaves) in
+    let part : count_by (is_in header) (numbered (number, leaf) ∷ parts) ≡ cond
+    (holds leaf.0 (number_of header)) 1 0 + count_by (is_in header) parts =
+    sum_by-cons (λ part. cond (is_in header part) 1 0) (numbered (number, leaf)) parts in
+    let front : leaves_at (number_of header) (leaf ∷ leaves) ≡ cond
+    (holds leaf.0 (number_of header)) 1 0 + leaves_at (number_of header) leaves =
+    sum_by-cons (λ (leaf : WordValue × List Rule). cond (holds leaf.0 (number_of header)) 1 0)
+    leaf leaves in
     omega (arith, more, part, front, numbered_count (number + 1) leaves header)
 
-numbered_all : (P : Partition → Type 0) (Q : WordValue × List Rule → Type 0) → ((number : ℕ) (leaf : WordValue × List Rule) → Q leaf → P (numbered (number, leaf))) → (number : ℕ) (leaves : List (WordValue × List Rule)) → All Q leaves → All P (numbered_from number leaves)
+numbered_all : (P : Partition → Type 0) (Q : WordValue × List Rule → Type 0)
+    → ((number : ℕ) (leaf : WordValue × List Rule) → Q leaf → P (numbered (number, leaf)))
+    → (number : ℕ) (leaves : List (WordValue × List Rule)) → All Q leaves
+    → All P (numbered_from number leaves)
 numbered_all P Q each number [] all = All-same P _ _ (numbered_none number) (All-nil P)
 numbered_all P Q each number (leaf ∷ leaves) all =
-    All-same P _ _ (numbered_more number leaf leaves) (All-cons P (numbered (number, leaf)) (numbered_from (number + 1) leaves) (each number leaf (All-head Q leaf leaves all)) (numbered_all P Q each (number + 1) leaves (All-tail Q leaf leaves all)))
+    All-same P _ _ (numbered_more number leaf leaves)
+    (All-cons P (numbered (number, leaf)) (numbered_from (number + 1) leaves)
+    (each number leaf (All-head Q leaf leaves all))
+    (numbered_all P Q each (number + 1) leaves (All-tail Q leaf leaves all)))
 
-pub numbered_length : (number : ℕ) (leaves : List (WordValue × List Rule)) → length (numbered_from number leaves) ≡ length leaves
+pub numbered_length : (number : ℕ) (leaves : List (WordValue × List Rule))
+    → length (numbered_from number leaves) ≡ length leaves
 unfolding numbered_from
-numbered_length number leaves = length-map (enumerate_from number leaves) numbered ∙ length-enumerate_from number leaves
+numbered_length number leaves = length-map (enumerate_from number leaves) numbered
+    ∙ length-enumerate_from number leaves
 
-pub numbered_append : (number : ℕ) (a b : List (WordValue × List Rule)) → numbered_from number (a ++ b) ≡ numbered_from number a ++ numbered_from (number + length a) b
+pub numbered_append : (number : ℕ) (a b : List (WordValue × List Rule))
+    → numbered_from number (a ++ b) ≡ numbered_from number a ++ numbered_from (number + length a) b
 numbered_append number [] b = rw numbered_none (ap (λ n. numbered_from n b) (sym (add-zero number)))
 numbered_append number (leaf ∷ a) b =
     let later : number + 1 + length a ≡ number + length (leaf ∷ a) = omega arith in
-    numbered_more number leaf (a ++ b) ∙ ap (λ ps. numbered (number, leaf) ∷ ps) (numbered_append (number + 1) a b ∙ ap (λ n. numbered_from (number + 1) a ++ numbered_from n b) later) ∙ ap (λ ps. ps ++ numbered_from (number + length (leaf ∷ a)) b) (sym (numbered_more number leaf a))
+    numbered_more number leaf (a ++ b) ∙ ap (λ ps. numbered (number, leaf) ∷ ps)
+    (numbered_append (number + 1) a b
+    ∙ ap (λ n. numbered_from (number + 1) a ++ numbered_from n b) later)
+    ∙ ap (λ ps. ps ++ numbered_from (number + length (leaf ∷ a)) b)
+    (sym (numbered_more number leaf a))
 
-numbers_at : (number : ℕ) (leaves : List (WordValue × List Rule)) (place : ℕ) (d : Partition) → place < length leaves → (get_or (numbered_from number leaves) place d).number ≡ number + place
+numbers_at : (number : ℕ) (leaves : List (WordValue × List Rule)) (place : ℕ) (d : Partition)
+    → place < length leaves → (get_or (numbered_from number leaves) place d).number ≡ number + place
 numbers_at number [] place d within = absurd (omega arith)
-numbers_at number (leaf ∷ leaves) zero d within = ap (λ ps. (get_or ps zero d).number) (numbered_more number leaf leaves) ∙ sym (add-zero number)
+numbers_at number (leaf ∷ leaves) zero d within = ap (λ ps. (get_or ps zero d).number)
+    (numbered_more number leaf leaves) ∙ sym (add-zero number)
 numbers_at number (leaf ∷ leaves) (suc place) d within =
-    ap (λ ps. (get_or ps (suc place) d).number) (numbered_more number leaf leaves) ∙ numbers_at (number + 1) leaves place d (omega arith) ∙ omega arith
+    ap (λ ps. (get_or ps (suc place) d).number) (numbered_more number leaf leaves)
+    ∙ numbers_at (number + 1) leaves place d (omega arith) ∙ omega arith
 
 -- ---- the partitions of a tree
 
-pub parts_decide : (rules : List Rule) (most : ℕ) (tree : Shape) → IsDefinedTree rules most tree → DecideAs rules (parts_of tree)
+pub parts_decide : (rules : List Rule) (most : ℕ) (tree : Shape) → IsDefinedTree rules most tree
+    → DecideAs rules (parts_of tree)
 parts_decide rules most tree is = record {
-  one = λ header. numbered_count 0 (leaves_of tree) header ∙ leaf_count_at tree rules any_word most (number_of header) is ∙ ap from_bool (any_holds (number_of header));
+  one = λ header. numbered_count 0 (leaves_of tree) header ∙ leaf_count_at tree rules any_word most
+      (number_of header) is ∙ ap from_bool (any_holds (number_of header));
   decides = λ header.
-      numbered_all (λ part. IsTrue (is_in header part) → DecidesAs rules header part) (IsLeafThatDecides rules any_word (number_of header)) (λ number leaf decides. decides.same) 0 (leaves_of tree) (leaves_decide tree rules any_word most (number_of header) is);
-  few = numbered_all (λ part. length part.rules ≤ length rules) (IsLeafThatDecides rules any_word 0) (λ number leaf decides. decides.few) 0 (leaves_of tree) (leaves_decide tree rules any_word most 0 is);
+      numbered_all (λ part. IsTrue (is_in header part) → DecidesAs rules header part)
+      (IsLeafThatDecides rules any_word (number_of header))
+      (λ number leaf decides. decides.same) 0 (leaves_of tree)
+      (leaves_decide tree rules any_word most (number_of header) is);
+  few = numbered_all (λ part. length part.rules ≤ length rules) (IsLeafThatDecides rules any_word 0)
+      (λ number leaf decides. decides.few) 0 (leaves_of tree)
+      (leaves_decide tree rules any_word most 0 is);
 }
 
 pub parts_numbered : (tree : Shape) → AreNumbered (parts_of tree)
-parts_numbered tree = λ place d within. numbers_at 0 (leaves_of tree) place d (omega (arith, within, numbered_length 0 (leaves_of tree))) ∙ omega arith
+parts_numbered tree = λ place d within. numbers_at 0 (leaves_of tree) place d
+    (omega (arith, within, numbered_length 0 (leaves_of tree))) ∙ omega arith
 
-pub parts_sound : (rows : List Row) (most : ℕ) (tree : Shape) → IsPolicy rows → IsDefinedTree (rules_of rows) most tree → AreSoundPartitions rows (parts_of tree)
+pub parts_sound : (rows : List Row) (most : ℕ) (tree : Shape) → IsPolicy rows
+    → IsDefinedTree (rules_of rows) most tree → AreSoundPartitions rows (parts_of tree)
 parts_sound rows most tree policy is =
     let decide = parts_decide (rules_of rows) most tree is in
     record {
       one = λ header good. decide.one header;
       decides = λ header good.
-          All-weaker (λ part. IsTrue (is_in header part) → DecidesAs (rules_of rows) header part) (λ part. IsTrue (is_in header part) → option_map hit_of_rule (first_rule part.rules header) ≡ Some (scan rows header)) (λ part decided here. decided here ∙ first_rule-rules_of rows header policy good) (parts_of tree) (decide.decides header);
+          All-weaker (λ part. IsTrue (is_in header part) → DecidesAs (rules_of rows) header part)
+          (λ part. IsTrue (is_in header part)
+          → option_map hit_of_rule (first_rule part.rules header) ≡ Some (scan rows header))
+          (λ part decided here. decided here ∙ first_rule-rules_of rows header policy good)
+          (parts_of tree) (decide.decides header);
       numbers = parts_numbered tree;
     }
 
 -- ---- without a tree
 
-pub partitions_decide : (rules : List Rule) (most : ℕ) → 0 < most → AreWords rules → DecideAs rules (partitions_of rules most)
-partitions_decide rules most some words = parts_decide rules most (tree_of rules most) (tree_defined rules most some words)
+pub partitions_decide : (rules : List Rule) (most : ℕ) → 0 < most → AreWords rules
+    → DecideAs rules (partitions_of rules most)
+partitions_decide rules most some words = parts_decide rules most (tree_of rules most)
+    (tree_defined rules most some words)
 
-pub partitions_sound : (rows : List Row) (most : ℕ) → 0 < most → IsPolicy rows → AreSoundPartitions rows (partitions_of (rules_of rows) most)
+pub partitions_sound : (rows : List Row) (most : ℕ) → 0 < most → IsPolicy rows
+    → AreSoundPartitions rows (partitions_of (rules_of rows) most)
 partitions_sound rows most some policy =
-    parts_sound rows most (tree_of (rules_of rows) most) policy (tree_defined (rules_of rows) most some (IsRuleList-rules_of rows policy).words)
+    parts_sound rows most (tree_of (rules_of rows) most) policy
+    (tree_defined (rules_of rows) most some (IsRuleList-rules_of rows policy).words)
 
 -- ---- the one partition of a header
 
@@ -188,86 +257,152 @@ some_number : (a b : ℕ) → Some a ≡ Some b → a ≡ b
 some_number a b e = cc
 
 -- none of these partitions has the header
-none_in : (header : Header) (parts : List Partition) → count_by (is_in header) parts ≡ 0 → All (λ part. is_in header part ≡ false) parts
+none_in : (header : Header) (parts : List Partition) → count_by (is_in header) parts ≡ 0
+    → All (λ part. is_in header part ≡ false) parts
 none_in header [] none = All-nil (λ part. is_in header part ≡ false)
 none_in header (part ∷ parts) none =
-    let front : count_by (is_in header) (part ∷ parts) ≡ cond (is_in header part) 1 0 + count_by (is_in header) parts = sum_by-cons (λ part. cond (is_in header part) 1 0) part parts in
+    let front : count_by (is_in header) (part ∷ parts) ≡ cond (is_in header part) 1 0 + count_by
+    (is_in header) parts = sum_by-cons (λ part. cond (is_in header part) 1 0) part parts in
     let rest : count_by (is_in header) parts ≡ 0 = omega (arith, front, none) in
     elim (cases_Bool (is_in header part)) [
-      | inl here ↦ let one : ◌≡◌ {A = ℕ} (cond (is_in header part) 1 0) 1 = cond-true (is_in header part) 1 0 here in absurd (omega (arith, front, none, one))
-      | inr away ↦ All-cons (λ part. is_in header part ≡ false) part parts away (none_in header parts rest)
+      | inl here ↦ let one : ◌≡◌ {A = ℕ} (cond (is_in header part) 1 0) 1 =
+          cond-true (is_in header part) 1 0 here in absurd (omega (arith, front, none, one))
+      | inr away ↦ All-cons (λ part. is_in header part ≡ false) part parts away
+          (none_in header parts rest)
     ]
 
 -- the first partition of the header is the only one
-found_alone : (header : Header) (parts : List Partition) (found : Partition) → count_by (is_in header) parts ≡ 1 → find (is_in header) parts ≡ Some found → All (λ part. IsTrue (is_in header part) → part.number ≡ found.number) parts
+found_alone : (header : Header) (parts : List Partition) (found : Partition)
+    → count_by (is_in header) parts ≡ 1 → find (is_in header) parts ≡ Some found
+    → All (λ part. IsTrue (is_in header part) → part.number ≡ found.number) parts
 found_alone header [] found one is = absurd (omega (arith, one))
 found_alone header (part ∷ parts) found one is =
     let P : Partition → Type 0 = λ part. IsTrue (is_in header part) → part.number ≡ found.number in
-    let front : count_by (is_in header) (part ∷ parts) ≡ cond (is_in header part) 1 0 + count_by (is_in header) parts = sum_by-cons (λ part. cond (is_in header part) 1 0) part parts in
+    let front : count_by (is_in header) (part ∷ parts) ≡ cond (is_in header part) 1 0 + count_by
+    (is_in header) parts = sum_by-cons (λ part. cond (is_in header part) 1 0) part parts in
     elim (cases_Bool (is_in header part)) [
       | inl here ↦
-          let once : ◌≡◌ {A = ℕ} (cond (is_in header part) 1 0) 1 = cond-true (is_in header part) 1 0 here in
+          let once : ◌≡◌ {A = ℕ} (cond (is_in header part) 1 0) 1 = cond-true (is_in header part) 1
+          0 here in
           let rest : count_by (is_in header) parts ≡ 0 = omega (arith, front, one, once) in
-          let same : part ≡ found = some_same part found (sym (cond-true _ (Some part) (find (is_in header) parts) here) ∙ is) in
+          let same : part ≡ found = some_same part found
+          (sym (cond-true _ (Some part) (find (is_in header) parts) here) ∙ is) in
           All-cons P part parts (λ _. ap (λ (p : Partition). p.number) same)
-          (All-weaker (λ part. is_in header part ≡ false) P (λ other away hit. absurd (both_ways _ away hit)) parts (none_in header parts rest))
+          (All-weaker (λ part. is_in header part ≡ false) P
+          (λ other away hit. absurd (both_ways _ away hit)) parts (none_in header parts rest))
       | inr away ↦
-          let never : ◌≡◌ {A = ℕ} (cond (is_in header part) 1 0) 0 = cond-false (is_in header part) 1 0 away in
+          let never : ◌≡◌ {A = ℕ} (cond (is_in header part) 1 0) 0 = cond-false (is_in header part)
+          1 0 away in
           let rest : count_by (is_in header) parts ≡ 1 = omega (arith, front, one, never) in
           All-cons P part parts (λ hit. absurd (both_ways _ away hit))
-          (found_alone header parts found rest (sym (cond-false _ (Some part) (find (is_in header) parts) away) ∙ is))
+          (found_alone header parts found rest
+          (sym (cond-false _ (Some part) (find (is_in header) parts) away) ∙ is))
     ]
 
-alone_by : (header : Header) (parts : List Partition) (number : ℕ) → count_by (is_in header) parts ≡ 1 → (found : Option Partition) → find (is_in header) parts ≡ found → option_map (λ (part : Partition). part.number) found ≡ Some number → All (λ part. IsTrue (is_in header part) → part.number ≡ number) parts
+alone_by : (header : Header) (parts : List Partition) (number : ℕ) → count_by (is_in header) parts
+    ≡ 1 → (found : Option Partition) → find (is_in header) parts ≡ found
+    → option_map (λ (part : Partition). part.number) found ≡ Some number
+    → All (λ part. IsTrue (is_in header part) → part.number ≡ number) parts
 alone_by header parts number one None is miss = cc
 alone_by header parts number one (Some found) is same =
-    All-weaker (λ part. IsTrue (is_in header part) → part.number ≡ found.number) (λ part. IsTrue (is_in header part) → part.number ≡ number) (λ part equal hit. equal hit ∙ some_number found.number number same) parts (found_alone header parts found one is)
+    All-weaker (λ part. IsTrue (is_in header part) → part.number ≡ found.number)
+    (λ part. IsTrue (is_in header part) → part.number ≡ number)
+    (λ part equal hit. equal hit ∙ some_number found.number number same) parts
+    (found_alone header parts found one is)
 
-pub alone : (header : Header) (parts : List Partition) (number : ℕ) → count_by (is_in header) parts ≡ 1 → option_map (λ (part : Partition). part.number) (find (is_in header) parts) ≡ Some number → All (λ part. IsTrue (is_in header part) → part.number ≡ number) parts
-alone header parts number one is = alone_by header parts number one (find (is_in header) parts) refl is
+pub alone : (header : Header) (parts : List Partition) (number : ℕ) → count_by (is_in header) parts
+    ≡ 1 → option_map (λ (part : Partition). part.number) (find (is_in header) parts) ≡ Some number
+    → All (λ part. IsTrue (is_in header part) → part.number ≡ number) parts
+alone header parts number one is = alone_by header parts number one (find (is_in header) parts) refl
+    is
 
 -- ---- partitions from one on, as a loop reads them
 
-pub part_here : (header : Header) (parts : List Partition) (index : ℕ) (part : Partition) → index < length parts → part ≡ get_or parts index part → is_in header part ≡ true → find (is_in header) (drop index parts) ≡ Some part
+pub part_here : (header : Header) (parts : List Partition) (index : ℕ) (part : Partition)
+    → index < length parts → part ≡ get_or parts index part → is_in header part ≡ true
+    → find (is_in header) (drop index parts) ≡ Some part
 part_here header parts index part within is here =
-    at_drop_more (find (is_in header)) parts index part within ∙ ap (λ p. find (is_in header) (p ∷ drop (index + 1) parts)) (sym is) ∙ cond-true _ (Some part) (find (is_in header) (drop (index + 1) parts)) here
+    at_drop_more (find (is_in header)) parts index part within
+    ∙ ap (λ p. find (is_in header) (p ∷ drop (index + 1) parts)) (sym is)
+    ∙ cond-true _ (Some part) (find (is_in header) (drop (index + 1) parts)) here
 
-pub part_away : (header : Header) (parts : List Partition) (index : ℕ) (part : Partition) → index < length parts → part ≡ get_or parts index part → is_in header part ≡ false → find (is_in header) (drop index parts) ≡ find (is_in header) (drop (index + 1) parts)
+pub part_away : (header : Header) (parts : List Partition) (index : ℕ) (part : Partition)
+    → index < length parts → part ≡ get_or parts index part → is_in header part ≡ false
+    → find (is_in header) (drop index parts) ≡ find (is_in header) (drop (index + 1) parts)
 part_away header parts index part within is away =
-    at_drop_more (find (is_in header)) parts index part within ∙ ap (λ p. find (is_in header) (p ∷ drop (index + 1) parts)) (sym is) ∙ cond-false _ (Some part) (find (is_in header) (drop (index + 1) parts)) away
+    at_drop_more (find (is_in header)) parts index part within
+    ∙ ap (λ p. find (is_in header) (p ∷ drop (index + 1) parts)) (sym is)
+    ∙ cond-false _ (Some part) (find (is_in header) (drop (index + 1) parts)) away
 
-pub count_away : (header : Header) (parts : List Partition) (index : ℕ) (part : Partition) → index < length parts → part ≡ get_or parts index part → is_in header part ≡ false → count_by (is_in header) (drop index parts) ≡ count_by (is_in header) (drop (index + 1) parts)
+pub count_away : (header : Header) (parts : List Partition) (index : ℕ) (part : Partition)
+    → index < length parts → part ≡ get_or parts index part → is_in header part ≡ false
+    → count_by (is_in header) (drop index parts) ≡ count_by (is_in header) (drop (index + 1) parts)
 count_away header parts index part within is away =
     let rest = drop (index + 1) parts in
-    let from : count_by (is_in header) (drop index parts) ≡ count_by (is_in header) (part ∷ rest) = at_drop_more (count_by (is_in header)) parts index part within ∙ ap (λ p. count_by (is_in header) (p ∷ rest)) (sym is) in
-    let front : count_by (is_in header) (part ∷ rest) ≡ cond (is_in header part) 1 0 + count_by (is_in header) rest = sum_by-cons (λ part. cond (is_in header part) 1 0) part rest in
-    let never : ◌≡◌ {A = ℕ} (cond (is_in header part) 1 0) 0 = cond-false (is_in header part) 1 0 away in
+    let from : count_by (is_in header) (drop index parts) ≡ count_by (is_in header) (part ∷ rest) =
+    at_drop_more (count_by (is_in header)) parts index part within
+    ∙ ap (λ p. count_by (is_in header) (p ∷ rest)) (sym is) in
+    let front : count_by (is_in header) (part ∷ rest) ≡ cond (is_in header part) 1 0 + count_by
+    (is_in header) rest = sum_by-cons (λ part. cond (is_in header part) 1 0) part rest in
+    let never : ◌≡◌ {A = ℕ} (cond (is_in header part) 1 0) 0 = cond-false (is_in header part) 1 0
+    away in
     omega (arith, from, front, never)
 
-pub count_end : (header : Header) (parts : List Partition) (index : ℕ) → length parts ≤ index → count_by (is_in header) (drop index parts) ≡ 0
+pub count_end : (header : Header) (parts : List Partition) (index : ℕ) → length parts ≤ index
+    → count_by (is_in header) (drop index parts) ≡ 0
 count_end header parts index past = at_drop_all (count_by (is_in header)) parts index past
 
 -- ---- partitions pushed leaf by leaf
 
-pub pushed_leaf : (old : List Partition) (tree : Shape) (number : ℕ) (region : WordValue) (rules copy : List Rule) → tree ≡ End region rules → copy ≡ rules → number ≡ length old → old ++ record { number = number; region = region; rules = copy } ∷ [] ≡ old ++ numbered_from (length old) (leaves_of tree)
+pub pushed_leaf : (old : List Partition) (tree : Shape) (number : ℕ) (region : WordValue)
+    (rules copy : List Rule) → tree ≡ End region rules → copy ≡ rules → number ≡ length old
+    → old ++ record { number = number; region = region; rules = copy } ∷ [] ≡ old ++ numbered_from
+    (length old) (leaves_of tree)
 unfolding numbered_from
 pushed_leaf old tree number region rules copy is same last = rw (is, same, last) refl
 
-pub pushed_room : (old new : List Partition) (tree low high : Shape) (bit most : ℕ) → tree ≡ Node bit low high → new ≡ old ++ numbered_from (length old) (leaves_of low) → length old + leaf_count tree < most → length new + leaf_count high < most
+pub pushed_room : (old new : List Partition) (tree low high : Shape) (bit most : ℕ)
+    → tree ≡ Node bit low high → new ≡ old ++ numbered_from (length old) (leaves_of low)
+    → length old + leaf_count tree < most → length new + leaf_count high < most
 pushed_room old new tree low high bit most is pushed room =
-    omega (arith, ap leaf_count is, length-append (leaves_of low) (leaves_of high), ap length pushed, length-append old (numbered_from (length old) (leaves_of low)), numbered_length (length old) (leaves_of low), room)
+    omega (
+      arith,
+      ap leaf_count is,
+      length-append (leaves_of low) (leaves_of high),
+      ap length pushed,
+      length-append old (numbered_from (length old) (leaves_of low)),
+      numbered_length (length old) (leaves_of low),
+      room,
+    )
 
-pub pushed_both : (old middle new : List Partition) (tree low high : Shape) (bit : ℕ) → tree ≡ Node bit low high → middle ≡ old ++ numbered_from (length old) (leaves_of low) → new ≡ middle ++ numbered_from (length middle) (leaves_of high) → new ≡ old ++ numbered_from (length old) (leaves_of tree)
+pub pushed_both : (old middle new : List Partition) (tree low high : Shape) (bit : ℕ)
+    → tree ≡ Node bit low high → middle ≡ old ++ numbered_from (length old) (leaves_of low)
+    → new ≡ middle ++ numbered_from (length middle) (leaves_of high)
+    → new ≡ old ++ numbered_from (length old) (leaves_of tree)
 pushed_both old middle new tree low high bit is first second =
     let front = numbered_from (length old) (leaves_of low) in
-    let count : length middle ≡ length old + leaf_count low = ap length first ∙ length-append old front ∙ ap (λ n. length old + n) (numbered_length (length old) (leaves_of low)) in
-    let whole : numbered_from (length old) (leaves_of tree) ≡ front ++ numbered_from (length old + leaf_count low) (leaves_of high) = ap (λ t. numbered_from (length old) (leaves_of t)) is ∙ numbered_append (length old) (leaves_of low) (leaves_of high) in
-    second ∙ ap (λ n. middle ++ numbered_from n (leaves_of high)) count ∙ ap (λ ps. ps ++ numbered_from (length old + leaf_count low) (leaves_of high)) first ∙ append_assoc old front _ ∙ ap (λ ps. old ++ ps) (sym whole)
+    let count : length middle ≡ length old + leaf_count low = ap length first
+    ∙ length-append old front
+    ∙ ap (λ n. length old + n) (numbered_length (length old) (leaves_of low)) in
+    let whole : numbered_from (length old) (leaves_of tree) ≡ front ++ numbered_from
+    (length old + leaf_count low) (leaves_of high) =
+    ap (λ t. numbered_from (length old) (leaves_of t)) is
+    ∙ numbered_append (length old) (leaves_of low) (leaves_of high) in
+    second ∙ ap (λ n. middle ++ numbered_from n (leaves_of high)) count
+    ∙ ap (λ ps. ps ++ numbered_from (length old + leaf_count low) (leaves_of high)) first
+    ∙ append_assoc old front _ ∙ ap (λ ps. old ++ ps) (sym whole)
 
 some_leaf : (tree : Shape) → 0 < leaf_count tree
 some_leaf (End region rules) = omega arith
-some_leaf (Node bit low high) = omega (arith, some_leaf low, length-append (leaves_of low) (leaves_of high))
+some_leaf (Node bit low high) =
+    omega (arith, some_leaf low, length-append (leaves_of low) (leaves_of high))
 
 -- how many leaves a cut has
-pub both_sides : (tree low high : Shape) (bit : ℕ) → tree ≡ Node bit low high → (leaf_count tree ≡ leaf_count low + leaf_count high) × (0 < leaf_count low) × (0 < leaf_count high)
-both_sides tree low high bit is = (ap leaf_count is ∙ length-append (leaves_of low) (leaves_of high), some_leaf low, some_leaf high)
+pub both_sides : (tree low high : Shape) (bit : ℕ) → tree ≡ Node bit low high
+    → (leaf_count tree ≡ leaf_count low + leaf_count high) × (0 < leaf_count low)
+    × (0 < leaf_count high)
+both_sides tree low high bit is = (
+  ap leaf_count is ∙ length-append (leaves_of low) (leaves_of high),
+  some_leaf low,
+  some_leaf high,
+)

@@ -13,8 +13,7 @@ use Rattle.cut_tree.proofs.CallerLemmas.{tree_defined}
 use Rattle.net_file.specs.Net.{IsNet}
 use Rattle.net_file.specs.declared.net.Net.{Net}
 use Rattle.placement.specs.Placement.{IsPlacement, MeetsPlacement, load_before, placement_of}
-use Rattle.placement.proofs.FirstLemmas.{first_there}
-use Rattle.placement.proofs.TurnLemmas.{placement_meets}
+use Rattle.placement.proofs.CallerLemmas.{first_there, placement_meets}
 use Rattle.ternary.specs.Word.{WordValue, any_word, fix_of}
 use Rattle.policy_rules.specs.Policy.{IsPolicy}
 use Rattle.policy_rules.specs.RuleList.{rules_of, word_total}
@@ -34,7 +33,8 @@ IsSmall most part = length part.rules ≤ most
 abbrev IsSmallLeaf : ℕ → WordValue × List Rule → Type 0
 IsSmallLeaf most leaf = length leaf.1 ≤ most
 
-small_leaves : (tree : Shape) (rules : List Rule) (region : WordValue) (most : ℕ) → IsTreeOf rules region most tree → All (IsSmallLeaf most) (leaves_of tree)
+small_leaves : (tree : Shape) (rules : List Rule) (region : WordValue) (most : ℕ)
+    → IsTreeOf rules region most tree → All (IsSmallLeaf most) (leaves_of tree)
 small_leaves (End r rs) rules region most is =
     let small : length rs ≤ most = omega (arith, is.few, ap length is.same_rules) in
     All-cons (IsSmallLeaf most) (r, rs) [] small (All-nil (IsSmallLeaf most))
@@ -43,11 +43,14 @@ small_leaves (Node bit low high) rules region most is =
     (small_leaves low (side_of rules region bit false) (fix_of region bit false) most is.1)
     (small_leaves high (side_of rules region bit true) (fix_of region bit true) most is.2)
 
-small_parts : (most number : ℕ) (leaves : List (WordValue × List Rule)) → All (IsSmallLeaf most) leaves → All (IsSmall most) (numbered_from number leaves)
-small_parts most number [] all = All-same (IsSmall most) _ _ (numbered_none number) (All-nil (IsSmall most))
+small_parts : (most number : ℕ) (leaves : List (WordValue × List Rule))
+    → All (IsSmallLeaf most) leaves → All (IsSmall most) (numbered_from number leaves)
+small_parts most number [] all = All-same (IsSmall most) _ _ (numbered_none number)
+    (All-nil (IsSmall most))
 small_parts most number (leaf ∷ leaves) all =
     All-same (IsSmall most) _ _ (numbered_more number leaf leaves)
-    (All-cons (IsSmall most) _ _ (all 0 leaf (omega arith)) (small_parts most (number + 1) leaves (λ k d within. all (suc k) d (omega arith))))
+    (All-cons (IsSmall most) _ _ (all 0 leaf (omega arith))
+    (small_parts most (number + 1) leaves (λ k d within. all (suc k) d (omega arith))))
 
 -- ---- what a plan is made of
 
@@ -58,50 +61,74 @@ record IsMadeOf (rows : List Row) (net : Net) (plan : List Placed) (tree : Shape
   pub placed : placement_of (sizes_of (parts_of tree)) (rooms_of net) net.backups ≡ Ok targets
   pub pairs : zip (parts_of tree) targets ≡ plan
 
-placed_by : (parts : List Partition) (plan : List Placed) (answer : Result (List (List ℕ)) ℕ) → result_map_both (zip parts) NoRoom answer ≡ Ok plan → (targets : List (List ℕ)) × (answer ≡ Ok targets) × (zip parts targets ≡ plan)
+placed_by : (parts : List Partition) (plan : List Placed) (answer : Result (List (List ℕ)) ℕ)
+    → result_map_both (zip parts) NoRoom answer ≡ Ok plan → (targets : List (List ℕ))
+    × (answer ≡ Ok targets) × (zip parts targets ≡ plan)
 placed_by parts plan (Ok targets) is = (targets, refl, cc)
 placed_by parts plan (Err number) is = cc
 
-made_by : (rows : List Row) (net : Net) (plan : List Placed) (tree : Shape) (many : Bool) → ltb 512 (leaf_count tree) ≡ many → cond many (Err TooManyLeaves) (placed_on net (parts_of tree)) ≡ Ok plan → IsMadeOf rows net plan tree
+made_by : (rows : List Row) (net : Net) (plan : List Placed) (tree : Shape) (many : Bool)
+    → ltb 512 (leaf_count tree) ≡ many
+    → cond many (Err TooManyLeaves) (placed_on net (parts_of tree)) ≡ Ok plan
+    → IsMadeOf rows net plan tree
 made_by rows net plan tree true test is = cc
 made_by rows net plan tree false test is =
-    let made = placed_by (parts_of tree) plan (placement_of (sizes_of (parts_of tree)) (rooms_of net) net.backups) is in
+    let made = placed_by (parts_of tree) plan
+    (placement_of (sizes_of (parts_of tree)) (rooms_of net) net.backups) is in
     record { few = grind (arith, nat_tests); targets = made.0; placed = made.1; pairs = made.2 }
 
-worded_by : (rows : List Row) (net : Net) (plan : List Placed) (tree : Shape) (many : Bool) → cond many (Err (TooManyWords (word_total rows))) (plan_of_tree net tree) ≡ Ok plan → IsMadeOf rows net plan tree
+worded_by : (rows : List Row) (net : Net) (plan : List Placed) (tree : Shape) (many : Bool)
+    → cond many (Err (TooManyWords (word_total rows))) (plan_of_tree net tree) ≡ Ok plan
+    → IsMadeOf rows net plan tree
 worded_by rows net plan tree true is = cc
-worded_by rows net plan tree false is = made_by rows net plan tree (ltb 512 (leaf_count tree)) refl is
+worded_by rows net plan tree false is = made_by rows net plan tree (ltb 512 (leaf_count tree)) refl
+    is
 
-made_of : (rows : List Row) (net : Net) (plan : List Placed) → plan_of rows net ≡ Ok plan → IsMadeOf rows net plan (tree_of (rules_of rows) net.leaf_rules)
+made_of : (rows : List Row) (net : Net) (plan : List Placed) → plan_of rows net ≡ Ok plan
+    → IsMadeOf rows net plan (tree_of (rules_of rows) net.leaf_rules)
 unfolding plan_of
-made_of rows net plan is = worded_by rows net plan (tree_of (rules_of rows) net.leaf_rules) (ltb 4096 (word_total rows)) is
+made_of rows net plan is = worded_by rows net plan (tree_of (rules_of rows) net.leaf_rules)
+    (ltb 4096 (word_total rows)) is
 
 -- ---- what holds of it
 
-placement_there : (sizes rooms : List ℕ) (backups : ℕ) (targets : List (List ℕ)) → placement_of sizes rooms backups ≡ Ok targets → IsPlacement sizes rooms backups targets
-placement_there sizes rooms backups targets is = let P : Result (List (List ℕ)) ℕ → Type 0 = MeetsPlacement sizes rooms backups in subst P is (placement_meets sizes rooms backups)
+placement_there : (sizes rooms : List ℕ) (backups : ℕ) (targets : List (List ℕ))
+    → placement_of sizes rooms backups ≡ Ok targets → IsPlacement sizes rooms backups targets
+placement_there sizes rooms backups targets is = let P : Result (List (List ℕ)) ℕ
+    → Type 0 = MeetsPlacement sizes rooms backups in subst P is
+    (placement_meets sizes rooms backups)
 
 abbrev AreThere : Net → List ℕ → Type 0
 AreThere net switches = All (λ s. s < length net.switches) switches
 
-targets_there : (net : Net) (sizes : List ℕ) (targets : List (List ℕ)) → IsPlacement sizes (rooms_of net) net.backups targets → All (AreThere net) targets
+targets_there : (net : Net) (sizes : List ℕ) (targets : List (List ℕ))
+    → IsPlacement sizes (rooms_of net) net.backups targets → All (AreThere net) targets
 targets_there net sizes targets placement =
     All-from_get_or (AreThere net) targets [] (λ i within.
     let placed = placement.placed i (omega (arith, within, placement.number)) in
     All-weaker (λ s. s < length (rooms_of net)) (λ s. s < length net.switches)
     (λ s here. omega (arith, here, length-map net.switches (λ row. row.room)))
-    _ (first_there (load_before sizes targets i) (rooms_of net) (get_or sizes i 0) (1 + net.backups) _ placed))
+    _ (first_there (load_before sizes targets i) (rooms_of net) (get_or sizes i 0) (1 + net.backups)
+    _ placed))
 
 -- pairs of these partitions with these targets are a plan
-zip_holds : (rows : List Row) (net : Net) (tree : Shape) (targets : List (List ℕ)) → IsPolicy rows → IsDefinedTree (rules_of rows) net.leaf_rules tree → leaf_count tree ≤ 512 → IsPlacement (sizes_of (parts_of tree)) (rooms_of net) net.backups targets → IsPlan rows net (zip (parts_of tree) targets)
+zip_holds : (rows : List Row) (net : Net) (tree : Shape) (targets : List (List ℕ)) → IsPolicy rows
+    → IsDefinedTree (rules_of rows) net.leaf_rules tree → leaf_count tree ≤ 512
+    → IsPlacement (sizes_of (parts_of tree)) (rooms_of net) net.backups targets
+    → IsPlan rows net (zip (parts_of tree) targets)
 zip_holds rows net tree targets policy defined few placement =
     let parts = parts_of tree in
-    let count : length targets ≡ length parts = placement.number ∙ length-map parts (λ part. length part.rules) in
+    let count : length targets ≡ length parts = placement.number
+    ∙ length-map parts (λ part. length part.rules) in
     let number : length parts ≡ leaf_count tree = numbered_length 0 (leaves_of tree) in
-    let firsts : map (λ (p : Placed). p.0) (zip parts targets) ≡ parts = firsts-zip parts targets count in
-    let seconds : map (λ (p : Placed). p.1) (zip parts targets) ≡ targets = seconds-zip parts targets count in
-    let pairs : length (zip parts targets) ≡ length parts = grind (arith, length-zip parts targets, count) in
-    let small = small_parts net.leaf_rules 0 (leaves_of tree) (small_leaves tree (rules_of rows) any_word net.leaf_rules defined) in
+    let firsts : map (λ (p : Placed). p.0) (zip parts targets) ≡ parts = firsts-zip parts targets
+    count in
+    let seconds : map (λ (p : Placed). p.1) (zip parts targets) ≡ targets = seconds-zip parts
+    targets count in
+    let pairs : length (zip parts targets) ≡ length parts =
+    grind (arith, length-zip parts targets, count) in
+    let small = small_parts net.leaf_rules 0 (leaves_of tree)
+    (small_leaves tree (rules_of rows) any_word net.leaf_rules defined) in
     let there = targets_there net (sizes_of parts) targets placement in
     record {
       sound = rw firsts (parts_sound rows net.leaf_rules tree policy defined);
@@ -116,20 +143,25 @@ zip_holds rows net tree targets policy defined few placement =
           rw (get_or-zip parts targets k d here goes) (there k d.1 goes);
     }
 
-pub plan_holds : (rows : List Row) (net : Net) (plan : List Placed) → IsPolicy rows → IsNet net → plan_of rows net ≡ Ok plan → IsPlan rows net plan
+pub plan_holds : (rows : List Row) (net : Net) (plan : List Placed) → IsPolicy rows → IsNet net
+    → plan_of rows net ≡ Ok plan → IsPlan rows net plan
 plan_holds rows net plan policy network is =
     let made = made_of rows net plan is in
     let tree = tree_of (rules_of rows) net.leaf_rules in
     let some : 0 < net.leaf_rules = omega (arith, network.some_rules) in
-    let defined = tree_defined (rules_of rows) net.leaf_rules some (IsRuleList-rules_of rows policy).words in
-    let placement = placement_there (sizes_of (parts_of tree)) (rooms_of net) net.backups made.targets made.placed in
+    let defined = tree_defined (rules_of rows) net.leaf_rules some
+    (IsRuleList-rules_of rows policy).words in
+    let placement = placement_there (sizes_of (parts_of tree)) (rooms_of net) net.backups
+    made.targets made.placed in
     let P : List Placed → Type 0 = IsPlan rows net in
     subst P made.pairs (zip_holds rows net tree made.targets policy defined made.few placement)
 
 -- ---- the way to a plan
 
-pub parts_small : (rules : List Rule) (most : ℕ) (tree : Shape) → IsDefinedTree rules most tree → All (λ part. length part.rules ≤ most) (parts_of tree)
-parts_small rules most tree is = small_parts most 0 (leaves_of tree) (small_leaves tree rules any_word most is)
+pub parts_small : (rules : List Rule) (most : ℕ) (tree : Shape) → IsDefinedTree rules most tree
+    → All (λ part. length part.rules ≤ most) (parts_of tree)
+parts_small rules most tree is = small_parts most 0 (leaves_of tree)
+    (small_leaves tree rules any_word most is)
 
 if_many : {X : Type 0} (low n : ℕ) (a b : X) → low < n → cond (ltb low n) a b ≡ a
 if_many low n a b many = grind (arith, nat_tests)
@@ -137,23 +169,38 @@ if_many low n a b many = grind (arith, nat_tests)
 if_few : {X : Type 0} (low n : ℕ) (a b : X) → n ≤ low → cond (ltb low n) a b ≡ b
 if_few low n a b few = grind (arith, nat_tests)
 
-pub no_words : (rows : List Row) (net : Net) → 4096 < word_total rows → plan_of rows net ≡ Err (TooManyWords (word_total rows))
+pub no_words : (rows : List Row) (net : Net) → 4096 < word_total rows
+    → plan_of rows net ≡ Err (TooManyWords (word_total rows))
 unfolding plan_of
 no_words rows net many = if_many 4096 (word_total rows) _ _ many
 
-worded : (rows : List Row) (net : Net) → word_total rows ≤ 4096 → plan_of rows net ≡ plan_of_tree net (tree_of (rules_of rows) net.leaf_rules)
+worded : (rows : List Row) (net : Net) → word_total rows ≤ 4096
+    → plan_of rows net ≡ plan_of_tree net (tree_of (rules_of rows) net.leaf_rules)
 unfolding plan_of
 worded rows net few = if_few 4096 (word_total rows) _ _ few
 
-pub no_leaves : (rows : List Row) (net : Net) → word_total rows ≤ 4096 → 512 < leaf_count (tree_of (rules_of rows) net.leaf_rules) → plan_of rows net ≡ Err TooManyLeaves
-no_leaves rows net few many = worded rows net few ∙ if_many 512 (leaf_count (tree_of (rules_of rows) net.leaf_rules)) _ _ many
+pub no_leaves : (rows : List Row) (net : Net) → word_total rows ≤ 4096
+    → 512 < leaf_count (tree_of (rules_of rows) net.leaf_rules)
+    → plan_of rows net ≡ Err TooManyLeaves
+no_leaves rows net few many = worded rows net few
+    ∙ if_many 512 (leaf_count (tree_of (rules_of rows) net.leaf_rules)) _ _ many
 
-pub placed_plan : (rows : List Row) (net : Net) (tree : Shape) → word_total rows ≤ 4096 → tree ≡ tree_of (rules_of rows) net.leaf_rules → leaf_count tree ≤ 512 → plan_of rows net ≡ placed_on net (parts_of tree)
+pub placed_plan : (rows : List Row) (net : Net) (tree : Shape) → word_total rows ≤ 4096
+    → tree ≡ tree_of (rules_of rows) net.leaf_rules → leaf_count tree ≤ 512
+    → plan_of rows net ≡ placed_on net (parts_of tree)
 placed_plan rows net tree few is small =
     worded rows net few ∙ sym (ap (plan_of_tree net) is) ∙ if_few 512 (leaf_count tree) _ _ small
 
-pub no_room : (rows : List Row) (net : Net) (tree : Shape) (number : ℕ) → word_total rows ≤ 4096 → tree ≡ tree_of (rules_of rows) net.leaf_rules → leaf_count tree ≤ 512 → placement_of (sizes_of (parts_of tree)) (rooms_of net) net.backups ≡ Err number → plan_of rows net ≡ Err (NoRoom number)
-no_room rows net tree number few is small none = placed_plan rows net tree few is small ∙ ap (result_map_both (zip (parts_of tree)) NoRoom) none
+pub no_room : (rows : List Row) (net : Net) (tree : Shape) (number : ℕ) → word_total rows ≤ 4096
+    → tree ≡ tree_of (rules_of rows) net.leaf_rules → leaf_count tree ≤ 512
+    → placement_of (sizes_of (parts_of tree)) (rooms_of net) net.backups ≡ Err number
+    → plan_of rows net ≡ Err (NoRoom number)
+no_room rows net tree number few is small none = placed_plan rows net tree few is small
+    ∙ ap (result_map_both (zip (parts_of tree)) NoRoom) none
 
-pub planned : (rows : List Row) (net : Net) (tree : Shape) (targets : List (List ℕ)) → word_total rows ≤ 4096 → tree ≡ tree_of (rules_of rows) net.leaf_rules → leaf_count tree ≤ 512 → placement_of (sizes_of (parts_of tree)) (rooms_of net) net.backups ≡ Ok targets → plan_of rows net ≡ Ok (zip (parts_of tree) targets)
-planned rows net tree targets few is small placed = placed_plan rows net tree few is small ∙ ap (result_map_both (zip (parts_of tree)) NoRoom) placed
+pub planned : (rows : List Row) (net : Net) (tree : Shape) (targets : List (List ℕ))
+    → word_total rows ≤ 4096 → tree ≡ tree_of (rules_of rows) net.leaf_rules → leaf_count tree ≤ 512
+    → placement_of (sizes_of (parts_of tree)) (rooms_of net) net.backups ≡ Ok targets
+    → plan_of rows net ≡ Ok (zip (parts_of tree) targets)
+planned rows net tree targets few is small placed = placed_plan rows net tree few is small
+    ∙ ap (result_map_both (zip (parts_of tree)) NoRoom) placed

@@ -9,16 +9,13 @@ use Rattle.cut_tree.specs.Shape.{Shape, leaf_count}
 use Rattle.net_file.specs.Net.{IsNet}
 use Rattle.net_file.specs.declared.net.Net.{Net}
 use Rattle.placement.specs.Placement.{IsPlacement, placement_of}
+pub use Rattle.policy_rules.specs.Partitions.{Placed}
 use Rattle.policy_rules.specs.Partitions.{AreSoundPartitions}
 use Rattle.policy_rules.specs.Policy.{IsPolicy}
 use Rattle.policy_rules.specs.RuleList.{rules_of, word_total}
 use Rattle.policy_rules.specs.declared.policy.Row.{Row}
 use Rattle.policy_rules.specs.declared.rules.Partition.{Partition}
 use Rattle.partition.specs.Parts.{parts_of}
-
--- a partition with its targets
-abbrev pub Placed : Type 0
-Placed = Partition × List ℕ
 
 -- why a policy has no plan on a network
 pub data NoPlan : Type 0 where

@@ -1,4 +1,5 @@
--- The first of the switches that have room: what a rising list gives, and that one list alone is the first.
+-- The first of the switches that have room: what a rising list gives, and that one list alone is
+-- the first.
 use Rattle.std.proofs.Common.{ℕ, zero, suc, ◌≡◌, ◌≢◌, ◌∙◌, ◌+◌, ◌^◌, ◌<◌, ◌≤◌, Bool, true, false, cond, eqb, ltb, leb, not, ◌&&◌, List, [], ◌∷◌, length, filter, take, get_or, refl, ap, sym, subst, inl, inr, arith, All, AllPairs, length-take}
 use Rattle.std.specs.List.{AllByRecursion, list_any, range_with_len}
 use Rattle.std.proofs.lemmas.Bool.{cases_Bool, cases_eq, cases_lt, eq-eqb, ne_eqb, leb-true, false≢true, true≢false, or_parts, not-true, not_from_false, and_from, and_parts}
@@ -29,58 +30,93 @@ lighter_order load = record {
 
 -- ---- the front of a rising list
 
-each-take : (P : ℕ → Type 0) (n : ℕ) (xs : List ℕ) → AllByRecursion P xs → AllByRecursion P (take n xs)
+each-take : (P : ℕ → Type 0) (n : ℕ) (xs : List ℕ) → AllByRecursion P xs
+    → AllByRecursion P (take n xs)
 each-take P zero xs each = tt
 each-take P (suc n) [] each = tt
 each-take P (suc n) (x ∷ xs) each = (each.0, each-take P n xs each.1)
 
-rises-take : (before : ℕ → ℕ → Bool) (n : ℕ) (xs : List ℕ) → Rises before xs → Rises before (take n xs)
+rises-take : (before : ℕ → ℕ → Bool) (n : ℕ) (xs : List ℕ) → Rises before xs
+    → Rises before (take n xs)
 rises-take before zero xs rises = tt
 rises-take before (suc n) [] rises = tt
-rises-take before (suc n) (x ∷ xs) rises = (each-take (λ y. before x y ≡ true) n xs rises.0, rises-take before n xs rises.1)
+rises-take before (suc n) (x ∷ xs) rises =
+    (each-take (λ y. before x y ≡ true) n xs rises.0, rises-take before n xs rises.1)
 
 -- what is in the list and not at its front comes after each of the front
-after-take : (before : ℕ → ℕ → Bool) (n : ℕ) (xs : List ℕ) (z : ℕ) → Rises before xs → 0 < count z xs → list_any (eqb z) (take n xs) ≡ false → AllByRecursion (λ x. before x z ≡ true) (take n xs)
+after-take : (before : ℕ → ℕ → Bool) (n : ℕ) (xs : List ℕ) (z : ℕ) → Rises before xs
+    → 0 < count z xs → list_any (eqb z) (take n xs) ≡ false
+    → AllByRecursion (λ x. before x z ≡ true) (take n xs)
 after-take before zero xs z rises there none = tt
 after-take before (suc n) [] z rises there none = tt
 after-take before (suc n) (x ∷ xs) z rises there none =
     let parts = or_parts (eqb z x) (list_any (eqb z) (take n xs)) none in
     let other : z ≢ x = λ same. absurd (true≢false (sym (eq-eqb z x same) ∙ parts.0)) in
-    let later : 0 < count z xs = omega (arith, sum_by-cons (one_of z) x xs, one_of-other z x other) in
-    (each_from_count (λ y. before x y ≡ true) z xs rises.0 later, after-take before n xs z rises.1 later parts.1)
+    let later : 0 < count z xs = omega (arith, sum_by-cons (one_of z) x xs, one_of-other z x other)
+    in (
+      each_from_count (λ y. before x y ≡ true) z xs rises.0 later,
+      after-take before n xs z rises.1
+          later parts.1,
+    )
 
-has_room-within : (load : ℕ → ℕ) (rooms : List ℕ) (size s : ℕ) → has_room load rooms size s ≡ true → s < length rooms
+has_room-within : (load : ℕ → ℕ) (rooms : List ℕ) (size s : ℕ) → has_room load rooms size s ≡ true
+    → s < length rooms
 unfolding has_room
 has_room-within load rooms size s room = grind (arith, nat_tests)
 
 -- a switch is listed once if it has room, and else not at all
-pub count-with_room : (load : ℕ → ℕ) (rooms : List ℕ) (size s : ℕ) → count s (with_room load rooms size) ≡ cond (has_room load rooms size s) 1 0
-count-with_room load rooms size s = by_case (has_room load rooms size s) refl (count-filter (has_room load rooms size) s (range_with_len 0 (length rooms)))
+pub count-with_room : (load : ℕ → ℕ) (rooms : List ℕ) (size s : ℕ)
+    → count s (with_room load rooms size) ≡ cond (has_room load rooms size s) 1 0
+count-with_room load rooms size s = by_case (has_room load rooms size s) refl
+    (count-filter (has_room load rooms size) s (range_with_len 0 (length rooms)))
   where
-    by_case : (b : Bool) → has_room load rooms size s ≡ b → count s (with_room load rooms size) ≡ cond b (count s (range_with_len 0 (length rooms))) 0 → count s (with_room load rooms size) ≡ cond b 1 0
-    by_case true is counts = omega (arith, counts, count-range-le s 0 (length rooms), count-range_within s (length rooms) (has_room-within load rooms size s is))
+    by_case : (b : Bool) → has_room load rooms size s ≡ b → count s (with_room load rooms size)
+        ≡ cond b (count s (range_with_len 0 (length rooms))) 0 → count s (with_room load rooms size)
+        ≡ cond b 1 0
+    by_case true is counts =
+        omega (
+          arith,
+          counts,
+          count-range-le s 0 (length rooms),
+          count-range_within s (length rooms)
+              (has_room-within load rooms size s is),
+        )
     by_case false is counts = counts
 
-pub count-with_room-le : (load : ℕ → ℕ) (rooms : List ℕ) (size s : ℕ) → count s (with_room load rooms size) ≤ 1
+pub count-with_room-le : (load : ℕ → ℕ) (rooms : List ℕ) (size s : ℕ)
+    → count s (with_room load rooms size) ≤ 1
 count-with_room-le load rooms size s = grind (arith, count-with_room load rooms size s)
 
 -- a list that rises, of the switches that have room: its front is the first of them
-pub front_is_first : (load : ℕ → ℕ) (rooms : List ℕ) (size n : ℕ) (xs : List ℕ) → Rises (is_lighter load) xs → ((s : ℕ) → count s xs ≡ count s (with_room load rooms size)) → n ≤ length xs → AreFirst load rooms size n (take n xs)
+pub front_is_first : (load : ℕ → ℕ) (rooms : List ℕ) (size n : ℕ) (xs : List ℕ)
+    → Rises (is_lighter load) xs → ((s : ℕ) → count s xs ≡ count s (with_room load rooms size))
+    → n ≤ length xs → AreFirst load rooms size n (take n xs)
 front_is_first load rooms size n xs rises counts enough =
-    let fits : (s : ℕ) → 0 < count s xs → has_room load rooms size s ≡ true = λ s there. grind (arith, counts s, count-with_room load rooms size s) in
+    let fits : (s : ℕ) → 0 < count s xs → has_room load rooms size s ≡ true = λ s there.
+    grind (arith, counts s, count-with_room load rooms size s) in
     record {
       number = omega (arith, length-take n xs);
-      fit = All-from_recursion (λ s. has_room load rooms size s ≡ true) (take n xs) (each-take (λ s. has_room load rooms size s ≡ true) n xs (each_by_count (λ s. has_room load rooms size s ≡ true) xs fits));
-      rising = pairs_from_rises (is_lighter load) (take n xs) (rises-take (is_lighter load) n xs rises);
+      fit = All-from_recursion (λ s. has_room load rooms size s ≡ true) (take n xs)
+          (each-take (λ s. has_room load rooms size s ≡ true) n xs
+          (each_by_count (λ s. has_room load rooms size s ≡ true) xs fits));
+      rising = pairs_from_rises (is_lighter load) (take n xs)
+          (rises-take (is_lighter load) n xs rises);
       least = λ other room none.
-          let there : 0 < count other xs = grind (arith, counts other, count-with_room load rooms size other) in
-          All-from_recursion (λ s. is_lighter load s other ≡ true) (take n xs) (after-take (is_lighter load) n xs other rises there none);
+          let there : 0 < count other xs =
+          grind (arith, counts other, count-with_room load rooms size other) in
+          All-from_recursion (λ s. is_lighter load s other ≡ true) (take n xs)
+          (after-take (is_lighter load) n xs other rises there none);
     }
 
 -- so is the front of the switches that have room, in order
-pub first_in_order : (load : ℕ → ℕ) (rooms : List ℕ) (size n : ℕ) → n ≤ length (in_order (is_lighter load) (with_room load rooms size)) → AreFirst load rooms size n (take n (in_order (is_lighter load) (with_room load rooms size)))
+pub first_in_order : (load : ℕ → ℕ) (rooms : List ℕ) (size n : ℕ)
+    → n ≤ length (in_order (is_lighter load) (with_room load rooms size))
+    → AreFirst load rooms size n (take n (in_order (is_lighter load) (with_room load rooms size)))
 first_in_order load rooms size n enough =
-    front_is_first load rooms size n _ (rises-in_order (is_lighter load) (lighter_order load) (with_room load rooms size) (count-with_room-le load rooms size)) (λ s. sum-in_order (one_of s) (is_lighter load) (with_room load rooms size)) enough
+    front_is_first load rooms size n _
+    (rises-in_order (is_lighter load) (lighter_order load) (with_room load rooms size)
+    (count-with_room-le load rooms size))
+    (λ s. sum-in_order (one_of s) (is_lighter load) (with_room load rooms size)) enough
 
 -- ---- one list alone is the first
 
@@ -88,9 +124,11 @@ first_in_order load rooms size n enough =
 record IsFront (before : ℕ → ℕ → Bool) (passes : ℕ → Bool) (xs : List ℕ) : Type 0 where
   each : AllByRecursion (λ x. passes x ≡ true) xs
   rises : Rises before xs
-  least : (z : ℕ) → passes z ≡ true → list_any (eqb z) xs ≡ false → AllByRecursion (λ x. before x z ≡ true) xs
+  least : (z : ℕ) → passes z ≡ true → list_any (eqb z) xs ≡ false
+      → AllByRecursion (λ x. before x z ≡ true) xs
 
-each_from_among : (P : ℕ → Type 0) (z : ℕ) (xs : List ℕ) → AllByRecursion P xs → list_any (eqb z) xs ≡ true → P z
+each_from_among : (P : ℕ → Type 0) (z : ℕ) (xs : List ℕ) → AllByRecursion P xs
+    → list_any (eqb z) xs ≡ true → P z
 each_from_among P z [] each among = absurd (false≢true among)
 each_from_among P z (x ∷ xs) each among =
     elim (cases_eq z x) [
@@ -99,7 +137,8 @@ each_from_among P z (x ∷ xs) each among =
     ]
 
 -- the head of the one front is the head of the other, or comes after it
-after_head : (before : ℕ → ℕ → Bool) (passes : ℕ → Bool) (x y : ℕ) (xs ys : List ℕ) → IsFront before passes (x ∷ xs) → IsFront before passes (y ∷ ys) → x ≢ y → before y x ≡ true
+after_head : (before : ℕ → ℕ → Bool) (passes : ℕ → Bool) (x y : ℕ) (xs ys : List ℕ)
+    → IsFront before passes (x ∷ xs) → IsFront before passes (y ∷ ys) → x ≢ y → before y x ≡ true
 after_head before passes x y xs ys p q other =
     elim (cases_Bool (list_any (eqb x) ys)) [
       | inl among ↦ each_from_among (λ z. before y z ≡ true) x ys q.rises.0 among
@@ -107,7 +146,8 @@ after_head before passes x y xs ys p q other =
     ]
 
 -- without its head a front is one of the numbers that pass and are not the head
-front-tail : (before : ℕ → ℕ → Bool) (passes : ℕ → Bool) (x : ℕ) (xs : List ℕ) → IsOrder before → IsFront before passes (x ∷ xs) → IsFront before (λ z. passes z && not (eqb z x)) xs
+front-tail : (before : ℕ → ℕ → Bool) (passes : ℕ → Bool) (x : ℕ) (xs : List ℕ) → IsOrder before
+    → IsFront before passes (x ∷ xs) → IsFront before (λ z. passes z && not (eqb z x)) xs
 front-tail before passes x xs order front = record {
   each = both xs front.each.1 front.rises.0;
   rises = front.rises.1;
@@ -116,13 +156,19 @@ front-tail before passes x xs order front = record {
       (front.least z parts.0 (rw (not-true (eqb z x) parts.1) none)).1;
 }
   where
-    both : (ys : List ℕ) → AllByRecursion (λ y. passes y ≡ true) ys → AllByRecursion (λ y. before x y ≡ true) ys → AllByRecursion (λ y. (passes y && not (eqb y x)) ≡ true) ys
+    both : (ys : List ℕ) → AllByRecursion (λ y. passes y ≡ true) ys
+        → AllByRecursion (λ y. before x y ≡ true) ys
+        → AllByRecursion (λ y. (passes y && not (eqb y x)) ≡ true) ys
     both [] each after = tt
     both (y ∷ ys) each after =
-        let other : y ≢ x = λ same. false≢true (sym (order.never x) ∙ subst (λ z. before x z ≡ true) same after.0) in
-        (and_from (passes y) (not (eqb y x)) each.0 (not_from_false (eqb y x) (ne_eqb y x other)), both ys each.1 after.1)
+        let other : y ≢ x = λ same.
+        false≢true (sym (order.never x) ∙ subst (λ z. before x z ≡ true) same after.0) in (
+          and_from (passes y) (not (eqb y x)) each.0 (not_from_false (eqb y x) (ne_eqb y x other)),
+          both ys each.1 after.1,
+        )
 
-same_front : (before : ℕ → ℕ → Bool) → IsOrder before → (passes : ℕ → Bool) (xs ys : List ℕ) → length xs ≡ length ys → IsFront before passes xs → IsFront before passes ys → xs ≡ ys
+same_front : (before : ℕ → ℕ → Bool) → IsOrder before → (passes : ℕ → Bool) (xs ys : List ℕ)
+    → length xs ≡ length ys → IsFront before passes xs → IsFront before passes ys → xs ≡ ys
 same_front before order passes [] [] len p q = refl
 same_front before order passes [] (y ∷ ys) len p q = absurd (omega arith)
 same_front before order passes (x ∷ xs) [] len p q = absurd (omega arith)
@@ -130,34 +176,55 @@ same_front before order passes (x ∷ xs) (y ∷ ys) len p q =
     elim (cases_eq x y) [
       | inl same ↦
           let q' = subst (λ z. IsFront before passes (z ∷ ys)) (sym same) q in
-          let tails = same_front before order (λ z. passes z && not (eqb z x)) xs ys (omega arith) (front-tail before passes x xs order p) (front-tail before passes x ys order q') in
+          let tails = same_front before order (λ z. passes z && not (eqb z x)) xs ys (omega arith)
+          (front-tail before passes x xs order p) (front-tail before passes x ys order q') in
           cc
       | inr other ↦
           let flipped : y ≢ x = λ same. other (sym same) in
-          absurd (false≢true (sym (order.never x) ∙ order.trans x y x (after_head before passes y x ys xs q p flipped) (after_head before passes x y xs ys p q other)))
+          absurd (false≢true (sym (order.never x)
+          ∙ order.trans x y x (after_head before passes y x ys xs q p flipped)
+          (after_head before passes x y xs ys p q other)))
     ]
 
-front_of : (load : ℕ → ℕ) (rooms : List ℕ) (size n : ℕ) (xs : List ℕ) → AreFirst load rooms size n xs → IsFront (is_lighter load) (has_room load rooms size) xs
+front_of : (load : ℕ → ℕ) (rooms : List ℕ) (size n : ℕ) (xs : List ℕ)
+    → AreFirst load rooms size n xs → IsFront (is_lighter load) (has_room load rooms size) xs
 front_of load rooms size n xs first = record {
   each = recursion_from_All (λ s. has_room load rooms size s ≡ true) xs first.fit;
   rises = rises_from_pairs (is_lighter load) xs first.rising;
-  least = λ z room none. recursion_from_All (λ s. is_lighter load s z ≡ true) xs (first.least z room none);
+  least = λ z room none. recursion_from_All (λ s. is_lighter load s z ≡ true) xs
+      (first.least z room none);
 }
 
-pub same_first : (load : ℕ → ℕ) (rooms : List ℕ) (size n : ℕ) (xs ys : List ℕ) → AreFirst load rooms size n xs → AreFirst load rooms size n ys → xs ≡ ys
+pub same_first : (load : ℕ → ℕ) (rooms : List ℕ) (size n : ℕ) (xs ys : List ℕ)
+    → AreFirst load rooms size n xs → AreFirst load rooms size n ys → xs ≡ ys
 same_first load rooms size n xs ys p q =
-    same_front (is_lighter load) (lighter_order load) (has_room load rooms size) xs ys (p.number ∙ sym q.number) (front_of load rooms size n xs p) (front_of load rooms size n ys q)
+    same_front (is_lighter load) (lighter_order load) (has_room load rooms size) xs ys
+    (p.number ∙ sym q.number) (front_of load rooms size n xs p)
+    (front_of load rooms size n ys q)
 
-count-rises : (before : ℕ → ℕ → Bool) → IsOrder before → (xs : List ℕ) → Rises before xs → (z : ℕ) → count z xs ≤ 1
+count-rises : (before : ℕ → ℕ → Bool) → IsOrder before → (xs : List ℕ) → Rises before xs → (z : ℕ)
+    → count z xs ≤ 1
 count-rises before order [] rises z = omega arith
 count-rises before order (x ∷ xs) rises z =
     elim (cases_eq z x) [
       | inl same ↦
           elim (cases_lt 0 (count z xs)) [
-            | inl again ↦ absurd (false≢true (sym (order.never x) ∙ subst (λ y. before x y ≡ true) same (each_from_count (λ y. before x y ≡ true) z xs rises.0 again)))
-            | inr none ↦ omega (arith, sum_by-cons (one_of z) x xs, one_of-same x, ap (λ y. one_of y x) same)
+            | inl again ↦ absurd (false≢true
+                (sym (order.never x) ∙ subst (λ y. before x y ≡ true) same
+                (each_from_count (λ y. before x y ≡ true) z xs rises.0 again)))
+            | inr none ↦ omega (
+              arith,
+              sum_by-cons (one_of z) x xs,
+              one_of-same x,
+              ap (λ y. one_of y x) same,
+            )
           ]
-      | inr other ↦ omega (arith, sum_by-cons (one_of z) x xs, one_of-other z x other, count-rises before order xs rises.1 z)
+      | inr other ↦ omega (
+        arith,
+        sum_by-cons (one_of z) x xs,
+        one_of-other z x other,
+        count-rises before order xs rises.1 z,
+      )
     ]
 
 -- all numbers of a list but this one
@@ -168,7 +235,9 @@ length-without : (x : ℕ) (ys : List ℕ) → length (without x ys) + count x y
 length-without x [] = refl
 length-without x (y ∷ ys) = by_case (eqb x y) refl (length-without x ys)
   where
-    by_case : (b : Bool) → eqb x y ≡ b → length (without x ys) + count x ys ≡ length ys → length (cond (not b) (y ∷ without x ys) (without x ys)) + count x (y ∷ ys) ≡ suc (length ys)
+    by_case : (b : Bool) → eqb x y ≡ b → length (without x ys) + count x ys ≡ length ys
+        → length (cond (not b) (y ∷ without x ys) (without x ys)) + count x (y ∷ ys) ≡ suc
+        (length ys)
     by_case true is rest =
         let one : one_of x y ≡ 1 = rw is refl in
         omega (arith, sum_by-cons (one_of x) y ys, one, rest)
@@ -176,29 +245,47 @@ length-without x (y ∷ ys) = by_case (eqb x y) refl (length-without x ys)
         let none : one_of x y ≡ 0 = rw is refl in
         omega (arith, sum_by-cons (one_of x) y ys, none, rest)
 
-length_by_count : (xs ys : List ℕ) → ((z : ℕ) → count z xs ≤ 1) → ((z : ℕ) → count z xs ≤ count z ys) → length xs ≤ length ys
+length_by_count : (xs ys : List ℕ) → ((z : ℕ) → count z xs ≤ 1)
+    → ((z : ℕ) → count z xs ≤ count z ys) → length xs ≤ length ys
 length_by_count [] ys once there = omega arith
 length_by_count (x ∷ xs) ys once there =
     let fewer : (z : ℕ) → count z xs ≤ count z (without x ys) = λ z.
     elim (cases_eq x z) [
-      | inl same ↦ omega (arith, once z, sum_by-cons (one_of z) x xs, one_of-same x, ap (λ y. one_of y x) same)
+      | inl same ↦ omega (
+        arith,
+        once z,
+        sum_by-cons (one_of z) x xs,
+        one_of-same x,
+        ap (λ y. one_of y x) same,
+      )
       | inr other ↦
           let kept = count-filter (λ y. not (eqb x y)) z ys in
           let passes : not (eqb x z) ≡ true = not_from_false (eqb x z) (ne_eqb x z other) in
-          let same : count z (without x ys) ≡ count z ys = kept ∙ ap (λ b. cond b (count z ys) 0) passes in
+          let same : count z (without x ys) ≡ count z ys = kept
+          ∙ ap (λ b. cond b (count z ys) 0) passes in
           omega (arith, same, there z, sum_by-cons (one_of z) x xs)
     ] in
-    omega (arith, length_by_count xs (without x ys) (λ z. omega (arith, once z, sum_by-cons (one_of z) x xs)) fewer, length-without x ys, there x, sum_by-cons (one_of x) x xs, one_of-same x)
+    omega (
+      arith,
+      length_by_count xs (without x ys)
+          (λ z. omega (arith, once z, sum_by-cons (one_of z) x xs)) fewer,
+      length-without x ys,
+      there x,
+      sum_by-cons (one_of x) x xs,
+      one_of-same x,
+    )
 
 -- as many switches have room
-pub room_for_first : (load : ℕ → ℕ) (rooms : List ℕ) (size n : ℕ) (xs : List ℕ) → AreFirst load rooms size n xs → n ≤ length (with_room load rooms size)
+pub room_for_first : (load : ℕ → ℕ) (rooms : List ℕ) (size n : ℕ) (xs : List ℕ)
+    → AreFirst load rooms size n xs → n ≤ length (with_room load rooms size)
 room_for_first load rooms size n xs first =
     let rises = rises_from_pairs (is_lighter load) xs first.rising in
     let once = count-rises (is_lighter load) (lighter_order load) xs rises in
     let there : (s : ℕ) → count s xs ≤ count s (with_room load rooms size) = λ s.
     elim (cases_lt 0 (count s xs)) [
       | inl some ↦
-          let room = each_from_count (λ t. has_room load rooms size t ≡ true) s xs (recursion_from_All (λ t. has_room load rooms size t ≡ true) xs first.fit) some in
+          let room = each_from_count (λ t. has_room load rooms size t ≡ true) s xs
+          (recursion_from_All (λ t. has_room load rooms size t ≡ true) xs first.fit) some in
           grind (arith, once s, count-with_room load rooms size s)
       | inr none ↦ omega arith
     ] in
@@ -206,16 +293,24 @@ room_for_first load rooms size n xs first =
 
 -- ---- what the first switches are
 
-pub first_there : (load : ℕ → ℕ) (rooms : List ℕ) (size n : ℕ) (xs : List ℕ) → AreFirst load rooms size n xs → All (λ s. s < length rooms) xs
-first_there load rooms size n xs first = λ k d within. has_room-within load rooms size _ (first.fit k d within)
+pub first_there : (load : ℕ → ℕ) (rooms : List ℕ) (size n : ℕ) (xs : List ℕ)
+    → AreFirst load rooms size n xs → All (λ s. s < length rooms) xs
+first_there load rooms size n xs first = λ k d within. has_room-within load rooms size _
+    (first.fit k d within)
 
-pub first_fits : (load : ℕ → ℕ) (rooms : List ℕ) (size n : ℕ) (xs : List ℕ) → AreFirst load rooms size n xs → ((i : ℕ) → get_or rooms i 0 < 2 ^ 32) → All (λ s. load s + size < 2 ^ 32) xs
+pub first_fits : (load : ℕ → ℕ) (rooms : List ℕ) (size n : ℕ) (xs : List ℕ)
+    → AreFirst load rooms size n xs → ((i : ℕ) → get_or rooms i 0 < 2 ^ 32)
+    → All (λ s. load s + size < 2 ^ 32) xs
 unfolding has_room
 first_fits load rooms size n xs first small = λ k d within.
     let s = get_or xs k d in
-    let parts = and_parts (ltb s (length rooms)) (leb (load s + size) (get_or rooms s 0)) (first.fit k d within) in
+    let parts = and_parts (ltb s (length rooms)) (leb (load s + size) (get_or rooms s 0))
+    (first.fit k d within) in
     omega (arith, leb-true (load s + size) (get_or rooms s 0) parts.1, small s)
 
-pub first_distinct : (load : ℕ → ℕ) (rooms : List ℕ) (size n : ℕ) (xs : List ℕ) → AreFirst load rooms size n xs → AllPairs (λ a b. a ≡ b → ⊥) xs
+pub first_distinct : (load : ℕ → ℕ) (rooms : List ℕ) (size n : ℕ) (xs : List ℕ)
+    → AreFirst load rooms size n xs → AllPairs (λ a b. a ≡ b → ⊥) xs
 first_distinct load rooms size n xs first = λ i j d less within same.
-    false≢true (sym ((lighter_order load).never (get_or xs i d)) ∙ subst (λ z. is_lighter load (get_or xs i d) z ≡ true) (sym same) (first.rising i j d less within))
+    false≢true (sym ((lighter_order load).never (get_or xs i d))
+    ∙ subst (λ z. is_lighter load (get_or xs i d) z ≡ true) (sym same)
+    (first.rising i j d less within))

@@ -1,3 +1,4 @@
-pub mod OrderLemmas
-pub mod FirstLemmas
-pub mod TurnLemmas
+mod OrderLemmas
+mod FirstLemmas
+mod TurnLemmas
+pub mod CallerLemmas

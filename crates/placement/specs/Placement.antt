@@ -1,6 +1,7 @@
--- Placement of partitions on authority switches of limited room (the switches that keep a partition's rules: Yu, Rexford,
--- Freedman and Wang, "Scalable Flow-Based Networking with DIFANE", SIGCOMM 2010; the rule of least load is this
--- project's own). A placement gives each partition, by its number, the list of its targets.
+-- Placement of partitions on authority switches of limited room (the switches that keep a
+-- partition's rules: Yu, Rexford, Freedman and Wang, "Scalable Flow-Based Networking with DIFANE",
+-- SIGCOMM 2010; the rule of least load is this project's own). A placement gives each partition, by
+-- its number, the list of its targets.
 use Rattle.std.specs.Prelude.{⊤, ℕ, ◌≡◌, ◌+◌, ◌<◌, Bool, ◌&&◌, ◌||◌, ◌==◌, nat_lt, nat_le, nat_eq, if◌then◌else◌, Result, Ok, Err, MatchResult, List, [], ◌∷◌, length, take, filter, sum_by, slice_index, slice_index_or, slice_set, replicate, All, AllPairs, IsTrue, IsFalse}
 use Rattle.std.specs.List.{list_any, range_with_len}
 use Rattle.placement.specs.Order.{in_order}
@@ -21,7 +22,8 @@ targets_of placement partition = slice_index_or placement partition []
 abbrev pub is_target : List (List ℕ) → ℕ → ℕ → Bool
 is_target placement partition switch = list_any (nat_eq switch) (targets_of placement partition)
 
--- the load of a switch before a partition: the sum of the sizes of the earlier partitions whose targets contain it
+-- the load of a switch before a partition: the sum of the sizes of the earlier partitions whose
+-- targets contain it
 unfoldable pub load_before : List ℕ → List (List ℕ) → ℕ → ℕ → ℕ
 load_before sizes placement partition switch =
     let held = λ (other : ℕ).
@@ -89,7 +91,8 @@ placed_from sizes rooms backups placement (partition ∷ later) =
     then Err partition
     else placed_from sizes rooms backups (slice_set placement partition chosen) later
 
--- the placement of partitions of these sizes on switches of these rooms, or the first partition that finds too few
+-- the placement of partitions of these sizes on switches of these rooms, or the first partition
+-- that finds too few
 unfoldable pub placement_of : List ℕ → List ℕ → ℕ → Result (List (List ℕ)) ℕ
 placement_of sizes rooms backups =
     let turns = in_order (is_earlier sizes) (range_with_len 0 (length sizes)) in

@@ -1,8 +1,10 @@
-//! Placement of partitions on authority switches: each goes to the switches of least load that have room for it.
+//! Placement of partitions on authority switches: each goes to the switches of least load that have
+//! room for it.
 //!
-//! `place` promises the defined placement, by a relation on loads that knows no order of work, and refuses exactly at the
-//! first partition that finds too few switches. `placement_laws` says that there is one such placement at most, and that
-//! the function which definitions of plans use gives it.
+//! `place` promises the defined placement, by a relation on loads that knows no order of work, and
+//! refuses exactly at the first partition that finds too few switches. `placement_laws` says that
+//! there is one such placement at most, and that the function which definitions of plans use gives
+//! it.
 #![tactic(auto)]
 
 ghost use Rattle.std.specs.Prelude.{ℕ, ◌≡◌, ◌+◌, ◌<◌, ◌≤◌, ◌^◌, Ok, Err, List, length, slice_index, All, AllPairs, MatchOption, IfOk, IfErr, IsTrue, if◌then◌else◌, nat_eq, replicate};
@@ -19,7 +21,8 @@ use thiserror::Error;
 /// Why partitions have no placement.
 #[derive(Clone, Copy, Debug, PartialEq, Eq, Error)]
 pub enum PlaceError {
-    /// Too few switches have room for this partition, counted from 0; it is the first, in the order of placing.
+    /// Too few switches have room for this partition, counted from 0; it is the first, in the order
+    /// of placing.
     #[error("too few switches have room for partition {partition}")]
     NoRoom { partition: u32 },
     #[error("no memory")]
@@ -42,14 +45,15 @@ impl<T: Drop> From<AllocFailed<T>> for PlaceError {
     }
 }
 
-/// The targets of partitions of these sizes, in rules, on switches of these rooms, in rules: for each partition an
-/// authority switch and so many backups.
+/// The targets of partitions of these sizes, in rules, on switches of these rooms, in rules: for
+/// each partition an authority switch and so many backups.
 ///
-/// Partitions are placed by falling size, then by number. Each goes to the switches of least load, and then of least
-/// number, among those whose room holds it beside the partitions that they have.
+/// Partitions are placed by falling size, then by number. Each goes to the switches of least load,
+/// and then of least number, among those whose room holds it beside the partitions that they have.
 ///
 /// # Errors
-/// `NoRoom` with the first partition, in the order of placing, that finds fewer switches than it needs.
+/// `NoRoom` with the first partition, in the order of placing, that finds fewer switches than it
+/// needs.
 pub fn place(
     alloc: Global,
     sizes: &[u32],
@@ -82,8 +86,8 @@ pub fn place(
     Ok(placement)
 }
 
-/// The defined placement: it meets the relation on loads, or names the partition that is refused, and nothing else does.
-/// A law on the definitions alone.
+/// The defined placement: it meets the relation on loads, or names the partition that is refused,
+/// and nothing else does. A law on the definitions alone.
 pub fn placement_laws()
     ensures meets { (sizes rooms : List ℕ) (backups : ℕ) →
         MeetsPlacement sizes rooms backups (placement_of sizes rooms backups) }
@@ -105,7 +109,8 @@ fn by_falling_size(alloc: Global, sizes: &[u32]) -> Result<Vec<u32>, AllocError>
     Ok(order)
 }
 
-// The first of the switches that have room, by load and then by number; `None` where there are fewer than it takes.
+// The first of the switches that have room, by load and then by number; `None` where there are
+// fewer than it takes.
 fn least_loaded(
     alloc: Global,
     loads: &[u32],
@@ -193,7 +198,8 @@ mod tests {
 
     #[test]
     fn the_least_loaded_switch_with_room_comes_first(rt: HostRuntime) -> Result<(), Fail> {
-        // Partition 1 goes to switch 0 and 2 to switch 1; then 0 fits beside 1 alone, and 3 beside 2.
+        // Partition 1 goes to switch 0 and 2 to switch 1; then 0 fits beside 1 alone, and 3 beside
+        // 2.
         let placement = place(rt.alloc(), &[2, 5, 5, 1], &[10, 6], 0)?;
         for (partition, switch) in [0, 0, 1, 1].iter().enumerate() {
             let targets = placement.get(partition).ok_or("partition")?;

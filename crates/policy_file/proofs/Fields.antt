@@ -9,32 +9,50 @@ abbrev pub field : List (List ℕ) → ℕ → List ℕ
 field fields place = unwrap_or (field_at fields place) []
 
 abbrev pub seven_of : List (List ℕ) → List (List ℕ)
-seven_of fields = field fields 0 ∷ field fields 1 ∷ field fields 2 ∷ field fields 3 ∷ field fields 4 ∷ field fields 5 ∷ field fields 6 ∷ []
+seven_of fields = field fields 0 ∷ field fields 1 ∷ field fields 2 ∷ field fields 3 ∷ field fields
+    4 ∷ field fields 5 ∷ field fields 6 ∷ []
 
 seven_fields : (fields : List (List ℕ)) → length fields ≡ 7 → fields ≡ seven_of fields
 unfolding field_at
 seven_fields (a ∷ b ∷ c ∷ d ∷ e ∷ f ∷ g ∷ []) seven = refl
 seven_fields _ seven = absurd (omega arith)
 
-pub is_heading-seven : (fields : List (List ℕ)) → length fields ≡ 7 → is_heading fields ≡ is_heading (seven_of fields)
+pub is_heading-seven : (fields : List (List ℕ)) → length fields ≡ 7
+    → is_heading fields ≡ is_heading (seven_of fields)
 is_heading-seven fields seven = ap is_heading (seven_fields fields seven)
 
 -- a field past the first ones
-field_past : (fields : List (List ℕ)) (from place : ℕ) → field (drop from fields) place ≡ field fields (from + place)
+field_past : (fields : List (List ℕ)) (from place : ℕ) → field (drop from fields) place ≡ field
+    fields (from + place)
 unfolding field_at
 field_past fields zero place = ap (field fields) (omega arith)
 field_past [] (suc from) place = refl
-field_past (first ∷ fields) (suc from) place = field_past fields from place ∙ ap (field (first ∷ fields)) {x = suc (from + place)} {y = suc from + place} (omega arith)
+field_past (first ∷ fields) (suc from) place = field_past fields from place
+    ∙ ap (field (first ∷ fields)) {x = suc (from + place)} {y = suc from + place} (omega arith)
 
 pub row_of-seven : (fields : List (List ℕ)) (from : ℕ) → length fields ≡ from + 7
-    → row_of (drop from fields) ≡ row_of (field fields from ∷ field fields (from + 1) ∷ field fields (from + 2) ∷ field fields (from + 3) ∷ field fields (from + 4) ∷ field fields (from + 5) ∷ field fields (from + 6) ∷ [])
+    → row_of (drop from fields) ≡ row_of
+    (field fields from ∷ field fields (from + 1) ∷ field fields (from + 2) ∷ field fields
+    (from + 3) ∷ field fields (from + 4) ∷ field fields (from + 5) ∷ field fields
+    (from + 6) ∷ [])
 row_of-seven fields from seven =
-    let here : field (drop from fields) 0 ≡ field fields from = field_past fields from 0 ∙ ap (field fields) (omega arith) in
+    let here : field (drop from fields) 0 ≡ field fields from = field_past fields from 0
+    ∙ ap (field fields) (omega arith) in
     ap row_of (seven_fields (drop from fields) (omega (arith, length-drop from fields)))
-    ∙ rw (here, field_past fields from 1, field_past fields from 2, field_past fields from 3, field_past fields from 4, field_past fields from 5, field_past fields from 6) refl
+    ∙ rw (
+      here,
+      field_past fields from 1,
+      field_past fields from 2,
+      field_past fields from 3,
+      field_past fields from 4,
+      field_past fields from 5,
+      field_past fields from 6,
+    ) refl
 
-pub row_of-other : (fields : List (List ℕ)) (from : ℕ) → length fields ≢ from + 7 → row_of (drop from fields) ≡ Err why.Width
-row_of-other fields from other = no_seven (drop from fields) (λ seven. other (omega (arith, length-drop from fields)))
+pub row_of-other : (fields : List (List ℕ)) (from : ℕ) → length fields ≢ from + 7
+    → row_of (drop from fields) ≡ Err why.Width
+row_of-other fields from other = no_seven (drop from fields)
+    (λ seven. other (omega (arith, length-drop from fields)))
   where
     no_seven : (xs : List (List ℕ)) → length xs ≢ 7 → row_of xs ≡ Err why.Width
     no_seven (a ∷ b ∷ c ∷ d ∷ e ∷ f ∷ g ∷ []) other = absurd (other refl)

@@ -1,5 +1,5 @@
-pub mod Fields
-pub mod Rows
-pub mod Plain
-pub mod Lines
-pub mod Mask
+mod Fields
+mod Rows
+mod Plain
+mod Lines
+mod Mask

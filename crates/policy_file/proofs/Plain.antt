@@ -26,14 +26,32 @@ plain_char : (c : ℕ) → is_plain_char c ≡ true → needs_byte default_write
 plain_char c plain = grind (arith, nat_tests)
 
 plain_text : (text : List ℕ) → AllPass is_plain_char text → IsPlain text
-plain_text text plain = list_any_none (needs_byte default_writer) text (λ k d within. plain_char (get_or text k d) (plain k d within))
+plain_text text plain = list_any_none (needs_byte default_writer) text
+    (λ k d within. plain_char (get_or text k d) (plain k d within))
 
 plain_action : PlainTextLaws → (a : Action) → HasSmallPort a → IsPlain (action_text a)
 plain_action laws Drop small = refl
-plain_action laws (Out port) small = rw list_any-append (plain_text (decimal port) (laws.number port (omega arith)))
+plain_action laws (Out port) small = rw list_any-append
+    (plain_text (decimal port) (laws.number port (omega arith)))
 
-pub plain_row : PlainTextLaws → (row : Row) → IsSoundRow row → HasSmallPort row.action → ArePlain (row_fields row)
+pub plain_row : PlainTextLaws → (row : Row) → IsSoundRow row → HasSmallPort row.action
+    → ArePlain (row_fields row)
 plain_row laws row sound small = (
   plain_text (decimal row.priority) (laws.number row.priority (omega (arith, sound.priority))),
-  (plain_text _ (laws.prefix row.src sound.src), (plain_text _ (laws.prefix row.dst sound.dst), (plain_text _ (laws.range row.sport sound.sport), (plain_text _ (laws.range row.dport sound.dport), (plain_text _ (laws.proto row.proto sound.proto), (plain_action laws row.action small, tt)))))),
+  (
+    plain_text _ (laws.prefix row.src sound.src),
+    (
+      plain_text _ (laws.prefix row.dst sound.dst),
+      (
+        plain_text _ (laws.range row.sport sound.sport),
+        (
+          plain_text _ (laws.range row.dport sound.dport),
+          (
+            plain_text _ (laws.proto row.proto sound.proto),
+            (plain_action laws row.action small, tt),
+          ),
+        ),
+      ),
+    ),
+  ),
 )

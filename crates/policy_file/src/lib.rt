@@ -1,14 +1,15 @@
 //! Policies as CSV text: a heading, and a record of seven fields for each row.
 //!
-//! `read_policy` promises the policy that the text states, or the first refusal in the text and its row; `write_policy`
-//! promises the policy's text, which is read back to the policy; `check_ports` finds the first row that names a port
-//! outside a set. Which bytes make a record is what the crate `csv` defines.
+//! `read_policy` promises the policy that the text states, or the first refusal in the text and its
+//! row; `write_policy` promises the policy's text, which is read back to the policy; `check_ports`
+//! finds the first row that names a port outside a set. Which bytes make a record is what the crate
+//! `csv` defines.
 //!
 //! ```text
 //! fn tidy(alloc: Global, text: &[u8], ports: u64) -> anyhow::Result<Vec<u8>> {
-//!     let policy = read_policy(alloc, text)?;    // Refused { refusal, row }: the first refusal, and where it is
-//!     check_ports(&policy, ports)?;              // NoPort { row }: the first row whose port is not there
-//!     Ok(write_policy(alloc, &policy)?)          // read back, it gives the same policy
+//!     let policy = read_policy(alloc, text)?;  // Refused { refusal, row }: the first refusal
+//!     check_ports(&policy, ports)?;            // NoPort { row }: the first row without its port
+//!     Ok(write_policy(alloc, &policy)?)        // read back, it gives the same policy
 //! }
 //! ```
 #![tactic(auto)]

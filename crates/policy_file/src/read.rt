@@ -14,12 +14,12 @@ const MOST_ROWS: usize = 2000;
 /// The policy that the text states.
 ///
 /// The text's records are those of the crate `csv` with its presets, of any width: the heading
-/// `priority,src,dst,sport,dport,proto,action`, and then one for each of at most 2,000 rows. So a byte-order mark,
-/// quotes, line ends and blank lines are as that crate reads them.
+/// `priority,src,dst,sport,dport,proto,action`, and then one for each of at most 2,000 rows. So a
+/// byte-order mark, quotes, line ends and blank lines are as that crate reads them.
 ///
 /// # Errors
-/// The first refusal in the text, or want of memory. The rows are checked in order: first a row's width, then its fields
-/// from left to right, and last whether an earlier row has its priority.
+/// The first refusal in the text, or want of memory. The rows are checked in order: first a row's
+/// width, then its fields from left to right, and last whether an earlier row has its priority.
 #[tactic(auto, unfolding(crate::specs::Reading::policy_of))]
 pub fn read_policy(alloc: Global, bytes: &[u8]) -> Result<Policy, PolicyError>
     ensures policy { IfOk result (λ policy. policy_of bytes.now ≡ Ok policy) }
@@ -56,7 +56,8 @@ pub fn read_policy(alloc: Global, bytes: &[u8]) -> Result<Policy, PolicyError>
     }
 }
 
-// The rows that records state, up to their end or to the first that states none, and why it does not.
+// The rows that records state, up to their end or to the first that states none, and why it does
+// not.
 #[derive(Drop)]
 struct Reading {
     rows: Vec<Row>,

@@ -74,7 +74,8 @@ fn read_priority(text: &[u8]) -> Option<u32>
 /// The row that the record's fields from this place on state.
 ///
 /// # Errors
-/// `Width` where there are other than seven fields from there on; else the first field that is none of its kind.
+/// `Width` where there are other than seven fields from there on; else the first field that is none
+/// of its kind.
 #[tactic(auto, using(crate::proofs::Fields::sevens))]
 pub fn read_row(fields: &ByteRecord, from: usize) -> Result<Row, PolicyRefusal>
     ensures row { result ≡ row_of (drop from (fields_of fields.now)) }

@@ -21,8 +21,8 @@ fn refusal(outcome: Result<Policy, PolicyError>) -> Option<(u32, u32)> {
 
 #[test]
 fn reads_quotes_line_ends_and_blank_lines(rt: HostRuntime) -> Result<(), Fail> {
-    let text =
-        b"priority,src,dst,sport,dport,proto,action\r\n\r\n7,\"10.1.2.3/8\",any,any,\"80\",tcp,out:2\r\n\n5,any,1.2.3.4,0-1023,any,17,drop";
+    let text = b"priority,src,dst,sport,dport,proto,action\r\n\r\n\
+          7,\"10.1.2.3/8\",any,any,\"80\",tcp,out:2\r\n\n5,any,1.2.3.4,0-1023,any,17,drop";
     let policy = read_policy(rt.alloc(), text)?;
     let [first, second] = policy.rows() else {
         return Err(Fail::from("not two rows"));

@@ -13,7 +13,8 @@ use std::alloc::{AllocError, Global};
 use std::fmt;
 use std::fmt::Write;
 
-/// The policy's text: the heading, and then a record for each row, each of them ended by a line feed.
+/// The policy's text: the heading, and then a record for each row, each of them ended by a line
+/// feed.
 ///
 /// # Errors
 /// Want of memory alone.
@@ -35,7 +36,8 @@ pub fn write_policy(alloc: Global, policy: &Policy) -> Result<Vec<u8>, AllocErro
     Ok(text.into_bytes())
 }
 
-/// The text of a policy is read back to the policy, for at most 2,000 rows with ports below 64: a law on the texts alone.
+/// The text of a policy is read back to the policy, for at most 2,000 rows with ports below 64: a
+/// law on the texts alone.
 pub fn policy_texts_are_read_back()
     ensures { (rows : List Row) → IsPolicy rows → length rows ≤ 2000
         → All (λ row. HasSmallPort row.action) rows → policy_of (policy_text rows) ≡ Ok rows }

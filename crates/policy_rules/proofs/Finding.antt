@@ -7,7 +7,8 @@ use Rattle.std.proofs.lemmas.List.Folds.{find_at}
 use Rattle.std.proofs.lemmas.Option.{slice_get_past}
 
 -- the element at the first place that passes is the first that passes
-pub find-position : {X : Type 0} (p : X → Bool) (xs : List X) → option_and_then (slice_get xs) (position p xs) ≡ find p xs
+pub find-position : {X : Type 0} (p : X → Bool) (xs : List X)
+    → option_and_then (slice_get xs) (position p xs) ≡ find p xs
 find-position {X} p xs =
     let n = position_or_len p xs in
     let at : Bool → Option X = λ b. option_and_then (slice_get xs) (cond b (Some n) None) in

@@ -20,12 +20,15 @@ in_tail : {X : Type 0} (y : X) (ys : List X) (x : X) → Contains ys x → Conta
 in_tail y ys x (k, within, is) = (suc k, omega arith, is)
 
 -- the first that passes is an element that passes; where there is none, none passes
-pub find_found : {X : Type 0} (p : X → Bool) (xs : List X) → MatchOption (find p xs) (All (λ x. p x ≡ false) xs) (λ x. Contains xs x × (p x ≡ true))
+pub find_found : {X : Type 0} (p : X → Bool) (xs : List X)
+    → MatchOption (find p xs) (All (λ x. p x ≡ false) xs) (λ x. Contains xs x × (p x ≡ true))
 find_found p [] = All-nil _
 find_found {X} p (x ∷ xs) = by_case (p x) refl (find p xs) (find_found p xs)
   where
-    by_case : (b : Bool) → p x ≡ b → (found : Option X) → MatchOption found (All (λ x. p x ≡ false) xs) (λ y. Contains xs y × (p y ≡ true))
-        → MatchOption (cond b (Some x) found) (All (λ x. p x ≡ false) (x ∷ xs)) (λ y. Contains (x ∷ xs) y × (p y ≡ true))
+    by_case : (b : Bool) → p x ≡ b → (found : Option X)
+        → MatchOption found (All (λ x. p x ≡ false) xs) (λ y. Contains xs y × (p y ≡ true))
+        → MatchOption (cond b (Some x) found) (All (λ x. p x ≡ false) (x ∷ xs))
+        (λ y. Contains (x ∷ xs) y × (p y ≡ true))
     by_case true is found rest = ((0, omega arith, refl), is)
     by_case false is None rest = All-cons (λ x. p x ≡ false) x xs is rest
     by_case false is (Some y) rest = (in_tail x xs y rest.0, rest.1)
@@ -33,10 +36,12 @@ find_found {X} p (x ∷ xs) = by_case (p x) refl (find p xs) (find_found p xs)
 -- ---- the highest of some rows
 
 -- rows of distinct priorities that have one priority are one
-pub one_of_priority : (rows : List Row) → HaveDistinctPriorities rows → (x y : Row) → Contains rows x → Contains rows y → x.priority ≡ y.priority → x ≡ y
+pub one_of_priority : (rows : List Row) → HaveDistinctPriorities rows → (x y : Row)
+    → Contains rows x → Contains rows y → x.priority ≡ y.priority → x ≡ y
 one_of_priority rows distinct x y (i, within, is) (j, inside, also) same =
     let here : get_or rows j x ≡ y = get_or_default rows j x y inside ∙ also in
-    let equal : (get_or rows i x).priority ≡ (get_or rows j x).priority = ap (λ (row : Row). row.priority) is ∙ same ∙ sym (ap (λ (row : Row). row.priority) here) in
+    let equal : (get_or rows i x).priority ≡ (get_or rows j x).priority =
+    ap (λ (row : Row). row.priority) is ∙ same ∙ sym (ap (λ (row : Row). row.priority) here) in
     elim (cases_lt i j) [
       | inl less ↦ absurd (distinct i j x less inside equal)
       | inr more ↦ elim (cases_lt j i) [
@@ -47,67 +52,120 @@ one_of_priority rows distinct x y (i, within, is) (j, inside, also) same =
       ]
     ]
 
-passes : (rows : List Row) (row : Row) → All (λ (other : Row). other.priority ≤ row.priority) rows → is_highest rows row ≡ true
-passes rows row most = list_all-from_AllPass (λ (other : Row). leb other.priority row.priority) rows (λ k d within. le-leb _ _ (most k d within))
+passes : (rows : List Row) (row : Row) → All (λ (other : Row). other.priority ≤ row.priority) rows
+    → is_highest rows row ≡ true
+passes rows row most = list_all-from_AllPass (λ (other : Row). leb other.priority row.priority) rows
+    (λ k d within. le-leb _ _ (most k d within))
 
-bounds : (rows : List Row) (row : Row) → is_highest rows row ≡ true → All (λ (other : Row). other.priority ≤ row.priority) rows
-bounds rows row is k d within = leb-true _ _ (AllPass-from_list_all (λ (other : Row). leb other.priority row.priority) rows is k d within)
+bounds : (rows : List Row) (row : Row) → is_highest rows row ≡ true
+    → All (λ (other : Row). other.priority ≤ row.priority) rows
+bounds rows row is k d within =
+    leb-true _ _ (AllPass-from_list_all (λ (other : Row). leb other.priority row.priority) rows is k
+    d within)
 
 -- among rows of distinct priorities one is the highest
-pub highest_is : (rows : List Row) (row : Row) → HaveDistinctPriorities rows → IsHighestIn rows row → highest rows ≡ Some row
-highest_is rows row distinct is = by_case (find (is_highest rows) rows) (find_found (is_highest rows) rows)
+pub highest_is : (rows : List Row) (row : Row) → HaveDistinctPriorities rows → IsHighestIn rows row
+    → highest rows ≡ Some row
+highest_is rows row distinct is = by_case (find (is_highest rows) rows)
+    (find_found (is_highest rows) rows)
   where
-    by_case : (found : Option Row) → MatchOption found (All (λ x. is_highest rows x ≡ false) rows) (λ x. Contains rows x × (is_highest rows x ≡ true)) → found ≡ Some row
+    by_case : (found : Option Row) → MatchOption found (All (λ x. is_highest rows x ≡ false) rows)
+        (λ x. Contains rows x × (is_highest rows x ≡ true)) → found ≡ Some row
     by_case None none =
         let test = passes rows row is.highest in
         let not = All-contains (λ x. is_highest rows x ≡ false) rows row none is.member in
         absurd (cc)
     by_case (Some other) (there, test) =
-        let below = All-contains (λ (x : Row). x.priority ≤ row.priority) rows other is.highest there in
-        let above = All-contains (λ (x : Row). x.priority ≤ other.priority) rows row (bounds rows other test) is.member in
-        ap Some (one_of_priority rows distinct other row there is.member (omega (arith, below, above)))
+        let below = All-contains (λ (x : Row). x.priority ≤ row.priority) rows other is.highest
+        there in
+        let above = All-contains (λ (x : Row). x.priority ≤ other.priority) rows row
+        (bounds rows other test) is.member in
+        ap Some (one_of_priority rows distinct other row there is.member
+        (omega (arith, below, above)))
 
 -- rows have a highest one
 top_of : (row : Row) (rows : List Row) → (best : Row) × IsHighestIn (row ∷ rows) best
-top_of row [] = (row, record { member = (0, omega arith, refl); highest = All-cons (λ (x : Row). x.priority ≤ row.priority) row [] (omega arith) (All-nil _) })
+top_of row [] = (
+  row,
+  record {
+    member = (0, omega arith, refl);
+    highest =
+        All-cons (λ (x : Row). x.priority ≤ row.priority) row [] (omega arith) (All-nil _);
+  },
+)
 top_of row (next ∷ rows) = by_case (top_of next rows)
   where
-    by_case : (best : Row) × IsHighestIn (next ∷ rows) best → (best : Row) × IsHighestIn (row ∷ next ∷ rows) best
+    by_case : (best : Row) × IsHighestIn (next ∷ rows) best → (best : Row)
+        × IsHighestIn (row ∷ next ∷ rows) best
     by_case (best, is) = elim (cases_lt best.priority row.priority) [
-      | inl lower ↦ (row, record { member = (0, omega arith, refl); highest = All-cons (λ (x : Row). x.priority ≤ row.priority) row (next ∷ rows) (omega arith) (All-weaker (λ (x : Row). x.priority ≤ best.priority) (λ (x : Row). x.priority ≤ row.priority) (λ x h. omega (arith, lower)) (next ∷ rows) is.highest) })
-      | inr upper ↦ (best, record { member = in_tail row (next ∷ rows) best is.member; highest = All-cons (λ (x : Row). x.priority ≤ best.priority) row (next ∷ rows) upper is.highest })
+      | inl lower ↦ (
+        row,
+        record {
+          member = (0, omega arith, refl);
+          highest =
+              All-cons (λ (x : Row). x.priority ≤ row.priority) row (next ∷ rows) (omega arith)
+              (All-weaker (λ (x : Row). x.priority ≤ best.priority)
+              (λ (x : Row). x.priority ≤ row.priority) (λ x h. omega (arith, lower)) (next ∷ rows)
+              is.highest);
+        },
+      )
+      | inr upper ↦ (
+        best,
+        record {
+          member = in_tail row (next ∷ rows) best is.member;
+          highest =
+              All-cons (λ (x : Row). x.priority ≤ best.priority) row (next ∷ rows) upper is.highest;
+        },
+      )
     ]
 
 pub highest_of : (rows : List Row) → MatchOption (highest rows) (rows ≡ []) (IsHighestIn rows)
 highest_of [] = refl
-highest_of (row ∷ rows) = by_case (top_of row rows) (find (is_highest (row ∷ rows)) (row ∷ rows)) (find_found (is_highest (row ∷ rows)) (row ∷ rows))
+highest_of (row ∷ rows) = by_case (top_of row rows) (find (is_highest (row ∷ rows)) (row ∷ rows))
+    (find_found (is_highest (row ∷ rows)) (row ∷ rows))
   where
-    by_case : (best : Row) × IsHighestIn (row ∷ rows) best → (found : Option Row) → MatchOption found (All (λ x. is_highest (row ∷ rows) x ≡ false) (row ∷ rows)) (λ x. Contains (row ∷ rows) x × (is_highest (row ∷ rows) x ≡ true)) → MatchOption found (row ∷ rows ≡ []) (IsHighestIn (row ∷ rows))
+    by_case : (best : Row) × IsHighestIn (row ∷ rows) best → (found : Option Row)
+        → MatchOption found (All (λ x. is_highest (row ∷ rows) x ≡ false) (row ∷ rows))
+        (λ x. Contains (row ∷ rows) x × (is_highest (row ∷ rows) x ≡ true))
+        → MatchOption found (row ∷ rows ≡ []) (IsHighestIn (row ∷ rows))
     by_case (best, is) None none =
         let test = passes (row ∷ rows) best is.highest in
-        let not = All-contains (λ x. is_highest (row ∷ rows) x ≡ false) (row ∷ rows) best none is.member in
+        let not = All-contains (λ x. is_highest (row ∷ rows) x ≡ false) (row ∷ rows) best none
+        is.member in
         absurd (cc)
-    by_case top (Some found) (there, test) = record { member = there; highest = bounds (row ∷ rows) found test }
+    by_case top (Some found) (there, test) =
+        record { member = there; highest = bounds (row ∷ rows) found test }
 
-first_match_of : (rows : List Row) (header : Header) (best : Option Row) → MatchOption best (filter (λ row. row_matches row (fields_of header)) rows ≡ []) (IsHighestIn (filter (λ row. row_matches row (fields_of header)) rows)) → IsFirstMatch rows header (hit_of best)
+first_match_of : (rows : List Row) (header : Header) (best : Option Row)
+    → MatchOption best (filter (λ row. row_matches row (fields_of header)) rows ≡ [])
+    (IsHighestIn (filter (λ row. row_matches row (fields_of header)) rows))
+    → IsFirstMatch rows header (hit_of best)
 first_match_of rows header None none = (none, refl)
 first_match_of rows header (Some row) is = (row, is, refl, refl)
 
 -- the scan is the first match
-pub first_match-scan : (rows : List Row) (header : Header) → IsFirstMatch rows header (scan rows header)
-first_match-scan rows header = first_match_of rows header _ (highest_of (filter (λ row. row_matches row (fields_of header)) rows))
+pub first_match-scan : (rows : List Row) (header : Header)
+    → IsFirstMatch rows header (scan rows header)
+first_match-scan rows header = first_match_of rows header _
+    (highest_of (filter (λ row. row_matches row (fields_of header)) rows))
 
 abbrev hit_with : Option ℕ → Action → Hit
 hit_with rule action = record { rule = rule; action = action }
 
-first_match_by : (rows : List Row) (header : Header) (rule : Option ℕ) (action : Action) → HaveDistinctPriorities rows → IsFirstMatch rows header (hit_with rule action) → hit_with rule action ≡ scan rows header
-first_match_by rows header None action distinct (none, drop) = ap (hit_with None) drop ∙ ap (λ matching. hit_of (highest matching)) (sym none)
+first_match_by : (rows : List Row) (header : Header) (rule : Option ℕ) (action : Action)
+    → HaveDistinctPriorities rows → IsFirstMatch rows header (hit_with rule action)
+    → hit_with rule action ≡ scan rows header
+first_match_by rows header None action distinct (none, drop) = ap (hit_with None) drop
+    ∙ ap (λ matching. hit_of (highest matching)) (sym none)
 first_match_by rows header (Some priority) action distinct (row, is, names, acts) =
-    let kept = AllPairs-filter (λ (x y : Row). x.priority ≢ y.priority) (λ x. row_matches x (fields_of header)) rows distinct in
-    ap (λ n. hit_with (Some n) action) (sym names) ∙ ap (hit_with (Some row.priority)) (sym acts) ∙ sym (ap hit_of (highest_is _ row kept is))
+    let kept = AllPairs-filter (λ (x y : Row). x.priority ≢ y.priority)
+    (λ x. row_matches x (fields_of header)) rows distinct in
+    ap (λ n. hit_with (Some n) action) (sym names) ∙ ap (hit_with (Some row.priority)) (sym acts)
+    ∙ sym (ap hit_of (highest_is _ row kept is))
 
 -- rows of distinct priorities have one first match
-pub first_match-only : (rows : List Row) (header : Header) (hit : Hit) → HaveDistinctPriorities rows → IsFirstMatch rows header hit → hit ≡ scan rows header
+pub first_match-only : (rows : List Row) (header : Header) (hit : Hit) → HaveDistinctPriorities rows
+    → IsFirstMatch rows header hit → hit ≡ scan rows header
 first_match-only rows header hit = first_match_by rows header hit.rule hit.action
 
 -- ---- one more row
@@ -117,24 +175,45 @@ abbrev pub IsBest : List Row → Option (Bor Row) → Type 0
 IsBest rows best = MatchOption best (rows ≡ []) (λ row. IsHighestIn rows row.now)
 
 -- a row that matches and exceeds the best so far is the best of the rows with it
-pub best_takes : (kept : List Row) (row : Row) (best new : Option (Bor Row)) (matches : Bool) (here : Bor Row) → new ≡ Some here → here.now ≡ row → matches ≡ true
-    → option_map_or (λ (other : Bor Row). ltb other.now.priority row.priority) best true ≡ true → IsBest kept best → IsBest (kept ++ cond matches (row ∷ []) []) new
+pub best_takes : (kept : List Row) (row : Row) (best new : Option (Bor Row)) (matches : Bool)
+    (here : Bor Row) → new ≡ Some here → here.now ≡ row → matches ≡ true
+    → option_map_or (λ (other : Bor Row). ltb other.now.priority row.priority) best true ≡ true
+    → IsBest kept best → IsBest (kept ++ cond matches (row ∷ []) []) new
 best_takes kept row best new false here is now matches exceeds known = cc matches
 best_takes kept row best new true here is now matches exceeds known =
-    let top : IsHighestIn (kept ++ row ∷ []) row = record { member = Contains-push kept row; highest = All-push (λ (x : Row). x.priority ≤ row.priority) kept row (lower best exceeds known) (omega arith) } in
-    subst (IsBest (kept ++ row ∷ [])) (sym is) (subst (IsHighestIn (kept ++ row ∷ [])) (sym now) top)
+    let top : IsHighestIn (kept ++ row ∷ []) row =
+    record {
+      member = Contains-push kept row;
+      highest =
+          All-push (λ (x : Row). x.priority ≤ row.priority) kept row (lower best exceeds known)
+          (omega arith);
+    } in
+    subst (IsBest (kept ++ row ∷ [])) (sym is)
+    (subst (IsHighestIn (kept ++ row ∷ [])) (sym now) top)
   where
-    lower : (best : Option (Bor Row)) → option_map_or (λ (other : Bor Row). ltb other.now.priority row.priority) best true ≡ true → IsBest kept best → All (λ (x : Row). x.priority ≤ row.priority) kept
-    lower None exceeds none = subst (All (λ (x : Row). x.priority ≤ row.priority)) (sym none) (All-nil _)
+    lower : (best : Option (Bor Row))
+        → option_map_or (λ (other : Bor Row). ltb other.now.priority row.priority) best true ≡ true
+        → IsBest kept best → All (λ (x : Row). x.priority ≤ row.priority) kept
+    lower None exceeds none = subst (All (λ (x : Row). x.priority ≤ row.priority)) (sym none)
+        (All-nil _)
     lower (Some other) exceeds is =
         let above = ltb-true other.now.priority row.priority exceeds in
-        All-weaker (λ (x : Row). x.priority ≤ other.now.priority) (λ (x : Row). x.priority ≤ row.priority) (λ x h. omega (arith, above)) kept is.highest
+        All-weaker (λ (x : Row). x.priority ≤ other.now.priority)
+        (λ (x : Row). x.priority ≤ row.priority) (λ x h. omega (arith, above)) kept is.highest
 
 -- another row changes nothing
-pub best_keeps : (kept : List Row) (row : Row) (best : Option (Bor Row)) (matches : Bool) → (matches ≡ true → option_map_or (λ (other : Bor Row). ltb other.now.priority row.priority) best true ≡ false)
+pub best_keeps : (kept : List Row) (row : Row) (best : Option (Bor Row)) (matches : Bool)
+    → (matches ≡ true → option_map_or (λ (other : Bor Row). ltb other.now.priority row.priority)
+    best true ≡ false)
     → IsBest kept best → IsBest (kept ++ cond matches (row ∷ []) []) best
-best_keeps kept row best false lower is = subst (λ rows. IsBest rows best) (sym (append-nil kept)) is
+best_keeps kept row best false lower is = subst (λ rows. IsBest rows best) (sym (append-nil kept))
+    is
 best_keeps kept row None true lower is = absurd (let e = lower refl in cc)
 best_keeps kept row (Some best) true lower is =
-    let below : row.priority ≤ best.now.priority = ltb-false best.now.priority row.priority (lower refl) in
-    record { member = Contains-append_left kept (row ∷ []) best.now is.member; highest = All-push (λ (x : Row). x.priority ≤ best.now.priority) kept row is.highest below }
+    let below : row.priority ≤ best.now.priority = ltb-false best.now.priority row.priority
+    (lower refl) in
+    record {
+      member = Contains-append_left kept (row ∷ []) best.now is.member;
+      highest =
+          All-push (λ (x : Row). x.priority ≤ best.now.priority) kept row is.highest below;
+    }

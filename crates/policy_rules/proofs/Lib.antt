@@ -1,9 +1,9 @@
-pub mod FirstMatch
-pub mod Distinct
-pub mod Finding
-pub mod RowWords
-pub mod Ranks
-pub mod Sorting
-pub mod RuleLaw
-pub mod RuleShape
+mod FirstMatch
+mod Distinct
+mod Finding
+mod RowWords
+mod Ranks
+mod Sorting
+mod RuleLaw
+mod RuleShape
 pub mod CallerLemmas

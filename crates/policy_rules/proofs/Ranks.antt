@@ -13,41 +13,73 @@ use Rattle.five_tuple.specs.Cover.{Block, cover_of}
 use Rattle.policy_rules.specs.Words.{word_of_row, words_of_row}
 use Rattle.std.proofs.lemmas.List.Sums.{sum_by-cons}
 
-pub length-ranked_from : (n : ℕ) (xs : List (WordValue × Hit)) → length (ranked_from n xs) ≡ length xs
+pub length-ranked_from : (n : ℕ) (xs : List (WordValue × Hit)) → length (ranked_from n xs) ≡ length
+    xs
 unfolding ranked_from
 length-ranked_from n xs = rw (length-map, length-enumerate_from) refl
 
-pub ranked_from-append : (n : ℕ) (xs ys : List (WordValue × Hit)) → ranked_from n (xs ++ ys) ≡ ranked_from n xs ++ ranked_from (n + length xs) ys
+pub ranked_from-append : (n : ℕ) (xs ys : List (WordValue × Hit))
+    → ranked_from n (xs ++ ys) ≡ ranked_from n xs ++ ranked_from (n + length xs) ys
 unfolding ranked_from
 ranked_from-append n [] ys = ap (λ k. ranked_from k ys) (omega arith)
-ranked_from-append n (x ∷ xs) ys = ap (λ rest. ranked (n, x) ∷ rest) (ranked_from-append (n + 1) xs ys ∙ ap (λ k. ranked_from (n + 1) xs ++ ranked_from k ys) (omega arith))
+ranked_from-append n (x ∷ xs) ys = ap (λ rest. ranked (n, x) ∷ rest)
+    (ranked_from-append (n + 1) xs ys ∙ ap (λ k. ranked_from (n + 1) xs ++ ranked_from k ys)
+    (omega arith))
 
 -- more entries after those that are done
-pub ranked_more : (old now new : List Rule) (done more all : List (WordValue × Hit)) → now ≡ old ++ ranked_from (length old) done → new ≡ now ++ ranked_from (length now) more → all ≡ done ++ more → new ≡ old ++ ranked_from (length old) all
+pub ranked_more : (old now new : List Rule) (done more all : List (WordValue × Hit))
+    → now ≡ old ++ ranked_from (length old) done → new ≡ now ++ ranked_from (length now) more
+    → all ≡ done ++ more → new ≡ old ++ ranked_from (length old) all
 ranked_more old now new done more all is pushed joined =
-    let len : length now ≡ length old + length done = omega (arith, ap length is, length-append old (ranked_from (length old) done), length-ranked_from (length old) done) in
+    let len : length now ≡ length old + length done =
+    omega (
+      arith,
+      ap length is,
+      length-append old (ranked_from (length old) done),
+      length-ranked_from (length old) done,
+    ) in
     pushed
     ∙ ap (λ k. now ++ ranked_from k more) len
     ∙ ap (λ rules. rules ++ ranked_from (length old + length done) more) is
     ∙ append_assoc old (ranked_from (length old) done) (ranked_from (length old + length done) more)
-    ∙ ap (λ rules. old ++ rules) (sym (ranked_from-append (length old) done more) ∙ ap (ranked_from (length old)) (sym joined))
+    ∙ ap (λ rules. old ++ rules)
+    (sym (ranked_from-append (length old) done more)
+    ∙ ap (ranked_from (length old)) (sym joined))
 
 -- how many rules there are then
-pub length_ranked : (old now : List Rule) (done : List (WordValue × Hit)) → now ≡ old ++ ranked_from (length old) done → length now ≡ length old + length done
-length_ranked old now done is = omega (arith, ap length is, length-append old (ranked_from (length old) done), length-ranked_from (length old) done)
+pub length_ranked : (old now : List Rule) (done : List (WordValue × Hit))
+    → now ≡ old ++ ranked_from (length old) done → length now ≡ length old + length done
+length_ranked old now done is =
+    omega (
+      arith,
+      ap length is,
+      length-append old (ranked_from (length old) done),
+      length-ranked_from (length old) done,
+    )
 
 -- a word for each pair of blocks
-length-pairs : (row : Row) (destinations sources : List Block) → length (flat_map (λ source. map (word_of_row row source) destinations) sources) ≡ length sources * length destinations
+length-pairs : (row : Row) (destinations sources : List Block)
+    → length (flat_map (λ source. map (word_of_row row source) destinations) sources) ≡ length
+    sources * length destinations
 length-pairs row destinations [] = omega arith
 length-pairs row destinations (source ∷ sources) =
-    let here : length (map (word_of_row row source) destinations) ≡ length destinations = length-map _ _ in
-    omega (arith, length-append (map (word_of_row row source) destinations) (flat_map (λ source. map (word_of_row row source) destinations) sources), here, length-pairs row destinations sources)
+    let here : length (map (word_of_row row source) destinations) ≡ length destinations =
+    length-map _ _ in
+    omega (
+      arith,
+      length-append (map (word_of_row row source) destinations)
+          (flat_map (λ source. map (word_of_row row source) destinations) sources),
+      here,
+      length-pairs row destinations sources,
+    )
 
 pub length-words_of_row : (row : Row) → length (words_of_row row) ≡ word_count row
 length-words_of_row row = length-pairs row (cover_of row.dport) (cover_of row.sport)
 
 -- of at most 30 blocks each, at most 900
-pub few_pairs : (row : Row) (destinations sources : List Block) → length destinations ≤ 30 → length sources ≤ 30 → length (with_hit row (flat_map (λ source. map (word_of_row row source) destinations) sources)) ≤ 900
+pub few_pairs : (row : Row) (destinations sources : List Block) → length destinations ≤ 30
+    → length sources ≤ 30 → length
+    (with_hit row (flat_map (λ source. map (word_of_row row source) destinations) sources)) ≤ 900
 few_pairs row destinations sources few most =
     let words = flat_map (λ source. map (word_of_row row source) destinations) sources in
     let same : length (with_hit row words) ≡ length words = length-map _ _ in
@@ -58,4 +90,11 @@ pub length-entries : (rows : List Row) → length (flat_map entries_of rows) ≡
 length-entries [] = refl
 length-entries (row ∷ rows) =
     let same : length (entries_of row) ≡ length (words_of_row row) = length-map _ _ in
-    omega (arith, length-append (entries_of row) (flat_map entries_of rows), same, length-words_of_row row, length-entries rows, sum_by-cons word_count row rows)
+    omega (
+      arith,
+      length-append (entries_of row) (flat_map entries_of rows),
+      same,
+      length-words_of_row row,
+      length-entries rows,
+      sum_by-cons word_count row rows,
+    )

@@ -10,7 +10,7 @@ use Rattle.std.proofs.lemmas.List.Sorted.{All-permutation}
 use Rattle.five_tuple.specs.Header.{IsHeader, fields_of, number_of}
 use Rattle.five_tuple.specs.Matching.{prefix_matches, proto_matches}
 use Rattle.five_tuple.specs.Cover.{Block, IsPortBlock, block_holds, cover_of}
-use Rattle.five_tuple.proofs.CoverOf.{is_cover_of}
+use Rattle.five_tuple.proofs.CallerLemmas.{is_cover_of}
 use Rattle.five_tuple.specs.declared.header.Header.{Header}
 use Rattle.ternary.specs.Word.{WordValue, any_word, holds}
 use Rattle.policy_rules.specs.declared.policy.Row.{Row}
@@ -28,43 +28,60 @@ found n entries = option_map (λ entry. entry.1) (find (λ entry. holds entry.0 
 
 -- ---- ranks do not matter
 
-found-ranked : (n k : ℕ) (entries : List (WordValue × Hit)) → option_map hit_of_rule (find (is_held n) (ranked_from k entries)) ≡ found n entries
+found-ranked : (n k : ℕ) (entries : List (WordValue × Hit))
+    → option_map hit_of_rule (find (is_held n) (ranked_from k entries)) ≡ found n entries
 unfolding ranked_from
 found-ranked n k [] = refl
 found-ranked n k (entry ∷ entries) = by_case (holds entry.0 n) (found-ranked n (k + 1) entries)
   where
-    by_case : (b : Bool) → option_map hit_of_rule (find (is_held n) (ranked_from (k + 1) entries)) ≡ found n entries → option_map hit_of_rule (cond b (Some (ranked (k, entry))) (find (is_held n) (ranked_from (k + 1) entries))) ≡ option_map (λ (e : WordValue × Hit). e.1) (cond b (Some entry) (find (λ e. holds e.0 n) entries))
+    by_case : (b : Bool) → option_map hit_of_rule (find (is_held n) (ranked_from (k + 1) entries))
+        ≡ found n entries → option_map hit_of_rule
+        (cond b (Some (ranked (k, entry))) (find (is_held n) (ranked_from (k + 1) entries)))
+        ≡ option_map (λ (e : WordValue × Hit). e.1)
+        (cond b (Some entry) (find (λ e. holds e.0 n) entries))
     by_case true rest = refl
     by_case false rest = rest
 
 -- ---- one row
 
-found-append : (n : ℕ) (xs ys : List (WordValue × Hit)) → found n (xs ++ ys) ≡ option_or (found n xs) (found n ys)
-found-append n xs ys = ap (option_map (λ (entry : WordValue × Hit). entry.1)) (find-append (λ entry. holds entry.0 n) xs ys) ∙ map_or (find (λ entry. holds entry.0 n) xs)
+found-append : (n : ℕ) (xs ys : List (WordValue × Hit))
+    → found n (xs ++ ys) ≡ option_or (found n xs) (found n ys)
+found-append n xs ys = ap (option_map (λ (entry : WordValue × Hit). entry.1))
+    (find-append (λ entry. holds entry.0 n) xs ys) ∙ map_or (find (λ entry. holds entry.0 n) xs)
   where
-    map_or : (o : Option (WordValue × Hit)) → option_map (λ (entry : WordValue × Hit). entry.1) (option_or o (find (λ entry. holds entry.0 n) ys)) ≡ option_or (option_map (λ (entry : WordValue × Hit). entry.1) o) (found n ys)
+    map_or : (o : Option (WordValue × Hit)) → option_map (λ (entry : WordValue × Hit). entry.1)
+        (option_or o (find (λ entry. holds entry.0 n) ys)) ≡ option_or
+        (option_map (λ (entry : WordValue × Hit). entry.1) o) (found n ys)
     map_or (Some x) = refl
     map_or None = refl
 
-found-with_hit : (n : ℕ) (row : Row) (words : List WordValue) → found n (with_hit row words) ≡ cond (list_any (λ word. holds word n) words) (Some (hit_of (Some row))) None
+found-with_hit : (n : ℕ) (row : Row) (words : List WordValue) → found n (with_hit row words) ≡ cond
+    (list_any (λ word. holds word n) words) (Some (hit_of (Some row))) None
 found-with_hit n row [] = refl
 found-with_hit n row (word ∷ words) = by_case (holds word n) (found-with_hit n row words)
   where
-    by_case : (b : Bool) → found n (with_hit row words) ≡ cond (list_any (λ word. holds word n) words) (Some (hit_of (Some row))) None →
-        option_map (λ (e : WordValue × Hit). e.1) (cond b (Some (word, hit_of (Some row))) (find (λ e. holds e.0 n) (with_hit row words))) ≡ cond (b || list_any (λ word. holds word n) words) (Some (hit_of (Some row))) None
+    by_case : (b : Bool) → found n (with_hit row words) ≡ cond
+        (list_any (λ word. holds word n) words) (Some (hit_of (Some row))) None →
+        option_map (λ (e : WordValue × Hit). e.1)
+        (cond b (Some (word, hit_of (Some row))) (find (λ e. holds e.0 n) (with_hit row words)))
+        ≡ cond (b || list_any (λ word. holds word n) words) (Some (hit_of (Some row))) None
     by_case true rest = refl
     by_case false rest = rest
 
-list_any_map : {X Y : Type 0} (p : Y → Bool) (f : X → Y) (xs : List X) → list_any p (map f xs) ≡ list_any (λ x. p (f x)) xs
+list_any_map : {X Y : Type 0} (p : Y → Bool) (f : X → Y) (xs : List X)
+    → list_any p (map f xs) ≡ list_any (λ x. p (f x)) xs
 list_any_map p f [] = refl
 list_any_map p f (x ∷ xs) = ap (λ b. p (f x) || b) (list_any_map p f xs)
 
-list_any_flat_map : {X Y : Type 0} (p : Y → Bool) (f : X → List Y) (xs : List X) → list_any p (flat_map f xs) ≡ list_any (λ x. list_any p (f x)) xs
+list_any_flat_map : {X Y : Type 0} (p : Y → Bool) (f : X → List Y) (xs : List X)
+    → list_any p (flat_map f xs) ≡ list_any (λ x. list_any p (f x)) xs
 list_any_flat_map p f [] = refl
-list_any_flat_map p f (x ∷ xs) = list_any-append p (f x) (flat_map f xs) ∙ ap (λ b. list_any p (f x) || b) (list_any_flat_map p f xs)
+list_any_flat_map p f (x ∷ xs) = list_any-append p (f x) (flat_map f xs)
+    ∙ ap (λ b. list_any p (f x) || b) (list_any_flat_map p f xs)
 
 -- some element passes f where some passes y, within what does not depend on the element
-any_within : {X : Type 0} (w : Bool → Bool) (none : w false ≡ false) (f y : X → Bool) (xs : List X) → All (λ x. f x ≡ w (y x)) xs → list_any f xs ≡ w (list_any y xs)
+any_within : {X : Type 0} (w : Bool → Bool) (none : w false ≡ false) (f y : X → Bool) (xs : List X)
+    → All (λ x. f x ≡ w (y x)) xs → list_any f xs ≡ w (list_any y xs)
 any_within w none f y [] all = sym none
 any_within w none f y (x ∷ xs) all =
     let here : f x ≡ w (y x) = all 0 x (omega arith) in
@@ -89,7 +106,8 @@ none_passes true b = refl
 none_passes false b = refl
 
 -- some word of the row holds a header where the row matches it
-pub holds-words_of_row : (row : Row) (h : Header) → IsSoundRow row → IsHeader h → list_any (λ word. holds word (number_of h)) (words_of_row row) ≡ row_matches row (fields_of h)
+pub holds-words_of_row : (row : Row) (h : Header) → IsSoundRow row → IsHeader h
+    → list_any (λ word. holds word (number_of h)) (words_of_row row) ≡ row_matches row (fields_of h)
 holds-words_of_row row h sound bits =
     let f = fields_of h in
     let n = number_of h in
@@ -99,15 +117,28 @@ holds-words_of_row row h sound bits =
     let last = proto_matches row.proto f.proto in
     let inner = λ (source : Block) (masked : IsPortBlock source).
     list_any_map (λ word. holds word n) (word_of_row row source) (cover_of row.dport)
-    ∙ any_within (λ b. front && block_holds f.sport source && b && last) (none_passes (front && block_holds f.sport source) last) (λ destination. holds (word_of_row row source destination) n) (block_holds f.dport) (cover_of row.dport)
-    (λ k d within. holds-word_of_row row source (get_or (cover_of row.dport) k d) h sound masked (destinations.masked k d within) bits) in
-    list_any_flat_map (λ word. holds word n) (λ source. map (word_of_row row source) (cover_of row.dport)) (cover_of row.sport)
-    ∙ any_within (λ b. front && b && list_any (block_holds f.dport) (cover_of row.dport) && last) (ap (λ b. b && last) (none_passes front (list_any (block_holds f.dport) (cover_of row.dport)))) (λ source. list_any (λ word. holds word n) (map (word_of_row row source) (cover_of row.dport))) (block_holds f.sport) (cover_of row.sport)
+    ∙ any_within (λ b. front && block_holds f.sport source && b && last)
+    (none_passes (front && block_holds f.sport source) last)
+    (λ destination. holds (word_of_row row source destination) n) (block_holds f.dport)
+    (cover_of row.dport)
+    (λ k d within. holds-word_of_row row source (get_or (cover_of row.dport) k d) h sound masked
+    (destinations.masked k d within) bits) in
+    list_any_flat_map (λ word. holds word n)
+    (λ source. map (word_of_row row source) (cover_of row.dport)) (cover_of row.sport)
+    ∙ any_within (λ b. front && b && list_any (block_holds f.dport) (cover_of row.dport) && last)
+    (ap (λ b. b && last) (none_passes front
+    (list_any (block_holds f.dport) (cover_of row.dport))))
+    (λ source. list_any (λ word. holds word n)
+    (map (word_of_row row source) (cover_of row.dport))) (block_holds f.sport)
+    (cover_of row.sport)
     (λ k d within. inner (get_or (cover_of row.sport) k d) (sources.masked k d within))
     ∙ rw (sources.exact f.sport bits.sport, destinations.exact f.dport bits.dport) refl
 
-found-row : (row : Row) (h : Header) → IsSoundRow row → IsHeader h → found (number_of h) (entries_of row) ≡ cond (row_matches row (fields_of h)) (Some (hit_of (Some row))) None
-found-row row h sound bits = found-with_hit (number_of h) row (words_of_row row) ∙ ap (λ b. cond b (Some (hit_of (Some row))) None) (holds-words_of_row row h sound bits)
+found-row : (row : Row) (h : Header) → IsSoundRow row → IsHeader h
+    → found (number_of h) (entries_of row) ≡ cond (row_matches row (fields_of h))
+    (Some (hit_of (Some row))) None
+found-row row h sound bits = found-with_hit (number_of h) row (words_of_row row)
+    ∙ ap (λ b. cond b (Some (hit_of (Some row))) None) (holds-words_of_row row h sound bits)
 
 -- ---- all rows
 
@@ -115,25 +146,36 @@ holds-any_word : (n : ℕ) → holds any_word n ≡ true
 unfolding holds
 holds-any_word n = eq-eqb (bit_and n 0) 0 (and_zero_r n)
 
-found-rows : (rows : List Row) (h : Header) → All IsSoundRow rows → IsHeader h → found (number_of h) (with_default rows) ≡ Some (hit_of (find (λ row. row_matches row (fields_of h)) rows))
-found-rows [] h sound bits = ap (λ b. option_map (λ (entry : WordValue × Hit). entry.1) (cond b (Some (any_word, hit_of None)) None)) (holds-any_word (number_of h))
+found-rows : (rows : List Row) (h : Header) → All IsSoundRow rows → IsHeader h
+    → found (number_of h) (with_default rows) ≡ Some
+    (hit_of (find (λ row. row_matches row (fields_of h)) rows))
+found-rows [] h sound bits =
+    ap (λ b. option_map (λ (entry : WordValue × Hit). entry.1)
+    (cond b (Some (any_word, hit_of None)) None)) (holds-any_word (number_of h))
 found-rows (row ∷ rows) h sound bits =
     let n = number_of h in
     let here = found-row row h (sound 0 row (omega arith)) bits in
     let there = found-rows rows h (All-tail IsSoundRow row rows sound) bits in
-    ap (found n) (append_assoc (entries_of row) (flat_map entries_of rows) ((any_word, hit_of None) ∷ []))
+    ap (found n) (append_assoc (entries_of row) (flat_map entries_of rows)
+    ((any_word, hit_of None) ∷ []))
     ∙ found-append n (entries_of row) (with_default rows)
     ∙ rw (here, there) (by_case (row_matches row (fields_of h)))
   where
-    by_case : (b : Bool) → option_or (cond b (Some (hit_of (Some row))) None) (Some (hit_of (find (λ row. row_matches row (fields_of h)) rows))) ≡ Some (hit_of (cond b (Some row) (find (λ row. row_matches row (fields_of h)) rows)))
+    by_case : (b : Bool) → option_or (cond b (Some (hit_of (Some row))) None)
+        (Some (hit_of (find (λ row. row_matches row (fields_of h)) rows))) ≡ Some
+        (hit_of (cond b (Some row) (find (λ row. row_matches row (fields_of h)) rows)))
     by_case true = refl
     by_case false = refl
 
 -- the first rule that holds a header has the rule and the action of the first match
-pub first_rule-rules_of : (rows : List Row) (h : Header) → IsPolicy rows → IsHeader h → option_map hit_of_rule (first_rule (rules_of rows) h) ≡ Some (scan rows h)
+pub first_rule-rules_of : (rows : List Row) (h : Header) → IsPolicy rows → IsHeader h
+    → option_map hit_of_rule (first_rule (rules_of rows) h) ≡ Some (scan rows h)
 unfolding rules_of
 first_rule-rules_of rows h policy bits =
-    let sorted = All-permutation IsSoundRow rows (by_falling_priority rows) (IsPermutation-by_falling_priority rows policy.sound) policy.sound in
+    let sorted = All-permutation IsSoundRow rows (by_falling_priority rows)
+    (IsPermutation-by_falling_priority rows policy.sound) policy.sound in
     found-ranked (number_of h) 0 (with_default (by_falling_priority rows))
     ∙ found-rows (by_falling_priority rows) h sorted bits
-    ∙ ap (λ best. Some (hit_of best)) (find-by_falling_priority (λ row. row_matches row (fields_of h)) rows policy.sound policy.distinct)
+    ∙ ap (λ best. Some (hit_of best))
+    (find-by_falling_priority (λ row. row_matches row (fields_of h)) rows policy.sound
+    policy.distinct)

@@ -1,5 +1,5 @@
--- Partitions of a policy: parts of the header space, each with the rules that decide its headers, as in Yu, Rexford,
--- Freedman and Wang, "Scalable Flow-Based Networking with DIFANE", SIGCOMM 2010.
+-- Partitions of a policy: parts of the header space, each with the rules that decide its headers,
+-- as in Yu, Rexford, Freedman and Wang, "Scalable Flow-Based Networking with DIFANE", SIGCOMM 2010.
 use Rattle.std.specs.Prelude.{ℕ, ◌≡◌, ◌<◌, Bool, IsTrue, Some, List, length, All, count_by, option_map, slice_index_or}
 use Rattle.five_tuple.specs.Header.{IsHeader, number_of}
 use Rattle.five_tuple.specs.declared.header.Header.{Header}
@@ -14,14 +14,18 @@ use Rattle.policy_rules.specs.declared.rules.Partition.{Partition}
 abbrev pub is_in : Header → Partition → Bool
 is_in header part = holds part.region (number_of header)
 
+-- a partition with its targets: the switches that decide its headers
+abbrev pub Placed : Type 0
+Placed = Partition × List ℕ
+
 -- partitions that are numbered from 0
 abbrev pub AreNumbered : List Partition → Type 0
 AreNumbered parts =
     (place : ℕ) (d : Partition) → place < length parts
     → (slice_index_or parts place d).number ≡ place
 
--- sound partitions of a policy: each header lies in exactly one region, and the first rule there that holds it has the
--- rule and the action of the policy's first match
+-- sound partitions of a policy: each header lies in exactly one region, and the first rule there
+-- that holds it has the rule and the action of the policy's first match
 pub record AreSoundPartitions (rows : List Row) (parts : List Partition) : Type 0 where
   pub one : (header : Header) → IsHeader header → count_by (is_in header) parts ≡ 1
   pub decides : (header : Header) → IsHeader header

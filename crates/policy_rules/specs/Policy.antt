@@ -30,7 +30,8 @@ IsHighestMatch rows f best =
     let matching = filter (λ row. row_matches row f) rows in
     MatchOption best (matching ≡ []) (λ row. IsHighestIn matching row.now)
 
--- the first match: of all matching rows the one that no matching row exceeds in priority; a drop where none matches
+-- the first match: of all matching rows the one that no matching row exceeds in priority; a drop
+-- where none matches
 abbrev pub IsFirstMatch : List Row → Header → Hit → Type 0
 IsFirstMatch rows header hit =
     let matching = filter (λ row. row_matches row (fields_of header)) rows in

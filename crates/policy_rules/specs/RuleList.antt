@@ -12,7 +12,8 @@ use Rattle.policy_rules.specs.declared.rules.Rule.{Rule}
 use Rattle.policy_rules.specs.declared.rule_list.RulesError.{RulesError}
 use Rattle.policy_rules.specs.declared.rule_list.RulesError.TheVariants.{TooManyWords, NoMemory}
 
--- of the rows whose priority is below this one: for each priority, from the greatest down, the rows that have it
+-- of the rows whose priority is below this one: for each priority, from the greatest down, the rows
+-- that have it
 unfoldable pub falling_below : ℕ → List Row → List Row
 falling_below zero rows = []
 falling_below (suc priority) rows =

@@ -1,4 +1,5 @@
--- The rules of a policy: its rows as words of a ternary memory, in the order in which they are tried.
+-- The rules of a policy: its rows as words of a ternary memory, in the order in which they are
+-- tried.
 use Rattle.std.specs.Prelude.{ℕ, Bool, Option, List, find}
 use Rattle.five_tuple.specs.Header.{number_of}
 use Rattle.five_tuple.specs.declared.header.Header.{Header}

@@ -31,8 +31,8 @@ word_of_row row source destination = record {
       (proto_mask row.proto);
 }
 
--- the words of a row: one for each pair of a block of its source ports and one of its destination ports, the source block
--- outermost
+-- the words of a row: one for each pair of a block of its source ports and one of its destination
+-- ports, the source block outermost
 abbrev pub words_of_row : Row → List WordValue
 words_of_row row =
     flat_map (λ source. map (word_of_row row source) (cover_of row.dport)) (cover_of row.sport)

@@ -1,6 +1,7 @@
 ghost use Rattle.policy_rules.specs.Laws.{PolicyLaws, RowWordsLaws, RuleListLaws};
 
-/// The scan is the first match, and one list of the rows is in falling order: laws of the definitions alone.
+/// The scan is the first match, and one list of the rows is in falling order: laws of the
+/// definitions alone.
 pub fn policy_laws()
     ensures { PolicyLaws }
 {}

@@ -1,17 +1,18 @@
-//! Access-control policies: prioritised rows of five-tuple fields, the first match of a header among them, and the list
-//! of rules over ternary words that a policy gives.
+//! Access-control policies: prioritised rows of five-tuple fields, the first match of a header
+//! among them, and the list of rules over ternary words that a policy gives.
 //!
-//! `Policy::scan` promises the first match by its definition: of all rows that match a header, the one that no
-//! matching row exceeds in priority, and a drop where no row matches. `to_rules` promises the defined list, in which the
-//! first rule that holds a header has the rule and the action of that first match. What holds of policies, of a row's
-//! words and of rule lists without a call stands in `policy_laws`, `row_words_laws` and `rule_list_laws`.
+//! `Policy::scan` promises the first match by its definition: of all rows that match a header, the
+//! one that no matching row exceeds in priority, and a drop where no row matches. `to_rules`
+//! promises the defined list, in which the first rule that holds a header has the rule and the
+//! action of that first match. What holds of policies, of a row's words and of rule lists without a
+//! call stands in `policy_laws`, `row_words_laws` and `rule_list_laws`.
 //!
 //! ```text
 //! fn first_rule(alloc: Global, rows: Vec<Row>, header: &Header) -> anyhow::Result<Option<Rule>> {
-//!     let policy = Policy::new(alloc, rows)?;        // SamePriority, where two rows have one priority
-//!     let rules = to_rules(alloc, &policy)?;         // TooManyWords, where the rows have more than 4,096 words
-//!     let place = first_hit(&rules, header);         // always some: the last rule holds each header
-//!     Ok(place.map(|place| rules[place]))            // decides as policy.scan(header) does
+//!     let policy = Policy::new(alloc, rows)?;  // SamePriority, where two rows share a priority
+//!     let rules = to_rules(alloc, &policy)?;   // TooManyWords, where the words are over 4,096
+//!     let place = first_hit(&rules, header);   // always some: the last rule holds each header
+//!     Ok(place.map(|place| rules[place]))      // decides as policy.scan(header) does
 //! }
 //! ```
 #![tactic(auto)]

@@ -65,8 +65,8 @@ impl<T: Drop> From<AllocFailed<T>> for NewPolicyError {
     }
 }
 
-/// Rows of distinct priorities, in the order in which they were given. Contracts see the list of the rows, of which
-/// `IsPolicy` holds. A clone equals its policy.
+/// Rows of distinct priorities, in the order in which they were given. Contracts see the list of
+/// the rows, of which `IsPolicy` holds. A clone equals its policy.
 #[derive(Drop)]
 pub struct Policy {
     rows: Vec<Row>,
@@ -138,7 +138,8 @@ impl Policy {
         &self.rows
     }
 
-    /// The first match of the header: of all rows that match, the one of the greatest priority decides.
+    /// The first match of the header: of all rows that match, the one of the greatest priority
+    /// decides.
     pub fn scan(&self, header: &Header) -> Hit
         ensures value { result ≡ scan self.now header.now }
         ensures first_match { IsFirstMatch self.now header.now result }

@@ -6,7 +6,8 @@ ghost use Rattle.policy_rules.specs.Read.{action_of, HasSmallPort};
 use crate::policy::Action;
 use five_tuple::{printed_forms_are_read_back, read_number};
 
-/// The action that the text names: `drop`, or `out:` and a port's number from 0 to 63; `None` for any other text.
+/// The action that the text names: `drop`, or `out:` and a port's number from 0 to 63; `None` for
+/// any other text.
 #[tactic(auto, unfolding(crate::specs::Read::action_of))]
 pub fn read_action(text: &[u8]) -> Option<Action>
     ensures value { result ≡ action_of text.now }
@@ -20,7 +21,8 @@ pub fn read_action(text: &[u8]) -> Option<Action>
     Some(Action::Out(port as u32))
 }
 
-/// Each printed action is read back to the action, where its port is below 64: a law on the texts alone.
+/// Each printed action is read back to the action, where its port is below 64: a law on the texts
+/// alone.
 pub fn printed_actions_are_read_back()
     ensures { (action : Action) → HasSmallPort action
         → action_of (action_text action) ≡ Some action }

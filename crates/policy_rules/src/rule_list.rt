@@ -39,8 +39,9 @@ impl From<AllocError> for RulesError {
     }
 }
 
-/// The rules of a policy: for each row, by falling priority, a rule for each pair of a block of its source ports and
-/// one of its destination ports, the source block outermost; last the default, whose word holds each header.
+/// The rules of a policy: for each row, by falling priority, a rule for each pair of a block of its
+/// source ports and one of its destination ports, the source block outermost; last the default,
+/// whose word holds each header.
 ///
 /// # Errors
 /// `TooManyWords` exactly where the rows have more than 4,096 words together.
@@ -63,7 +64,8 @@ pub fn to_rules(alloc: Global, policy: &Policy) -> Result<Vec<Rule>, RulesError>
     Ok(rules)
 }
 
-/// How many words the rows of the policy have together: as many as it has rules, without the default.
+/// How many words the rows of the policy have together: as many as it has rules, without the
+/// default.
 pub fn count_words(policy: &Policy) -> u64
     ensures { result ≡ word_total policy.now }
 {

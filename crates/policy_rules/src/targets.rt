@@ -5,7 +5,8 @@ use std::marker::Model;
 /// The most switches that one partition names.
 const MOST: usize = 4;
 
-/// One to four numbers of switches, in order: a partition's authority switch and after it the backups.
+/// One to four numbers of switches, in order: a partition's authority switch and after it the
+/// backups.
 ///
 /// They are held in place, without memory. Contracts see the list.
 #[derive(Clone, Copy, Debug, PartialEq, Eq)]

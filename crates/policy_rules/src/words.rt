@@ -7,7 +7,8 @@ use crate::policy::{Row, row_is_sound};
 use five_tuple::{Fields, Header, PortBlock, Prefix, Proto};
 use ternary::Word;
 
-/// The word of the headers that this row matches by its addresses and protocol, and whose ports are in the two blocks.
+/// The word of the headers that this row matches by its addresses and protocol, and whose ports are
+/// in the two blocks.
 pub fn word_of_row(row: &Row, source: PortBlock, destination: PortBlock) -> Word
     requires source { IsPortBlock source }
     requires destination { IsPortBlock destination }

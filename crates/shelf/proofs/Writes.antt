@@ -7,11 +7,16 @@ use Rattle.shelf.specs.Sink.{gained, gained-gained}
 -- the first bytes, and then the first of a piece that begins behind them
 pub gained_more : (before : Option (List ℕ)) (bytes : List ℕ) (written rest most taken : ℕ)
     → taken ≤ length (take most (take rest (drop written bytes)))
-    → gained (gained before (take written bytes)) (take taken (take most (take rest (drop written bytes))))
+    → gained (gained before (take written bytes))
+    (take taken (take most (take rest (drop written bytes))))
     ≡ gained before (take (written + taken) bytes)
 gained_more before bytes written rest most taken within =
     let others = drop written bytes in
     let of_piece : taken ≤ most = omega (arith, within, length-take most (take rest others)) in
-    let of_rest : taken ≤ rest = omega (arith, within, length-take most (take rest others), length-take rest others) in
-    let same = take-take taken most (take rest others) of_piece ∙ take-take taken rest others of_rest in
-    gained-gained before (take written bytes) _ ∙ ap (gained before) (ap (λ (x : List ℕ). take written bytes ++ x) same ∙ sym (take-add written taken bytes))
+    let of_rest : taken ≤ rest =
+    omega (arith, within, length-take most (take rest others), length-take rest others) in
+    let same = take-take taken most (take rest others) of_piece
+    ∙ take-take taken rest others of_rest in
+    gained-gained before (take written bytes) _
+    ∙ ap (gained before) (ap (λ (x : List ℕ). take written bytes ++ x) same
+    ∙ sym (take-add written taken bytes))

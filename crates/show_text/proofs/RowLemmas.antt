@@ -13,15 +13,19 @@ enumerate_push {X} n [] x =
 enumerate_push {X} n (y ∷ ys) x =
     let e : n + 1 + length ys ≡ n + suc (length ys) = omega arith in
     ap {B = List (ℕ × X)} (λ l. (n, y) ∷ l)
-    (enumerate_push (n + 1) ys x ∙ ap {B = List (ℕ × X)} (λ k. enumerate_from (n + 1) ys ++ (k, x) ∷ []) e)
+    (enumerate_push (n + 1) ys x
+    ∙ ap {B = List (ℕ × X)} (λ k. enumerate_from (n + 1) ys ++ (k, x) ∷ []) e)
 
 -- of the first rows, one more
-pub rows_more : (net : Net) (rows : List PartRow) (i : ℕ) (row : PartRow) → i < length rows → row ≡ get_or rows i row
-    → flat_map (row_line net) (enumerate_from 0 (take (i + 1) rows)) ≡ flat_map (row_line net) (enumerate_from 0 (take i rows)) ++ row_line net (i, row)
+pub rows_more : (net : Net) (rows : List PartRow) (i : ℕ) (row : PartRow) → i < length rows
+    → row ≡ get_or rows i row
+    → flat_map (row_line net) (enumerate_from 0 (take (i + 1) rows)) ≡ flat_map (row_line net)
+    (enumerate_from 0 (take i rows)) ++ row_line net (i, row)
 rows_more net rows i row within read =
     let front = take i rows in
     let count : 0 + length front ≡ i = grind (arith, length-take i rows) in
-    let next : take (i + 1) rows ≡ front ++ row ∷ [] = grind (arith, (take_at_read rows i row within).1, read) in
+    let next : take (i + 1) rows ≡ front ++ row ∷ [] =
+    grind (arith, (take_at_read rows i row within).1, read) in
     let lines = enumerate_from 0 front in
     ap (λ l. flat_map (row_line net) (enumerate_from 0 l)) next
     ∙ ap (flat_map (row_line net)) (enumerate_push 0 front row)

@@ -70,7 +70,8 @@ row_line net (number, row) =
 
 -- the switch's own partitions
 unfoldable pub authority_text : List Partition → List ℕ
-authority_text parts = line (codes "authority " ++ decimal (length parts)) ++ flat_map own_lines parts
+authority_text parts = line (codes "authority " ++ decimal (length parts)) ++ flat_map own_lines
+    parts
 
 -- the partition rules of all regions
 unfoldable pub regions_text : Net → List PartRow → List ℕ

@@ -38,7 +38,8 @@ remove_past (x ∷ xs) (suc place) past = ap (λ rest. x ∷ rest) (remove_past 
 pub cache_expired : (place : ℕ) (cache : CacheValue) → IsCache cache → IsCache (expired place cache)
 cache_expired place cache is = elim (cases_lt place (length cache.entries)) [
   | inl within ↦ record {
-    distinct = all_pairs_remove (λ a b. same_key a b ≡ false) cache.entries place within is.distinct;
+    distinct = all_pairs_remove (λ a b. same_key a b ≡ false) cache.entries place within
+        is.distinct;
     few = omega (arith, length-remove cache.entries place within, is.few);
   }
   | inr past ↦ subst (λ entries. IsCache (record { entries = entries; capacity = cache.capacity }))
@@ -48,7 +49,8 @@ cache_expired place cache is = elim (cases_lt place (length cache.entries)) [
 rest_distinct : (entries : List CacheEntry) → HaveDistinctKeys entries →
     HaveDistinctKeys (drop 1 entries)
 rest_distinct [] pairs = none_distinct
-rest_distinct (x ∷ xs) pairs = λ i j d less within. pairs (suc i) (suc j) d (omega arith) (omega arith)
+rest_distinct (x ∷ xs) pairs = λ i j d less within. pairs (suc i) (suc j) d (omega arith)
+    (omega arith)
 
 length-rest : (entries : List CacheEntry) (most : ℕ) → length entries ≤ most + 1 →
     length (drop 1 entries) ≤ most

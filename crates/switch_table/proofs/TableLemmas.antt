@@ -12,7 +12,7 @@ use Rattle.std.proofs.lemmas.List.Sums.{sum_by-cons}
 use Rattle.std.proofs.lemmas.Option.{slice_get-get_or, slice_get-map}
 use Rattle.five_tuple.specs.Header.{IsHeader, number_of}
 use Rattle.five_tuple.specs.declared.header.Header.{Header}
-use Rattle.policy_rules.proofs.Finding.{find-position}
+use Rattle.policy_rules.proofs.CallerLemmas.{find-position}
 use Rattle.policy_rules.specs.Partitions.{AreNumbered, AreSoundPartitions, is_in}
 use Rattle.policy_rules.specs.Policy.{scan}
 use Rattle.policy_rules.specs.RuleList.{hit_of_rule}
@@ -20,156 +20,253 @@ use Rattle.policy_rules.specs.Rules.{first_rule, is_held}
 use Rattle.policy_rules.specs.declared.policy.Row.{Row}
 use Rattle.policy_rules.specs.declared.rules.Partition.{Partition}
 use Rattle.switch_table.specs.Tables.{AreSoundTables, DecidesAll, Placed, part_of, row_of, row_has, has_target, tables_of}
-use Rattle.switch_table.specs.Lookup.{Decides, Leads, authority_of, redirect_of, rule_at, lookup_in, plan_lookup, table_lookup, TablesLaws}
+use Rattle.switch_table.specs.Lookup.{AllDecide, Decides, Leads, authority_of, redirect_of, rule_at, lookup_in, plan_lookup, table_lookup, TablesLaws}
 use Rattle.switch_table.specs.declared.tables.PartRow.{PartRow}
 use Rattle.switch_table.specs.declared.search.Found.{Found}
 use Rattle.switch_table.specs.declared.search.Found.TheVariants.{Cached, Authority, Redirect}
 
 -- ---- the one that passes
 
-count_by-cons : {X : Type 0} (test : X → Bool) (x : X) (xs : List X) → count_by test (x ∷ xs) ≡ cond (test x) 1 0 + count_by test xs
+count_by-cons : {X : Type 0} (test : X → Bool) (x : X) (xs : List X)
+    → count_by test (x ∷ xs) ≡ cond (test x) 1 0 + count_by test xs
 count_by-cons test x xs = sum_by-cons (λ z. cond (test z) 1 0) x xs
 
-pub find-map : {X Y : Type 0} (test : Y → Bool) (f : X → Y) (xs : List X) → find test (map f xs) ≡ option_map f (find (λ x. test (f x)) xs)
+pub find-map : {X Y : Type 0} (test : Y → Bool) (f : X → Y) (xs : List X)
+    → find test (map f xs) ≡ option_map f (find (λ x. test (f x)) xs)
 find-map test f [] = refl
 find-map {X} {Y} test f (x ∷ xs) = by_case (test (f x)) (find-map test f xs)
   where
-    by_case : (b : Bool) → find test (map f xs) ≡ option_map f (find (λ z. test (f z)) xs) → cond b (Some (f x)) (find test (map f xs)) ≡ option_map f (cond b (Some x) (find (λ z. test (f z)) xs))
+    by_case : (b : Bool) → find test (map f xs) ≡ option_map f (find (λ z. test (f z)) xs)
+        → cond b (Some (f x)) (find test (map f xs)) ≡ option_map f
+        (cond b (Some x) (find (λ z. test (f z)) xs))
     by_case true rest = refl
     by_case false rest = rest
 
-pub count_by-map : {X Y : Type 0} (test : Y → Bool) (f : X → Y) (xs : List X) → count_by test (map f xs) ≡ count_by (λ x. test (f x)) xs
+pub count_by-map : {X Y : Type 0} (test : Y → Bool) (f : X → Y) (xs : List X)
+    → count_by test (map f xs) ≡ count_by (λ x. test (f x)) xs
 count_by-map test f [] = refl
-count_by-map {X} {Y} test f (x ∷ xs) = omega (arith, count_by-cons test (f x) (map f xs), count_by-cons (λ z. test (f z)) x xs, count_by-map test f xs)
+count_by-map {X} {Y} test f (x ∷ xs) =
+    omega (
+      arith,
+      count_by-cons test (f x) (map f xs),
+      count_by-cons (λ z. test (f z)) x xs,
+      count_by-map test f xs,
+    )
 
 -- what is found passes and is there
-pub find-there : {X : Type 0} (test : X → Bool) (xs : List X) (x : X) → find test xs ≡ Some x → Contains xs x × (test x ≡ true)
+pub find-there : {X : Type 0} (test : X → Bool) (xs : List X) (x : X) → find test xs ≡ Some x
+    → Contains xs x × (test x ≡ true)
 find-there test [] x is = absurd (cc)
 find-there {X} test (y ∷ ys) x is = by_case (test y) refl is (find-there test ys x)
   where
-    by_case : (b : Bool) → test y ≡ b → cond b (Some y) (find test ys) ≡ Some x → (find test ys ≡ Some x → Contains ys x × (test x ≡ true)) → Contains (y ∷ ys) x × (test x ≡ true)
-    by_case true passes is rest = let same : y ≡ x = cc in ((0, omega arith, same), ap test (sym same) ∙ passes)
-    by_case false fails is rest = let later = rest is in ((suc later.0.0, omega (arith, later.0.1), later.0.2), later.1)
+    by_case : (b : Bool) → test y ≡ b → cond b (Some y) (find test ys) ≡ Some x
+        → (find test ys ≡ Some x → Contains ys x × (test x ≡ true)) → Contains (y ∷ ys) x
+        × (test x ≡ true)
+    by_case true passes is rest = let same : y ≡ x =
+        cc in ((0, omega arith, same), ap test (sym same) ∙ passes)
+    by_case false fails is rest = let later =
+        rest is in ((suc later.0.0, omega (arith, later.0.1), later.0.2), later.1)
 
-none_from_count : {X : Type 0} (test : X → Bool) (xs : List X) → count_by test xs ≡ 0 → find test xs ≡ None
+none_from_count : {X : Type 0} (test : X → Bool) (xs : List X) → count_by test xs ≡ 0
+    → find test xs ≡ None
 none_from_count test [] none = refl
 none_from_count {X} test (x ∷ xs) none = by_case (test x) refl (none_from_count test xs)
   where
-    by_case : (b : Bool) → test x ≡ b → (count_by test xs ≡ 0 → find test xs ≡ None) → cond b (Some x) (find test xs) ≡ None
+    by_case : (b : Bool) → test x ≡ b → (count_by test xs ≡ 0 → find test xs ≡ None)
+        → cond b (Some x) (find test xs) ≡ None
     by_case true passes rest = absurd (grind (arith, count_by-cons test x xs))
     by_case false fails rest = rest (grind (arith, count_by-cons test x xs))
 
-some_from_count : {X : Type 0} (test : X → Bool) (xs : List X) → count_by test xs ≡ 1 → (x : X) × (find test xs ≡ Some x)
+some_from_count : {X : Type 0} (test : X → Bool) (xs : List X) → count_by test xs ≡ 1 → (x : X)
+    × (find test xs ≡ Some x)
 some_from_count test [] one = absurd (omega arith)
 some_from_count {X} test (x ∷ xs) one = by_case (test x) refl (some_from_count test xs)
   where
-    by_case : (b : Bool) → test x ≡ b → (count_by test xs ≡ 1 → (y : X) × (find test xs ≡ Some y)) → (y : X) × (cond b (Some x) (find test xs) ≡ Some y)
+    by_case : (b : Bool) → test x ≡ b → (count_by test xs ≡ 1 → (y : X) × (find test xs ≡ Some y))
+        → (y : X) × (cond b (Some x) (find test xs) ≡ Some y)
     by_case true passes rest = (x, refl)
     by_case false fails rest = rest (grind (arith, count_by-cons test x xs))
 
-count-filter-le : {X : Type 0} (test kept : X → Bool) (xs : List X) → count_by test (filter kept xs) ≤ count_by test xs
+count-filter-le : {X : Type 0} (test kept : X → Bool) (xs : List X)
+    → count_by test (filter kept xs) ≤ count_by test xs
 count-filter-le test kept [] = omega arith
 count-filter-le {X} test kept (x ∷ xs) = by_case (kept x) (count-filter-le test kept xs)
   where
-    by_case : (b : Bool) → count_by test (filter kept xs) ≤ count_by test xs → count_by test (cond b (x ∷ filter kept xs) (filter kept xs)) ≤ count_by test (x ∷ xs)
-    by_case true rest = omega (arith, count_by-cons test x (filter kept xs), count_by-cons test x xs, rest)
+    by_case : (b : Bool) → count_by test (filter kept xs) ≤ count_by test xs
+        → count_by test (cond b (x ∷ filter kept xs) (filter kept xs)) ≤ count_by test (x ∷ xs)
+    by_case true rest = omega
+        (arith, count_by-cons test x (filter kept xs), count_by-cons test x xs, rest)
     by_case false rest = omega (arith, count_by-cons test x xs, rest)
 
 -- among the elements that are kept, the one that passes is there if it is kept
-find-filter : {X : Type 0} (test kept : X → Bool) (xs : List X) (x : X) → count_by test xs ≡ 1 → find test xs ≡ Some x → find test (filter kept xs) ≡ cond (kept x) (Some x) None
+find-filter : {X : Type 0} (test kept : X → Bool) (xs : List X) (x : X) → count_by test xs ≡ 1
+    → find test xs ≡ Some x → find test (filter kept xs) ≡ cond (kept x) (Some x) None
 find-filter test kept [] x one is = absurd (omega arith)
 find-filter {X} test kept (y ∷ ys) x one is = by_case (test y) refl is (find-filter test kept ys x)
   where
-    here : test y ≡ true → (b : Bool) → find test ys ≡ None → find test (filter kept ys) ≡ None → find test (cond b (y ∷ filter kept ys) (filter kept ys)) ≡ cond b (Some y) None
+    here : test y ≡ true → (b : Bool) → find test ys ≡ None → find test (filter kept ys) ≡ None
+        → find test (cond b (y ∷ filter kept ys) (filter kept ys)) ≡ cond b (Some y) None
     here passes true none rest = rw passes refl
     here passes false none rest = rest
 
-    later : test y ≡ false → (b : Bool) → find test (cond b (y ∷ filter kept ys) (filter kept ys)) ≡ find test (filter kept ys)
+    later : test y ≡ false → (b : Bool) → find test (cond b (y ∷ filter kept ys) (filter kept ys))
+        ≡ find test (filter kept ys)
     later fails true = rw fails refl
     later fails false = refl
 
-    by_case : (b : Bool) → test y ≡ b → cond b (Some y) (find test ys) ≡ Some x → (count_by test ys ≡ 1 → find test ys ≡ Some x → find test (filter kept ys) ≡ cond (kept x) (Some x) None) → find test (filter kept (y ∷ ys)) ≡ cond (kept x) (Some x) None
+    by_case : (b : Bool) → test y ≡ b → cond b (Some y) (find test ys) ≡ Some x
+        → (count_by test ys ≡ 1 → find test ys ≡ Some x → find test (filter kept ys) ≡ cond (kept x)
+        (Some x) None) → find test (filter kept (y ∷ ys)) ≡ cond (kept x) (Some x) None
     by_case true passes is rest =
         let same : y ≡ x = cc in
         let none : count_by test ys ≡ 0 = grind (arith, count_by-cons test y ys) in
-        subst (λ z. find test (filter kept (y ∷ ys)) ≡ cond (kept z) (Some z) None) same (here passes (kept y) (none_from_count test ys none) (none_from_count test (filter kept ys) (omega (arith, count-filter-le test kept ys, none))))
-    by_case false fails is rest = later fails (kept y) ∙ rest (grind (arith, count_by-cons test y ys)) is
+        subst (λ z. find test (filter kept (y ∷ ys)) ≡ cond (kept z) (Some z) None) same
+        (here passes (kept y) (none_from_count test ys none)
+        (none_from_count test (filter kept ys)
+        (omega (arith, count-filter-le test kept ys, none))))
+    by_case false fails is rest = later fails (kept y)
+        ∙ rest (grind (arith, count_by-cons test y ys)) is
 
 -- ---- a plan's tables
 
 -- the partition of the plan that holds a header
-record IsAt (rows : List Row) (plan : List Placed) (header : Header) (placed : Placed) : Type 0 where
-  found : find (λ p. is_in header (part_of p)) plan ≡ Some placed
-  there : Contains plan placed
-  decides : option_map hit_of_rule (first_rule placed.0.rules header) ≡ Some (scan rows header)
+record IsAt (rows : List Row) (plan : List Placed) (header : Header) (placed : Placed) : Type 0
+  where
+    found : find (λ p. is_in header (part_of p)) plan ≡ Some placed
+    there : Contains plan placed
+    decides : option_map hit_of_rule (first_rule placed.0.rules header) ≡ Some (scan rows header)
 
-contains-map : {X Y : Type 0} (f : X → Y) (xs : List X) (x : X) → Contains xs x → Contains (map f xs) (f x)
+contains-map : {X Y : Type 0} (f : X → Y) (xs : List X) (x : X) → Contains xs x
+    → Contains (map f xs) (f x)
 contains-map f xs x (k, within, is) =
     let len : length (map f xs) ≡ length xs = length-map _ _ in
     (k, omega arith, get_or-map f xs k x (f x) within ∙ ap f is)
 
-at_header : (rows : List Row) (plan : List Placed) (header : Header) → AreSoundPartitions rows (map part_of plan) → IsHeader header → (placed : Placed) × IsAt rows plan header placed
+at_header : (rows : List Row) (plan : List Placed) (header : Header)
+    → AreSoundPartitions rows (map part_of plan) → IsHeader header → (placed : Placed)
+    × IsAt rows plan header placed
 at_header rows plan header sound is =
-    let one : count_by (λ p. is_in header (part_of p)) plan ≡ 1 = sym (count_by-map (is_in header) part_of plan) ∙ sound.one header is in
+    let one : count_by (λ p. is_in header (part_of p)) plan ≡ 1 =
+    sym (count_by-map (is_in header) part_of plan) ∙ sound.one header is in
     let some = some_from_count (λ p. is_in header (part_of p)) plan one in
     let there = find-there (λ p. is_in header (part_of p)) plan some.0 some.1 in (
       some.0,
       record {
         found = some.1;
         there = there.0;
-        decides = All-contains (λ part. is_in header part ≡ true → option_map hit_of_rule (first_rule part.rules header) ≡ Some (scan rows header)) (map part_of plan) (part_of some.0) (sound.decides header is) (contains-map part_of plan some.0 there.0) there.1;
+        decides = All-contains (λ part. is_in header part ≡ true
+            → option_map hit_of_rule (first_rule part.rules header) ≡ Some (scan rows header))
+            (map part_of plan) (part_of some.0) (sound.decides header is)
+            (contains-map part_of plan some.0 there.0) there.1;
       },
     )
 
 -- a partition of a plan stands at the place of its number
-numbered_at : (plan : List Placed) (placed : Placed) → AreNumbered (map part_of plan) → Contains plan placed → slice_get plan placed.0.number ≡ Some placed
+numbered_at : (plan : List Placed) (placed : Placed) → AreNumbered (map part_of plan)
+    → Contains plan placed → slice_get plan placed.0.number ≡ Some placed
 numbered_at plan placed numbers (k, within, is) =
     let len : length (map part_of plan) ≡ length plan = length-map _ _ in
-    let number : placed.0.number ≡ k = ap (λ (p : Partition). p.number) (sym (get_or-map part_of plan k placed (part_of placed) within ∙ ap part_of is)) ∙ numbers k (part_of placed) (omega arith) in
+    let number : placed.0.number ≡ k = ap (λ (p : Partition). p.number)
+    (sym (get_or-map part_of plan k placed (part_of placed) within ∙ ap part_of is))
+    ∙ numbers k (part_of placed) (omega arith) in
     ap (slice_get plan) number ∙ slice_get-get_or plan k placed within ∙ ap Some is
 
 -- the place of the first rule leads to that rule
-place_leads : (rows : List Row) (plan : List Placed) (header : Header) (placed : Placed) → AreNumbered (map part_of plan) → IsAt rows plan header placed → Decides rows (map part_of plan) header (authority_of header (part_of placed))
+place_leads : (rows : List Row) (plan : List Placed) (header : Header) (placed : Placed)
+    → AreNumbered (map part_of plan) → IsAt rows plan header placed
+    → Decides rows (map part_of plan) header (authority_of header (part_of placed))
 place_leads rows plan header placed numbers at =
-    let here : slice_get (map part_of plan) placed.0.number ≡ Some (part_of placed) = slice_get-map part_of plan placed.0.number ∙ ap (option_map part_of) (numbered_at plan placed numbers at.there) in
+    let here : slice_get (map part_of plan) placed.0.number ≡ Some (part_of placed) =
+    slice_get-map part_of plan placed.0.number
+    ∙ ap (option_map part_of) (numbered_at plan placed numbers at.there) in
     let leads = find-position (is_held (number_of header)) placed.0.rules in
-    ap (option_map hit_of_rule) (ap (option_and_then (λ part. slice_get part.rules (unwrap_or (position (is_held (number_of header)) placed.0.rules) 0))) here ∙ by_case (position (is_held (number_of header)) placed.0.rules) leads) ∙ at.decides
+    ap (option_map hit_of_rule)
+    (ap (option_and_then (λ part. slice_get part.rules
+    (unwrap_or (position (is_held (number_of header)) placed.0.rules) 0))) here
+    ∙ by_case (position (is_held (number_of header)) placed.0.rules) leads) ∙ at.decides
   where
-    by_case : (place : Option ℕ) → option_and_then (slice_get placed.0.rules) place ≡ first_rule placed.0.rules header → slice_get placed.0.rules (unwrap_or place 0) ≡ first_rule placed.0.rules header
+    by_case : (place : Option ℕ) → option_and_then (slice_get placed.0.rules) place ≡ first_rule
+        placed.0.rules header → slice_get placed.0.rules (unwrap_or place 0) ≡ first_rule
+        placed.0.rules header
     by_case (Some place) leads = leads
     by_case None leads =
-        let none : option_map hit_of_rule None ≡ Some (scan rows header) = ap (option_map hit_of_rule) leads ∙ at.decides in
+        let none : option_map hit_of_rule None ≡ Some (scan rows header) =
+        ap (option_map hit_of_rule) leads ∙ at.decides in
         absurd (cc)
 
 -- what the tables of a switch say of the header
-lookup_at : (rows : List Row) (plan : List Placed) (version switch : ℕ) (header : Header) (placed : Placed) → AreSoundPartitions rows (map part_of plan) → IsHeader header → IsAt rows plan header placed → table_lookup (tables_of plan version switch) header ≡ cond (has_target switch placed) (authority_of header (part_of placed)) (redirect_of header (map row_of plan))
+lookup_at : (rows : List Row) (plan : List Placed) (version switch : ℕ) (header : Header)
+    (placed : Placed) → AreSoundPartitions rows (map part_of plan) → IsHeader header
+    → IsAt rows plan header placed → table_lookup (tables_of plan version switch) header ≡ cond
+    (has_target switch placed) (authority_of header (part_of placed))
+    (redirect_of header (map row_of plan))
 lookup_at rows plan version switch header placed sound is at =
-    let one : count_by (λ p. is_in header (part_of p)) plan ≡ 1 = sym (count_by-map (is_in header) part_of plan) ∙ sound.one header is in
-    let own : find (is_in header) (map part_of (filter (has_target switch) plan)) ≡ option_map part_of (cond (has_target switch placed) (Some placed) None) = find-map (is_in header) part_of (filter (has_target switch) plan) ∙ ap (option_map part_of) (find-filter (λ p. is_in header (part_of p)) (has_target switch) plan placed one at.found) in
-    ap (λ part. option_map_or (authority_of header) part (redirect_of header (map row_of plan))) own ∙ by_case (has_target switch placed)
+    let one : count_by (λ p. is_in header (part_of p)) plan ≡ 1 =
+    sym (count_by-map (is_in header) part_of plan) ∙ sound.one header is in
+    let own : find (is_in header) (map part_of (filter (has_target switch) plan)) ≡ option_map
+    part_of (cond (has_target switch placed) (Some placed) None) = find-map (is_in header)
+    part_of (filter (has_target switch) plan)
+    ∙ ap (option_map part_of)
+    (find-filter (λ p. is_in header (part_of p)) (has_target switch) plan placed one at.found)
+    in
+    ap (λ part. option_map_or (authority_of header) part (redirect_of header (map row_of plan))) own
+    ∙ by_case (has_target switch placed)
   where
-    by_case : (b : Bool) → option_map_or (authority_of header) (option_map part_of (cond b (Some placed) None)) (redirect_of header (map row_of plan)) ≡ cond b (authority_of header (part_of placed)) (redirect_of header (map row_of plan))
+    by_case : (b : Bool) → option_map_or (authority_of header)
+        (option_map part_of (cond b (Some placed) None)) (redirect_of header (map row_of plan))
+        ≡ cond b (authority_of header (part_of placed)) (redirect_of header (map row_of plan))
     by_case true = refl
     by_case false = refl
 
-row_targets : (rows : List Row) (plan : List Placed) (header : Header) (placed : Placed) → IsAt rows plan header placed → option_map_or (λ (row : PartRow). row.targets) (find (row_has header) (map row_of plan)) [] ≡ placed.1
-row_targets rows plan header placed at = ap (λ row. option_map_or (λ (r : PartRow). r.targets) row []) (find-map (row_has header) row_of plan ∙ ap (option_map row_of) at.found)
+row_targets : (rows : List Row) (plan : List Placed) (header : Header) (placed : Placed)
+    → IsAt rows plan header placed → option_map_or (λ (row : PartRow). row.targets)
+    (find (row_has header) (map row_of plan)) [] ≡ placed.1
+row_targets rows plan header placed at =
+    ap (λ row. option_map_or (λ (r : PartRow). r.targets) row [])
+    (find-map (row_has header) row_of plan ∙ ap (option_map row_of) at.found)
 
-pub tables_lead : (rows : List Row) (plan : List Placed) (version switch : ℕ) (header : Header) → AreSoundPartitions rows (map part_of plan) → IsHeader header → Leads rows plan version header (table_lookup (tables_of plan version switch) header)
-tables_lead rows plan version switch header sound is =
+pub tables_lead : (rows : List Row) (plan : List Placed) (version switch : ℕ) (header : Header)
+    → AreSoundPartitions rows (map part_of plan) → All (λ placed. 0 < length placed.1) plan
+    → IsHeader header
+    → Leads rows plan version header (table_lookup (tables_of plan version switch) header)
+tables_lead rows plan version switch header sound some is =
     let here = at_header rows plan header sound is in
     let placed = here.0 in
     let at = here.1 in
     let decides = place_leads rows plan header placed sound.numbers at in
-    let there : (s : ℕ) → list_any (eqb s) placed.1 ≡ true → Decides rows (map part_of plan) header (table_lookup (tables_of plan version s) header) = λ s target.
-    subst (Decides rows (map part_of plan) header) (sym (lookup_at rows plan version s header placed sound is at ∙ ap (λ b. cond b (authority_of header (part_of placed)) (redirect_of header (map row_of plan))) target)) decides in
-    subst (Leads rows plan version header) (sym (lookup_at rows plan version switch header placed sound is at))
-    (by_case placed (has_target switch placed) decides (subst (All (λ s. Decides rows (map part_of plan) header (table_lookup (tables_of plan version s) header))) (sym (row_targets rows plan header placed at)) (λ k d within. there (get_or placed.1 k d) (among placed.1 k d within))))
+    let there : (s : ℕ) → list_any (eqb s) placed.1 ≡ true → Decides rows (map part_of plan) header
+    (table_lookup (tables_of plan version s) header) = λ s target.
+    subst (Decides rows (map part_of plan) header)
+    (sym (lookup_at rows plan version s header placed sound is at
+    ∙ ap (λ b. cond b (authority_of header (part_of placed))
+    (redirect_of header (map row_of plan))) target)) decides in
+    subst (Leads rows plan version header)
+    (sym (lookup_at rows plan version switch header placed sound is at))
+    (by_case placed (has_target switch placed) decides
+    (subst (AllDecide rows plan version header) (sym (row_targets rows plan header placed at))
+    (record {
+      some = has_some at.there;
+      each = λ k d within. there (get_or placed.1 k d) (among placed.1 k d within);
+    })))
   where
-    among : (targets : List ℕ) (k d : ℕ) → k < length targets → list_any (eqb (get_or targets k d)) targets ≡ true
-    among targets k d within = list_any-from_Any (eqb (get_or targets k d)) targets (k, get_or targets k d, within, get_or_default targets k (get_or targets k d) d within, eq-eqb (get_or targets k d) (get_or targets k d) refl)
+    has_some : {placed : Placed} → Contains plan placed → 0 < length placed.1
+    has_some (k, within, is) = subst (λ (p : Placed). 0 < length p.1) is (some k _ within)
 
-    by_case : (placed : Placed) (b : Bool) → Decides rows (map part_of plan) header (authority_of header (part_of placed)) → Leads rows plan version header (redirect_of header (map row_of plan)) → Leads rows plan version header (cond b (authority_of header (part_of placed)) (redirect_of header (map row_of plan)))
+    among : (targets : List ℕ) (k d : ℕ) → k < length targets → list_any (eqb (get_or targets k d))
+        targets ≡ true
+    among targets k d within = list_any-from_Any (eqb (get_or targets k d)) targets (
+      k,
+      get_or targets k d,
+      within,
+      get_or_default targets k (get_or targets k d) d within,
+      eq-eqb (get_or targets k d) (get_or targets k d) refl,
+    )
+
+    by_case : (placed : Placed) (b : Bool) → Decides rows (map part_of plan) header
+        (authority_of header (part_of placed))
+        → Leads rows plan version header (redirect_of header (map row_of plan))
+        → Leads rows plan version header
+        (cond b (authority_of header (part_of placed)) (redirect_of header (map row_of plan)))
     by_case placed true own others = own
     by_case placed false own others = others
 
@@ -229,36 +326,60 @@ tables_planned rows plan version switch header sound is =
     ∙ ap Some (sym (lookup_at rows plan version switch header placed sound is at ∙ says))
 
 -- a fact of each partition of a plan holds of those in a switch's tables
-own_all : (P : Partition → Type 0) (plan : List Placed) (kept : Placed → Bool) → ((placed : Placed) → Contains plan placed → P (part_of placed)) → All P (map part_of (filter kept plan))
-own_all P plan kept each = All-map P part_of (filter kept plan) (All-filter kept (λ placed. P (part_of placed)) plan (All-weaker (Contains plan) (λ placed. P (part_of placed)) each plan (All-contains_itself plan)))
+own_all : (P : Partition → Type 0) (plan : List Placed) (kept : Placed → Bool)
+    → ((placed : Placed) → Contains plan placed → P (part_of placed))
+    → All P (map part_of (filter kept plan))
+own_all P plan kept each = All-map P part_of (filter kept plan)
+    (All-filter kept (λ placed. P (part_of placed)) plan
+    (All-weaker (Contains plan) (λ placed. P (part_of placed)) each plan
+    (All-contains_itself plan)))
 
-pairs-map : {X Y : Type 0} (R : Y → Y → Type 0) (f : X → Y) (xs : List X) → AllPairs (λ a b. R (f a) (f b)) xs → AllPairs R (map f xs)
+pairs-map : {X Y : Type 0} (R : Y → Y → Type 0) (f : X → Y) (xs : List X)
+    → AllPairs (λ a b. R (f a) (f b)) xs → AllPairs R (map f xs)
 pairs-map R f [] pairs = λ i j d less within. absurd (omega arith)
 pairs-map R f (x ∷ xs) pairs = λ i j d less within.
     let len : length (map f (x ∷ xs)) ≡ length (x ∷ xs) = length-map (x ∷ xs) f in
-    rw (get_or-map f (x ∷ xs) i x d (omega arith), get_or-map f (x ∷ xs) j x d (omega arith)) (pairs i j x less (omega arith))
+    rw (get_or-map f (x ∷ xs) i x d (omega arith), get_or-map f (x ∷ xs) j x d (omega arith))
+    (pairs i j x less (omega arith))
 
-numbers_differ : (plan : List Placed) → AreNumbered (map part_of plan) → AllPairs (λ a b. a.0.number ≢ b.0.number) plan
+numbers_differ : (plan : List Placed) → AreNumbered (map part_of plan)
+    → AllPairs (λ a b. a.0.number ≢ b.0.number) plan
 numbers_differ plan numbers = λ i j d less within same.
     let len : length (map part_of plan) ≡ length plan = length-map _ _ in
-    let number = λ (k : ℕ) (there : k < length plan). ap (λ (p : Partition). p.number) (sym (get_or-map part_of plan k d (part_of d) there)) ∙ numbers k (part_of d) (omega arith) in
+    let number = λ (k : ℕ) (there : k < length plan). ap (λ (p : Partition). p.number)
+    (sym (get_or-map part_of plan k d (part_of d) there))
+    ∙ numbers k (part_of d) (omega arith) in
     omega (arith, number i (omega arith), number j within, same)
 
 some_hit : {X Y : Type 0} (f : X → Y) (o : Option X) (y : Y) → option_map f o ≡ Some y → IsSome o
 some_hit f None y is = absurd (cc)
 some_hit f (Some x) y is = refl
 
-pub tables_are_sound : (rows : List Row) (plan : List Placed) (version switch : ℕ) → AreSoundPartitions rows (map part_of plan) → length plan < 2 ^ 32 → All (λ placed. length placed.0.rules < 2 ^ 32) plan → AreSoundTables (tables_of plan version switch)
+pub tables_are_sound : (rows : List Row) (plan : List Placed) (version switch : ℕ)
+    → AreSoundPartitions rows (map part_of plan) → length plan < 2 ^ 32
+    → All (λ placed. length placed.0.rules < 2 ^ 32) plan
+    → AreSoundTables (tables_of plan version switch)
 tables_are_sound rows plan version switch sound few small = record {
-  one = λ header is. count_by-map (row_has header) row_of plan ∙ sym (count_by-map (is_in header) part_of plan) ∙ sound.one header is;
-  numbers = own_all (λ part. slice_get (map (λ (row : PartRow). row.region) (map row_of plan)) part.number ≡ Some part.region) plan (has_target switch) (λ placed there.
+  one = λ header is. count_by-map (row_has header) row_of plan
+      ∙ sym (count_by-map (is_in header) part_of plan) ∙ sound.one header is;
+  numbers = own_all (λ part. slice_get (map (λ (row : PartRow). row.region) (map row_of plan))
+      part.number ≡ Some part.region) plan (has_target switch) (λ placed there.
       slice_get-map (λ (row : PartRow). row.region) (map row_of plan) placed.0.number
-      ∙ ap (option_map (λ (row : PartRow). row.region)) (slice_get-map row_of plan placed.0.number ∙ ap (option_map row_of) (numbered_at plan placed sound.numbers there)));
-  distinct = pairs-map (λ a b. a.number ≢ b.number) part_of (filter (has_target switch) plan) (AllPairs-filter (λ a b. a.0.number ≢ b.0.number) (has_target switch) plan (numbers_differ plan sound.numbers));
+      ∙ ap (option_map (λ (row : PartRow). row.region))
+      (slice_get-map row_of plan placed.0.number
+      ∙ ap (option_map row_of) (numbered_at plan placed sound.numbers there)));
+  distinct = pairs-map (λ a b. a.number ≢ b.number) part_of (filter (has_target switch) plan)
+      (AllPairs-filter (λ a b. a.0.number ≢ b.0.number) (has_target switch) plan
+      (numbers_differ plan sound.numbers));
   decides = own_all DecidesAll plan (has_target switch) (λ placed there header is inside.
-      some_hit hit_of_rule (first_rule placed.0.rules header) (scan rows header) (All-contains (λ part. is_in header part ≡ true → option_map hit_of_rule (first_rule part.rules header) ≡ Some (scan rows header)) (map part_of plan) (part_of placed) (sound.decides header is) (contains-map part_of plan placed there) inside));
+      some_hit hit_of_rule (first_rule placed.0.rules header) (scan rows header)
+      (All-contains (λ part. is_in header part ≡ true
+      → option_map hit_of_rule (first_rule part.rules header) ≡ Some (scan rows header))
+      (map part_of plan) (part_of placed) (sound.decides header is)
+      (contains-map part_of plan placed there) inside));
   few_rows = (let len : length (map row_of plan) ≡ length plan = length-map _ _ in omega arith);
-  few_rules = own_all (λ part. length part.rules < 2 ^ 32) plan (has_target switch) (λ placed there. All-contains (λ p. length p.0.rules < 2 ^ 32) plan placed small there);
+  few_rules = own_all (λ part. length part.rules < 2 ^ 32) plan (has_target switch)
+      (λ placed there. All-contains (λ p. length p.0.rules < 2 ^ 32) plan placed small there);
 }
 
 -- ---- what a lookup finds
@@ -266,28 +387,39 @@ tables_are_sound rows plan version switch sound few small = record {
 -- the row that holds a header, and its place
 pub record IsRow (header : Header) (rows : List PartRow) (place : ℕ) : Type 0 where
   pub within : place < length rows
-  pub targets : (d : PartRow) → option_map_or (λ (row : PartRow). row.targets) (find (row_has header) rows) [] ≡ (get_or rows place d).targets
+  pub targets : (d : PartRow) → option_map_or (λ (row : PartRow). row.targets)
+      (find (row_has header) rows) [] ≡ (get_or rows place d).targets
 
-pub row_there : (header : Header) (rows : List PartRow) → count_by (row_has header) rows ≡ 1 → IsSome (position (row_has header) rows)
-row_there header rows one = by_case (position (row_has header) rows) (find-position (row_has header) rows) (some_from_count (row_has header) rows one)
+pub row_there : (header : Header) (rows : List PartRow) → count_by (row_has header) rows ≡ 1
+    → IsSome (position (row_has header) rows)
+row_there header rows one = by_case (position (row_has header) rows)
+    (find-position (row_has header) rows) (some_from_count (row_has header) rows one)
   where
-    by_case : (place : Option ℕ) → option_and_then (slice_get rows) place ≡ find (row_has header) rows → (row : PartRow) × (find (row_has header) rows ≡ Some row) → IsSome place
+    by_case : (place : Option ℕ) → option_and_then (slice_get rows) place ≡ find (row_has header)
+        rows → (row : PartRow) × (find (row_has header) rows ≡ Some row) → IsSome place
     by_case (Some place) leads some = refl
     by_case None leads some =
         let clash : None ≡ Some some.0 = leads ∙ some.1 in
         absurd (cc)
 
-pub row_at : (header : Header) (rows : List PartRow) (place : ℕ) (d : PartRow) → position (row_has header) rows ≡ Some place → IsRow header rows place
+pub row_at : (header : Header) (rows : List PartRow) (place : ℕ) (d : PartRow)
+    → position (row_has header) rows ≡ Some place → IsRow header rows place
 row_at header rows place d is =
     let within = (position-Some (row_has header) rows place d is).0 in
     record {
       within = within;
-      targets = λ e. ap (λ row. option_map_or (λ (r : PartRow). r.targets) row []) (sym (find-position (row_has header) rows) ∙ ap (option_and_then (slice_get rows)) is ∙ slice_get-get_or rows place e within);
+      targets = λ e. ap (λ row. option_map_or (λ (r : PartRow). r.targets) row [])
+          (sym (find-position (row_has header) rows) ∙ ap (option_and_then (slice_get rows)) is
+          ∙ slice_get-get_or rows place e within);
     }
 
-pub place_fits : (place : Option ℕ) (n : ℕ) → IfSome place (λ p. p < n) → n < 2 ^ 32 → unwrap_or place 0 < 2 ^ 32
+pub place_fits : (place : Option ℕ) (n : ℕ) → IfSome place (λ p. p < n) → n < 2 ^ 32
+    → unwrap_or place 0 < 2 ^ 32
 place_fits None n within few = omega arith
 place_fits (Some place) n within few = omega arith
 
-pub own_found : (header : Header) (parts : List Partition) (part : Partition) → Some part ≡ find (is_in header) parts → All (λ part. length part.rules < 2 ^ 32) parts → length part.rules < 2 ^ 32
-own_found header parts part is few = All-contains (λ p. length p.rules < 2 ^ 32) parts part few (find-there (is_in header) parts part (sym is)).0
+pub own_found : (header : Header) (parts : List Partition) (part : Partition)
+    → Some part ≡ find (is_in header) parts → All (λ part. length part.rules < 2 ^ 32) parts
+    → length part.rules < 2 ^ 32
+own_found header parts part is few = All-contains (λ p. length p.rules < 2 ^ 32) parts part few
+    (find-there (is_in header) parts part (sym is)).0

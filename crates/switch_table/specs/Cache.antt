@@ -1,4 +1,5 @@
--- Caches of a switch's rules: a list of entries, no two of one version and word, in the order in which they came.
+-- Caches of a switch's rules: a list of entries, no two of one version and word, in the order in
+-- which they came.
 use Rattle.std.specs.Prelude.{ℕ, ◌≤◌, Bool, ◌&&◌, ◌||◌, ◌==◌, nat_lt, nat_le, if◌then◌else◌, Option, List, [], ◌∷◌, ◌++◌, length, drop, filter, remove, find, AllPairs, IsFalse}
 use Rattle.std.specs.List.{list_any}
 use Rattle.ternary.specs.Word.{holds, word_eq}
@@ -20,7 +21,8 @@ HaveDistinctKeys entries = AllPairs (λ a b. IsFalse (same_key a b)) entries
 abbrev pub newest : ℕ → List CacheEntry → List CacheEntry
 newest capacity entries = if nat_lt capacity (length entries) then drop 1 entries else entries
 
--- an entry is taken in last; one of a version below the stamp, or of a key that is there, changes nothing
+-- an entry is taken in last; one of a version below the stamp, or of a key that is there, changes
+-- nothing
 abbrev pub accepted : ℕ → CacheEntry → CacheValue → CacheValue
 accepted stamp entry cache =
     if nat_lt entry.version stamp || list_any (same_key entry) cache.entries

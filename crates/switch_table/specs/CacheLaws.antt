@@ -3,7 +3,8 @@ use Rattle.std.specs.Prelude.{ℕ, []}
 use Rattle.switch_table.specs.Cache.{CacheValue, IsCache, accepted, expired, raised, cleared}
 use Rattle.switch_table.specs.declared.cache.CacheEntry.{CacheEntry}
 
--- a cache that begins without entries has distinct keys and no more entries than its capacity after any calls
+-- a cache that begins without entries has distinct keys and no more entries than its capacity after
+-- any calls
 pub record CacheLaws : Type 0 where
   pub begun : (capacity : ℕ) → IsCache (record { entries = []; capacity = capacity })
   pub kept_by_accept : (stamp : ℕ) (entry : CacheEntry) (cache : CacheValue) → IsCache cache →

@@ -1,5 +1,6 @@
--- What the tables and the cache of a switch say of a header: cached rules first, then authority rules, then partition
--- rules (Yu, Rexford, Freedman and Wang, "Scalable Flow-Based Networking with DIFANE", SIGCOMM 2010).
+-- What the tables and the cache of a switch say of a header: cached rules first, then authority
+-- rules, then partition rules (Yu, Rexford, Freedman and Wang, "Scalable Flow-Based Networking with
+-- DIFANE", SIGCOMM 2010).
 use Rattle.std.specs.Prelude.{ℕ, ◌≡◌, ◌^◌, ◌<◌, if◌then◌else◌, Option, Some, List, [], length, map, All, find, position, unwrap_or, option_map, option_and_then, slice_get}
 use Rattle.std.specs.Option.{option_map_or}
 use Rattle.five_tuple.specs.Header.{IsHeader, number_of}
@@ -36,7 +37,8 @@ table_lookup tables header =
     option_map_or (authority_of header) (find (is_in header) tables.auth)
     (redirect_of header tables.parts)
 
--- what a cache of these entries and the tables say of the header: an entry of another version says nothing
+-- what a cache of these entries and the tables say of the header: an entry of another version says
+-- nothing
 abbrev pub lookup_of : List CacheEntry → Tables → Header → Found
 lookup_of entries tables header =
     option_map_or Cached (first_entry tables.version (number_of header) entries)
@@ -66,11 +68,17 @@ Decides rows parts header (Authority partition place) =
     option_map hit_of_rule (rule_at parts partition place) ≡ Some (scan rows header)
 Decides rows parts header _ = ⊥
 
--- the tables decide the header, or send it to targets of which each one's tables decide it
+-- there are targets, and the tables of each of them decide the header
+pub record AllDecide (rows : List Row) (plan : List Placed) (version : ℕ) (header : Header)
+    (targets : List ℕ) : Type 0 where
+  pub some : 0 < length targets
+  pub each : All (λ switch. Decides rows (map part_of plan) header
+      (table_lookup (tables_of plan version switch) header)) targets
+
+-- the tables decide the header, or send it to targets that all do
 abbrev pub Leads : List Row → List Placed → ℕ → Header → Found → Type 0
 Leads rows plan version header (Redirect partition targets) =
-    let said = λ (switch : ℕ). table_lookup (tables_of plan version switch) header in
-    All (λ switch. Decides rows (map part_of plan) header (said switch)) targets
+    AllDecide rows plan version header targets
 Leads rows plan version header found = Decides rows (map part_of plan) header found
 
 pub record TablesLaws : Type 0 where
@@ -81,9 +89,11 @@ pub record TablesLaws : Type 0 where
       → AreSoundTables (tables_of plan version switch)
   -- .. and lead each header to the policy's first match, at each switch and at each target
   pub leads : (rows : List Row) (plan : List Placed) (version switch : ℕ) (header : Header)
-      → AreSoundPartitions rows (map part_of plan) → IsHeader header
+      → AreSoundPartitions rows (map part_of plan) → All (λ placed. 0 < length placed.1) plan
+      → IsHeader header
       → Leads rows plan version header (table_lookup (tables_of plan version switch) header)
-  -- .. and say what the plan says: the number of the partition that holds the header, and its rule or its targets
+  -- .. and say what the plan says: the number of the partition that holds the header, and its rule
+  -- or its targets
   pub planned : (rows : List Row) (plan : List Placed) (version switch : ℕ) (header : Header) →
       AreSoundPartitions rows (map part_of plan) → IsHeader header →
       plan_lookup plan switch header ≡ Some (table_lookup (tables_of plan version switch) header)

@@ -1,10 +1,12 @@
--- The tables of a switch for one version of a policy: partition rules for all headers, authority rules for its own
--- partitions (Yu, Rexford, Freedman and Wang, "Scalable Flow-Based Networking with DIFANE", SIGCOMM 2010).
+-- The tables of a switch for one version of a policy: partition rules for all headers, authority
+-- rules for its own partitions (Yu, Rexford, Freedman and Wang, "Scalable Flow-Based Networking
+-- with DIFANE", SIGCOMM 2010).
 use Rattle.std.specs.Prelude.{ℕ, ◌≡◌, ◌≢◌, ◌^◌, ◌<◌, Bool, Some, List, length, map, filter, All, AllPairs, IsSome, IsTrue, nat_eq, count_by, slice_get}
 use Rattle.std.specs.List.{list_any}
 use Rattle.five_tuple.specs.Header.{IsHeader, number_of}
 use Rattle.five_tuple.specs.declared.header.Header.{Header}
 use Rattle.ternary.specs.Word.{holds}
+pub use Rattle.policy_rules.specs.Partitions.{Placed}
 use Rattle.policy_rules.specs.Partitions.{is_in}
 use Rattle.policy_rules.specs.Rules.{first_rule}
 use Rattle.policy_rules.specs.declared.rules.Partition.{Partition}
@@ -21,8 +23,8 @@ DecidesAll part =
     (header : Header) → IsHeader header → IsTrue (is_in header part)
     → IsSome (first_rule part.rules header)
 
--- each header lies in one region; an authority partition has the place of its region as its number, and decides all
--- headers there; a place has 32 bits
+-- each header lies in one region; an authority partition has the place of its region as its number,
+-- and decides all headers there; a place has 32 bits
 pub record AreSoundTables (tables : Tables) : Type 0 where
   pub one : (header : Header) → IsHeader header → count_by (row_has header) tables.parts ≡ 1
   pub numbers : (let regions = map (λ row. row.region) tables.parts in
@@ -34,10 +36,6 @@ pub record AreSoundTables (tables : Tables) : Type 0 where
 
 -- ---- the tables of a plan
 
--- a partition with its targets
-abbrev pub Placed : Type 0
-Placed = Partition × List ℕ
-
 abbrev pub part_of : Placed → Partition
 part_of placed = placed.0
 
@@ -47,8 +45,8 @@ row_of placed = record { region = placed.0.region; targets = placed.1 }
 abbrev pub has_target : ℕ → Placed → Bool
 has_target switch placed = list_any (nat_eq switch) placed.1
 
--- the tables that a plan gives to a switch: all regions with their targets, and exactly the partitions whose targets
--- contain it, in the order of the plan
+-- the tables that a plan gives to a switch: all regions with their targets, and exactly the
+-- partitions whose targets contain it, in the order of the plan
 abbrev pub tables_of : List Placed → ℕ → ℕ → Tables
 tables_of plan version switch = record {
   version = version;

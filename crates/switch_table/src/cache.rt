@@ -9,7 +9,8 @@ use std::alloc::{AllocError, Global};
 use std::marker::Model;
 use ternary::Word;
 
-/// A rule that a switch has learnt of an authority switch: what becomes of the headers of a word, by one version.
+/// A rule that a switch has learnt of an authority switch: what becomes of the headers of a word,
+/// by one version.
 #[derive(Clone, Copy, Debug, PartialEq, Eq)]
 pub struct CacheEntry {
     pub version: u32,
@@ -21,8 +22,8 @@ pub struct CacheEntry {
     pub message: u32,
 }
 
-/// The rules that a switch has learnt: at most as many as its capacity, no two of one version and word, in the order in
-/// which they came. Contracts see the list and the capacity.
+/// The rules that a switch has learnt: at most as many as its capacity, no two of one version and
+/// word, in the order in which they came. Contracts see the list and the capacity.
 #[derive(Drop)]
 pub struct Cache {
     queue: EntryQueue,
@@ -60,8 +61,9 @@ impl Cache {
         self.queue.iter()
     }
 
-    /// Takes an entry in as the last one; where there are then more than the capacity, the first one goes. Nothing
-    /// changes where its version is below the stamp, or where an entry of its version and word is there.
+    /// Takes an entry in as the last one; where there are then more than the capacity, the first
+    /// one goes. Nothing changes where its version is below the stamp, or where an entry of its
+    /// version and word is there.
     ///
     /// # Errors
     /// Want of memory alone; nothing changes then.
@@ -79,7 +81,8 @@ impl Cache {
         Ok(())
     }
 
-    /// Takes the entry at this place, from 0, out and answers the number of its message; `None` where there is none.
+    /// Takes the entry at this place, from 0, out and answers the number of its message; `None`
+    /// where there is none.
     pub fn expire(&mut self, k: u32) -> Option<u32>
         ensures message { result
             ≡ option_map (λ entry. entry.message) (slice_get self.old.entries k) }

@@ -30,8 +30,8 @@ impl CacheKey {
 
 /// Entries in the order in which they came, no two of one key. Contracts see the list.
 ///
-/// The keys stand in a set beside the queue, so that neither a search for a key nor the first entry's leaving walks
-/// over the entries.
+/// The keys stand in a set beside the queue, so that neither a search for a key nor the first
+/// entry's leaving walks over the entries.
 #[derive(Drop)]
 pub struct EntryQueue {
     queue: VecDeque<CacheEntry>,

@@ -14,14 +14,15 @@ use policy_rules::{Partition, Targets, first_hit};
 pub enum Found {
     /// A cached rule decides it.
     Cached(CacheEntry),
-    /// An authority rule decides it: the number of its partition, and its place in that partition's rules, from 0.
+    /// An authority rule decides it: the number of its partition, and its place in that partition's
+    /// rules, from 0.
     Authority { partition: u32, rule: u32 },
     /// The targets of the partition of this number decide it.
     Redirect { partition: u32, targets: Targets },
 }
 
-/// Looks a header up: the first cached rule of the tables' version that holds it, else the first authority rule that
-/// holds it, else the partition rule that does.
+/// Looks a header up: the first cached rule of the tables' version that holds it, else the first
+/// authority rule that holds it, else the partition rule that does.
 pub fn lookup(cache: &Cache, tables: &Tables, header: &Header) -> Found
     requires { AreSoundTables tables.now }
     ensures { result ≡ lookup_of cache.now.entries tables.now header.now }
@@ -74,8 +75,9 @@ fn row_place(rows: &[PartRow], number: u128) -> Option<usize>
     rows.iter().position(|row| row.region.holds(number))
 }
 
-/// Tables of a plan of sound partitions are sound, and lead each header to the policy's first match, by a switch's own
-/// authority rules or by those of any target; they name the partition that holds it: a law on the definitions alone.
+/// Tables of a plan of sound partitions are sound, and lead each header to the policy's first
+/// match, by a switch's own authority rules or by those of any target; they name the partition that
+/// holds it: a law on the definitions alone.
 pub fn tables_laws()
     ensures { TablesLaws }
 {}

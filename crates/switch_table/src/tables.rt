@@ -88,7 +88,8 @@ impl Partitions {
     }
 }
 
-/// What a switch knows of one version: the partition rules, and the authority rules of its own partitions.
+/// What a switch knows of one version: the partition rules, and the authority rules of its own
+/// partitions.
 #[derive(Debug, Drop)]
 pub struct Tables {
     pub version: u32,

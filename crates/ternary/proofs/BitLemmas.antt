@@ -19,7 +19,8 @@ digit_cases n i = zero_or_one (bit_at n i) (bit_at-lt n i)
 
 min_same : (x y m : ℕ) → m < 2 → x < 2 → y < 2 → (m ≡ 1 → x ≡ y) → min x m ≡ min y m
 min_same x y m m_fits x_fits y_fits h =
-    elim (zero_or_one m m_fits) [ inl zero_bit ↦ omega arith | inr one_bit ↦ ap (λ d. min d m) (h one_bit) ]
+    elim (zero_or_one m m_fits)
+    [ inl zero_bit ↦ omega arith | inr one_bit ↦ ap (λ d. min d m) (h one_bit) ]
 
 same_of_min : (x y m : ℕ) → x < 2 → y < 2 → min x m ≡ min y m → m ≡ 1 → x ≡ y
 same_of_min x y m x_fits y_fits e set = omega arith
@@ -27,21 +28,27 @@ same_of_min x y m x_fits y_fits e set = omega arith
 -- ---- masks
 
 -- x and y under one mask are equal exactly where they agree on its bits
-pub masked : (x y m : ℕ) → ((k : ℕ) → bit_at m k ≡ 1 → bit_at x k ≡ bit_at y k) → bit_and x m ≡ bit_and y m
+pub masked : (x y m : ℕ) → ((k : ℕ) → bit_at m k ≡ 1 → bit_at x k ≡ bit_at y k)
+    → bit_and x m ≡ bit_and y m
 masked x y m h = same_from_bits _ _ (λ k.
-    bit_at_and x m k ∙ min_same _ _ _ (bit_at-lt m k) (bit_at-lt x k) (bit_at-lt y k) (h k) ∙ sym (bit_at_and y m k))
+    bit_at_and x m k ∙ min_same _ _ _ (bit_at-lt m k) (bit_at-lt x k) (bit_at-lt y k) (h k)
+    ∙ sym (bit_at_and y m k))
 
-pub unmasked : (x y m : ℕ) → bit_and x m ≡ bit_and y m → (k : ℕ) → bit_at m k ≡ 1 → bit_at x k ≡ bit_at y k
+pub unmasked : (x y m : ℕ) → bit_and x m ≡ bit_and y m → (k : ℕ) → bit_at m k ≡ 1
+    → bit_at x k ≡ bit_at y k
 unmasked x y m e k =
-    same_of_min _ _ _ (bit_at-lt x k) (bit_at-lt y k) (sym (bit_at_and x m k) ∙ ap (λ n. bit_at n k) e ∙ bit_at_and y m k)
+    same_of_min _ _ _ (bit_at-lt x k) (bit_at-lt y k)
+    (sym (bit_at_and x m k) ∙ ap (λ n. bit_at n k) e ∙ bit_at_and y m k)
 
 -- m lies in n exactly where n has each bit of m
 pub part : (m n : ℕ) → ((k : ℕ) → bit_at m k ≡ 1 → bit_at n k ≡ 1) → bit_and m n ≡ m
-part m n h = same_from_bits _ _ (λ k. bit_at_and m n k ∙ lower _ _ (bit_at-lt m k) (bit_at-lt n k) (h k))
+part m n h = same_from_bits _ _
+    (λ k. bit_at_and m n k ∙ lower _ _ (bit_at-lt m k) (bit_at-lt n k) (h k))
   where
     lower : (x y : ℕ) → x < 2 → y < 2 → (x ≡ 1 → y ≡ 1) → min x y ≡ x
     lower x y x_fits y_fits h =
-        elim (zero_or_one x x_fits) [ inl zero_bit ↦ omega arith | inr one_bit ↦ omega (arith, h one_bit) ]
+        elim (zero_or_one x x_fits)
+        [ inl zero_bit ↦ omega arith | inr one_bit ↦ omega (arith, h one_bit) ]
 
 pub of_part : (m n : ℕ) → bit_and m n ≡ m → (k : ℕ) → bit_at m k ≡ 1 → bit_at n k ≡ 1
 of_part m n e k = upper _ _ (bit_at-lt n k) (sym (bit_at_and m n k) ∙ ap (λ x. bit_at x k) e)
@@ -70,12 +77,15 @@ right_set m n k h = lower _ _ (bit_at-lt n k) (sym (bit_at_and m n k) ∙ h)
 cleared_by_xor : (n k : ℕ) → without_bit n k ≡ bit_xor n (bit_and n (2 ^ k))
 cleared_by_xor n k =
     let p = bit_and n (2 ^ k) in
-    let inside : bit_and n p ≡ p = sym (and_assoc (2 ^ k) n n) ∙ ap (λ x. bit_and x (2 ^ k)) (and_self n) in
+    let inside : bit_and n p ≡ p = sym (and_assoc (2 ^ k) n n)
+    ∙ ap (λ x. bit_and x (2 ^ k)) (and_self n) in
     omega (arith, and_pow n k, xor_add_and n p, inside, and_le_l n (2 ^ k))
 
-cleared : (n k i : ℕ) → bit_at (without_bit n k) i ≡ (bit_at n i + min (bit_at n i) (bit_at (2 ^ k) i)) % 2
+cleared : (n k i : ℕ) → bit_at (without_bit n k) i
+    ≡ (bit_at n i + min (bit_at n i) (bit_at (2 ^ k) i)) % 2
 cleared n k i =
-    ap (λ x. bit_at x i) (cleared_by_xor n k) ∙ bit_at_xor n _ i ∙ ap (λ d. (bit_at n i + d) % 2) (bit_at_and n (2 ^ k) i)
+    ap (λ x. bit_at x i) (cleared_by_xor n k) ∙ bit_at_xor n _ i
+    ∙ ap (λ d. (bit_at n i + d) % 2) (bit_at_and n (2 ^ k) i)
 
 pub without_bit-same : (n k : ℕ) → bit_at (without_bit n k) k ≡ 0
 without_bit-same n k = cleared n k k ∙ twice _ _ (bit_at-lt n k) (bit_at-pow_same k)
@@ -84,7 +94,8 @@ without_bit-same n k = cleared n k k ∙ twice _ _ (bit_at-lt n k) (bit_at-pow_s
     twice d p fits e = omega arith
 
 pub without_bit-other : (n k i : ℕ) → i ≢ k → bit_at (without_bit n k) i ≡ bit_at n i
-without_bit-other n k i apart = cleared n k i ∙ once _ _ (bit_at-lt n i) (bit_at-pow_other k i apart)
+without_bit-other n k i apart = cleared n k i
+    ∙ once _ _ (bit_at-lt n i) (bit_at-pow_other k i apart)
   where
     once : (d p : ℕ) → d < 2 → p ≡ 0 → (d + min d p) % 2 ≡ d
     once d p fits e = omega arith
@@ -93,12 +104,15 @@ pub without_bit-le : (n k : ℕ) → without_bit n k ≤ n
 without_bit-le n k = omega arith
 
 placed_same : (k : ℕ) (one : Bool) → bit_at (from_bool one * 2 ^ k) k ≡ from_bool one
-placed_same k true = let e : 1 * 2 ^ k ≡ 2 ^ k = omega arith in ap (λ x. bit_at x k) e ∙ bit_at-pow_same k
+placed_same k true = let e : 1 * 2 ^ k ≡ 2 ^ k = omega arith in ap (λ x. bit_at x k) e
+    ∙ bit_at-pow_same k
 placed_same k false = let e : 0 * 2 ^ k ≡ 0 = omega arith in ap (λ x. bit_at x k) e ∙ bit_at-zero k
 
 placed_other : (k : ℕ) (one : Bool) (i : ℕ) → i ≢ k → bit_at (from_bool one * 2 ^ k) i ≡ 0
-placed_other k true i apart = let e : 1 * 2 ^ k ≡ 2 ^ k = omega arith in ap (λ x. bit_at x i) e ∙ bit_at-pow_other k i apart
-placed_other k false i apart = let e : 0 * 2 ^ k ≡ 0 = omega arith in ap (λ x. bit_at x i) e ∙ bit_at-zero i
+placed_other k true i apart = let e : 1 * 2 ^ k ≡ 2 ^ k = omega arith in ap (λ x. bit_at x i) e
+    ∙ bit_at-pow_other k i apart
+placed_other k false i apart = let e : 0 * 2 ^ k ≡ 0 = omega arith in ap (λ x. bit_at x i) e
+    ∙ bit_at-zero i
 
 pub with_bit-same : (n k : ℕ) (one : Bool) → bit_at (with_bit n k one) k ≡ from_bool one
 with_bit-same n k one =
@@ -107,9 +121,11 @@ with_bit-same n k one =
     above : (x y d : ℕ) → x ≡ 0 → y ≡ d → max x y ≡ d
     above x y d p q = omega arith
 
-pub with_bit-other : (n k : ℕ) (one : Bool) (i : ℕ) → i ≢ k → bit_at (with_bit n k one) i ≡ bit_at n i
+pub with_bit-other : (n k : ℕ) (one : Bool) (i : ℕ) → i ≢ k → bit_at (with_bit n k one) i ≡ bit_at n
+    i
 with_bit-other n k one i apart =
-    bit_at_or (without_bit n k) _ i ∙ above _ _ _ (without_bit-other n k i apart) (placed_other k one i apart)
+    bit_at_or (without_bit n k) _ i ∙ above _ _ _ (without_bit-other n k i apart)
+    (placed_other k one i apart)
   where
     above : (x y d : ℕ) → x ≡ d → y ≡ 0 → max x y ≡ d
     above x y d p q = omega arith
@@ -148,20 +164,27 @@ or_assoc a b c = same_from_bits _ _ (λ k.
 
 -- m adds nothing to n
 pub absorbed : (m n : ℕ) → ((k : ℕ) → bit_at m k ≡ 1 → bit_at n k ≡ 1) → bit_or m n ≡ n
-absorbed m n h = same_from_bits _ _ (λ k. bit_at_or m n k ∙ upper _ _ (bit_at-lt m k) (bit_at-lt n k) (h k))
+absorbed m n h = same_from_bits _ _
+    (λ k. bit_at_or m n k ∙ upper _ _ (bit_at-lt m k) (bit_at-lt n k) (h k))
   where
     upper : (x y : ℕ) → x < 2 → y < 2 → (x ≡ 1 → y ≡ 1) → max x y ≡ y
     upper x y x_fits y_fits h =
-        elim (zero_or_one x x_fits) [ inl zero_bit ↦ omega arith | inr one_bit ↦ omega (arith, h one_bit) ]
+        elim (zero_or_one x x_fits)
+        [ inl zero_bit ↦ omega arith | inr one_bit ↦ omega (arith, h one_bit) ]
 
 -- numbers that have the same bits set are equal
-pub same_set : (m n : ℕ) → ((k : ℕ) → bit_at m k ≡ 1 → bit_at n k ≡ 1) → ((k : ℕ) → bit_at n k ≡ 1 → bit_at m k ≡ 1) → m ≡ n
+pub same_set : (m n : ℕ) → ((k : ℕ) → bit_at m k ≡ 1 → bit_at n k ≡ 1)
+    → ((k : ℕ) → bit_at n k ≡ 1 → bit_at m k ≡ 1) → m ≡ n
 same_set m n there back = sym (part m n there) ∙ and_comm m n ∙ part n m back
 
 -- a bit that is set is within the width
 pub set_below : (w n k : ℕ) → n < 2 ^ w → bit_at n k ≡ 1 → k < w
 set_below w n k fits set =
-    elim (cases_lt k w) [ inl lt ↦ lt | inr ge ↦ absurd (omega (arith, bit_at_above n w k fits ge, set)) ]
+    elim (cases_lt k w) [
+      | inl lt ↦ lt
+      | inr ge ↦ absurd
+          (omega (arith, bit_at_above n w k fits ge, set))
+    ]
 
 -- a bit that is 0 is not set
 pub not_set : (n k : ℕ) → bit_at n k ≡ 0 → bit_at n k ≡ 1 → ⊥
@@ -169,29 +192,41 @@ not_set n k zero_bit one_bit = omega (arith, zero_bit, one_bit)
 
 -- a fact of the place k and of each other place is a fact of all
 pub by_place : (k : ℕ) (P : ℕ → Type 0) → P k → ((j : ℕ) → j ≢ k → P j) → (j : ℕ) → P j
-by_place k P here others j = elim (cases_eq j k) [ inl e ↦ subst P (sym e) here | inr apart ↦ others j apart ]
+by_place k P here others j = elim (cases_eq j k)
+    [ inl e ↦ subst P (sym e) here | inr apart ↦ others j apart ]
 
 -- ---- the bits x of a mask's digit m beside the bits y of a mask's digit n
 
-left_of_both : (x y m n : ℕ) → x < 2 → y < 2 → n < 2 → m ≡ 1 → (n ≡ 1 → x ≡ y) → max (min x m) (min y n) ≡ x
+left_of_both : (x y m n : ℕ) → x < 2 → y < 2 → n < 2 → m ≡ 1 → (n ≡ 1 → x ≡ y)
+    → max (min x m) (min y n) ≡ x
 left_of_both x y m n x_fits y_fits n_fits set agree =
-    elim (zero_or_one n n_fits) [ inl zero_bit ↦ omega arith | inr one_bit ↦ omega (arith, agree one_bit) ]
+    elim (zero_or_one n n_fits)
+    [ inl zero_bit ↦ omega arith | inr one_bit ↦ omega (arith, agree one_bit) ]
 
-right_of_both : (x y m n : ℕ) → x < 2 → y < 2 → m < 2 → n ≡ 1 → (m ≡ 1 → x ≡ y) → max (min x m) (min y n) ≡ y
+right_of_both : (x y m n : ℕ) → x < 2 → y < 2 → m < 2 → n ≡ 1 → (m ≡ 1 → x ≡ y)
+    → max (min x m) (min y n) ≡ y
 right_of_both x y m n x_fits y_fits m_fits set agree =
-    elim (zero_or_one m m_fits) [ inl zero_bit ↦ omega arith | inr one_bit ↦ omega (arith, agree one_bit) ]
+    elim (zero_or_one m m_fits)
+    [ inl zero_bit ↦ omega arith | inr one_bit ↦ omega (arith, agree one_bit) ]
 
--- the masked numbers a and b, added bit by bit, have the bits of a on the mask of a, and those of b on that of b
-masked_sum : (a m b n k : ℕ) → bit_at (bit_or (bit_and a m) (bit_and b n)) k ≡ max (min (bit_at a k) (bit_at m k)) (min (bit_at b k) (bit_at n k))
-masked_sum a m b n k = bit_at_or (bit_and a m) (bit_and b n) k ∙ (λ i. max (bit_at_and a m k i) (bit_at_and b n k i))
+-- the masked numbers a and b, added bit by bit, have the bits of a on the mask of a, and those of b
+-- on that of b
+masked_sum : (a m b n k : ℕ) → bit_at (bit_or (bit_and a m) (bit_and b n)) k ≡ max
+    (min (bit_at a k) (bit_at m k)) (min (bit_at b k) (bit_at n k))
+masked_sum a m b n k = bit_at_or (bit_and a m) (bit_and b n) k
+    ∙ (λ i. max (bit_at_and a m k i) (bit_at_and b n k i))
 
-pub masked_sum-left : (a m b n k : ℕ) → bit_at m k ≡ 1 → (bit_at n k ≡ 1 → bit_at a k ≡ bit_at b k) → bit_at (bit_or (bit_and a m) (bit_and b n)) k ≡ bit_at a k
+pub masked_sum-left : (a m b n k : ℕ) → bit_at m k ≡ 1 → (bit_at n k ≡ 1 → bit_at a k ≡ bit_at b k)
+    → bit_at (bit_or (bit_and a m) (bit_and b n)) k ≡ bit_at a k
 masked_sum-left a m b n k set agree =
-    masked_sum a m b n k ∙ left_of_both _ _ _ _ (bit_at-lt a k) (bit_at-lt b k) (bit_at-lt n k) set agree
+    masked_sum a m b n k ∙ left_of_both _ _ _ _ (bit_at-lt a k) (bit_at-lt b k) (bit_at-lt n k) set
+    agree
 
-pub masked_sum-right : (a m b n k : ℕ) → bit_at n k ≡ 1 → (bit_at m k ≡ 1 → bit_at a k ≡ bit_at b k) → bit_at (bit_or (bit_and a m) (bit_and b n)) k ≡ bit_at b k
+pub masked_sum-right : (a m b n k : ℕ) → bit_at n k ≡ 1 → (bit_at m k ≡ 1 → bit_at a k ≡ bit_at b k)
+    → bit_at (bit_or (bit_and a m) (bit_and b n)) k ≡ bit_at b k
 masked_sum-right a m b n k set agree =
-    masked_sum a m b n k ∙ right_of_both _ _ _ _ (bit_at-lt a k) (bit_at-lt b k) (bit_at-lt m k) set agree
+    masked_sum a m b n k ∙ right_of_both _ _ _ _ (bit_at-lt a k) (bit_at-lt b k) (bit_at-lt m k) set
+    agree
 
 -- a bit of one of two numbers, and of their sum bit by bit
 pub or_left : (m n k : ℕ) → bit_at m k ≡ 1 → bit_at (bit_or m n) k ≡ 1
@@ -205,7 +240,11 @@ or_right m n k set = ap (λ x. bit_at x k) (or_comm m n) ∙ or_left n m k set
 
 pub or_from : (m n k : ℕ) → bit_at (bit_or m n) k ≡ 1 → (bit_at m k ≡ 1) ⊎ (bit_at n k ≡ 1)
 or_from m n k set =
-    elim (digit_cases m k) [ inr left ↦ inl left | inl none ↦ inr (sym (bit_at_or m n k ∙ above _ _ none) ∙ set) ]
+    elim (digit_cases m k) [
+      | inr left ↦ inl left
+      | inl none ↦ inr
+          (sym (bit_at_or m n k ∙ above _ _ none) ∙ set)
+    ]
   where
     above : (x y : ℕ) → x ≡ 0 → max x y ≡ y
     above x y e = omega arith
@@ -213,7 +252,8 @@ or_from m n k set =
 -- ---- what shifts compute at 128 bits
 
 -- `u128::from(one) << k`
-pub shifted : (k : ℕ) (one : Bool) → k < 104 → from_bool one * 2 ^ k % 2 ^ 128 ≡ from_bool one * 2 ^ k
+pub shifted : (k : ℕ) (one : Bool) → k < 104 → from_bool one * 2 ^ k % 2 ^ 128 ≡ from_bool
+    one * 2 ^ k
 shifted k one within =
     let inside : k < 128 = omega arith in
     mod-eq_of_lt (placed_lt 128 k one inside)
@@ -223,18 +263,23 @@ pub shifted_one : (k : ℕ) → k < 104 → 1 * 2 ^ k % 2 ^ 128 ≡ 2 ^ k
 shifted_one k within = let one : 1 * 2 ^ k ≡ 2 ^ k = omega arith in shifted k true within ∙ one
 
 -- `n & !(1 << k)`
-pub masked_out : (n k : ℕ) → n < 2 ^ 104 → k < 104 → bit_and n (2 ^ 128 - 1 - 1 * 2 ^ k % 2 ^ 128) ≡ without_bit n k
+pub masked_out : (n k : ℕ) → n < 2 ^ 104 → k < 104 → bit_and n (2 ^ 128 - 1 - 1 * 2 ^ k % 2 ^ 128)
+    ≡ without_bit n k
 masked_out n k fits within =
     let inside : k < 128 = omega arith in
     let wide : n < 2 ^ 128 = omega arith in
-    same_from_bits_below 128 _ _ (omega (arith, and_le_l n (2 ^ 128 - 1 - 1 * 2 ^ k % 2 ^ 128))) (omega (arith, without_bit-le n k))
-    (by_place k (λ j. j < 128 → bit_at (bit_and n (2 ^ 128 - 1 - 1 * 2 ^ k % 2 ^ 128)) j ≡ bit_at (without_bit n k) j)
+    same_from_bits_below 128 _ _ (omega (arith, and_le_l n (2 ^ 128 - 1 - 1 * 2 ^ k % 2 ^ 128)))
+    (omega (arith, without_bit-le n k))
+    (by_place k (λ j. j < 128 → bit_at (bit_and n (2 ^ 128 - 1 - 1 * 2 ^ k % 2 ^ 128)) j ≡ bit_at
+    (without_bit n k) j)
     (λ _. bit_at_clear_same w128 n k inside ∙ sym (without_bit-same n k))
-    (λ j away low. bit_at_clear_other w128 n k inside j low away ∙ sym (without_bit-other n k j away)))
+    (λ j away low. bit_at_clear_other w128 n k inside j low away
+    ∙ sym (without_bit-other n k j away)))
 
 -- a bit that is not set is not there to be cleared
 pub without_bit-unset : (n k : ℕ) → (bit_at n k ≡ 1 → ⊥) → without_bit n k ≡ n
-without_bit-unset n k unset = elim (digit_cases n k) [ inl zero_bit ↦ nothing _ _ zero_bit | inr one_bit ↦ absurd (unset one_bit) ]
+without_bit-unset n k unset = elim (digit_cases n k)
+    [ inl zero_bit ↦ nothing _ _ zero_bit | inr one_bit ↦ absurd (unset one_bit) ]
   where
     nothing : (d p : ℕ) → d ≡ 0 → n - d * p ≡ n
     nothing d p e = ap (λ d. n - d * p) e ∙ omega arith

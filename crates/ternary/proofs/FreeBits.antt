@@ -33,7 +33,8 @@ IsKept p a n k = (a ≤ k) × (k < a + n) × (p k ≡ true)
 all_kept : (p : ℕ → Bool) (a n : ℕ) → All (IsKept p a n) (kept p a n)
 all_kept p a zero = All-nil _
 all_kept p a (suc n) =
-    let rest : All (IsKept p a (suc n)) (kept p (a + 1) n) = All-weaker (IsKept p (a + 1) n) (IsKept p a (suc n)) (λ x h. (omega arith, omega arith, h.2)) _ (all_kept p (a + 1) n) in
+    let rest : All (IsKept p a (suc n)) (kept p (a + 1) n) = All-weaker (IsKept p (a + 1) n)
+    (IsKept p a (suc n)) (λ x h. (omega arith, omega arith, h.2)) _ (all_kept p (a + 1) n) in
     cond_both (p a) (a ∷ kept p (a + 1) n) (kept p (a + 1) n) (All (IsKept p a (suc n)))
     (λ passes. All-cons (IsKept p a (suc n)) a _ (omega arith, omega arith, passes) rest)
     (λ _. rest)
@@ -47,10 +48,13 @@ kept_has p a (suc n) k h =
     elim (cases_eq k a) [
       | inl here ↦
           let passes : p a ≡ true = ap p (sym here) ∙ h.2 in
-          subst (λ xs. Contains xs k) (sym (cond-true (p a) (a ∷ kept p (a + 1) n) (kept p (a + 1) n) passes)) (0, omega arith, sym here)
+          subst (λ xs. Contains xs k)
+          (sym (cond-true (p a) (a ∷ kept p (a + 1) n) (kept p (a + 1) n) passes))
+          (0, omega arith, sym here)
       | inr away ↦
           let rest = kept_has p (a + 1) n k (omega arith, omega arith, h.2) in
-          cond_both (p a) (a ∷ kept p (a + 1) n) (kept p (a + 1) n) (λ xs. Contains xs k) (λ _. Contains-cons (kept p (a + 1) n) a k rest) (λ _. rest)
+          cond_both (p a) (a ∷ kept p (a + 1) n) (kept p (a + 1) n) (λ xs. Contains xs k)
+          (λ _. Contains-cons (kept p (a + 1) n) a k rest) (λ _. rest)
     ]
 
 abbrev weight : Bool → ℕ
@@ -70,7 +74,8 @@ module _ (p q : ℕ → Bool) (k : ℕ) (agree : (j : ℕ) → j ≢ k → q j �
       let rest = same_past (a + 1) n (omega arith) in
       λ i. cond (here i) (a ∷ rest i) (rest i)
 
-  one_less : p k ≡ true → q k ≡ false → (a n : ℕ) → a ≤ k → k < a + n → length (kept q a n) + 1 ≡ length (kept p a n)
+  one_less : p k ≡ true → q k ≡ false → (a n : ℕ) → a ≤ k → k < a + n
+      → length (kept q a n) + 1 ≡ length (kept p a n)
   one_less passes fails a zero low high = absurd (omega arith)
   one_less passes fails a (suc n) low high =
       let at_p = length_step (p a) a (kept p (a + 1) n) in
@@ -82,10 +87,18 @@ module _ (p q : ℕ → Bool) (k : ℕ) (agree : (j : ℕ) → j ≢ k → q j �
             omega (arith, at_p, at_q, one, none, ap length (same_past (a + 1) n (omega arith)))
         | inr away ↦
             let same = ap weight (agree a (λ e. away (sym e))) in
-            omega (arith, at_p, at_q, same, one_less passes fails (a + 1) n (omega arith) (omega arith))
+            omega (
+              arith,
+              at_p,
+              at_q,
+              same,
+              one_less passes fails (a + 1) n (omega arith)
+                  (omega arith),
+            )
       ]
 
-filter_cond : (q : ℕ → Bool) (b : Bool) (x : ℕ) (xs ys : List ℕ) → filter q xs ≡ ys → filter q (cond b (x ∷ xs) xs) ≡ cond (b && q x) (x ∷ ys) ys
+filter_cond : (q : ℕ → Bool) (b : Bool) (x : ℕ) (xs ys : List ℕ) → filter q xs ≡ ys
+    → filter q (cond b (x ∷ xs) xs) ≡ cond (b && q x) (x ∷ ys) ys
 filter_cond q true x xs ys e = ap (λ zs. cond (q x) (x ∷ zs) zs) e
 filter_cond q false x xs ys e = e
 
@@ -102,28 +115,39 @@ free_test : (b : Bool) → not b ≡ true → b ≡ false
 free_test true t = cc
 free_test false t = refl
 
-pub free_bits_member : (w : WordValue) (k : ℕ) → Contains (free_bits w) k ↔ ((k < 104) × IsFalse (is_fixed_of w k))
+pub free_bits_member : (w : WordValue) (k : ℕ) → Contains (free_bits w) k
+    ↔ ((k < 104) × IsFalse (is_fixed_of w k))
 unfolding free_bits
 free_bits_member w k = (
-  λ has. let h = All-contains (IsKept (is_free w) 0 104) (kept (is_free w) 0 104) k (all_kept (is_free w) 0 104) has in
+  λ has. let h = All-contains (IsKept (is_free w) 0 104) (kept (is_free w) 0 104) k
+      (all_kept (is_free w) 0 104) has in
       (omega (arith, h.1), free_test (is_fixed_of w k) h.2),
   λ free. kept_has (is_free w) 0 104 k (omega arith, omega (arith, free.0), ap not free.1),
 )
 
 run_rises : (a n : ℕ) → IsStrictlyIncreasing (range_with_len a n)
-run_rises a n i low = omega (arith, length-range_with_len a n, get_or-range_with_len a n i 0, get_or-range_with_len a n (i + 1) 0)
+run_rises a n i low = omega (
+  arith,
+  length-range_with_len a n,
+  get_or-range_with_len a n i 0,
+  get_or-range_with_len a n (i + 1) 0,
+)
 
 pub free_bits_ascending : (w : WordValue) → IsStrictlyIncreasing (free_bits w)
 unfolding free_bits
-free_bits_ascending w = IsStrictlyIncreasing-filter (is_free w) (range_with_len 0 104) (run_rises 0 104)
+free_bits_ascending w = IsStrictlyIncreasing-filter (is_free w) (range_with_len 0 104)
+    (run_rises 0 104)
 
 all_pass : (p : ℕ → Bool) → ((k : ℕ) → p k ≡ true) → (xs : List ℕ) → filter p xs ≡ xs
 all_pass p passes [] = refl
-all_pass p passes (x ∷ xs) = cond-true (p x) _ _ (passes x) ∙ ap (λ ys. x ∷ ys) (all_pass p passes xs)
+all_pass p passes (x ∷ xs) = cond-true (p x) _ _ (passes x)
+    ∙ ap (λ ys. x ∷ ys) (all_pass p passes xs)
 
 pub any_free_bits : length (free_bits any_word) ≡ 104
 unfolding free_bits
-any_free_bits = ap length (all_pass (is_free any_word) (λ k. ap not (any_unfixed k)) (range_with_len 0 104)) ∙ length-range_with_len 0 104
+any_free_bits = ap length
+    (all_pass (is_free any_word) (λ k. ap not (any_unfixed k)) (range_with_len 0 104))
+    ∙ length-range_with_len 0 104
 
 -- a list without elements
 empty_list : (xs : List ℕ) → ((x : ℕ) → Contains xs x → ⊥) → xs ≡ []
@@ -132,7 +156,9 @@ empty_list (x ∷ xs) none = absurd (none x (0, omega arith, refl))
 
 pub exact_free_bits : (h : ℕ) → free_bits (exact_word h) ≡ []
 exact_free_bits h =
-    empty_list (free_bits (exact_word h)) (λ k has. let free = (free_bits_member (exact_word h) k).0 has in both_ways _ free.1 (exact_fixed h k free.0))
+    empty_list (free_bits (exact_word h))
+    (λ k has. let free = (free_bits_member (exact_word h) k).0 has in both_ways _ free.1
+    (exact_fixed h k free.0))
 
 and_true : (b : Bool) → (b && true) ≡ b
 and_true true = refl
@@ -142,16 +168,22 @@ module _ (w : WordValue) (k : ℕ) (one : Bool) where
   pub free_bits_fixed : free_bits (fix_of w k one) ≡ filter (λ j. not (j == k)) (free_bits w)
   unfolding free_bits
   free_bits_fixed =
-      filter_agree (is_free (fix_of w k one)) (λ j. is_free w j && not (j == k)) same (range_with_len 0 104)
+      filter_agree (is_free (fix_of w k one)) (λ j. is_free w j && not (j == k)) same
+      (range_with_len 0 104)
       ∙ sym (filter_twice (is_free w) (λ j. not (j == k)) (range_with_len 0 104))
     where
       same : (j : ℕ) → is_free (fix_of w k one) j ≡ (is_free w j && not (j == k))
       same j = elim (cases_eq j k) [
-        | inl here ↦ ap not (ap (is_fixed_of (fix_of w k one)) here ∙ fix_fixed w k one) ∙ sym (and_right (is_free w j) (not (j == k)) (ap not (eq-eqb j k here)))
-        | inr away ↦ ap not (fix_other w k one j away) ∙ sym (ap (λ t. is_free w j && t) (ap not (ne_eqb j k away)) ∙ and_true (is_free w j))
+        | inl here ↦ ap not (ap (is_fixed_of (fix_of w k one)) here ∙ fix_fixed w k one)
+            ∙ sym (and_right (is_free w j) (not (j == k)) (ap not (eq-eqb j k here)))
+        | inr away ↦ ap not (fix_other w k one j away)
+            ∙ sym (ap (λ t. is_free w j && t) (ap not (ne_eqb j k away)) ∙ and_true (is_free w j))
       ]
 
-  pub free_bits_shorter : k < 104 → IsFalse (is_fixed_of w k) → length (free_bits (fix_of w k one)) + 1 ≡ length (free_bits w)
+  pub free_bits_shorter : k < 104 → IsFalse (is_fixed_of w k)
+      → length (free_bits (fix_of w k one)) + 1 ≡ length (free_bits w)
   unfolding free_bits
   free_bits_shorter low free =
-      one_less (is_free w) (is_free (fix_of w k one)) k (λ j away. ap not (fix_other w k one j away)) (ap not free) (ap not (fix_fixed w k one)) 0 104 (omega arith) (omega arith)
+      one_less (is_free w) (is_free (fix_of w k one)) k
+      (λ j away. ap not (fix_other w k one j away)) (ap not free) (ap not (fix_fixed w k one)) 0
+      104 (omega arith) (omega arith)

@@ -1,4 +1,5 @@
--- What `{:010x}` and `{:016x}` write of the parts of a number is what `hex_digits` has of the whole.
+-- What `{:010x}` and `{:016x}` write of the parts of a number is what `hex_digits` has of the
+-- whole.
 use Rattle.std.proofs.Common.{◌≡◌, ℕ, zero, suc, ◌+◌, ◌-◌, ◌*◌, ◌/◌, ◌%◌, ◌^◌, ◌<◌, ◌≤◌, false, List, [], ◌∷◌, ◌++◌, append_assoc, length, length-append, refl, sym, ◌∙◌, ap, subst, arith, inl, inr}
 use Rattle.std.specs.Prelude.{◌==◌, bit_and, replicate}
 use Rattle.std.specs.Fmt.{char_count, digit_glyph, digits, digits_onto, padded_integral, format_spec}
@@ -13,7 +14,8 @@ last_digit n = digit_glyph false (n % 16) ∷ []
 
 -- ---- two parts of a number
 
-pub hex_digits-parts : (k j m n : ℕ) → m ≡ k + j → hex_digits m n ≡ hex_digits j (n / 2 ^ (4 * k)) ++ hex_digits k (n % 2 ^ (4 * k))
+pub hex_digits-parts : (k j m n : ℕ) → m ≡ k + j
+    → hex_digits m n ≡ hex_digits j (n / 2 ^ (4 * k)) ++ hex_digits k (n % 2 ^ (4 * k))
 unfolding hex_digits
 hex_digits-parts zero j m n e =
     let whole : n / 2 ^ (4 * 0) ≡ n = omega arith in
@@ -22,13 +24,16 @@ hex_digits-parts zero j m n e =
 hex_digits-parts (suc k) j zero n e = absurd (omega arith)
 hex_digits-parts (suc k) j (suc m) n e =
     let width : 4 * k + 4 ≡ 4 * suc k = omega arith in
-    let high : n / 16 / 2 ^ (4 * k) ≡ n / 2 ^ (4 * suc k) = shr-shr n 4 (4 * k) ∙ ap (λ w. n / 2 ^ w) (omega arith) in
+    let high : n / 16 / 2 ^ (4 * k) ≡ n / 2 ^ (4 * suc k) = shr-shr n 4 (4 * k)
+    ∙ ap (λ w. n / 2 ^ w) (omega arith) in
     let split = ap (λ w. n % 2 ^ w) (sym width) ∙ mod-pow-add n (4 * k) 4 in
     let low : n % 2 ^ (4 * suc k) / 16 ≡ n / 16 % 2 ^ (4 * k) = omega (arith, split) in
     let last : n % 2 ^ (4 * suc k) % 16 ≡ n % 16 = omega (arith, split) in
     ap (λ ds. ds ++ last_digit n) (hex_digits-parts k j m (n / 16) (omega arith))
-    ∙ append_assoc (hex_digits j (n / 16 / 2 ^ (4 * k))) (hex_digits k (n / 16 % 2 ^ (4 * k))) (last_digit n)
-    ∙ (λ i. hex_digits j (high i) ++ (hex_digits k (sym low i) ++ digit_glyph false (sym last i) ∷ []))
+    ∙ append_assoc (hex_digits j (n / 16 / 2 ^ (4 * k))) (hex_digits k (n / 16 % 2 ^ (4 * k)))
+    (last_digit n)
+    ∙ (λ i. hex_digits j (high i)
+    ++ (hex_digits k (sym low i) ++ digit_glyph false (sym last i) ∷ []))
 
 -- ---- a padded part
 
@@ -36,10 +41,12 @@ hex_digits-parts (suc k) j (suc m) n e =
 abbrev shown : ℕ → ℕ → List ℕ
 shown most n = digits_onto most 16 false n []
 
-shown_last : (most n : ℕ) (acc : List ℕ) → n / 16 ≡ 0 → digits_onto (suc most) 16 false n acc ≡ digit_glyph false (n % 16) ∷ acc
+shown_last : (most n : ℕ) (acc : List ℕ) → n / 16 ≡ 0 → digits_onto (suc most) 16 false n acc
+    ≡ digit_glyph false (n % 16) ∷ acc
 shown_last most n acc one = cond-true (n / 16 == 0) _ _ (eq-eqb _ _ one)
 
-shown_step : (most n : ℕ) (acc : List ℕ) → (n / 16 ≡ 0 → ⊥) → digits_onto (suc most) 16 false n acc ≡ digits_onto most 16 false (n / 16) (digit_glyph false (n % 16) ∷ acc)
+shown_step : (most n : ℕ) (acc : List ℕ) → (n / 16 ≡ 0 → ⊥) → digits_onto (suc most) 16 false n acc
+    ≡ digits_onto most 16 false (n / 16) (digit_glyph false (n % 16) ∷ acc)
 shown_step most n acc more = cond-false (n / 16 == 0) _ _ (ne_eqb _ _ more)
 
 shown_onto : (most n : ℕ) (acc : List ℕ) → digits_onto most 16 false n acc ≡ shown most n ++ acc
@@ -51,7 +58,8 @@ shown_onto (suc most) n acc =
           shown_step most n acc more
           ∙ shown_onto most (n / 16) (digit_glyph false (n % 16) ∷ acc)
           ∙ sym (append_assoc (shown most (n / 16)) (last_digit n) acc)
-          ∙ ap (λ ds. ds ++ acc) (sym (shown_step most n [] more ∙ shown_onto most (n / 16) (last_digit n)))
+          ∙ ap (λ ds. ds ++ acc) (sym
+          (shown_step most n [] more ∙ shown_onto most (n / 16) (last_digit n)))
     ]
 
 abbrev zeros : ℕ → List ℕ
@@ -75,16 +83,23 @@ padded_last : (k n : ℕ) → n / 16 ≡ 0 → IsPadded (suc k) n (last_digit n)
 unfolding hex_digits
 padded_last k n one =
     let rest : suc k - 1 ≡ k = omega arith in
-    record { short = omega arith; same = ap (λ ds. ds ++ last_digit n) (ap zeros rest ∙ zeros_are k ∙ ap (hex_digits k) (sym one)) }
+    record {
+      short = omega arith;
+      same = ap (λ ds. ds ++ last_digit n)
+          (ap zeros rest ∙ zeros_are k ∙ ap (hex_digits k) (sym one));
+    }
 
-padded_more : (k n : ℕ) (ds : List ℕ) → IsPadded k (n / 16) ds → IsPadded (suc k) n (ds ++ last_digit n)
+padded_more : (k n : ℕ) (ds : List ℕ) → IsPadded k (n / 16) ds
+    → IsPadded (suc k) n (ds ++ last_digit n)
 unfolding hex_digits
 padded_more k n ds padded =
     let longer = length-append ds (last_digit n) in
     let rest : suc k - length (ds ++ last_digit n) ≡ k - length ds = omega (arith, longer) in
     record {
       short = omega (arith, longer, padded.short);
-      same = ap (λ z. zeros z ++ (ds ++ last_digit n)) rest ∙ sym (append_assoc (zeros (k - length ds)) ds (last_digit n)) ∙ ap (λ text. text ++ last_digit n) padded.same;
+      same = ap (λ z. zeros z ++ (ds ++ last_digit n)) rest
+          ∙ sym (append_assoc (zeros (k - length ds)) ds (last_digit n))
+          ∙ ap (λ text. text ++ last_digit n) padded.same;
     }
 
 shown_padded : (most k n : ℕ) → 0 < k → k ≤ most → n < 2 ^ (4 * k) → IsPadded k n (shown most n)
@@ -96,13 +111,20 @@ shown_padded (suc most) (suc k) n some within fits =
     elim (cases_eq (n / 16) 0) [
       | inl one ↦ subst (IsPadded (suc k) n) (sym (shown_last most n [] one)) (padded_last k n one)
       | inr more ↦
-          let large : 0 < k = elim (cases_eq k 0) [ inl none ↦ absurd (more (omega (arith, wide, ap (λ j. 2 ^ (4 * j)) none))) | inr some ↦ omega arith ] in
-          subst (IsPadded (suc k) n) (sym (shown_step most n [] more ∙ shown_onto most (n / 16) (last_digit n)))
-          (padded_more k n (shown most (n / 16)) (shown_padded most k (n / 16) large (omega arith) (omega (arith, wide))))
+          let large : 0 < k = elim (cases_eq k 0) [
+            | inl none ↦ absurd (more (omega (arith, wide, ap (λ j. 2 ^ (4 * j)) none)))
+            | inr
+                some ↦ omega arith
+          ] in
+          subst (IsPadded (suc k) n)
+          (sym (shown_step most n [] more ∙ shown_onto most (n / 16) (last_digit n)))
+          (padded_more k n (shown most (n / 16))
+          (shown_padded most k (n / 16) large (omega arith) (omega (arith, wide))))
     ]
 
 -- what a hole writes that asks for k digits with zeros in front
-filled : (k : ℕ) (ds : List ℕ) → padded_integral (format_spec 32 0 4 k (2 ^ 64 - 1)) false [] ds ≡ zeros (k - length ds) ++ ds
+filled : (k : ℕ) (ds : List ℕ) → padded_integral (format_spec 32 0 4 k (2 ^ 64 - 1)) false [] ds
+    ≡ zeros (k - length ds) ++ ds
 unfolding padded_integral char_count
 filled k ds =
     let none : k - length ds - 0 - 0 ≡ k - length ds = omega arith in
@@ -112,14 +134,24 @@ shown_are : (n : ℕ) → shown 64 n ≡ digits 16 false n
 unfolding digits
 shown_are n = refl
 
-pub padded_text : (k n : ℕ) → 0 < k → k ≤ 64 → n < 2 ^ (4 * k) → padded_integral (format_spec 32 0 4 k (2 ^ 64 - 1)) false [] (digits 16 false n) ≡ hex_digits k n
-padded_text k n some within fits = filled k (digits 16 false n) ∙ (subst (IsPadded k n) (shown_are n) (shown_padded 64 k n some within fits)).same
+pub padded_text : (k n : ℕ) → 0 < k → k ≤ 64 → n < 2 ^ (4 * k)
+    → padded_integral (format_spec 32 0 4 k (2 ^ 64 - 1)) false [] (digits 16 false n) ≡ hex_digits
+    k n
+padded_text k n some within fits = filled k (digits 16 false n)
+    ∙ (subst (IsPadded k n) (shown_are n) (shown_padded 64 k n some within fits)).same
 
 -- the 10 digits above the low 64 bits, and the 16 of these bits
-pub hex_halves : (n ones : ℕ) → n < 2 ^ 104 → ones ≡ 2 ^ 64 - 1 → padded_integral (format_spec 32 0 4 10 (2 ^ 64 - 1)) false [] (digits 16 false (n / 2 ^ 64)) ++ padded_integral (format_spec 32 0 4 16 (2 ^ 64 - 1)) false [] (digits 16 false (bit_and n ones)) ≡ hex_digits 26 n
+pub hex_halves : (n ones : ℕ) → n < 2 ^ 104 → ones ≡ 2 ^ 64 - 1
+    → padded_integral (format_spec 32 0 4 10 (2 ^ 64 - 1)) false [] (digits 16 false (n / 2 ^ 64))
+    ++ padded_integral (format_spec 32 0 4 16 (2 ^ 64 - 1)) false []
+    (digits 16 false (bit_and n ones)) ≡ hex_digits 26 n
 hex_halves n ones fits all =
     let low : bit_and n ones ≡ n % 2 ^ 64 = ap (bit_and n) all ∙ and_mask n 64 in
-    ap (λ ds. ds ++ padded_integral (format_spec 32 0 4 16 (2 ^ 64 - 1)) false [] (digits 16 false (bit_and n ones))) (padded_text 10 (n / 2 ^ 64) (omega arith) (omega arith) (omega arith))
-    ∙ ap (λ m. hex_digits 10 (n / 2 ^ 64) ++ padded_integral (format_spec 32 0 4 16 (2 ^ 64 - 1)) false [] (digits 16 false m)) low
-    ∙ ap (λ ds. hex_digits 10 (n / 2 ^ 64) ++ ds) (padded_text 16 (n % 2 ^ 64) (omega arith) (omega arith) (omega arith))
+    ap (λ ds. ds ++ padded_integral (format_spec 32 0 4 16 (2 ^ 64 - 1)) false []
+    (digits 16 false (bit_and n ones)))
+    (padded_text 10 (n / 2 ^ 64) (omega arith) (omega arith) (omega arith))
+    ∙ ap (λ m. hex_digits 10 (n / 2 ^ 64) ++ padded_integral (format_spec 32 0 4 16 (2 ^ 64 - 1))
+    false [] (digits 16 false m)) low
+    ∙ ap (λ ds. hex_digits 10 (n / 2 ^ 64) ++ ds)
+    (padded_text 16 (n % 2 ^ 64) (omega arith) (omega arith) (omega arith))
     ∙ sym (hex_digits-parts 16 10 26 n refl)

@@ -1,5 +1,6 @@
-pub mod BitLemmas
-pub mod WordLemmas
-pub mod FreedBits
-pub mod FreeBits
-pub mod HexDigits
+mod BitLemmas
+mod WordLemmas
+mod FreedBits
+mod FreeBits
+mod HexDigits
+pub mod CallerLemmas

@@ -19,28 +19,38 @@ same_word a b p q = λ i. record { value = p i; mask = q i }
 
 pub word_eq_decides : (a b : WordValue) → Decides (word_eq a b) (a ≡ b)
 word_eq_decides a b =
-    Decides-like _ (λ both. same_word a b both.0 both.1) (λ e. (ap (λ (w : WordValue). w.value) e, ap (λ (w : WordValue). w.mask) e))
+    Decides-like _ (λ both. same_word a b both.0 both.1)
+    (λ e. (ap (λ (w : WordValue). w.value) e, ap (λ (w : WordValue). w.mask) e))
     (Decides-and _ _ (Decides-eqb a.value b.value) (Decides-eqb a.mask b.mask))
 
 -- ---- each test, bit by bit
 
 pub holds_decides : (w : WordValue) (h : ℕ) → Decides (holds w h) (AgreesOnMask w h)
 unfolding holds
-holds_decides w h = (λ t. unmasked h w.value w.mask (eqb-true _ _ t), λ bits. eq-eqb _ _ (masked h w.value w.mask bits))
+holds_decides w h = (
+  λ t. unmasked h w.value w.mask (eqb-true _ _ t),
+  λ bits. eq-eqb _ _ (masked h w.value w.mask bits),
+)
 
 pub meets_decides : (a b : WordValue) → Decides (meets a b) (AgreesOnBoth a b)
 unfolding meets
 meets_decides a b = (
-  λ t k p q. unmasked a.value b.value (bit_and a.mask b.mask) (eqb-true _ _ t) k (both_set _ _ k p q),
-  λ bits. eq-eqb _ _ (masked a.value b.value (bit_and a.mask b.mask) (λ k s. bits k (left_set _ _ k s) (right_set _ _ k s))),
+  λ t k p q. unmasked a.value b.value (bit_and a.mask b.mask) (eqb-true _ _ t) k
+      (both_set _ _ k p q),
+  λ bits. eq-eqb _ _ (masked a.value b.value (bit_and a.mask b.mask)
+      (λ k s. bits k (left_set _ _ k s) (right_set _ _ k s))),
 )
 
 pub covers_decides : (a b : WordValue) → Decides (covers_of a b) (IsFixedIn a b)
 unfolding covers_of
 covers_decides a b = (
-  λ t k p. let h = and_parts _ _ t in
-      (of_part a.mask b.mask (eqb-true _ _ h.0) k p, unmasked b.value a.value a.mask (eqb-true _ _ h.1) k p),
-  λ bits. and_from _ _ (eq-eqb _ _ (part _ _ (λ k p. (bits k p).0))) (eq-eqb _ _ (masked b.value a.value a.mask (λ k p. (bits k p).1))),
+  λ t k p. let h = and_parts _ _ t in (
+    of_part a.mask b.mask (eqb-true _ _ h.0) k p,
+    unmasked b.value a.value a.mask
+        (eqb-true _ _ h.1) k p,
+  ),
+  λ bits. and_from _ _ (eq-eqb _ _ (part _ _ (λ k p. (bits k p).0)))
+      (eq-eqb _ _ (masked b.value a.value a.mask (λ k p. (bits k p).1))),
 )
 
 -- ---- headers
@@ -63,7 +73,8 @@ exact_is_word h fits = record { within = and_mask h 104 ∙ mod-eq_of_lt fits; b
 
 -- ---- the order
 
-pub covers_held : (a b : WordValue) (h : ℕ) → IsTrue (covers_of a b) → IsTrue (holds b h) → IsTrue (holds a h)
+pub covers_held : (a b : WordValue) (h : ℕ) → IsTrue (covers_of a b) → IsTrue (holds b h)
+    → IsTrue (holds a h)
 covers_held a b h c held =
     let bits = (holds_decides b h).0 held in
     let fixed = (covers_decides a b).0 c in
@@ -72,27 +83,33 @@ covers_held a b h c held =
 pub covers_reflexive : (a : WordValue) → IsTrue (covers_of a a)
 covers_reflexive a = (covers_decides a a).1 (λ k p. (p, refl))
 
-pub covers_transitive : (a b c : WordValue) → IsTrue (covers_of a b) → IsTrue (covers_of b c) → IsTrue (covers_of a c)
+pub covers_transitive : (a b c : WordValue) → IsTrue (covers_of a b) → IsTrue (covers_of b c)
+    → IsTrue (covers_of a c)
 covers_transitive a b c ab bc =
     let f = (covers_decides a b).0 ab in
     let g = (covers_decides b c).0 bc in
     (covers_decides a c).1 (λ k p. let q = f k p in let r = g k q.0 in (r.0, r.1 ∙ q.1))
 
-pub covers_antisymmetric : (a b : WordValue) → IsWord a → IsWord b → IsTrue (covers_of a b) → IsTrue (covers_of b a) → a ≡ b
+pub covers_antisymmetric : (a b : WordValue) → IsWord a → IsWord b → IsTrue (covers_of a b)
+    → IsTrue (covers_of b a) → a ≡ b
 covers_antisymmetric a b a_word b_word ab ba =
     let f = (covers_decides a b).0 ab in
     let g = (covers_decides b a).0 ba in
     let mask : a.mask ≡ b.mask = same_set _ _ (λ k p. (f k p).0) (λ k p. (g k p).0) in
-    let value : fixed_value a ≡ fixed_value b = masked a.value b.value a.mask (λ k p. sym (f k p).1) ∙ ap (bit_and b.value) mask in
+    let value : fixed_value a ≡ fixed_value b = masked a.value b.value a.mask (λ k p. sym (f k p).1)
+    ∙ ap (bit_and b.value) mask in
     same_word a b (sym a_word.within ∙ value ∙ b_word.within) mask
 
 pub any_covers : (w : WordValue) → IsTrue (covers_of any_word w)
 any_covers w = (covers_decides any_word w).1 (λ k set. absurd (not_set 0 k (bit_at-zero k) set))
 
-pub covers_exact : (w : WordValue) (h : ℕ) → IsWord w → h < 2 ^ 104 → covers_of w (exact_word h) ≡ holds w h
+pub covers_exact : (w : WordValue) (h : ℕ) → IsWord w → h < 2 ^ 104 → covers_of w (exact_word h)
+    ≡ holds w h
 covers_exact w h w_word fits =
     same_from_decides _ _
-    (Decides-like _ (λ fixed k p. (fixed k p).1) (λ bits k p. (bit_at_ones 104 k (set_below 104 w.mask k w_word.bounded p), bits k p)) (covers_decides w (exact_word h)))
+    (Decides-like _ (λ fixed k p. (fixed k p).1)
+    (λ bits k p. (bit_at_ones 104 k (set_below 104 w.mask k w_word.bounded p), bits k p))
+    (covers_decides w (exact_word h)))
     (holds_decides w h)
 
 -- the value of a word has 104 bits
@@ -102,18 +119,24 @@ value_below w w_word = omega (arith, and_le_r w.value w.mask, w_word.within, w_w
 zero_not_one : (d : ℕ) → d ≡ from_bool false → d ≡ from_bool true → ⊥
 zero_not_one d p q = omega (arith, p, q)
 
--- A bit that a fixes and b leaves free would have two values in a, since b holds its value with that bit set to either.
-pub includes_covers : (a b : WordValue) → IsWord a → IsWord b → Includes a b → IsTrue (covers_of a b)
-includes_covers a b a_word b_word inside = (covers_decides a b).1 (λ k p. (fixed k p, agrees b.value (value_below b b_word) (λ j set. refl) k p))
+-- A bit that a fixes and b leaves free would have two values in a, since b holds its value with
+-- that bit set to either.
+pub includes_covers : (a b : WordValue) → IsWord a → IsWord b → Includes a b
+    → IsTrue (covers_of a b)
+includes_covers a b a_word b_word inside = (covers_decides a b).1
+    (λ k p. (fixed k p, agrees b.value (value_below b b_word) (λ j set. refl) k p))
   where
     agrees : (h : ℕ) → h < 2 ^ 104 → AgreesOnMask b h → AgreesOnMask a h
     agrees h fits bits = (holds_decides a h).0 (inside h fits ((holds_decides b h).1 bits))
 
-    either : (k : ℕ) → bit_at a.mask k ≡ 1 → bit_at b.mask k ≡ 0 → (one : Bool) → bit_at a.value k ≡ from_bool one
+    either : (k : ℕ) → bit_at a.mask k ≡ 1 → bit_at b.mask k ≡ 0 → (one : Bool)
+        → bit_at a.value k ≡ from_bool one
     either k p unset one =
         sym (agrees (with_bit b.value k one)
-        (with_bit-lt 104 b.value k one (value_below b b_word) (set_below 104 a.mask k a_word.bounded p))
-        (by_place k (λ j. bit_at b.mask j ≡ 1 → bit_at (with_bit b.value k one) j ≡ bit_at b.value j)
+        (with_bit-lt 104 b.value k one (value_below b b_word)
+        (set_below 104 a.mask k a_word.bounded p))
+        (by_place k (λ j. bit_at b.mask j ≡ 1 → bit_at (with_bit b.value k one) j ≡ bit_at b.value
+        j)
         (λ set. absurd (not_set b.mask k unset set))
         (λ j apart set. with_bit-other b.value k one j apart))
         k p)
@@ -121,10 +144,15 @@ includes_covers a b a_word b_word inside = (covers_decides a b).1 (λ k p. (fixe
 
     fixed : (k : ℕ) → bit_at a.mask k ≡ 1 → bit_at b.mask k ≡ 1
     fixed k p =
-        elim (digit_cases b.mask k) [ inr set ↦ set | inl unset ↦ absurd (zero_not_one _ (either k p unset false) (either k p unset true)) ]
+        elim (digit_cases b.mask k) [
+          | inr set ↦ set
+          | inl unset ↦ absurd
+              (zero_not_one _ (either k p unset false) (either k p unset true))
+        ]
 
 -- words of the same headers are equal
-pub same_headers : (a b : WordValue) → IsWord a → IsWord b → ((h : ℕ) → h < 2 ^ 104 → holds a h ≡ holds b h) → a ≡ b
+pub same_headers : (a b : WordValue) → IsWord a → IsWord b
+    → ((h : ℕ) → h < 2 ^ 104 → holds a h ≡ holds b h) → a ≡ b
 same_headers a b a_word b_word same =
     covers_antisymmetric a b a_word b_word
     (includes_covers a b a_word b_word (λ h fits held. same h fits ∙ held))
@@ -133,23 +161,42 @@ same_headers a b a_word b_word same =
 -- ---- what is in both
 
 module _ (a b : WordValue) (agree : AgreesOnBoth a b) where
-  joined_left : (k : ℕ) → bit_at a.mask k ≡ 1 → (bit_at (joined a b).mask k ≡ 1) × (bit_at (joined a b).value k ≡ bit_at a.value k)
-  joined_left k p = (or_left a.mask b.mask k p, masked_sum-left a.value a.mask b.value b.mask k p (λ q. agree k p q))
+  joined_left : (k : ℕ) → bit_at a.mask k ≡ 1 → (bit_at (joined a b).mask k ≡ 1)
+      × (bit_at (joined a b).value k ≡ bit_at a.value k)
+  joined_left k p = (
+    or_left a.mask b.mask k p,
+    masked_sum-left a.value a.mask b.value b.mask k p
+        (λ q. agree k p q),
+  )
 
-  joined_right : (k : ℕ) → bit_at b.mask k ≡ 1 → (bit_at (joined a b).mask k ≡ 1) × (bit_at (joined a b).value k ≡ bit_at b.value k)
-  joined_right k q = (or_right a.mask b.mask k q, masked_sum-right a.value a.mask b.value b.mask k q (λ p. agree k p q))
+  joined_right : (k : ℕ) → bit_at b.mask k ≡ 1 → (bit_at (joined a b).mask k ≡ 1)
+      × (bit_at (joined a b).value k ≡ bit_at b.value k)
+  joined_right k q = (
+    or_right a.mask b.mask k q,
+    masked_sum-right a.value a.mask b.value b.mask k q
+        (λ p. agree k p q),
+  )
 
   -- a fact of each bit of either word is one of each bit of the joined word
-  joined_bits : (P : ℕ → ℕ → Type 0) → ((k : ℕ) → bit_at a.mask k ≡ 1 → P k (bit_at a.value k)) → ((k : ℕ) → bit_at b.mask k ≡ 1 → P k (bit_at b.value k))
+  joined_bits : (P : ℕ → ℕ → Type 0) → ((k : ℕ) → bit_at a.mask k ≡ 1 → P k (bit_at a.value k))
+      → ((k : ℕ) → bit_at b.mask k ≡ 1 → P k (bit_at b.value k))
       → (k : ℕ) → bit_at (joined a b).mask k ≡ 1 → P k (bit_at (joined a b).value k)
   joined_bits P of_a of_b k s =
-      elim (or_from a.mask b.mask k s) [ inl p ↦ subst (P k) (sym (joined_left k p).1) (of_a k p) | inr q ↦ subst (P k) (sym (joined_right k q).1) (of_b k q) ]
+      elim (or_from a.mask b.mask k s) [
+        | inl p ↦ subst (P k) (sym (joined_left k p).1) (of_a k p)
+        | inr q ↦ subst (P k)
+            (sym (joined_right k q).1) (of_b k q)
+      ]
 
   joined_holds : (h : ℕ) → holds (joined a b) h ≡ (holds a h && holds b h)
   joined_holds h =
       same_from_decides _ _
       (Decides-like _
-      (λ bits. (λ k p. let l = joined_left k p in bits k l.0 ∙ l.1, λ k q. let r = joined_right k q in bits k r.0 ∙ r.1))
+      (λ bits. (
+        λ k p. let l = joined_left k p in bits k l.0 ∙ l.1,
+        λ k q. let r =
+            joined_right k q in bits k r.0 ∙ r.1,
+      ))
       (λ both. joined_bits (λ k d. bit_at h k ≡ d) both.0 both.1)
       (holds_decides (joined a b) h))
       (Decides-and _ _ (holds_decides a h) (holds_decides b h))
@@ -158,7 +205,11 @@ module _ (a b : WordValue) (agree : AgreesOnBoth a b) where
   joined_meets c =
       same_from_decides _ _
       (Decides-like _
-      (λ bits. (λ k p s. let l = joined_left k p in sym l.1 ∙ bits k l.0 s, λ k q s. let r = joined_right k q in sym r.1 ∙ bits k r.0 s))
+      (λ bits. (
+        λ k p s. let l = joined_left k p in sym l.1 ∙ bits k l.0 s,
+        λ k q s. let r =
+            joined_right k q in sym r.1 ∙ bits k r.0 s,
+      ))
       (λ both. joined_bits (λ k d. bit_at c.mask k ≡ 1 → d ≡ bit_at c.value k) both.0 both.1)
       (meets_decides (joined a b) c))
       (Decides-and _ _ (meets_decides a c) (meets_decides b c))
@@ -167,7 +218,10 @@ module _ (a b : WordValue) (agree : AgreesOnBoth a b) where
   joined_covers c =
       same_from_decides _ _
       (Decides-like _
-      (λ bits. (λ k p. let l = joined_left k p in let s = bits k l.0 in (s.0, s.1 ∙ l.1), λ k q. let r = joined_right k q in let s = bits k r.0 in (s.0, s.1 ∙ r.1)))
+      (λ bits. (
+        λ k p. let l = joined_left k p in let s = bits k l.0 in (s.0, s.1 ∙ l.1),
+        λ k q. let r = joined_right k q in let s = bits k r.0 in (s.0, s.1 ∙ r.1),
+      ))
       (λ both. joined_bits (λ k d. (bit_at c.mask k ≡ 1) × (bit_at c.value k ≡ d)) both.0 both.1)
       (covers_decides (joined a b) c))
       (Decides-and _ _ (covers_decides a c) (covers_decides b c))
@@ -175,15 +229,24 @@ module _ (a b : WordValue) (agree : AgreesOnBoth a b) where
 -- the joined value has no bit outside the joined mask
 joined_within : (a b : WordValue) → fixed_value (joined a b) ≡ (joined a b).value
 joined_within a b = part _ _ (λ k s.
-    elim (or_from (fixed_value a) (fixed_value b) k s)
-    [ inl p ↦ or_left a.mask b.mask k (right_set a.value a.mask k p) | inr q ↦ or_right a.mask b.mask k (right_set b.value b.mask k q) ])
+    elim (or_from (fixed_value a) (fixed_value b) k s) [
+      | inl p ↦ or_left a.mask b.mask k (right_set a.value a.mask k p)
+      | inr q ↦ or_right a.mask
+          b.mask k (right_set b.value b.mask k q)
+    ])
 
 joined_word : (a b : WordValue) → IsWord a → IsWord b → IsWord (joined a b)
-joined_word a b a_word b_word = record { within = joined_within a b; bounded = or_lt 104 a.mask b.mask a_word.bounded b_word.bounded }
+joined_word a b a_word b_word =
+    record {
+      within = joined_within a b;
+      bounded = or_lt 104 a.mask b.mask a_word.bounded
+          b_word.bounded;
+    }
 
 pub meets_comm : (a b : WordValue) → meets a b ≡ meets b a
 meets_comm a b =
-    same_from_decides _ _ (Decides-like _ (λ bits k p q. sym (bits k q p)) (λ bits k q p. sym (bits k p q)) (meets_decides a b)) (meets_decides b a)
+    same_from_decides _ _ (Decides-like _ (λ bits k p q. sym (bits k q p))
+    (λ bits k q p. sym (bits k p q)) (meets_decides a b)) (meets_decides b a)
 
 joined_comm : (a b : WordValue) → joined a b ≡ joined b a
 joined_comm a b = same_word _ _ (or_comm (fixed_value a) (fixed_value b)) (or_comm a.mask b.mask)
@@ -191,11 +254,14 @@ joined_comm a b = same_word _ _ (or_comm (fixed_value a) (fixed_value b)) (or_co
 joined_assoc : (a b c : WordValue) → joined (joined a b) c ≡ joined a (joined b c)
 joined_assoc a b c =
     same_word _ _
-    (ap (λ n. bit_or n (fixed_value c)) (joined_within a b) ∙ or_assoc (fixed_value a) (fixed_value b) (fixed_value c) ∙ ap (bit_or (fixed_value a)) (sym (joined_within b c)))
+    (ap (λ n. bit_or n (fixed_value c)) (joined_within a b)
+    ∙ or_assoc (fixed_value a) (fixed_value b) (fixed_value c)
+    ∙ ap (bit_or (fixed_value a)) (sym (joined_within b c)))
     (or_assoc a.mask b.mask c.mask)
 
 -- what a covers adds nothing to a word that fixes it
-joined_covered : (a b : WordValue) → IsFixedIn a b → joined a b ≡ record { value = fixed_value b; mask = b.mask }
+joined_covered : (a b : WordValue) → IsFixedIn a b
+    → joined a b ≡ record { value = fixed_value b; mask = b.mask }
 joined_covered a b fixed =
     same_word _ _
     (absorbed _ _ (λ k s.
@@ -219,7 +285,11 @@ meet_none a b f = cond-false (meets a b) _ _ f
 
 pub is_some-meet_of : (a b : WordValue) → is_some (meet_of a b) ≡ meets a b
 is_some-meet_of a b =
-    elim (cases_Bool (meets a b)) [ inl t ↦ ap is_some (meet_at a b t) ∙ sym t | inr f ↦ ap is_some (meet_none a b f) ∙ sym f ]
+    elim (cases_Bool (meets a b)) [
+      | inl t ↦ ap is_some (meet_at a b t) ∙ sym t
+      | inr f ↦ ap is_some (meet_none a b f)
+          ∙ sym f
+    ]
 
 -- where the meet is none the words do not agree
 apart : (a b : WordValue) → meet_of a b ≡ None → meets a b ≡ false
@@ -237,9 +307,11 @@ held_meets : (a b : WordValue) (h : ℕ) → IsTrue (holds a h) → IsTrue (hold
 held_meets a b h p q =
     (meets_decides a b).1 (λ k s t. sym ((holds_decides a h).0 p k s) ∙ (holds_decides b h).0 q k t)
 
-pub meet_disjoint : (a b : WordValue) (h : ℕ) → meet_of a b ≡ None → (holds a h && holds b h) ≡ false
+pub meet_disjoint : (a b : WordValue) (h : ℕ) → meet_of a b ≡ None
+    → (holds a h && holds b h) ≡ false
 meet_disjoint a b h e =
-    false_from_ne_true _ (λ t. let both = and_parts _ _ t in both_ways _ (apart a b e) (held_meets a b h both.0 both.1))
+    false_from_ne_true _ (λ t. let both = and_parts _ _ t in both_ways _ (apart a b e)
+    (held_meets a b h both.0 both.1))
 
 pub meet_comm : (a b : WordValue) → meet_of a b ≡ meet_of b a
 unfolding meet_of
@@ -249,16 +321,19 @@ cond_and : {X : Type 0} (p q : Bool) (x y : X) → cond p (cond q x y) y ≡ con
 cond_and true q x y = refl
 cond_and false q x y = refl
 
-then_cond : {X Y : Type 0} (f : X → Option Y) (p : Bool) (x : X) → option_and_then f (cond p (Some x) None) ≡ cond p (f x) None
+then_cond : {X Y : Type 0} (f : X → Option Y) (p : Bool) (x : X)
+    → option_and_then f (cond p (Some x) None) ≡ cond p (f x) None
 then_cond f true x = refl
 then_cond f false x = refl
 
 -- the meet of three words, from the left and from the right
-meet_left : (a b c : WordValue) → option_and_then (λ m. meet_of m c) (meet_of a b) ≡ cond (meets a b && meets (joined a b) c) (Some (joined (joined a b) c)) None
+meet_left : (a b c : WordValue) → option_and_then (λ m. meet_of m c) (meet_of a b) ≡ cond
+    (meets a b && meets (joined a b) c) (Some (joined (joined a b) c)) None
 unfolding meet_of
 meet_left a b c = then_cond (λ m. meet_of m c) (meets a b) (joined a b) ∙ cond_and (meets a b) _ _ _
 
-meet_right : (a b c : WordValue) → option_and_then (meet_of a) (meet_of b c) ≡ cond (meets b c && meets a (joined b c)) (Some (joined a (joined b c))) None
+meet_right : (a b c : WordValue) → option_and_then (meet_of a) (meet_of b c) ≡ cond
+    (meets b c && meets a (joined b c)) (Some (joined a (joined b c))) None
 unfolding meet_of
 meet_right a b c = then_cond (meet_of a) (meets b c) (joined b c) ∙ cond_and (meets b c) _ _ _
 
@@ -266,45 +341,60 @@ meet_right a b c = then_cond (meet_of a) (meets b c) (joined b c) ∙ cond_and (
 abbrev AgreesOnEach : WordValue → WordValue → WordValue → Type 0
 AgreesOnEach a b c = AgreesOnBoth a b × AgreesOnBoth a c × AgreesOnBoth b c
 
-left_decides : (a b c : WordValue) → Decides (meets a b && meets (joined a b) c) (AgreesOnEach a b c)
+left_decides : (a b c : WordValue) → Decides (meets a b && meets (joined a b) c)
+    (AgreesOnEach a b c)
 left_decides a b c = (
   λ t. let two = and_parts _ _ t in
       let ab = (meets_decides a b).0 two.0 in
       let rest = and_parts _ _ (sym (joined_meets a b ab c) ∙ two.1) in
       (ab, (meets_decides a c).0 rest.0, (meets_decides b c).0 rest.1),
   λ all. and_from _ _ ((meets_decides a b).1 all.0)
-      (joined_meets a b all.0 c ∙ and_from _ _ ((meets_decides a c).1 all.1) ((meets_decides b c).1 all.2)),
+      (joined_meets a b all.0 c ∙ and_from _ _ ((meets_decides a c).1 all.1)
+      ((meets_decides b c).1 all.2)),
 )
 
-right_decides : (a b c : WordValue) → Decides (meets b c && meets a (joined b c)) (AgreesOnEach a b c)
+right_decides : (a b c : WordValue) → Decides (meets b c && meets a (joined b c))
+    (AgreesOnEach a b c)
 right_decides a b c = (
   λ t. let two = and_parts _ _ t in
       let bc = (meets_decides b c).0 two.0 in
-      let rest = and_parts _ _ (sym (meets_comm a (joined b c) ∙ joined_meets b c bc a) ∙ two.1) in
-      ((meets_decides a b).0 (meets_comm a b ∙ rest.0), (meets_decides a c).0 (meets_comm a c ∙ rest.1), bc),
+      let swapped = sym (meets_comm a (joined b c) ∙ joined_meets b c bc a) in
+      let rest = and_parts _ _ (swapped ∙ two.1) in (
+        (meets_decides a b).0 (meets_comm a b ∙ rest.0),
+        (meets_decides a c).0 (meets_comm a c ∙ rest.1),
+        bc,
+      ),
   λ all. and_from _ _ ((meets_decides b c).1 all.2)
       (meets_comm a (joined b c) ∙ joined_meets b c all.2 a
-      ∙ and_from _ _ (meets_comm b a ∙ (meets_decides a b).1 all.0) (meets_comm c a ∙ (meets_decides a c).1 all.1)),
+      ∙ and_from _ _ (meets_comm b a ∙ (meets_decides a b).1 all.0)
+      (meets_comm c a ∙ (meets_decides a c).1 all.1)),
 )
 
-pub meet_assoc : (a b c : WordValue) → option_and_then (λ m. meet_of m c) (meet_of a b) ≡ option_and_then (meet_of a) (meet_of b c)
+pub meet_assoc : (a b c : WordValue) → option_and_then (λ m. meet_of m c) (meet_of a b)
+    ≡ option_and_then (meet_of a) (meet_of b c)
 meet_assoc a b c =
     meet_left a b c
-    ∙ (λ i. cond (same_from_decides _ _ (left_decides a b c) (right_decides a b c) i) (Some (joined_assoc a b c i)) None)
+    ∙ (λ i. cond (same_from_decides _ _ (left_decides a b c) (right_decides a b c) i)
+    (Some (joined_assoc a b c i)) None)
     ∙ sym (meet_right a b c)
 
-pub meet_exact : (w : WordValue) (h : ℕ) → IsWord w → h < 2 ^ 104 → meets w (exact_word h) ≡ holds w h
+pub meet_exact : (w : WordValue) (h : ℕ) → IsWord w → h < 2 ^ 104 → meets w (exact_word h) ≡ holds w
+    h
 meet_exact w h w_word fits =
     same_from_decides _ _
-    (Decides-like _ (λ bits k p. sym (bits k p (bit_at_ones 104 k (set_below 104 w.mask k w_word.bounded p)))) (λ bits k p s. sym (bits k p)) (meets_decides w (exact_word h)))
+    (Decides-like _ (λ bits k p.
+    sym (bits k p (bit_at_ones 104 k (set_below 104 w.mask k w_word.bounded p))))
+    (λ bits k p s. sym (bits k p)) (meets_decides w (exact_word h)))
     (holds_decides w h)
 
-pub meet_greatest : (a b m c : WordValue) → meet_of a b ≡ Some m → covers_of m c ≡ (covers_of a c && covers_of b c)
+pub meet_greatest : (a b m c : WordValue) → meet_of a b ≡ Some m
+    → covers_of m c ≡ (covers_of a c && covers_of b c)
 meet_greatest a b m c e =
     let found = meet_some a b m e in
     ap (λ w. covers_of w c) (sym found.1) ∙ joined_covers a b ((meets_decides a b).0 found.0) c
 
-pub meet_within : (a b m : WordValue) → meet_of a b ≡ Some m → IsTrue (covers_of a m) × IsTrue (covers_of b m)
+pub meet_within : (a b m : WordValue) → meet_of a b ≡ Some m → IsTrue (covers_of a m)
+    × IsTrue (covers_of b m)
 meet_within a b m e = and_parts _ _ (sym (meet_greatest a b m m e) ∙ covers_reflexive m)
 
 -- a word agrees with what it covers, and with less of what that meets
@@ -327,20 +417,26 @@ meets_cover a b ab = meets_comm b a ∙ covers_meets a b b ab (meets_itself b)
 pub meet_any : (a : WordValue) → IsWord a → meet_of a any_word ≡ Some a
 meet_any a a_word = meet_comm a any_word ∙ meet_covered any_word a a_word (any_covers a)
 
-pub meet_monotone : (a b c : WordValue) → IsTrue (covers_of a b) → meet_of a c ≡ None → meet_of b c ≡ None
+pub meet_monotone : (a b c : WordValue) → IsTrue (covers_of a b) → meet_of a c ≡ None
+    → meet_of b c ≡ None
 meet_monotone a b c ab none =
-    meet_none b c (false_from_ne_true _ (λ t. both_ways _ (apart a c none) (covers_meets a b c ab t)))
+    meet_none b c (false_from_ne_true _
+    (λ t. both_ways _ (apart a c none) (covers_meets a b c ab t)))
 
-pub meet_narrowed : (w a b : WordValue) → IsTrue (covers_of a b) → option_and_then (λ m. meet_of m b) (meet_of w a) ≡ meet_of w b
+pub meet_narrowed : (w a b : WordValue) → IsTrue (covers_of a b)
+    → option_and_then (λ m. meet_of m b) (meet_of w a) ≡ meet_of w b
 unfolding meet_of
 meet_narrowed w a b ab =
     let fixed = (covers_decides a b).0 ab in
     let agree = (meets_decides a b).0 (covers_meets a b b ab (meets_itself b)) in
     let test : (meets w a && meets (joined w a) b) ≡ meets w b = same_from_decides _ _
-    (Decides-like _ (λ all. all.1) (λ wb. (λ k p q. wb k p (fixed k q).0 ∙ (fixed k q).1, wb, agree)) (left_decides w a b))
+    (Decides-like _ (λ all. all.1)
+    (λ wb. (λ k p q. wb k p (fixed k q).0 ∙ (fixed k q).1, wb, agree)) (left_decides w a b))
     (meets_decides w b) in
     let word : joined (joined w a) b ≡ joined w b =
-    joined_assoc w a b ∙ ap (joined w) (joined_covered a b fixed) ∙ same_word _ _ (ap (bit_or (fixed_value w)) (and_assoc b.mask b.value b.mask ∙ ap (bit_and b.value) (and_self b.mask))) refl in
+    joined_assoc w a b ∙ ap (joined w) (joined_covered a b fixed)
+    ∙ same_word _ _ (ap (bit_or (fixed_value w))
+    (and_assoc b.mask b.value b.mask ∙ ap (bit_and b.value) (and_self b.mask))) refl in
     meet_left w a b ∙ (λ i. cond (test i) (Some (word i)) None)
 
 -- ---- a fixed bit, and the halves of a word
@@ -352,28 +448,36 @@ is_fixed_decides w k = Decides-eqb (bit_at w.mask k) 1
 pub free_bit : (w : WordValue) (k : ℕ) → IsFalse (is_fixed_of w k) → bit_at w.mask k ≡ 1 → ⊥
 free_bit w k free p = both_ways _ free ((is_fixed_decides w k).1 p)
 
-pub is_fixed_same : (v w : WordValue) (k : ℕ) → bit_at v.mask k ≡ bit_at w.mask k → is_fixed_of v k ≡ is_fixed_of w k
+pub is_fixed_same : (v w : WordValue) (k : ℕ) → bit_at v.mask k ≡ bit_at w.mask k
+    → is_fixed_of v k ≡ is_fixed_of w k
 unfolding is_fixed_of
 is_fixed_same v w k e = ap (λ d. d == 1) e
 
-pub implies_decides : {P Q : Type 0} (p q : Bool) → Decides p P → Decides q Q → Decides (not p || q) (P → Q)
+pub implies_decides : {P Q : Type 0} (p q : Bool) → Decides p P → Decides q Q
+    → Decides (not p || q) (P → Q)
 implies_decides true q of_p of_q = (λ t _. of_q.0 t, λ f. of_q.1 (f (of_p.0 refl)))
 implies_decides false q of_p of_q = (λ _ x. absurd (both_ways false refl (of_p.1 x)), λ _. refl)
 
-admits_decides : (w : WordValue) (k : ℕ) (one : Bool) → Decides (admits w k one) (bit_at w.mask k ≡ 1 → bit_at w.value k ≡ from_bool one)
+admits_decides : (w : WordValue) (k : ℕ) (one : Bool)
+    → Decides (admits w k one) (bit_at w.mask k ≡ 1 → bit_at w.value k ≡ from_bool one)
 unfolding admits
 admits_decides w k one =
-    implies_decides (is_fixed_of w k) (bit_at w.value k == from_bool one) (is_fixed_decides w k) (Decides-eqb (bit_at w.value k) (from_bool one))
+    implies_decides (is_fixed_of w k) (bit_at w.value k == from_bool one) (is_fixed_decides w k)
+    (Decides-eqb (bit_at w.value k) (from_bool one))
 
--- A word that fixes each of the 104 bits fixes what any word does, so what agrees with it covers it.
-pub covers_full : (a b : WordValue) → IsWord a → ((k : ℕ) → k < 104 → IsTrue (is_fixed_of b k)) → IsTrue (meets a b) → IsTrue (covers_of a b)
+-- A word that fixes each of the 104 bits fixes what any word does, so what agrees with it covers
+-- it.
+pub covers_full : (a b : WordValue) → IsWord a → ((k : ℕ) → k < 104 → IsTrue (is_fixed_of b k))
+    → IsTrue (meets a b) → IsTrue (covers_of a b)
 covers_full a b a_word full agree =
     (covers_decides a b).1 (λ k p.
     let q = (is_fixed_decides b k).0 (full k (set_below 104 a.mask k a_word.bounded p)) in
     (q, sym ((meets_decides a b).0 agree k p q)))
 
-pub held_admits : (w : WordValue) (k : ℕ) (one : Bool) (h : ℕ) → IsTrue (holds w h) → bit_at h k ≡ from_bool one → IsTrue (admits w k one)
-held_admits w k one h held e = (admits_decides w k one).1 (λ p. sym ((holds_decides w h).0 held k p) ∙ e)
+pub held_admits : (w : WordValue) (k : ℕ) (one : Bool) (h : ℕ) → IsTrue (holds w h)
+    → bit_at h k ≡ from_bool one → IsTrue (admits w k one)
+held_admits w k one h held e = (admits_decides w k one).1
+    (λ p. sym ((holds_decides w h).0 held k p) ∙ e)
 
 module _ (w : WordValue) (k : ℕ) (one : Bool) where
   pub fix_fixed : IsTrue (is_fixed_of (fix_of w k one) k)
@@ -387,14 +491,18 @@ module _ (w : WordValue) (k : ℕ) (one : Bool) where
   pub fix_word : IsWord w → k < 104 → IsWord (fix_of w k one)
   unfolding fix_of
   fix_word w_word within = record {
-    within = part (with_bit w.value k one) (bit_or w.mask (2 ^ k)) (by_place k (λ j. bit_at (with_bit w.value k one) j ≡ 1 → bit_at (bit_or w.mask (2 ^ k)) j ≡ 1)
+    within = part (with_bit w.value k one) (bit_or w.mask (2 ^ k))
+        (by_place k (λ j. bit_at (with_bit w.value k one) j ≡ 1 → bit_at (bit_or w.mask (2 ^ k)) j
+        ≡ 1)
         (λ _. or_pow-same w.mask k)
-        (λ j away set. or_pow-other w.mask k j away ∙ of_part w.value w.mask w_word.within j (sym (with_bit-other w.value k one j away) ∙ set)));
+        (λ j away set. or_pow-other w.mask k j away ∙ of_part w.value w.mask w_word.within j
+        (sym (with_bit-other w.value k one j away) ∙ set)));
     bounded = or_lt 104 w.mask (2 ^ k) w_word.bounded (pow_below k 104 within);
   }
 
   module _ (free : IsFalse (is_fixed_of w k)) where
-    pub fix_holds : (h : ℕ) → holds (fix_of w k one) h ≡ (holds w h && (bit_at h k == from_bool one))
+    pub fix_holds : (h : ℕ) → holds (fix_of w k one) h
+        ≡ (holds w h && (bit_at h k == from_bool one))
     unfolding fix_of
     fix_holds h =
         same_from_decides _ _
@@ -402,12 +510,15 @@ module _ (w : WordValue) (k : ℕ) (one : Bool) where
         (λ bits. (
           by_place k (λ j. bit_at w.mask j ≡ 1 → bit_at h j ≡ bit_at w.value j)
               (λ p. absurd (free_bit w k free p))
-              (λ j away p. bits j (or_pow-other w.mask k j away ∙ p) ∙ with_bit-other w.value k one j away),
+              (λ j away p. bits j (or_pow-other w.mask k j away ∙ p)
+              ∙ with_bit-other w.value k one j away),
           bits k (or_pow-same w.mask k) ∙ with_bit-same w.value k one,
         ))
-        (λ both. by_place k (λ j. bit_at (bit_or w.mask (2 ^ k)) j ≡ 1 → bit_at h j ≡ bit_at (with_bit w.value k one) j)
+        (λ both. by_place k (λ j. bit_at (bit_or w.mask (2 ^ k)) j ≡ 1
+        → bit_at h j ≡ bit_at (with_bit w.value k one) j)
         (λ _. both.1 ∙ sym (with_bit-same w.value k one))
-        (λ j away s. both.0 j (sym (or_pow-other w.mask k j away) ∙ s) ∙ sym (with_bit-other w.value k one j away)))
+        (λ j away s. both.0 j (sym (or_pow-other w.mask k j away) ∙ s)
+        ∙ sym (with_bit-other w.value k one j away)))
         (holds_decides (fix_of w k one) h))
         (Decides-and _ _ (holds_decides w h) (Decides-eqb (bit_at h k) (from_bool one)))
 
@@ -415,46 +526,62 @@ module _ (w : WordValue) (k : ℕ) (one : Bool) where
     unfolding fix_of
     fix_within =
         (covers_decides w (fix_of w k one)).1
-        (by_place k (λ j. bit_at w.mask j ≡ 1 → (bit_at (bit_or w.mask (2 ^ k)) j ≡ 1) × (bit_at (with_bit w.value k one) j ≡ bit_at w.value j))
+        (by_place k (λ j. bit_at w.mask j ≡ 1 → (bit_at (bit_or w.mask (2 ^ k)) j ≡ 1)
+        × (bit_at (with_bit w.value k one) j ≡ bit_at w.value j))
         (λ p. absurd (free_bit w k free p))
         (λ j away p. (or_pow-other w.mask k j away ∙ p, with_bit-other w.value k one j away)))
 
 -- one of two tests on the halves
-parted : (t x y : Bool) → ((x ≡ true) × (y ≡ false)) ⊎ ((x ≡ false) × (y ≡ true)) → t ≡ ((t && x) || (t && y))
+parted : (t x y : Bool) → ((x ≡ true) × (y ≡ false)) ⊎ ((x ≡ false) × (y ≡ true))
+    → t ≡ ((t && x) || (t && y))
 parted true x y (inl h) = sym (either_left _ _ h.0)
 parted true x y (inr h) = sym (either_right _ _ h.1)
 parted false x y h = refl
 
-bit_parts : (h k : ℕ) → (((bit_at h k == from_bool false) ≡ true) × ((bit_at h k == from_bool true) ≡ false)) ⊎ (((bit_at h k == from_bool false) ≡ false) × ((bit_at h k == from_bool true) ≡ true))
+bit_parts : (h k : ℕ) → (((bit_at h k == from_bool false) ≡ true)
+    × ((bit_at h k == from_bool true) ≡ false))
+    ⊎ (((bit_at h k == from_bool false) ≡ false) × ((bit_at h k == from_bool true) ≡ true))
 bit_parts h k =
-    elim (digit_cases h k)
-    [ inl zero_bit ↦ inl (eq-eqb _ _ zero_bit, ne_eqb _ _ (zero_not_one _ zero_bit)) | inr one_bit ↦ inr (ne_eqb _ _ (λ e. zero_not_one _ e one_bit), eq-eqb _ _ one_bit) ]
+    elim (digit_cases h k) [
+      | inl zero_bit ↦ inl (eq-eqb _ _ zero_bit, ne_eqb _ _ (zero_not_one _ zero_bit))
+      | inr one_bit ↦
+          inr (ne_eqb _ _ (λ e. zero_not_one _ e one_bit), eq-eqb _ _ one_bit)
+    ]
 
-pub halves_split : (w : WordValue) (k h : ℕ) → IsFalse (is_fixed_of w k) → holds w h ≡ (holds (fix_of w k false) h || holds (fix_of w k true) h)
+pub halves_split : (w : WordValue) (k h : ℕ) → IsFalse (is_fixed_of w k)
+    → holds w h ≡ (holds (fix_of w k false) h || holds (fix_of w k true) h)
 halves_split w k h free =
-    parted (holds w h) _ _ (bit_parts h k) ∙ (λ i. sym (fix_holds w k false free h) i || sym (fix_holds w k true free h) i)
+    parted (holds w h) _ _ (bit_parts h k)
+    ∙ (λ i. sym (fix_holds w k false free h) i || sym (fix_holds w k true free h) i)
 
 pub halves_apart : (w : WordValue) (k : ℕ) → meet_of (fix_of w k false) (fix_of w k true) ≡ None
 unfolding fix_of
 halves_apart w k =
     meet_none _ _ (false_from_ne_true _ (λ t.
-    zero_not_one _ refl (sym (with_bit-same w.value k false) ∙ (meets_decides (fix_of w k false) (fix_of w k true)).0 t k (or_pow-same w.mask k) (or_pow-same w.mask k) ∙ with_bit-same w.value k true)))
+    zero_not_one _ refl (sym (with_bit-same w.value k false)
+    ∙ (meets_decides (fix_of w k false) (fix_of w k true)).0 t k (or_pow-same w.mask k)
+    (or_pow-same w.mask k) ∙ with_bit-same w.value k true)))
 
 module _ (w r : WordValue) (k : ℕ) (one : Bool) where
-  pub meets_half : IsFalse (is_fixed_of r k) → meets w (fix_of r k one) ≡ (meets w r && admits w k one)
+  pub meets_half : IsFalse (is_fixed_of r k)
+      → meets w (fix_of r k one) ≡ (meets w r && admits w k one)
   unfolding fix_of
   meets_half free =
       same_from_decides _ _
       (Decides-like _
       (λ bits. (
-        by_place k (λ j. bit_at w.mask j ≡ 1 → bit_at r.mask j ≡ 1 → bit_at w.value j ≡ bit_at r.value j)
+        by_place k (λ j. bit_at w.mask j ≡ 1 → bit_at r.mask j ≡ 1
+            → bit_at w.value j ≡ bit_at r.value j)
             (λ _ q. absurd (free_bit r k free q))
-            (λ j away p q. bits j p (or_pow-other r.mask k j away ∙ q) ∙ with_bit-other r.value k one j away),
+            (λ j away p q. bits j p (or_pow-other r.mask k j away ∙ q)
+            ∙ with_bit-other r.value k one j away),
         λ p. bits k p (or_pow-same r.mask k) ∙ with_bit-same r.value k one,
       ))
-      (λ both. by_place k (λ j. bit_at w.mask j ≡ 1 → bit_at (bit_or r.mask (2 ^ k)) j ≡ 1 → bit_at w.value j ≡ bit_at (with_bit r.value k one) j)
+      (λ both. by_place k (λ j. bit_at w.mask j ≡ 1 → bit_at (bit_or r.mask (2 ^ k)) j ≡ 1
+      → bit_at w.value j ≡ bit_at (with_bit r.value k one) j)
       (λ p _. both.1 p ∙ sym (with_bit-same r.value k one))
-      (λ j away p s. both.0 j p (sym (or_pow-other r.mask k j away) ∙ s) ∙ sym (with_bit-other r.value k one j away)))
+      (λ j away p s. both.0 j p (sym (or_pow-other r.mask k j away) ∙ s)
+      ∙ sym (with_bit-other r.value k one j away)))
       (meets_decides w (fix_of r k one)))
       (Decides-and _ _ (meets_decides w r) (admits_decides w k one))
 
@@ -464,16 +591,24 @@ module _ (w r : WordValue) (k : ℕ) (one : Bool) where
       same_from_decides _ _
       (Decides-like _
       (λ bits. (
-        by_place k (λ j. bit_at (without_bit w.mask k) j ≡ 1 → (bit_at r.mask j ≡ 1) × (bit_at r.value j ≡ bit_at (without_bit w.value k) j))
+        by_place k (λ j. bit_at (without_bit w.mask k) j ≡ 1 → (bit_at r.mask j ≡ 1)
+            × (bit_at r.value j ≡ bit_at (without_bit w.value k) j))
             (λ s. absurd (not_set _ k (without_bit-same w.mask k) s))
-            (λ j away s. let b = bits j (sym (without_bit-other w.mask k j away) ∙ s) in
-            (sym (or_pow-other r.mask k j away) ∙ b.0, sym (with_bit-other r.value k one j away) ∙ b.1 ∙ sym (without_bit-other w.value k j away))),
+            (λ j away s. let b = bits j (sym (without_bit-other w.mask k j away) ∙ s) in (
+              sym (or_pow-other r.mask k j away) ∙ b.0,
+              sym (with_bit-other r.value k one j away)
+                  ∙ b.1 ∙ sym (without_bit-other w.value k j away),
+            )),
         λ p. sym (bits k p).1 ∙ with_bit-same r.value k one,
       ))
-      (λ both. by_place k (λ j. bit_at w.mask j ≡ 1 → (bit_at (bit_or r.mask (2 ^ k)) j ≡ 1) × (bit_at (with_bit r.value k one) j ≡ bit_at w.value j))
+      (λ both. by_place k (λ j. bit_at w.mask j ≡ 1 → (bit_at (bit_or r.mask (2 ^ k)) j ≡ 1)
+      × (bit_at (with_bit r.value k one) j ≡ bit_at w.value j))
       (λ p. (or_pow-same r.mask k, with_bit-same r.value k one ∙ sym (both.1 p)))
-      (λ j away p. let b = both.0 j (without_bit-other w.mask k j away ∙ p) in
-      (or_pow-other r.mask k j away ∙ b.0, with_bit-other r.value k one j away ∙ b.1 ∙ without_bit-other w.value k j away)))
+      (λ j away p. let b = both.0 j (without_bit-other w.mask k j away ∙ p) in (
+        or_pow-other r.mask k j away ∙ b.0,
+        with_bit-other r.value k one j away ∙ b.1
+            ∙ without_bit-other w.value k j away,
+      )))
       (covers_decides w (fix_of r k one)))
       (Decides-and _ _ (covers_decides (free_of w k) r) (admits_decides w k one))
 
@@ -482,7 +617,8 @@ module _ (w r : WordValue) (k : ℕ) (one : Bool) where
 module _ (w : WordValue) (k : ℕ) where
   pub free_free : IsFalse (is_fixed_of (free_of w k) k)
   unfolding free_of
-  free_free = false_from_ne_true _ (λ t. not_set _ k (without_bit-same w.mask k) ((is_fixed_decides (free_of w k) k).0 t))
+  free_free = false_from_ne_true _
+      (λ t. not_set _ k (without_bit-same w.mask k) ((is_fixed_decides (free_of w k) k).0 t))
 
   pub free_other : (j : ℕ) → j ≢ k → is_fixed_of (free_of w k) j ≡ is_fixed_of w j
   unfolding free_of
@@ -491,9 +627,12 @@ module _ (w : WordValue) (k : ℕ) where
   pub free_word : IsWord w → IsWord (free_of w k)
   unfolding free_of
   free_word w_word = record {
-    within = part (without_bit w.value k) (without_bit w.mask k) (by_place k (λ j. bit_at (without_bit w.value k) j ≡ 1 → bit_at (without_bit w.mask k) j ≡ 1)
+    within = part (without_bit w.value k) (without_bit w.mask k)
+        (by_place k (λ j. bit_at (without_bit w.value k) j ≡ 1 → bit_at (without_bit w.mask k) j
+        ≡ 1)
         (λ s. absurd (not_set _ k (without_bit-same w.value k) s))
-        (λ j away s. without_bit-other w.mask k j away ∙ of_part w.value w.mask w_word.within j (sym (without_bit-other w.value k j away) ∙ s)));
+        (λ j away s. without_bit-other w.mask k j away ∙ of_part w.value w.mask w_word.within j
+        (sym (without_bit-other w.value k j away) ∙ s)));
     bounded = omega (arith, without_bit-le w.mask k, w_word.bounded);
   }
 
@@ -501,39 +640,60 @@ module _ (w : WordValue) (k : ℕ) where
   unfolding free_of
   free_wider =
       (covers_decides (free_of w k) w).1
-      (by_place k (λ j. bit_at (without_bit w.mask k) j ≡ 1 → (bit_at w.mask j ≡ 1) × (bit_at w.value j ≡ bit_at (without_bit w.value k) j))
+      (by_place k (λ j. bit_at (without_bit w.mask k) j ≡ 1 → (bit_at w.mask j ≡ 1)
+      × (bit_at w.value j ≡ bit_at (without_bit w.value k) j))
       (λ s. absurd (not_set _ k (without_bit-same w.mask k) s))
-      (λ j away s. (sym (without_bit-other w.mask k j away) ∙ s, sym (without_bit-other w.value k j away))))
+      (λ j away s. (
+        sym (without_bit-other w.mask k j away)
+            ∙ s,
+        sym (without_bit-other w.value k j away),
+      )))
 
-  pub free_holds : (h : ℕ) → holds (free_of w k) h ≡ (holds w (with_bit h k false) || holds w (with_bit h k true))
+  pub free_holds : (h : ℕ)
+      → holds (free_of w k) h ≡ (holds w (with_bit h k false) || holds w (with_bit h k true))
   unfolding free_of
   free_holds h =
       same_from_decides _ _
       (Decides-like _
-      (λ bits. elim (digit_cases w.value k) [ inl zero_bit ↦ inl (filled bits false zero_bit) | inr one_bit ↦ inr (filled bits true one_bit) ])
+      (λ bits. elim (digit_cases w.value k) [
+        | inl zero_bit ↦ inl (filled bits false zero_bit)
+        | inr one_bit ↦ inr
+            (filled bits true one_bit)
+      ])
       (λ either. elim either [ inl bits ↦ emptied false bits | inr bits ↦ emptied true bits ])
       (holds_decides (free_of w k) h))
       (Decides-or _ _ (holds_decides w (with_bit h k false)) (holds_decides w (with_bit h k true)))
     where
-      filled : AgreesOnMask (free_of w k) h → (one : Bool) → bit_at w.value k ≡ from_bool one → AgreesOnMask w (with_bit h k one)
-      filled bits one e = by_place k (λ j. bit_at w.mask j ≡ 1 → bit_at (with_bit h k one) j ≡ bit_at w.value j)
+      filled : AgreesOnMask (free_of w k) h → (one : Bool) → bit_at w.value k ≡ from_bool one
+          → AgreesOnMask w (with_bit h k one)
+      filled bits one e = by_place k
+          (λ j. bit_at w.mask j ≡ 1 → bit_at (with_bit h k one) j ≡ bit_at w.value j)
           (λ _. with_bit-same h k one ∙ sym e)
-          (λ j away p. with_bit-other h k one j away ∙ bits j (without_bit-other w.mask k j away ∙ p) ∙ without_bit-other w.value k j away)
+          (λ j away p. with_bit-other h k one j away
+          ∙ bits j (without_bit-other w.mask k j away ∙ p) ∙ without_bit-other w.value k j away)
 
       emptied : (one : Bool) → AgreesOnMask w (with_bit h k one) → AgreesOnMask (free_of w k) h
-      emptied one bits = by_place k (λ j. bit_at (without_bit w.mask k) j ≡ 1 → bit_at h j ≡ bit_at (without_bit w.value k) j)
+      emptied one bits = by_place k
+          (λ j. bit_at (without_bit w.mask k) j ≡ 1 → bit_at h j ≡ bit_at (without_bit w.value k) j)
           (λ s. absurd (not_set _ k (without_bit-same w.mask k) s))
-          (λ j away s. sym (with_bit-other h k one j away) ∙ bits j (sym (without_bit-other w.mask k j away) ∙ s) ∙ sym (without_bit-other w.value k j away))
+          (λ j away s. sym (with_bit-other h k one j away)
+          ∙ bits j (sym (without_bit-other w.mask k j away) ∙ s)
+          ∙ sym (without_bit-other w.value k j away))
 
-pub free_monotone : (a b : WordValue) (k : ℕ) → IsTrue (covers_of a b) → IsTrue (covers_of (free_of a k) (free_of b k))
+pub free_monotone : (a b : WordValue) (k : ℕ) → IsTrue (covers_of a b)
+    → IsTrue (covers_of (free_of a k) (free_of b k))
 unfolding free_of
 free_monotone a b k ab =
     let fixed = (covers_decides a b).0 ab in
     (covers_decides (free_of a k) (free_of b k)).1
-    (by_place k (λ j. bit_at (without_bit a.mask k) j ≡ 1 → (bit_at (without_bit b.mask k) j ≡ 1) × (bit_at (without_bit b.value k) j ≡ bit_at (without_bit a.value k) j))
+    (by_place k (λ j. bit_at (without_bit a.mask k) j ≡ 1 → (bit_at (without_bit b.mask k) j ≡ 1)
+    × (bit_at (without_bit b.value k) j ≡ bit_at (without_bit a.value k) j))
     (λ s. absurd (not_set _ k (without_bit-same a.mask k) s))
-    (λ j away s. let f = fixed j (sym (without_bit-other a.mask k j away) ∙ s) in
-    (without_bit-other b.mask k j away ∙ f.0, without_bit-other b.value k j away ∙ f.1 ∙ sym (without_bit-other a.value k j away))))
+    (λ j away s. let f = fixed j (sym (without_bit-other a.mask k j away) ∙ s) in (
+      without_bit-other b.mask k j away ∙ f.0,
+      without_bit-other b.value k j away ∙ f.1
+          ∙ sym (without_bit-other a.value k j away),
+    )))
 
 -- ---- what the methods compute
 
@@ -546,7 +706,9 @@ module _ (a b : WordValue) (a_word : IsWord a) (b_word : IsWord b) where
     λ none h fits p q. both_ways _ (sym (is_some-meet_of a b) ∙ none) (held_meets a b h p q),
     λ no_header. is_some-meet_of a b ∙ false_from_ne_true _ (λ t.
         let joined_value = value_below (joined a b) (joined_word a b a_word b_word) in
-        let held = and_parts _ _ (sym (joined_holds a b ((meets_decides a b).0 t) (joined a b).value) ∙ holds_value (joined a b)) in
+        let held = and_parts _ _
+        (sym (joined_holds a b ((meets_decides a b).0 t) (joined a b).value)
+        ∙ holds_value (joined a b)) in
         no_header (joined a b).value joined_value held.0 held.1),
   )
 
@@ -554,23 +716,28 @@ module _ (a b : WordValue) (a_word : IsWord a) (b_word : IsWord b) where
   plain_sum : joined a b ≡ record { value = bit_or a.value b.value; mask = bit_or a.mask b.mask }
   plain_sum = same_word _ _ (λ i. bit_or (a_word.within i) (b_word.within i)) refl
 
-  pub sum_meet : bit_and a.value (bit_and a.mask b.mask) ≡ bit_and b.value (bit_and a.mask b.mask) → Some (record { value = bit_or a.value b.value; mask = bit_or a.mask b.mask }) ≡ meet_of a b
+  pub sum_meet : bit_and a.value (bit_and a.mask b.mask) ≡ bit_and b.value (bit_and a.mask b.mask)
+      → Some (record { value = bit_or a.value b.value; mask = bit_or a.mask b.mask }) ≡ meet_of a b
   unfolding meets
   sum_meet e = sym (meet_at a b (eq-eqb _ _ e) ∙ ap Some plain_sum)
 
   pub sum_word : IsWord (record { value = bit_or a.value b.value; mask = bit_or a.mask b.mask })
   sum_word = subst IsWord plain_sum (joined_word a b a_word b_word)
 
-  pub no_meet : (bit_and a.value (bit_and a.mask b.mask) ≡ bit_and b.value (bit_and a.mask b.mask) → ⊥) → None ≡ meet_of a b
+  pub no_meet : (bit_and a.value (bit_and a.mask b.mask) ≡ bit_and b.value (bit_and a.mask b.mask)
+      → ⊥) → None ≡ meet_of a b
   unfolding meets
   no_meet n = sym (meet_none a b (ne_eqb _ _ n))
 
-  pub covers_masked : bit_and a.mask b.mask ≡ a.mask → (bit_and b.value a.mask == a.value) ≡ covers_of a b
+  pub covers_masked : bit_and a.mask b.mask ≡ a.mask → (bit_and b.value a.mask == a.value)
+      ≡ covers_of a b
   unfolding covers_of
   covers_masked e =
-      ap (λ v. bit_and b.value a.mask == v) (sym a_word.within) ∙ ap (λ t. t && (bit_and b.value a.mask == fixed_value a)) (sym (eq-eqb _ _ e))
+      ap (λ v. bit_and b.value a.mask == v) (sym a_word.within)
+      ∙ ap (λ t. t && (bit_and b.value a.mask == fixed_value a)) (sym (eq-eqb _ _ e))
 
-  pub covers_unmasked : (bit_and a.mask b.mask ≡ a.mask → ⊥) → (bit_and a.mask b.mask == a.mask) ≡ covers_of a b
+  pub covers_unmasked : (bit_and a.mask b.mask ≡ a.mask → ⊥) → (bit_and a.mask b.mask == a.mask)
+      ≡ covers_of a b
   unfolding covers_of
   covers_unmasked n =
       let f : (bit_and a.mask b.mask == a.mask) ≡ false = ne_eqb _ _ n in
@@ -581,17 +748,29 @@ module _ (w : WordValue) (w_word : IsWord w) where
   unfolding holds
   masked_holds h = ap (λ v. bit_and h w.mask == v) (sym w_word.within)
 
-  pub set_fix : (k : ℕ) (one : Bool) → k < 104 → IsFalse (is_fixed_of w k) → record { value = bit_or w.value (from_bool one * 2 ^ k % 2 ^ 128); mask = bit_or w.mask (1 * 2 ^ k % 2 ^ 128) } ≡ fix_of w k one
+  pub set_fix : (k : ℕ) (one : Bool) → k < 104 → IsFalse (is_fixed_of w k)
+      → record {
+        value = bit_or w.value (from_bool one * 2 ^ k % 2 ^ 128);
+        mask =
+            bit_or w.mask (1 * 2 ^ k % 2 ^ 128);
+      } ≡ fix_of w k one
   unfolding fix_of
   set_fix k one within free =
-      let unset : bit_at w.value k ≡ 1 → ⊥ = λ set. free_bit w k free (of_part w.value w.mask w_word.within k set) in
+      let unset : bit_at w.value k ≡ 1
+      → ⊥ = λ set. free_bit w k free (of_part w.value w.mask w_word.within k set) in
       same_word _ _
       (λ i. bit_or (sym (without_bit-unset w.value k unset) i) (shifted k one within i))
       (ap (bit_or w.mask) (shifted_one k within))
 
-  pub cleared_free : (k : ℕ) → k < 104 → record { value = bit_and w.value (2 ^ 128 - 1 - 1 * 2 ^ k % 2 ^ 128); mask = bit_and w.mask (2 ^ 128 - 1 - 1 * 2 ^ k % 2 ^ 128) } ≡ free_of w k
+  pub cleared_free : (k : ℕ) → k < 104
+      → record {
+        value = bit_and w.value (2 ^ 128 - 1 - 1 * 2 ^ k % 2 ^ 128);
+        mask =
+            bit_and w.mask (2 ^ 128 - 1 - 1 * 2 ^ k % 2 ^ 128);
+      } ≡ free_of w k
   unfolding free_of
-  cleared_free k within = same_word _ _ (masked_out w.value k (value_below w w_word) within) (masked_out w.mask k w_word.bounded within)
+  cleared_free k within = same_word _ _ (masked_out w.value k (value_below w w_word) within)
+      (masked_out w.mask k w_word.bounded within)
 
 pub tested_bit : (w : WordValue) (k : ℕ) → (bit_and (w.mask / 2 ^ k) 1 == 1) ≡ is_fixed_of w k
 unfolding is_fixed_of

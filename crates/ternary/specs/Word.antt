@@ -1,5 +1,6 @@
--- Words with free bits over header numbers of 104 bits: the wildcard expressions of Kazemian, Varghese and McKeown,
--- "Header Space Analysis: Static Checking for Networks", each kept as a value and a mask.
+-- Words with free bits over header numbers of 104 bits: the wildcard expressions of Kazemian,
+-- Varghese and McKeown, "Header Space Analysis: Static Checking for Networks", each kept as a value
+-- and a mask.
 use Rattle.std.specs.Prelude.{◌≡◌, ℕ, zero, suc, ◌-◌, ◌*◌, ◌/◌, ◌%◌, ◌^◌, ◌<◌, Bool, false, not, ◌&&◌, ◌||◌, ◌==◌, if◌then◌else◌, bit_and, bit_or, Option, Some, None, IsTrue, List, [], ◌∷◌, ◌++◌, filter}
 use Rattle.std.specs.Fmt.{digit_glyph}
 use Rattle.std.specs.Int.{bit_at, from_bool}

@@ -1,6 +1,7 @@
 ghost use Rattle.ternary.specs.Laws.{HoldsLaws, AnyLaws, ExactLaws, CoversLaws, MeetLaws, FixLaws, FreeLaws, FreeBitsLaws};
 
-/// A word holds what agrees with its value on each fixed bit, so it holds its value; words of the same headers are equal.
+/// A word holds what agrees with its value on each fixed bit, so it holds its value; words of the
+/// same headers are equal.
 pub fn holds_laws()
     ensures { HoldsLaws }
 {}
@@ -15,14 +16,14 @@ pub fn exact_laws()
     ensures { ExactLaws }
 {}
 
-/// `covers` orders the words. A word covers that of one header where it holds this header, and what it meets where that
-/// has no free bit.
+/// `covers` orders the words. A word covers that of one header where it holds this header, and what
+/// it meets where that has no free bit.
 pub fn covers_laws()
     ensures { CoversLaws }
 {}
 
-/// `meet` gives the greatest word that both cover. To narrow a word to `a`, and then to what `a` covers, is to narrow it
-/// to the latter at once.
+/// `meet` gives the greatest word that both cover. To narrow a word to `a`, and then to what `a`
+/// covers, is to narrow it to the latter at once.
 pub fn meet_laws()
     ensures { MeetLaws }
 {}
@@ -32,8 +33,8 @@ pub fn fix_laws()
     ensures { FixLaws }
 {}
 
-/// A freed bit widens a word, and keeps the order of two words. Two words meet, or one covers the other, where they do
-/// with a bit freed and that bit agrees.
+/// A freed bit widens a word, and keeps the order of two words. Two words meet, or one covers the
+/// other, where they do with a bit freed and that bit agrees.
 pub fn free_laws()
     ensures { FreeLaws }
 {}

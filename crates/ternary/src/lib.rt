@@ -1,10 +1,13 @@
-//! Words with free bits over header numbers of 104 bits, as a ternary content-addressable memory matches them.
+//! Words with free bits over header numbers of 104 bits, as a ternary content-addressable memory
+//! matches them.
 //!
-//! A word fixes some bits and leaves the others free. Each operation answers for exactly the headers that a word holds,
-//! and takes no memory. What holds of all words is ensured by the laws, functions with an empty body, for proofs where no
-//! call runs; a map whose keys are words compares them by `word_eq`.
+//! A word fixes some bits and leaves the others free. Each operation answers for exactly the
+//! headers that a word holds, and takes no memory. What holds of all words is ensured by the laws,
+//! functions with an empty body, for proofs where no call runs; a map whose keys are words compares
+//! them by `word_eq`.
 //!
-//! A caller, which imports `IfSome` and `IsNone` from std, `AreDisjoint` and `IsMeet` from `specs/Word.antt`:
+//! A caller, which imports `IfSome` and `IsNone` from std, `AreDisjoint` and `IsMeet` from
+//! `specs/Word.antt`:
 //!
 //! ```rust
 //! /// The part of a rule that lies in a region.

@@ -8,11 +8,11 @@ use std::marker::Model;
 /// The mask of all 104 bits of a header number.
 const ALL_BITS: u128 = (1 << 104) - 1;
 
-/// A set of header numbers, given by the bits that it fixes: a header is in it where it agrees with the value on each
-/// bit of the mask.
+/// A set of header numbers, given by the bits that it fixes: a header is in it where it agrees with
+/// the value on each bit of the mask.
 ///
-/// A bit of the mask is fixed, every other bit is free. Value and mask are below 2^104, and no bit of the value lies
-/// outside the mask, so equal sets are equal words.
+/// A bit of the mask is fixed, every other bit is free. Value and mask are below 2^104, and no bit
+/// of the value lies outside the mask, so equal sets are equal words.
 #[derive(Clone, Copy, Debug, PartialEq, Eq, Hash)]
 pub struct Word {
     value: u128,
@@ -32,7 +32,8 @@ impl Model for Word {
 }
 
 impl Word {
-    /// The word of this pair; `None` where the value has a bit outside the mask, or the mask one from bit 104 on.
+    /// The word of this pair; `None` where the value has a bit outside the mask, or the mask one
+    /// from bit 104 on.
     pub fn new(value: u128, mask: u128) -> Option<Word>
         ensures pair { IfSome result (λ w. (w ≡ record { value = value; mask = mask }) × IsWord w) }
         ensures taken { let pair : WordValue = record { value = value; mask = mask } in
@@ -145,7 +146,8 @@ impl Word {
         }
     }
 
-    /// This word with the bit `bit` free: it holds what this word holds with the bit set to 0 or to 1.
+    /// This word with the bit `bit` free: it holds what this word holds with the bit set to 0 or to
+    /// 1.
     pub fn free(&self, bit: u32) -> Word
         requires { bit < 104 }
         ensures pair { result ≡ free_of self.now bit }
@@ -173,8 +175,8 @@ impl fmt::Display for Word {
     }
 }
 
-// A number below 2^104, printed in 26 hexadecimal digits: 10 digits, and 16 for the low 64 bits, since the contract of
-// `{:x}` reaches no further.
+// A number below 2^104, printed in 26 hexadecimal digits: 10 digits, and 16 for the low 64 bits,
+// since the contract of `{:x}` reaches no further.
 #[derive(Drop)]
 struct Hex {
     number: u128,

@@ -13,9 +13,13 @@ use Rattle.update_machine.specs.Answers.{after_steps}
 
 -- two packets on a policy without rows: each is dropped by default, and the second has the number 2
 two_packets : (header : Header) →
-    after_steps (record { policies = [] ∷ [] }) [] (record { row = 1; step = Packet 0 header } ∷ record { row = 2; step = Packet 0 header } ∷ [])
-    ≡ item.Row 1 (Packet 0 header) ∷ item.Entered 1 0 header ∷ item.Decided 1 1 None Drop own_source ∷ item.Dropped 1
-    ∷ item.Row 2 (Packet 0 header) ∷ item.Entered 2 0 header ∷ item.Decided 2 1 None Drop own_source ∷ item.Dropped 2 ∷ []
+    after_steps (record { policies = [] ∷ [] }) []
+    (record { row = 1; step = Packet 0 header } ∷ record { row = 2; step = Packet 0 header }
+    ∷ [])
+    ≡ item.Row 1 (Packet 0 header) ∷ item.Entered 1 0 header ∷ item.Decided 1 1 None Drop
+    own_source ∷ item.Dropped 1
+    ∷ item.Row 2 (Packet 0 header) ∷ item.Entered 2 0 header ∷ item.Decided 2 1 None Drop
+    own_source ∷ item.Dropped 2 ∷ []
 two_packets header = refl
 
 -- the row `50,any,any,any,any,any,drop`, and the row `100,10.0.0.0/8,any,any,80,tcp,out:3`
@@ -41,12 +45,19 @@ web = record {
   action = Out 3;
 }
 
--- from 10.1.1.1 to 9.9.9.9 by TCP, to the port 80 or to another one: the greater priority decides, not the earlier row
-to_web : scan (each ∷ web ∷ []) (header_of (record { src = 167837953; dst = 151587081; sport = 5000; dport = 80; proto = 6 })) ≡ record { rule = Some 100; action = Out 3 }
+-- from 10.1.1.1 to 9.9.9.9 by TCP, to the port 80 or to another one: the greater priority decides,
+-- not the earlier row
+to_web : scan (each ∷ web ∷ [])
+    (header_of (record { src = 167837953; dst = 151587081; sport = 5000; dport = 80; proto = 6 }))
+    ≡ record { rule = Some 100; action = Out 3 }
 to_web = refl
 
-to_other : scan (each ∷ web ∷ []) (header_of (record { src = 167837953; dst = 151587081; sport = 5000; dport = 81; proto = 6 })) ≡ record { rule = Some 50; action = Drop }
+to_other : scan (each ∷ web ∷ [])
+    (header_of (record { src = 167837953; dst = 151587081; sport = 5000; dport = 81; proto = 6 }))
+    ≡ record { rule = Some 50; action = Drop }
 to_other = refl
 
-to_none : scan (web ∷ []) (header_of (record { src = 167837953; dst = 151587081; sport = 5000; dport = 81; proto = 6 })) ≡ record { rule = None; action = Drop }
+to_none : scan (web ∷ [])
+    (header_of (record { src = 167837953; dst = 151587081; sport = 5000; dport = 81; proto = 6 }))
+    ≡ record { rule = None; action = Drop }
 to_none = refl

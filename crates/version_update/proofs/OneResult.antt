@@ -18,7 +18,8 @@ use Rattle.version_update.specs.Laws.{nothing_rose, IsLeast}
 -- ---- one result
 
 -- a version that each member acknowledged isn't one that stops current
-rises_past : (marks : MarksValue) (low high : ℕ) → RisesTo marks low → RisesTo marks high → low < high → ⊥
+rises_past : (marks : MarksValue) (low high : ℕ) → RisesTo marks low → RisesTo marks high
+    → low < high → ⊥
 rises_past marks low high stops rises less =
     let past = rises.acknowledged (low + 1) (omega (arith, stops.rises)) (omega arith) in
     let short = stops.stopped (omega (arith, rises.bound)) in
@@ -27,73 +28,144 @@ rises_past marks low high stops rises less =
 one_current : (marks : MarksValue) (a b : ℕ) → RisesTo marks a → RisesTo marks b → a ≡ b
 one_current marks a b left right =
     ⊎_elim (λ less. absurd (rises_past marks a b left right less))
-    (λ more. ⊎_elim (λ less. absurd (rises_past marks b a right left less)) (λ least. omega arith) (cases_lt b a))
+    (λ more. ⊎_elim (λ less. absurd (rises_past marks b a right left less)) (λ least. omega arith)
+    (cases_lt b a))
     (cases_lt a b)
 
-pub one_result : (before a b : MarksValue) (x y : Settled) → Settles before a x → Settles before b y → a ≡ b
+pub one_result : (before a b : MarksValue) (x y : Settled) → Settles before a x → Settles before b y
+    → a ≡ b
 one_result before a b x y left right =
     let count : a.count ≡ b.count = left.count ∙ sym right.count in
-    let current : a.current ≡ b.current = one_current before a.current b.current left.current right.current in
-    let switches : a.switches ≡ b.switches = left.switches ∙ ap (λ c. map (opened_at c) before.switches) current ∙ sym right.switches in
-    let allowed = ap (λ c. unwrap_or (least_of (stamps a.switches)) c - 1) current ∙ ap (λ (l : List SwitchRecord). unwrap_or (least_of (stamps l)) b.current - 1) switches in
+    let current : a.current ≡ b.current = one_current before a.current b.current left.current
+    right.current in
+    let switches : a.switches ≡ b.switches = left.switches
+    ∙ ap (λ c. map (opened_at c) before.switches) current ∙ sym right.switches in
+    let allowed = ap (λ c. unwrap_or (least_of (stamps a.switches)) c - 1) current
+    ∙ ap (λ (l : List SwitchRecord). unwrap_or (least_of (stamps l)) b.current - 1) switches in
     let retired : a.retired ≡ b.retired = left.retired ∙ allowed ∙ sym right.retired in
-    ap (λ n. record { count = n; current = a.current; retired = a.retired; switches = a.switches }) count
-    ∙ ap (λ n. record { count = b.count; current = n; retired = a.retired; switches = a.switches }) current
-    ∙ ap (λ n. record { count = b.count; current = b.current; retired = n; switches = a.switches }) retired
-    ∙ ap (λ (l : List SwitchRecord). record { count = b.count; current = b.current; retired = b.retired; switches = l }) switches
+    ap (λ n. record { count = n; current = a.current; retired = a.retired; switches = a.switches })
+    count
+    ∙ ap (λ n. record { count = b.count; current = n; retired = a.retired; switches = a.switches })
+    current
+    ∙ ap (λ n. record { count = b.count; current = b.current; retired = n; switches = a.switches })
+    retired
+    ∙ ap (λ (l : List SwitchRecord).
+    record { count = b.count; current = b.current; retired = b.retired; switches = l }) switches
 
 -- ---- one answer
 
-one_mask : (mask other : ℕ) (passes : SwitchRecord → Bool) (switches : List SwitchRecord) → Names mask passes switches → Names other passes switches → mask ≡ other
+one_mask : (mask other : ℕ) (passes : SwitchRecord → Bool) (switches : List SwitchRecord)
+    → Names mask passes switches → Names other passes switches → mask ≡ other
 one_mask mask other passes switches one two = same_from_bits mask other (λ s. one s ∙ sym (two s))
 
-one_telling : (before after : MarksValue) (x y : Settled) → Tells before after x → Tells before after y → x.taken ≡ y.taken → x ≡ y
+one_telling : (before after : MarksValue) (x y : Settled) → Tells before after x
+    → Tells before after y → x.taken ≡ y.taken → x ≡ y
 one_telling before after x y one two taken =
     let current : x.current ≡ y.current = one.current ∙ sym two.current in
     let stamps : x.stamps ≡ y.stamps = one_mask _ _ _ _ one.stamps two.stamps in
     let opens : x.opens ≡ y.opens = one_mask _ _ _ _ one.opens two.opens in
     let retired : x.retired ≡ y.retired = one.retired ∙ sym two.retired in
     let collects : x.collects ≡ y.collects = one_mask _ _ _ _ one.collects two.collects in
-    ap (λ b. record { taken = b; current = x.current; stamps = x.stamps; opens = x.opens; retired = x.retired; collects = x.collects }) taken
-    ∙ ap (λ o. record { taken = y.taken; current = o; stamps = x.stamps; opens = x.opens; retired = x.retired; collects = x.collects }) current
-    ∙ ap (λ n. record { taken = y.taken; current = y.current; stamps = n; opens = x.opens; retired = x.retired; collects = x.collects }) stamps
-    ∙ ap (λ n. record { taken = y.taken; current = y.current; stamps = y.stamps; opens = n; retired = x.retired; collects = x.collects }) opens
-    ∙ ap (λ o. record { taken = y.taken; current = y.current; stamps = y.stamps; opens = y.opens; retired = o; collects = x.collects }) retired
-    ∙ ap (λ n. record { taken = y.taken; current = y.current; stamps = y.stamps; opens = y.opens; retired = y.retired; collects = n }) collects
+    ap (λ b. record {
+      taken = b;
+      current = x.current;
+      stamps = x.stamps;
+      opens = x.opens;
+      retired =
+          x.retired;
+      collects = x.collects;
+    }) taken
+    ∙ ap (λ o. record {
+      taken = y.taken;
+      current = o;
+      stamps = x.stamps;
+      opens = x.opens;
+      retired =
+          x.retired;
+      collects = x.collects;
+    }) current
+    ∙ ap (λ n. record {
+      taken = y.taken;
+      current = y.current;
+      stamps = n;
+      opens = x.opens;
+      retired =
+          x.retired;
+      collects = x.collects;
+    }) stamps
+    ∙ ap (λ n. record {
+      taken = y.taken;
+      current = y.current;
+      stamps = y.stamps;
+      opens = n;
+      retired = x.retired;
+      collects = x.collects;
+    }) opens
+    ∙ ap (λ o. record {
+      taken = y.taken;
+      current = y.current;
+      stamps = y.stamps;
+      opens = y.opens;
+      retired = o;
+      collects = x.collects;
+    }) retired
+    ∙ ap (λ n. record {
+      taken = y.taken;
+      current = y.current;
+      stamps = y.stamps;
+      opens = y.opens;
+      retired = y.retired;
+      collects = n;
+    }) collects
 
-pub one_answer : (before a b : MarksValue) (x y : Settled) → Settles before a x → Settles before b y → x.taken ≡ y.taken → x ≡ y
+pub one_answer : (before a b : MarksValue) (x y : Settled) → Settles before a x → Settles before b y
+    → x.taken ≡ y.taken → x ≡ y
 one_answer before a b x y left right taken =
-    one_telling before a x y left.tells (subst (λ (m : MarksValue). Tells before m y) (sym (one_result before a b x y left right)) right.tells) taken
+    one_telling before a x y left.tells
+    (subst (λ (m : MarksValue). Tells before m y) (sym (one_result before a b x y left right))
+    right.tells) taken
 
 -- ---- settled marks
 
 raised_none : (n : ℕ) → raised n n ≡ None
 raised_none n = rw (le-ltb n n (omega arith)) refl
 
-names_none : (n : ℕ) (passes : SwitchRecord → Bool) (switches : List SwitchRecord) → Names 0 (λ known. ltb n n && passes known) switches
+names_none : (n : ℕ) (passes : SwitchRecord → Bool) (switches : List SwitchRecord)
+    → Names 0 (λ known. ltb n n && passes known) switches
 names_none n passes switches s = bit_at-zero s ∙ by_option (slice_get switches s)
   where
-    by_option : (o : Option SwitchRecord) → 0 ≡ from_bool (option_map_or (λ known. ltb n n && passes known) o false)
+    by_option : (o : Option SwitchRecord)
+        → 0 ≡ from_bool (option_map_or (λ known. ltb n n && passes known) o false)
     by_option None = refl
     by_option (Some known) = rw (le-ltb n n (omega arith)) refl
 
-all_stay : (current : ℕ) (switches : List SwitchRecord) → All (λ known. IsFalse (opens_at current known)) switches → switches ≡ map (opened_at current) switches
+all_stay : (current : ℕ) (switches : List SwitchRecord)
+    → All (λ known. IsFalse (opens_at current known)) switches → switches ≡ map (opened_at current)
+    switches
 all_stay current [] closed = refl
 all_stay current (known ∷ more) closed =
     let here = All-head (λ known. IsFalse (opens_at current known)) known more closed in
-    let rest = all_stay current more (All-tail (λ known. IsFalse (opens_at current known)) known more closed) in
-    let same : known ≡ opened_at current known = ap (λ b. cond b (record known { phase = Member; open_version = current; acked_stamp = current }) known) (sym here) in
+    let rest = all_stay current more
+    (All-tail (λ known. IsFalse (opens_at current known)) known more closed) in
+    let same : known ≡ opened_at current known =
+    ap (λ b. cond b (record known
+    { phase = Member; open_version = current; acked_stamp = current }) known) (sym here) in
     ap (λ l. known ∷ l) rest ∙ ap (λ (k : SwitchRecord). k ∷ map (opened_at current) more) same
 
-none_named : (current : ℕ) (switches : List SwitchRecord) → All (λ known. IsFalse (opens_at current known)) switches → Names 0 (opens_at current) switches
+none_named : (current : ℕ) (switches : List SwitchRecord)
+    → All (λ known. IsFalse (opens_at current known)) switches → Names 0 (opens_at current) switches
 none_named current switches closed s = bit_at-zero s ∙ at_place switches s closed
   where
-    at_place : (xs : List SwitchRecord) (k : ℕ) → All (λ known. IsFalse (opens_at current known)) xs → 0 ≡ from_bool (option_map_or (opens_at current) (slice_get xs k) false)
+    at_place : (xs : List SwitchRecord) (k : ℕ) → All (λ known. IsFalse (opens_at current known)) xs
+        → 0 ≡ from_bool (option_map_or (opens_at current) (slice_get xs k) false)
     at_place [] k _ = refl
-    at_place (known ∷ more) zero shut = ap from_bool (sym (All-head (λ known. IsFalse (opens_at current known)) known more shut))
-    at_place (known ∷ more) (suc k) shut = at_place more k (All-tail (λ known. IsFalse (opens_at current known)) known more shut)
+    at_place (known ∷ more) zero shut =
+        ap from_bool (sym (All-head (λ known. IsFalse (opens_at current known)) known more shut))
+    at_place (known ∷ more) (suc k) shut =
+        at_place more k (All-tail (λ known. IsFalse (opens_at current known)) known more shut)
 
-pub settled_stay : (marks : MarksValue) (taken : Bool) → AreSettled marks → Settles marks marks (nothing_rose taken)
+pub settled_stay : (marks : MarksValue) (taken : Bool) → AreSettled marks
+    → Settles marks marks (nothing_rose taken)
 settled_stay marks taken settled = record {
   count = refl;
   current = record {
@@ -119,7 +191,8 @@ least_among : (first : ℕ) (more : List ℕ) → Contains (first ∷ more) (fol
 least_among first [] = (0, omega arith, refl)
 least_among first (n ∷ more) = place (least_among (min first n) more) (cases_lt n first)
   where
-    place : Contains (min first n ∷ more) (fold min (min first n) more) → (n < first) ⊎ (first ≤ n) → Contains (first ∷ n ∷ more) (fold min (min first n) more)
+    place : Contains (min first n ∷ more) (fold min (min first n) more) → (n < first) ⊎ (first ≤ n)
+        → Contains (first ∷ n ∷ more) (fold min (min first n) more)
     place (zero, within, at) (inl less) = (1, omega arith, omega (arith, at))
     place (zero, within, at) (inr upto) = (0, omega arith, omega (arith, at))
     place (suc k, within, at) _ = (suc (suc k), omega (arith, within), at)
@@ -132,8 +205,14 @@ least_below : (first : ℕ) (more : List ℕ) → All (λ n. fold min first more
 least_below first [] = All-nil (λ n. first ≤ n)
 least_below first (n ∷ more) =
     let h = least_first (min first n) more in
-    All-cons (λ k. fold min (min first n) more ≤ k) n more (omega (arith, h)) (least_below (min first n) more)
+    All-cons (λ k. fold min (min first n) more ≤ k) n more (omega (arith, h))
+    (least_below (min first n) more)
 
-pub least_of_numbers : (numbers : List ℕ) → MatchOption (least_of numbers) (numbers ≡ []) (IsLeast numbers)
+pub least_of_numbers : (numbers : List ℕ) → MatchOption (least_of numbers) (numbers ≡ [])
+    (IsLeast numbers)
 least_of_numbers [] = refl
-least_of_numbers (first ∷ more) = (least_among first more, All-cons (λ n. fold min first more ≤ n) first more (least_first first more) (least_below first more))
+least_of_numbers (first ∷ more) = (
+  least_among first more,
+  All-cons (λ n. fold min first more ≤ n) first more
+      (least_first first more) (least_below first more),
+)

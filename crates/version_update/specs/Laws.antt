@@ -10,27 +10,41 @@ use Rattle.version_update.specs.Settling.{Names, Settles}
 
 -- nothing rose, and nobody is told
 abbrev pub nothing_rose : Bool → Settled
-nothing_rose taken = record { taken = taken; current = None; stamps = 0; opens = 0; retired = None; collects = 0 }
+nothing_rose taken = record {
+  taken = taken;
+  current = None;
+  stamps = 0;
+  opens = 0;
+  retired = None;
+  collects = 0;
+}
 
 -- it is among them, and none is less
 abbrev pub IsLeast : List ℕ → ℕ → Type 0
 IsLeast numbers least = Contains numbers least × All (λ n. least ≤ n) numbers
 
 pub record SettlingLaws : Type 0 where
-  pub one_result : (before a b : MarksValue) (x y : Settled) → Settles before a x → Settles before b y → a ≡ b
-  pub one_answer : (before a b : MarksValue) (x y : Settled) → Settles before a x → Settles before b y → x.taken ≡ y.taken → x ≡ y
+  pub one_result : (before a b : MarksValue) (x y : Settled) → Settles before a x
+      → Settles before b y → a ≡ b
+  pub one_answer : (before a b : MarksValue) (x y : Settled) → Settles before a x
+      → Settles before b y → x.taken ≡ y.taken → x ≡ y
   -- settled marks stay as they are
-  pub idle : (marks : MarksValue) (taken : Bool) → AreSettled marks → Settles marks marks (nothing_rose taken)
+  pub idle : (marks : MarksValue) (taken : Bool) → AreSettled marks
+      → Settles marks marks (nothing_rose taken)
   -- a mask names switches that there are, and that pass
-  pub named : (mask s : ℕ) (passes : SwitchRecord → Bool) (switches : List SwitchRecord) → Names mask passes switches → bit_at mask s ≡ 1 →
+  pub named : (mask s : ℕ) (passes : SwitchRecord → Bool) (switches : List SwitchRecord)
+      → Names mask passes switches → bit_at mask s ≡ 1 →
       (known : SwitchRecord) × (slice_get switches s ≡ Some known) × IsTrue (passes known)
   pub least : (numbers : List ℕ) → MatchOption (least_of numbers) (numbers ≡ []) (IsLeast numbers)
 
 pub record RecordLaws : Type 0 where
   -- a version is acknowledged at the start, or by a message that was taken
   pub first : (version : ℕ) → 1 ≤ version → has_acked first_record version ≡ (version == 1)
-  pub hello : (boot version : ℕ) (known : SwitchRecord) → IsTrue (takes_hello boot known) → has_acked (after_hello boot known) version ≡ false
+  pub hello : (boot version : ℕ) (known : SwitchRecord) → IsTrue (takes_hello boot known)
+      → has_acked (after_hello boot known) version ≡ false
   pub installed : (boot version other : ℕ) (known : SwitchRecord) → 1 ≤ version → 1 ≤ other →
-      has_acked (after_installed boot version known) other ≡ (has_acked known other || (takes_installed boot known && other == version))
+      has_acked (after_installed boot version known) other
+      ≡ (has_acked known other || (takes_installed boot known && other == version))
   -- none past the last version is
-  pub past : (count version : ℕ) (known : SwitchRecord) → IsSoundRecord count known → count < version → has_acked known version ≡ false
+  pub past : (count version : ℕ) (known : SwitchRecord) → IsSoundRecord count known
+      → count < version → has_acked known version ≡ false

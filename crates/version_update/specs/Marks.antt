@@ -14,7 +14,13 @@ pub record MarksValue : Type 0 where
 
 -- at the start
 abbrev pub first_marks : ℕ → MarksValue
-first_marks number = record { count = 1; current = 1; retired = 0; switches = replicate number first_record }
+first_marks number = record {
+  count = 1;
+  current = 1;
+  retired = 0;
+  switches =
+      replicate number first_record;
+}
 
 -- ---- switches
 
@@ -23,7 +29,8 @@ record_of marks s = slice_index_or marks.switches s no_switch
 
 -- the marks with this change of what is known of switch s
 abbrev pub at_switch : ℕ → (SwitchRecord → SwitchRecord) → MarksValue → MarksValue
-at_switch s change marks = record marks { switches = slice_set marks.switches s (change (record_of marks s)) }
+at_switch s change marks =
+    record marks { switches = slice_set marks.switches s (change (record_of marks s)) }
 
 -- the marks with one more version
 abbrev pub with_version : MarksValue → MarksValue

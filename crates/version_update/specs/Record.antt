@@ -51,21 +51,24 @@ abbrev pub takes_hello : ℕ → SwitchRecord → Bool
 takes_hello boot known = nat_lt known.boot boot
 
 abbrev pub after_hello : ℕ → SwitchRecord → SwitchRecord
-after_hello boot known = if takes_hello boot known then record { boot = boot; phase = Joining; acked = 0; open_version = 0; acked_stamp = 0 } else known
+after_hello boot known = if takes_hello boot known then
+    record { boot = boot; phase = Joining; acked = 0; open_version = 0; acked_stamp = 0 } else known
 
 -- a version is installed in the known boot of a switch that is not over
 abbrev pub takes_installed : ℕ → SwitchRecord → Bool
 takes_installed boot known = (known.boot == boot) && not (is_over known.phase)
 
 abbrev pub after_installed : ℕ → ℕ → SwitchRecord → SwitchRecord
-after_installed boot version known = if takes_installed boot known then record known { acked = bit_or known.acked (2 ^ (version - 1)) } else known
+after_installed boot version known = if takes_installed boot known then record known
+    { acked = bit_or known.acked (2 ^ (version - 1)) } else known
 
 -- a member stamps new packets with this version, in its known boot
 abbrev pub takes_stamped : ℕ → SwitchRecord → Bool
 takes_stamped boot known = (known.boot == boot) && is_member known.phase
 
 abbrev pub after_stamped : ℕ → ℕ → SwitchRecord → SwitchRecord
-after_stamped boot version known = if takes_stamped boot known then record known { acked_stamp = max known.acked_stamp version } else known
+after_stamped boot version known = if takes_stamped boot known then record known
+    { acked_stamp = max known.acked_stamp version } else known
 
 -- it is gone
 abbrev pub after_over : SwitchRecord → SwitchRecord
@@ -78,4 +81,5 @@ abbrev pub opens_at : ℕ → SwitchRecord → Bool
 opens_at current known = is_joining known.phase && has_acked known current
 
 abbrev pub opened_at : ℕ → SwitchRecord → SwitchRecord
-opened_at current known = if opens_at current known then record known { phase = Member; open_version = current; acked_stamp = current } else known
+opened_at current known = if opens_at current known then record known
+    { phase = Member; open_version = current; acked_stamp = current } else known

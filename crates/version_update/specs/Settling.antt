@@ -13,24 +13,28 @@ raised old new = if nat_lt old new then Some new else None
 
 -- bit s of the mask is 1 exactly where there is a switch s that passes
 abbrev pub Names : ℕ → (SwitchRecord → Bool) → List SwitchRecord → Type 0
-Names mask passes switches = (s : ℕ) → bit_at mask s ≡ from_bool (option_map_or passes (slice_get switches s) false)
+Names mask passes switches = (s : ℕ)
+    → bit_at mask s ≡ from_bool (option_map_or passes (slice_get switches s) false)
 
 -- what rose, and the switches that are to be told
 pub record Tells (before after : MarksValue) (answer : Settled) : Type 0 where
   pub current : answer.current ≡ raised before.current after.current
   -- a new current version is told to the members from before
-  pub stamps : Names answer.stamps (λ known. nat_lt before.current after.current && is_member known.phase) before.switches
+  pub stamps : Names answer.stamps
+      (λ known. nat_lt before.current after.current && is_member known.phase) before.switches
   pub opens : Names answer.opens (opens_at after.current) before.switches
   pub retired : answer.retired ≡ raised before.retired after.retired
   -- a newly retired version is told to all members
-  pub collects : Names answer.collects (λ known. nat_lt before.retired after.retired && is_member known.phase) after.switches
+  pub collects : Names answer.collects
+      (λ known. nat_lt before.retired after.retired && is_member known.phase) after.switches
 
 -- from the old mark on, each member acknowledged every version up to this one, which is the last or
 -- where one stops it
 pub record RisesTo (marks : MarksValue) (current : ℕ) : Type 0 where
   pub rises : marks.current ≤ current
   pub bound : current ≤ marks.count
-  pub acknowledged : (version : ℕ) → marks.current < version → version ≤ current → IsTrue (all_acked version marks.switches)
+  pub acknowledged : (version : ℕ) → marks.current < version → version ≤ current
+      → IsTrue (all_acked version marks.switches)
   pub stopped : current < marks.count → IsFalse (all_acked (current + 1) marks.switches)
 
 -- current rises; then the joining switches open that acknowledged it; then retired is as far as the

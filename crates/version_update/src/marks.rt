@@ -152,14 +152,26 @@ impl Marks {
         ensures refused { OnErr result (self.new ≡ self.old) }
         ensures rule { StaySettled self.old self.new }
     {
-        if self.count() - self.retired() == MOST_LIVE {
-            return Err(SubmitError::TooManyLive);
-        }
-        if self.count() == MOST_VERSIONS {
-            return Err(SubmitError::TooManyVersions);
+        if let Some(error) = self.refusal() {
+            return Err(error);
         }
         self.ledger.add_version();
         Ok(self.ledger.settle(true))
+    }
+
+    /// Why no version can be added now: what `submit` answers as its error, if it answers one.
+    pub fn refusal(&self) -> Option<SubmitError>
+        ensures live { (result ≡ Some TooManyLive) ↔ (self.now.count - self.now.retired ≡ 8) }
+        ensures versions { (result ≡ Some TooManyVersions)
+            ↔ ((self.now.count - self.now.retired ≢ 8) × (self.now.count ≡ 64)) }
+    {
+        if self.count() - self.retired() == MOST_LIVE {
+            return Some(SubmitError::TooManyLive);
+        }
+        if self.count() == MOST_VERSIONS {
+            return Some(SubmitError::TooManyVersions);
+        }
+        None
     }
 
     /// The version that every member has.

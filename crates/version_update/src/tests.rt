@@ -9,6 +9,7 @@ fn versions_are_live_until_their_stamp_is_acknowledged(rt: HostRuntime) -> Resul
         assert_eq!(rt; marks.submit().map(|answer| answer.current), Ok(None));
     }
     assert_eq!(rt; marks.count(), 8);
+    assert_eq!(rt; marks.refusal(), Some(SubmitError::TooManyLive));
     assert_eq!(rt; marks.submit(), Err(SubmitError::TooManyLive));
     assert_eq!(rt; marks.count(), 8);
     let answer = marks.installed(0, 1, 2);

@@ -3,4 +3,5 @@ use Rattle.std.proofs.lemmas.Iterator.{items_from_collect, YieldsList-from_range
 use Rattle.placement.proofs.numbers_below.Goals as goal
 
 pub returns : goal.returns
-returns c = items_from_collect _ c.collect.ensures.ran (YieldsList-from_range 0 c.args.count _ refl (omega arith))
+returns c = items_from_collect _ c.collect.ensures.ran
+    (YieldsList-from_range 0 c.args.count _ refl (omega arith))

@@ -4,4 +4,5 @@ use Rattle.placement.proofs.place.Given as goal
 
 abbrev pub invariant-loop-partition : goal.invariant-loop-partition
 invariant-loop-partition l =
-    Loaded l.sizes l.rooms l.backups l.loads.items l.placement.items (take l.partition-index l.partition-items) (drop l.partition-index l.partition-items)
+    Loaded l.sizes l.rooms l.backups l.loads.items l.placement.items
+    (take l.partition-index l.partition-items) (drop l.partition-index l.partition-items)

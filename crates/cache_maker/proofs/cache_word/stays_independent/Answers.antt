@@ -13,9 +13,13 @@ and_not a b e = rw e refl
 pub returns-then-is_open : goal.returns-then-is_open
 returns-then-is_open c =
     c.stays_apart.ensures ∙ and_first _ _ (sym c.is_open.ensures ∙ c.if-is_open.true)
-    ∙ test_parts c.free_laws.ensures c.args.region.now c.args.rules.now c.args.index c.args.bit c.args.word.now _ c.requires.within c.requires.independent
+    ∙ test_parts c.free_laws.ensures c.args.region.now c.args.rules.now c.args.index c.args.bit
+    c.args.word.now _ c.requires.within c.requires.independent
 
 pub returns-else-is_open : goal.returns-else-is_open
 returns-else-is_open c =
-    c.is_open.ensures ∙ and_not _ (is_apart (free_of c.args.word.now c.args.bit) (take c.args.index c.args.rules.now)) (sym c.is_open.ensures ∙ c.if-is_open.false)
-    ∙ test_parts c.free_laws.ensures c.args.region.now c.args.rules.now c.args.index c.args.bit c.args.word.now _ c.requires.within c.requires.independent
+    c.is_open.ensures ∙ and_not _
+    (is_apart (free_of c.args.word.now c.args.bit) (take c.args.index c.args.rules.now))
+    (sym c.is_open.ensures ∙ c.if-is_open.false)
+    ∙ test_parts c.free_laws.ensures c.args.region.now c.args.rules.now c.args.index c.args.bit
+    c.args.word.now _ c.requires.within c.requires.independent

@@ -14,7 +14,10 @@ returns c =
       widest = λ h region rules index is. record {
         is_word = widened_word free h region rules index 104 (exact.word h is.bound);
         header = widened_holds covers exact free h region rules index 104 is.bound;
-        independent = widened_independent h region rules index 104 (exact_independent covers meet region rules index h is.region_word is.words is.bound is.held is.first_hit);
-        widest = λ bit within fixed freed. widest covers meet free h region rules index bit within fixed freed;
+        independent = widened_independent h region rules index 104
+            (exact_independent covers meet region rules index h is.region_word is.words is.bound
+            is.held is.first_hit);
+        widest = λ bit within fixed freed. widest covers meet free h region rules index bit within
+            fixed freed;
       };
     }

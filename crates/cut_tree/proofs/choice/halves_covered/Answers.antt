@@ -7,23 +7,31 @@ pub overflow_shl-fixed : goal.overflow_shl-fixed
 overflow_shl-fixed c =
     let w = c.args.word.now in
     let r = c.args.region.now in
-    let is : bit_xor c.mask.result c.mask-2.result ≡ beyond w r = rw (c.mask.ensures.mask, c.mask-2.ensures.mask) refl in
+    let is : bit_xor c.mask.result c.mask-2.result ≡ beyond w r =
+    rw (c.mask.ensures.mask, c.mask-2.ensures.mask) refl in
     lowest_beyond _ c.if-fixed-eq0.false (rw is (beyond_small w r (omega arith) (omega arith)))
 
 pub returns-then-fixed-eq0 : goal.returns-then-fixed-eq0
 returns-then-fixed-eq0 c = λ bit free.
     let w = c.args.word.now in
     let r = c.args.region.now in
-    let is : bit_xor c.mask.result c.mask-2.result ≡ beyond w r = rw (c.mask.ensures.mask, c.mask-2.ensures.mask) refl in
-    covered_whole w r bit c.args.one _ c.requires (sym is ∙ c.if-fixed-eq0.true) (c.halves_met-met.ensures bit free.bound)
+    let is : bit_xor c.mask.result c.mask-2.result ≡ beyond w r =
+    rw (c.mask.ensures.mask, c.mask-2.ensures.mask) refl in
+    covered_whole w r bit c.args.one _ c.requires (sym is ∙ c.if-fixed-eq0.true)
+    (c.halves_met-met.ensures bit free.bound)
 
 pub returns-then-fixed : goal.returns-then-fixed
 returns-then-fixed c = λ bit free.
     let w = c.args.word.now in
     let r = c.args.region.now in
-    let is : bit_xor c.mask.result c.mask-2.result ≡ beyond w r = rw (c.mask.ensures.mask, c.mask-2.ensures.mask) refl in
+    let is : bit_xor c.mask.result c.mask-2.result ≡ beyond w r =
+    rw (c.mask.ensures.mask, c.mask-2.ensures.mask) refl in
     let t = trailing_zeros w128 (bit_xor c.mask.result c.mask-2.result) in
-    rw is (covered_one w r t bit c.args.one _ c.requires (sym is ∙ c.if-fixed.true ∙ one_shifted t (lowest_beyond _ c.if-fixed-eq0.false (rw is (beyond_small w r (omega arith) (omega arith))))) (c.halves_met-met.ensures bit free.bound))
+    rw is (covered_one w r t bit c.args.one _ c.requires
+    (sym is ∙ c.if-fixed.true
+    ∙ one_shifted t (lowest_beyond _ c.if-fixed-eq0.false
+    (rw is (beyond_small w r (omega arith) (omega arith)))))
+    (c.halves_met-met.ensures bit free.bound))
 
 pub returns-else-fixed : goal.returns-else-fixed
 returns-else-fixed c = λ bit free.
@@ -32,5 +40,9 @@ returns-else-fixed c = λ bit free.
     let fixed = bit_xor c.mask.result c.mask-2.result in
     let is : fixed ≡ beyond w r = rw (c.mask.ensures.mask, c.mask-2.ensures.mask) refl in
     let some : 0 < fixed = omega (arith, c.if-fixed-eq0.false) in
-    let many : beyond w r ≡ 2 ^ trailing_zeros w128 (beyond w r) → ⊥ = rw (← is) (λ e. c.if-fixed.false (e ∙ sym (one_shifted _ (lowest_beyond _ c.if-fixed-eq0.false (rw is (beyond_small w r (omega arith) (omega arith))))))) in
-    covered_none w r bit c.args.one c.requires (rw (← is) some) (beyond_small w r (omega arith) (omega arith)) many
+    let many : beyond w r ≡ 2 ^ trailing_zeros w128 (beyond w r)
+    → ⊥ = rw (← is) (λ e. c.if-fixed.false
+    (e ∙ sym (one_shifted _ (lowest_beyond _ c.if-fixed-eq0.false
+    (rw is (beyond_small w r (omega arith) (omega arith))))))) in
+    covered_none w r bit c.args.one c.requires (rw (← is) some)
+    (beyond_small w r (omega arith) (omega arith)) many

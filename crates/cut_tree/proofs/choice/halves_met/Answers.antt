@@ -4,8 +4,10 @@ use Rattle.cut_tree.proofs.choice.halves_met.Goals as goal
 
 pub returns-then-one : goal.returns-then-one
 returns-then-one c = λ bit within.
-    rw (c.value-value.ensures.value, c.mask.ensures.mask, c.if-one.true) (met_high c.args.word.now bit (omega arith) within)
+    rw (c.value-value.ensures.value, c.mask.ensures.mask, c.if-one.true)
+    (met_high c.args.word.now bit (omega arith) within)
 
 pub returns-else-one : goal.returns-else-one
 returns-else-one c = λ bit within.
-    rw (c.value-value.ensures.value, c.if-one.false) (met_low c.args.word.now bit c.value-value.ensures.word (omega arith) within)
+    rw (c.value-value.ensures.value, c.if-one.false)
+    (met_low c.args.word.now bit c.value-value.ensures.word (omega arith) within)

@@ -15,11 +15,15 @@ loop-bit-preserved c =
     let region = c.args.region.now in
     elim c.if-not-is_fixed.branch [
       | then-not-is_fixed w ↦
-          let is : is_fixed_of region bit ≡ false = sym c.is_fixed.ensures ∙ w.if-not-is_fixed.true in
+          let is : is_fixed_of region bit ≡ false = sym c.is_fixed.ensures
+          ∙ w.if-not-is_fixed.true in
           let free : IsFreeBit region bit = record { bound = omega arith; free = is } in
           let low = w.count.ensures ∙ c.count_sides.ensures.low bit free in
           let high = w.count-then-not-is_fixed.ensures ∙ c.count_sides.ensures.high bit free in
-          rw (w.least-is, w.or_least.ensures, w.new-cost.ensures, low, high, c.loop-bit.invariant) (sym (least_free bit rules region is))
+          rw (w.least-is, w.or_least.ensures, w.new-cost.ensures, low, high, c.loop-bit.invariant)
+          (sym (least_free bit rules region is))
       | else-not-is_fixed w ↦
-          w.least-is ∙ c.loop-bit.invariant ∙ sym (least_fixed bit rules region (sym c.is_fixed.ensures ∙ w.if-not-is_fixed.false))
+          w.least-is ∙ c.loop-bit.invariant
+          ∙ sym (least_fixed bit rules region
+          (sym c.is_fixed.ensures ∙ w.if-not-is_fixed.false))
     ]

@@ -5,42 +5,77 @@ use Rattle.cut_tree.proofs.TreeLemmas.{tree_leaf, cut_at, defined_at, half_small
 use Rattle.cut_tree.proofs.tree.+grow.Goals as goal
 
 pub returns-then-len-cap-clause-tree : goal.returns-then-len-cap-clause-tree
-returns-then-len-cap-clause-tree t c = rw (tree_leaf c.args.cap c.args.node.rules.items c.args.node.region (omega arith)) c.leaf.ensures.tree
+returns-then-len-cap-clause-tree t c =
+    rw (tree_leaf c.args.cap c.args.node.rules.items c.args.node.region (omega arith))
+    c.leaf.ensures.tree
 
 pub returns-then-len-cap-clause-refused : goal.returns-then-len-cap-clause-refused
-returns-then-len-cap-clause-refused t c = rw (tree_leaf c.args.cap c.args.node.rules.items c.args.node.region (omega arith)) c.leaf.ensures.refused
+returns-then-len-cap-clause-refused t c =
+    rw (tree_leaf c.args.cap c.args.node.rules.items c.args.node.region (omega arith))
+    c.leaf.ensures.refused
 
 pub grow-requires : goal.grow-requires
 grow-requires t c =
-    let node = c.args.node in
-    (omega (arith, half_smaller node.rules.items node.region c.least_cut-bit.result _ false c.least_cut-bit.ensures.least c.in_ok-low.ensures.region), c.requires.cap)
+    let node = c.args.node in (
+      omega (
+        arith,
+        half_smaller node.rules.items node.region c.least_cut-bit.result _ false
+            c.least_cut-bit.ensures.least c.in_ok-low.ensures.region,
+      ),
+      c.requires.cap,
+    )
 
 pub returns-in_err-low-2-clause-refused : goal.returns-in_err-low-2-clause-refused
 returns-in_err-low-2-clause-refused t c =
     let node = c.args.node in
-    let is = cut_at c.args.cap node.rules.items node.region c.least_cut-bit.result _ _ _ _ (omega arith) c.least_cut-bit.ensures.least c.in_ok-low.ensures.rules c.in_ok-low.ensures.region c.in_ok-high.ensures.rules c.in_ok-high.ensures.region in
-    let p = err_from_is_err_and c.from_residual-in_err-low-2.result c.from_residual-in_err-low-2.ensures.1 in
+    let is = cut_at c.args.cap node.rules.items node.region c.least_cut-bit.result _ _ _ _
+    (omega arith) c.least_cut-bit.ensures.least c.in_ok-low.ensures.rules
+    c.in_ok-low.ensures.region c.in_ok-high.ensures.rules c.in_ok-high.ensures.region in
+    let p = err_from_is_err_and c.from_residual-in_err-low-2.result
+    c.from_residual-in_err-low-2.ensures.1 in
     rw (p.1, p.2) (exceeds_low _ _ _ _ _ _ is c.in_err-low-2.ensures.refused)
 
 pub grow-requires-2 : goal.grow-requires-2
 grow-requires-2 t c =
-    let node = c.args.node in
-    (omega (arith, half_smaller node.rules.items node.region c.least_cut-bit.result _ true c.least_cut-bit.ensures.least c.in_ok-high.ensures.region), c.requires.cap)
+    let node = c.args.node in (
+      omega (
+        arith,
+        half_smaller node.rules.items node.region c.least_cut-bit.result _ true
+            c.least_cut-bit.ensures.least c.in_ok-high.ensures.region,
+      ),
+      c.requires.cap,
+    )
 
 pub returns-in_err-high-2-clause-refused : goal.returns-in_err-high-2-clause-refused
 returns-in_err-high-2-clause-refused t c =
     let node = c.args.node in
-    let is = cut_at c.args.cap node.rules.items node.region c.least_cut-bit.result _ _ _ _ (omega arith) c.least_cut-bit.ensures.least c.in_ok-low.ensures.rules c.in_ok-low.ensures.region c.in_ok-high.ensures.rules c.in_ok-high.ensures.region in
-    let p = err_from_is_err_and c.from_residual-in_err-high-2.result c.from_residual-in_err-high-2.ensures.1 in
-    rw (p.1, p.2) (exceeds_high _ _ _ _ _ _ _ is (c.in_ok-low-2.ensures.room ∙ ap (λ s. c.grow.new.room + leaf_count s) c.in_ok-low-2.ensures.tree) c.in_err-high-2.ensures.refused)
+    let is = cut_at c.args.cap node.rules.items node.region c.least_cut-bit.result _ _ _ _
+    (omega arith) c.least_cut-bit.ensures.least c.in_ok-low.ensures.rules
+    c.in_ok-low.ensures.region c.in_ok-high.ensures.rules c.in_ok-high.ensures.region in
+    let p = err_from_is_err_and c.from_residual-in_err-high-2.result
+    c.from_residual-in_err-high-2.ensures.1 in
+    rw (p.1, p.2) (exceeds_high _ _ _ _ _ _ _ is
+    (c.in_ok-low-2.ensures.room ∙ ap (λ s. c.grow.new.room + leaf_count s)
+    c.in_ok-low-2.ensures.tree) c.in_err-high-2.ensures.refused)
 
 pub returns-clause-tree : goal.returns-clause-tree
 returns-clause-tree t c =
     let node = c.args.node in
-    let is = cut_at c.args.cap node.rules.items node.region c.least_cut-bit.result _ _ _ _ (omega arith) c.least_cut-bit.ensures.least c.in_ok-low.ensures.rules c.in_ok-low.ensures.region c.in_ok-high.ensures.rules c.in_ok-high.ensures.region in
-    rw (c.in_ok-boxed.ensures, c.in_ok-boxed-2.ensures, c.in_ok-low-2.ensures.tree, c.in_ok-high-2.ensures.tree) (sym is)
+    let is = cut_at c.args.cap node.rules.items node.region c.least_cut-bit.result _ _ _ _
+    (omega arith) c.least_cut-bit.ensures.least c.in_ok-low.ensures.rules
+    c.in_ok-low.ensures.region c.in_ok-high.ensures.rules c.in_ok-high.ensures.region in
+    rw (
+      c.in_ok-boxed.ensures,
+      c.in_ok-boxed-2.ensures,
+      c.in_ok-low-2.ensures.tree,
+      c.in_ok-high-2.ensures.tree,
+    ) (sym is)
 
 pub returns-clause-defined : goal.returns-clause-defined
 returns-clause-defined t c =
     let node = c.args.node in
-    rw (c.in_ok-boxed.ensures, c.in_ok-boxed-2.ensures) (defined_at c.args.cap node.rules.items node.region c.least_cut-bit.result _ _ _ _ _ _ (omega arith) c.least_cut-bit.ensures.least c.in_ok-low.ensures.rules c.in_ok-low.ensures.region c.in_ok-high.ensures.rules c.in_ok-high.ensures.region c.in_ok-low-2.ensures.defined c.in_ok-high-2.ensures.defined)
+    rw (c.in_ok-boxed.ensures, c.in_ok-boxed-2.ensures)
+    (defined_at c.args.cap node.rules.items node.region c.least_cut-bit.result _ _ _ _ _ _
+    (omega arith) c.least_cut-bit.ensures.least c.in_ok-low.ensures.rules
+    c.in_ok-low.ensures.region c.in_ok-high.ensures.rules c.in_ok-high.ensures.region
+    c.in_ok-low-2.ensures.defined c.in_ok-high-2.ensures.defined)

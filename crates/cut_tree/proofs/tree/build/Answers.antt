@@ -10,8 +10,10 @@ invariant_of-root c = rw (c.in_ok-from_slice.ensures.items, c.any.ensures.pair) 
 
 pub returns-clause-tree : goal.returns-clause-tree
 unfolding tree_of
-returns-clause-tree c = rw (c.in_ok-from_slice.ensures.items, c.any.ensures.pair) at c.grow.ensures.tree
+returns-clause-tree c = rw (c.in_ok-from_slice.ensures.items, c.any.ensures.pair) at
+    c.grow.ensures.tree
 
 pub returns-clause-refused : goal.returns-clause-refused
 unfolding tree_of
-returns-clause-refused c = rw (c.in_ok-from_slice.ensures.items, c.any.ensures.pair) at c.grow.ensures.refused
+returns-clause-refused c = rw (c.in_ok-from_slice.ensures.items, c.any.ensures.pair) at
+    c.grow.ensures.refused

@@ -5,7 +5,8 @@ use Rattle.net_file.proofs.links.read_links.Given as goal
 
 abbrev pub invariant-loop-value : goal.invariant-loop-value
 invariant-loop-value l = record {
-  rest : rows_from 100 (link_of l.switches) [] (map view l.values) ≡ rows_from 100 (link_of l.switches) l.rows.items (map view (drop l.value-index l.values));
+  rest : rows_from 100 (link_of l.switches) [] (map view l.values) ≡ rows_from 100
+      (link_of l.switches) l.rows.items (map view (drop l.value-index l.values));
   count : length l.rows.items ≡ l.value-index;
   row : l.row ≡ 100 + l.value-index;
 }

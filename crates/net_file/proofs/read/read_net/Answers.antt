@@ -13,13 +13,17 @@ pub returns-in_err-read_document-clause-refused : goal.returns-in_err-read_docum
 unfolding net_of
 returns-in_err-read_document-clause-refused c =
     let p = err_from_is_err_and c.from_residual.result c.from_residual.ensures.1 in
-    rw (p.1, p.2) (refused_with (in_row 0 (ok_or (document_of c.args.bytes.now) Toml)) net_in c.in_err-read_document.field-0.0 c.in_err-read_document.ensures.refused)
+    rw (p.1, p.2) (refused_with (in_row 0 (ok_or (document_of c.args.bytes.now) Toml)) net_in
+    c.in_err-read_document.field-0.0 c.in_err-read_document.ensures.refused)
 
 pub returns-clause-net : goal.returns-clause-net
-returns-clause-net c = rw (net_of_document _ _ c.in_ok-read_document.ensures.document) c.read_table.ensures.net
+returns-clause-net c = rw (net_of_document _ _ c.in_ok-read_document.ensures.document)
+    c.read_table.ensures.net
 
 pub returns-clause-refused : goal.returns-clause-refused
-returns-clause-refused c = rw (net_of_document _ _ c.in_ok-read_document.ensures.document) c.read_table.ensures.refused
+returns-clause-refused c = rw (net_of_document _ _ c.in_ok-read_document.ensures.document)
+    c.read_table.ensures.refused
 
 pub returns-clause-sound : goal.returns-clause-sound
-returns-clause-sound c = IfOk-weaker c.read_table.result _ IsNet (λ net e. sound_net (table_view c.in_ok-read_document.field-0) net e) c.read_table.ensures.net
+returns-clause-sound c = IfOk-weaker c.read_table.result _ IsNet
+    (λ net e. sound_net (table_view c.in_ok-read_document.field-0) net e) c.read_table.ensures.net

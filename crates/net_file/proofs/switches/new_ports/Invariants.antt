@@ -9,7 +9,10 @@ use Rattle.net_file.proofs.switches.new_ports.Given as goal
 
 abbrev pub invariant-loop-value : goal.invariant-loop-value
 invariant-loop-value l = record {
-  fresh : are_fresh l.taken (filter_map port_of (map view l.values)) ≡ are_fresh l.seen (filter_map port_of (map view (drop l.value-index l.values)));
+  fresh : are_fresh l.taken (filter_map port_of (map view l.values)) ≡ are_fresh l.seen
+      (filter_map port_of (map view (drop l.value-index l.values)));
   small : l.ports < 2 ^ 64;
-  ports : (k : ℕ) → list_any (nat_eq k) (filter_map port_of (map view l.values)) ≡ (in_mask l.ports k || list_any (nat_eq k) (filter_map port_of (map view (drop l.value-index l.values))));
+  ports : (k : ℕ) → list_any (nat_eq k) (filter_map port_of (map view l.values))
+      ≡ (in_mask l.ports k || list_any (nat_eq k)
+      (filter_map port_of (map view (drop l.value-index l.values))));
 }

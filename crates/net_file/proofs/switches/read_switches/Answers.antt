@@ -14,10 +14,14 @@ returns-in_err-switch-clause-refused c =
     let inv = c.loop-value.invariant in
     let rows = c.loop-value.rows.items in
     let more = map view (drop (c.loop-value.value-index + 1) c.args.values.now) in
-    let left = values_more c.args.values.now c.loop-value.value-index c.value-item.result c.loop-value-test.true c.value-item.is in
+    let left = values_more c.args.values.now c.loop-value.value-index c.value-item.result
+    c.loop-value-test.true c.value-item.is in
     let e = c.in_err-switch.field-0.0 in
     let p = err_from_is_err_and c.from_residual.result c.from_residual.ensures.1 in
-    rw (p.1, p.2) (refused_same _ _ e (inv.rest ∙ ap (rows_from 0 switch_of rows) left) (refused_row 0 switch_of rows (view c.value-item.result) more (c.loop-value.row + 1) e (omega (arith, inv.count, inv.row)) (rw (← c.deref.ensures.value) c.in_err-switch.ensures.refused)))
+    rw (p.1, p.2) (refused_same _ _ e (inv.rest ∙ ap (rows_from 0 switch_of rows) left)
+    (refused_row 0 switch_of rows (view c.value-item.result) more (c.loop-value.row + 1) e
+    (omega (arith, inv.count, inv.row))
+    (rw (← c.deref.ensures.value) c.in_err-switch.ensures.refused)))
 
 pub loop-value-preserved : goal.loop-value-preserved
 loop-value-preserved c =
@@ -26,10 +30,14 @@ loop-value-preserved c =
     let row = c.in_ok-switch.switch in
     let items : c.push.new.self.items ≡ rows ++ row ∷ [] = c.in_ok-push.ensures.items in
     let more = map view (drop (c.loop-value.value-index + 1) c.args.values.now) in
-    let left = values_more c.args.values.now c.loop-value.value-index c.value-item.result c.loop-value-test.true c.value-item.is in
+    let left = values_more c.args.values.now c.loop-value.value-index c.value-item.result
+    c.loop-value-test.true c.value-item.is in
     record {
-      rest = rw items (inv.rest ∙ ap (rows_from 0 switch_of rows) left ∙ next_row 0 switch_of rows (view c.value-item.result) more row (rw (← c.deref.ensures.value) c.in_ok-switch.ensures.switch));
+      rest = rw items (inv.rest ∙ ap (rows_from 0 switch_of rows) left
+          ∙ next_row 0 switch_of rows (view c.value-item.result) more row
+          (rw (← c.deref.ensures.value) c.in_ok-switch.ensures.switch));
       count = rw (items, length-append, inv.count) refl;
       row = rw inv.row refl;
-      taken = λ k. rw (items, have_port_push) (in_mask_or c.loop-value.taken row.ports k ∙ ap (λ b. b || has_port k row) (inv.taken k));
+      taken = λ k. rw (items, have_port_push)
+          (in_mask_or c.loop-value.taken row.ports k ∙ ap (λ b. b || has_port k row) (inv.taken k));
     }

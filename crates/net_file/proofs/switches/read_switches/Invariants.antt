@@ -6,7 +6,8 @@ use Rattle.net_file.proofs.switches.read_switches.Given as goal
 
 abbrev pub invariant-loop-value : goal.invariant-loop-value
 invariant-loop-value l = record {
-  rest : rows_from 0 switch_of [] (map view l.values) ≡ rows_from 0 switch_of l.rows.items (map view (drop l.value-index l.values));
+  rest : rows_from 0 switch_of [] (map view l.values) ≡ rows_from 0 switch_of l.rows.items
+      (map view (drop l.value-index l.values));
   count : length l.rows.items ≡ l.value-index;
   row : l.row ≡ l.value-index;
   taken : IsMask l.taken (have_port l.rows.items);

@@ -8,21 +8,38 @@ use Rattle.policy_file.proofs.read.read_policy.Goals as goal
 pub returns-in-Err-SamePriority-clause-refused : goal.returns-in-Err-SamePriority-clause-refused
 unfolding policy_of
 returns-in-Err-SamePriority-clause-refused c =
-    let rest = ap rows_under_heading (sym c.new-records.ensures) ∙ under_heading c.new-records.result c.read_next.new.self (fields_of c.read_next.new.fields) c.in_ok-read_next.field-0 c.if-not-branch.false c.in_ok-read_next.ensures.takes (sym c.is_heading.ensures ∙ c.if-not-is_heading.false) in
-    let (place, is, first) = rw c.in-Err-SamePriority.field-0-is at c.in-Err-SamePriority.ensures.refused in
-    rest ∙ repeated c.read_next.new.self c.in_ok-rows.field-0.rows.items c.in_ok-rows.field-0.refusal place c.in_ok-rows.ensures.read first ∙ ap (λ row. Err (record { refusal = why.SamePriority; row = row })) (cc)
+    let rest = ap rows_under_heading (sym c.new-records.ensures)
+    ∙ under_heading c.new-records.result c.read_next.new.self (fields_of c.read_next.new.fields)
+    c.in_ok-read_next.field-0 c.if-not-branch.false c.in_ok-read_next.ensures.takes
+    (sym c.is_heading.ensures ∙ c.if-not-is_heading.false) in
+    let (place, is, first) = rw c.in-Err-SamePriority.field-0-is at
+    c.in-Err-SamePriority.ensures.refused in
+    rest ∙ repeated c.read_next.new.self c.in_ok-rows.field-0.rows.items
+    c.in_ok-rows.field-0.refusal place c.in_ok-rows.ensures.read first
+    ∙ ap (λ row. Err (record { refusal = why.SamePriority; row = row })) (cc)
 
 pub returns-in-None-clause-policy : goal.returns-in-None-clause-policy
 unfolding policy_of
 returns-in-None-clause-policy c =
-    let rest = ap rows_under_heading (sym c.new-records.ensures) ∙ under_heading c.new-records.result c.read_next.new.self (fields_of c.read_next.new.fields) c.in_ok-read_next.field-0 c.if-not-branch.false c.in_ok-read_next.ensures.takes (sym c.is_heading.ensures ∙ c.if-not-is_heading.false) in
-    let read = subst (IsReadUpTo c.read_next.new.self c.in_ok-rows.field-0.rows.items) c.in-None.is c.in_ok-rows.ensures.read in
-    rest ∙ all_read c.read_next.new.self c.in_ok-rows.field-0.rows.items read c.in-Ok.ensures.policy.distinct ∙ ap Ok (sym c.in-Ok.ensures.rows)
+    let rest = ap rows_under_heading (sym c.new-records.ensures)
+    ∙ under_heading c.new-records.result c.read_next.new.self (fields_of c.read_next.new.fields)
+    c.in_ok-read_next.field-0 c.if-not-branch.false c.in_ok-read_next.ensures.takes
+    (sym c.is_heading.ensures ∙ c.if-not-is_heading.false) in
+    let read = subst (IsReadUpTo c.read_next.new.self c.in_ok-rows.field-0.rows.items) c.in-None.is
+    c.in_ok-rows.ensures.read in
+    rest ∙ all_read c.read_next.new.self c.in_ok-rows.field-0.rows.items read
+    c.in-Ok.ensures.policy.distinct ∙ ap Ok (sym c.in-Ok.ensures.rows)
 
 pub returns-clause-refused : goal.returns-clause-refused
 unfolding policy_of
 returns-clause-refused c =
-    let rest = ap rows_under_heading (sym c.new-records.ensures) ∙ under_heading c.new-records.result c.read_next.new.self (fields_of c.read_next.new.fields) c.in_ok-read_next.field-0 c.if-not-branch.false c.in_ok-read_next.ensures.takes (sym c.is_heading.ensures ∙ c.if-not-is_heading.false) in
-    let read = subst (IsReadUpTo c.read_next.new.self c.in_ok-rows.field-0.rows.items) c.in-Some.is c.in_ok-rows.ensures.read in
+    let rest = ap rows_under_heading (sym c.new-records.ensures)
+    ∙ under_heading c.new-records.result c.read_next.new.self (fields_of c.read_next.new.fields)
+    c.in_ok-read_next.field-0 c.if-not-branch.false c.in_ok-read_next.ensures.takes
+    (sym c.is_heading.ensures ∙ c.if-not-is_heading.false) in
+    let read = subst (IsReadUpTo c.read_next.new.self c.in_ok-rows.field-0.rows.items) c.in-Some.is
+    c.in_ok-rows.ensures.read in
     let number : length c.in_ok-rows.field-0.rows.items ≡ c.len-number.result = omega arith in
-    rest ∙ refused_next c.read_next.new.self c.in_ok-rows.field-0.rows.items c.in-Some.refusal read c.in-Ok.ensures.policy.distinct ∙ ap (λ n. Err (record { refusal = c.in-Some.refusal; row = n + 1 })) number
+    rest ∙ refused_next c.read_next.new.self c.in_ok-rows.field-0.rows.items c.in-Some.refusal read
+    c.in-Ok.ensures.policy.distinct
+    ∙ ap (λ n. Err (record { refusal = c.in-Some.refusal; row = n + 1 })) number

@@ -15,7 +15,10 @@ returns-then-not-branch-clause-read c =
       stated = known.stated;
       few = known.few;
       within = known.within;
-      ends = ends_at c.args.records.now (length c.loop-records.rows.items) (fields_of c.read_next.new.fields) c.read_next.new.self c.loop-records.records c.in_ok-read_next.field-0 c.if-not-branch.true known.left c.in_ok-read_next.ensures.takes known.within;
+      ends = ends_at c.args.records.now (length c.loop-records.rows.items)
+          (fields_of c.read_next.new.fields) c.read_next.new.self c.loop-records.records
+          c.in_ok-read_next.field-0 c.if-not-branch.true known.left c.in_ok-read_next.ensures.takes
+          known.within;
     }
 
 pub returns-in-Err-clause-read : goal.returns-in-Err-clause-read
@@ -24,12 +27,18 @@ returns-in-Err-clause-read c =
     let n = length c.loop-records.rows.items in
     let fields = fields_of c.read_next.new.fields in
     let room : n < 2000 = omega arith in
-    let next = next_of c.args.records.now n fields c.read_next.new.self c.loop-records.records c.in_ok-read_next.field-0 c.if-not-branch.false known.left c.in_ok-read_next.ensures.takes in
+    let next = next_of c.args.records.now n fields c.read_next.new.self c.loop-records.records
+    c.in_ok-read_next.field-0 c.if-not-branch.false known.left c.in_ok-read_next.ensures.takes
+    in
     record {
       stated = known.stated;
       few = known.few;
       within = known.within;
-      ends = (next.within, refused_row c.args.records.now n fields c.read_next.new.self c.in-Err.refusal next room (sym c.in-Err.ensures.row));
+      ends = (
+        next.within,
+        refused_row c.args.records.now n fields c.read_next.new.self
+            c.in-Err.refusal next room (sym c.in-Err.ensures.row),
+      );
     }
 
 pub loop-records-preserved : goal.loop-records-preserved
@@ -40,18 +49,26 @@ loop-records-preserved c =
     let row = c.in-Ok.row in
     let fields = fields_of c.read_next.new.fields in
     let room : length rows < 2000 = omega arith in
-    let next = next_of records (length rows) fields c.read_next.new.self c.loop-records.records c.in_ok-read_next.field-0 c.if-not-branch.false known.left c.in_ok-read_next.ensures.takes in
+    let next = next_of records (length rows) fields c.read_next.new.self c.loop-records.records
+    c.in_ok-read_next.field-0 c.if-not-branch.false known.left c.in_ok-read_next.ensures.takes
+    in
     let items : c.push.new.self.items ≡ rows ++ row ∷ [] = c.in_ok-push-in-Ok.ensures.items in
-    let len : length c.push.new.self.items ≡ length rows + 1 = omega (arith, ap length items, length-append rows (row ∷ [])) in
+    let len : length c.push.new.self.items ≡ length rows + 1 =
+    omega (arith, ap length items, length-append rows (row ∷ [])) in
     let is : row_of fields ≡ Ok row = sym c.in-Ok.ensures.row in
-    let pushed : State (take (length rows + 1) records) (rows ++ row ∷ []) = subst (λ xs. State xs (rows ++ row ∷ [])) (sym next.more) (state_push (take (length rows) records) rows fields row known.stated is) in
-    let stated : State (take (length rows + 1) records) c.push.new.self.items = subst (State (take (length rows + 1) records)) (sym items) pushed in
+    let pushed : State (take (length rows + 1) records) (rows ++ row ∷ []) =
+    subst (λ xs. State xs (rows ++ row ∷ [])) (sym next.more)
+    (state_push (take (length rows) records) rows fields row known.stated is) in
+    let stated : State (take (length rows + 1) records) c.push.new.self.items =
+    subst (State (take (length rows + 1) records)) (sym items) pushed in
     record {
       stated = subst (λ k. State (take k records) c.push.new.self.items) (sym len) stated;
       left = sym next.rest ∙ ap (λ k. drop k records) (sym len);
       within = omega (arith, len, next.within);
       few = omega (arith, len, room);
-      small_ports = subst (All (λ (row : Row). HasSmallPort row.action)) (sym items) (All-push (λ (row : Row). HasSmallPort row.action) rows row known.small_ports c.in-Ok.ensures.small_port);
+      small_ports = subst (All (λ (row : Row). HasSmallPort row.action)) (sym items)
+          (All-push (λ (row : Row). HasSmallPort row.action) rows row known.small_ports
+          c.in-Ok.ensures.small_port);
     }
 
 pub returns-then-not-branch-2-clause-read : goal.returns-then-not-branch-2-clause-read
@@ -61,7 +78,10 @@ returns-then-not-branch-2-clause-read c =
       stated = known.stated;
       few = known.few;
       within = known.within;
-      ends = ends_at c.args.records.now (length c.loop-records.rows.items) (fields_of c.read_next-2.new.fields) c.read_next-2.new.self c.loop-records.records c.in_ok-read_next-2.field-0 c.if-not-branch-2.true known.left c.in_ok-read_next-2.ensures.takes known.within;
+      ends = ends_at c.args.records.now (length c.loop-records.rows.items)
+          (fields_of c.read_next-2.new.fields) c.read_next-2.new.self c.loop-records.records
+          c.in_ok-read_next-2.field-0 c.if-not-branch-2.true known.left
+          c.in_ok-read_next-2.ensures.takes known.within;
     }
 
 pub returns-clause-read : goal.returns-clause-read
@@ -69,7 +89,9 @@ returns-clause-read c =
     let known = c.loop-records.invariant in
     let n = length c.loop-records.rows.items in
     let full : n ≡ 2000 = omega arith in
-    let next = next_of c.args.records.now n (fields_of c.read_next-2.new.fields) c.read_next-2.new.self c.loop-records.records c.in_ok-read_next-2.field-0 c.if-not-branch-2.false known.left c.in_ok-read_next-2.ensures.takes in
+    let next = next_of c.args.records.now n (fields_of c.read_next-2.new.fields)
+    c.read_next-2.new.self c.loop-records.records c.in_ok-read_next-2.field-0
+    c.if-not-branch-2.false known.left c.in_ok-read_next-2.ensures.takes in
     record {
       stated = known.stated;
       few = known.few;

@@ -4,4 +4,9 @@ use Rattle.policy_rules.proofs.RuleShape.{IsWord-words_of_row}
 use Rattle.policy_rules.proofs.laws.row_words_laws.Goals as goal
 
 pub returns : goal.returns
-returns c = record { words = IsWord-words_of_row; count = length-words_of_row; holds = holds-words_of_row }
+returns c = record {
+  words = IsWord-words_of_row;
+  count = length-words_of_row;
+  holds =
+      holds-words_of_row;
+}

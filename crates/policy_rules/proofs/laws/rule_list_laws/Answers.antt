@@ -3,4 +3,9 @@ use Rattle.policy_rules.proofs.RuleShape.{IsRuleList-rules_of, length-rules_of}
 use Rattle.policy_rules.proofs.laws.rule_list_laws.Goals as goal
 
 pub returns : goal.returns
-returns c = record { list = IsRuleList-rules_of; count = length-rules_of; first_match = first_rule-rules_of }
+returns c = record {
+  list = IsRuleList-rules_of;
+  count = length-rules_of;
+  first_match =
+      first_rule-rules_of;
+}

@@ -13,11 +13,14 @@ loop-row-preserved c =
     let row = c.row-item.result in
     let known = c.loop-row.invariant in
     let within = c.loop-row-test.true in
-    let new : has_priority (take i rows) row.priority ≡ false = sym (known.seen row.priority) ∙ not-true _ (sym c.in_ok-insert.ensures.added ∙ c.if-not-branch.false) in
+    let new : has_priority (take i rows) row.priority ≡ false = sym (known.seen row.priority)
+    ∙ not-true _ (sym c.in_ok-insert.ensures.added ∙ c.if-not-branch.false) in
     record {
       counts = ap (λ n. n + 1) known.counts;
-      seen = λ q. c.in_ok-insert.ensures.updates.0 q ∙ ap (λ b. cond (nat_eq row.priority q) true b) (known.seen q) ∙ seen_more rows i row q within c.row-item.is;
-      sound = All-more IsSoundRow rows i row within known.sound (subst IsSoundRow c.row-item.is c.row_is_sound.ensures);
+      seen = λ q. c.in_ok-insert.ensures.updates.0 q ∙ ap (λ b. cond (nat_eq row.priority q) true b)
+          (known.seen q) ∙ seen_more rows i row q within c.row-item.is;
+      sound = All-more IsSoundRow rows i row within known.sound
+          (subst IsSoundRow c.row-item.is c.row_is_sound.ensures);
       distinct = distinct_more rows i row within c.row-item.is known.distinct new;
     }
 

@@ -7,7 +7,8 @@ use Rattle.policy_rules.specs.Print.{action_text}
 use Rattle.policy_rules.specs.Read.{action_of, HasSmallPort}
 use Rattle.policy_rules.proofs.read.printed_actions_are_read_back.Goals as goal
 
-back : ((most n : ℕ) → n ≤ most → n < 2 ^ 64 → number_up_to most (decimal n) ≡ Some n) → (action : Action) → HasSmallPort action → action_of (action_text action) ≡ Some action
+back : ((most n : ℕ) → n ≤ most → n < 2 ^ 64 → number_up_to most (decimal n) ≡ Some n)
+    → (action : Action) → HasSmallPort action → action_of (action_text action) ≡ Some action
 unfolding action_of
 back number Drop small = refl
 back number (Out port) small = ap (option_map Out) (number 63 port (omega arith) (omega arith))

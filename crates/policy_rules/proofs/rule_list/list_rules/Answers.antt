@@ -13,22 +13,39 @@ loop-row-init c = c.in_ok-rules.ensures.items
 pub push_row-requires : goal.push_row-requires
 push_row-requires c =
     let done = take c.loop-row.row-index c.args.rows.now in
-    omega (arith, ap length c.loop-row.invariant, length-ranked_from 0 (flat_map entries_of done), length-entries done, sum_by-take-le word_count c.args.rows.now c.loop-row.row-index)
+    omega (
+      arith,
+      ap length c.loop-row.invariant,
+      length-ranked_from 0 (flat_map entries_of done),
+      length-entries done,
+      sum_by-take-le word_count c.args.rows.now c.loop-row.row-index,
+    )
 
 pub loop-row-preserved : goal.loop-row-preserved
 loop-row-preserved c =
     let i = c.loop-row.row-index in
     let row = c.row-item.result in
     let done = take i c.args.rows.now in
-    let more = take_more c.args.rows.now i row c.loop-row-test.true ∙ ap (λ x. done ++ x ∷ []) (sym c.row-item.is) in
-    ranked_more [] _ _ _ _ _ c.loop-row.invariant c.in_ok-push_row.ensures (ap (flat_map entries_of) more ∙ sym (flat_map_more entries_of [] done row))
+    let more = take_more c.args.rows.now i row c.loop-row-test.true
+    ∙ ap (λ x. done ++ x ∷ []) (sym c.row-item.is) in
+    ranked_more [] _ _ _ _ _ c.loop-row.invariant c.in_ok-push_row.ensures
+    (ap (flat_map entries_of) more ∙ sym (flat_map_more entries_of [] done row))
 
 pub push_rule-requires : goal.push_rule-requires
 push_rule-requires c =
     let done = take c.loop-row.row-index c.args.rows.now in
-    omega (arith, ap length c.loop-row.invariant, length-ranked_from 0 (flat_map entries_of done), length-entries done, sum_by-take-le word_count c.args.rows.now c.loop-row.row-index)
+    omega (
+      arith,
+      ap length c.loop-row.invariant,
+      length-ranked_from 0 (flat_map entries_of done),
+      length-entries done,
+      sum_by-take-le word_count c.args.rows.now c.loop-row.row-index,
+    )
 
 pub returns : goal.returns
 returns c =
-    let all : take c.loop-row.row-index c.args.rows.now ≡ c.args.rows.now = take_all c.loop-row.row-index c.args.rows.now (omega arith) in
-    ranked_more [] _ _ _ _ _ c.loop-row.invariant (rw c.any.ensures.pair at c.in_ok-push_rule.ensures) (ap (λ rows. with_default rows) (sym all))
+    let all : take c.loop-row.row-index c.args.rows.now ≡ c.args.rows.now =
+    take_all c.loop-row.row-index c.args.rows.now (omega arith) in
+    ranked_more [] _ _ _ _ _ c.loop-row.invariant
+    (rw c.any.ensures.pair at c.in_ok-push_rule.ensures)
+    (ap (λ rows. with_default rows) (sym all))

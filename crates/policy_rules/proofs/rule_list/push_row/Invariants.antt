@@ -7,4 +7,6 @@ use Rattle.policy_rules.proofs.rule_list.push_row.Given as goal
 
 abbrev pub invariant-loop-source : goal.invariant-loop-source
 invariant-loop-source l =
-    l.rules.items ≡ l.initial.rules.items ++ ranked_from (length l.initial.rules.items) (with_hit l.row (flat_map (λ source. map (word_of_row l.row source) (cover_of l.row.dport)) l.yielded))
+    l.rules.items ≡ l.initial.rules.items ++ ranked_from (length l.initial.rules.items)
+    (with_hit l.row (flat_map (λ source. map (word_of_row l.row source) (cover_of l.row.dport))
+    l.yielded))

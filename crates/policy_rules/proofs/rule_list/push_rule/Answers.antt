@@ -6,4 +6,6 @@ pub returns : goal.returns
 unfolding ranked_from
 returns c =
     let before = c.args.rules.now in
-    c.in_ok-push.ensures.items ∙ ap (λ rank. before.items ++ ranked (rank, (c.args.word, c.args.hit)) ∷ []) (c.len-rank.ensures ∙ before.ok.0)
+    c.in_ok-push.ensures.items
+    ∙ ap (λ rank. before.items ++ ranked (rank, (c.args.word, c.args.hit)) ∷ [])
+    (c.len-rank.ensures ∙ before.ok.0)

@@ -8,21 +8,33 @@ use Rattle.policy_rules.proofs.rule_list.to_rules.Goals as goal
 pub list_rules-requires : goal.list_rules-requires
 list_rules-requires c =
     let rows = c.args.policy.now in
-    let sorted = c.deref.ensures.value ∙ c.in_ok-sorted.ensures ∙ ap by_falling_priority c.rows.ensures.rows in
-    omega (arith, ap word_total sorted, sum_by-IsPermutation word_count rows (by_falling_priority rows) (IsPermutation-by_falling_priority rows c.rows.ensures.policy.sound), c.count_words-words.ensures)
+    let sorted = c.deref.ensures.value ∙ c.in_ok-sorted.ensures
+    ∙ ap by_falling_priority c.rows.ensures.rows in
+    omega (
+      arith,
+      ap word_total sorted,
+      sum_by-IsPermutation word_count rows
+          (by_falling_priority rows)
+          (IsPermutation-by_falling_priority rows c.rows.ensures.policy.sound),
+      c.count_words-words.ensures,
+    )
 
 pub returns-clause-rules : goal.returns-clause-rules
 unfolding rules_of
 returns-clause-rules c =
-    let sorted = c.deref.ensures.value ∙ c.in_ok-sorted.ensures ∙ ap by_falling_priority c.rows.ensures.rows in
+    let sorted = c.deref.ensures.value ∙ c.in_ok-sorted.ensures
+    ∙ ap by_falling_priority c.rows.ensures.rows in
     c.in_ok-rules.ensures ∙ ap (λ rows. ranked_from 0 (with_default rows)) sorted
 
 pub returns-clause-first_match : goal.returns-clause-first_match
 returns-clause-first_match c = λ header bits.
-    ap (λ rules. option_map hit_of_rule (first_rule rules header)) (returns-clause-rules c) ∙ c.rule_list_laws.ensures.first_match c.args.policy.now header c.rows.ensures.policy bits
+    ap (λ rules. option_map hit_of_rule (first_rule rules header)) (returns-clause-rules c)
+    ∙ c.rule_list_laws.ensures.first_match c.args.policy.now header c.rows.ensures.policy bits
 
 pub returns-clause-list : goal.returns-clause-list
-returns-clause-list c = rw (returns-clause-rules c) (c.rule_list_laws.ensures.list c.args.policy.now c.rows.ensures.policy)
+returns-clause-list c = rw (returns-clause-rules c)
+    (c.rule_list_laws.ensures.list c.args.policy.now c.rows.ensures.policy)
 
 pub returns-clause-count : goal.returns-clause-count
-returns-clause-count c = rw (returns-clause-rules c) (c.rule_list_laws.ensures.count c.args.policy.now c.rows.ensures.policy)
+returns-clause-count c = rw (returns-clause-rules c)
+    (c.rule_list_laws.ensures.count c.args.policy.now c.rows.ensures.policy)

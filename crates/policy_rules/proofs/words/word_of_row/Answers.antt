@@ -9,11 +9,26 @@ pub unwrap-requires : goal.unwrap-requires
 unfolding word_of_row
 unwrap-requires c =
     let row = c.args.row.now in
-    let pair : WordValue = record { value = c.value_of_row-value.result; mask = c.mask_of_row-mask.result } in
-    let same : word_of_row row c.args.source c.args.destination ≡ pair = λ i. record { value = sym c.value_of_row-value.ensures i; mask = sym c.mask_of_row-mask.ensures i } in
-    c.new.ensures.taken.1 (subst IsWord same (IsWord-word_of_row row c.args.source c.args.destination c.row_is_sound.ensures c.requires.source c.requires.destination))
+    let pair : WordValue = record {
+      value = c.value_of_row-value.result;
+      mask =
+          c.mask_of_row-mask.result;
+    } in
+    let same : word_of_row row c.args.source c.args.destination ≡ pair =
+    λ i. record {
+      value = sym c.value_of_row-value.ensures i;
+      mask =
+          sym c.mask_of_row-mask.ensures i;
+    } in
+    c.new.ensures.taken.1 (subst IsWord same
+    (IsWord-word_of_row row c.args.source c.args.destination c.row_is_sound.ensures
+    c.requires.source c.requires.destination))
 
 pub returns : goal.returns
 unfolding word_of_row
 returns c =
-    (MatchOption-at_some _ _ c.unwrap.result c.unwrap.ensures c.new.ensures.pair).0 ∙ λ i. record { value = c.value_of_row-value.ensures i; mask = c.mask_of_row-mask.ensures i }
+    (MatchOption-at_some _ _ c.unwrap.result c.unwrap.ensures c.new.ensures.pair).0
+    ∙ λ i. record {
+      value = c.value_of_row-value.ensures i;
+      mask = c.mask_of_row-mask.ensures i;
+    }

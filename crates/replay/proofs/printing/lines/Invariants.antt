@@ -5,4 +5,5 @@ use Rattle.replay.specs.Text.{journal_text}
 use Rattle.replay.proofs.printing.lines.Given as goal
 
 abbrev pub invariant-loop-item : goal.invariant-loop-item
-invariant-loop-item l = (setting : Setting) → string_bytes l.text ≡ journal_text setting (take l.item-index l.items)
+invariant-loop-item l = (setting : Setting) → string_bytes l.text ≡ journal_text setting
+    (take l.item-index l.items)

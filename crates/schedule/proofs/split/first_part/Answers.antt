@@ -1,6 +1,6 @@
 use Rattle.std.proofs.Common.{sym, ◌∙◌}
 use Rattle.std.proofs.lemmas.List.{take_rest}
-use Rattle.five_tuple.proofs.Parts.{parts_at, parts_none}
+use Rattle.five_tuple.proofs.CallerLemmas.{parts_at, parts_none}
 use Rattle.schedule.proofs.split.first_part.Goals as goal
 
 pub returns-in-None : goal.returns-in-None

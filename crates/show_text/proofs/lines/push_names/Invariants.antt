@@ -6,4 +6,5 @@ use Rattle.show_text.specs.Text.{name_of}
 use Rattle.show_text.proofs.lines.push_names.Given as goal
 
 abbrev pub invariant-loop-s : goal.invariant-loop-s
-invariant-loop-s l = string_bytes l.text ≡ string_bytes l.initial.text ++ flat_map (λ s. codes " " ++ name_of l.net s) (take l.s-index l.switches)
+invariant-loop-s l = string_bytes l.text ≡ string_bytes l.initial.text ++ flat_map
+    (λ s. codes " " ++ name_of l.net s) (take l.s-index l.switches)

@@ -4,4 +4,5 @@ use Rattle.show_text.specs.Text.{rule_lines}
 use Rattle.show_text.proofs.lines.push_rules.Given as goal
 
 abbrev pub invariant-loop-rule : goal.invariant-loop-rule
-invariant-loop-rule l = string_bytes l.text ≡ string_bytes l.initial.text ++ rule_lines (take l.rule-index l.rules)
+invariant-loop-rule l = string_bytes l.text ≡ string_bytes l.initial.text ++ rule_lines
+    (take l.rule-index l.rules)

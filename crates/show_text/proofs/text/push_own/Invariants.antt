@@ -5,4 +5,5 @@ use Rattle.show_text.specs.Text.{own_lines}
 use Rattle.show_text.proofs.text.push_own.Given as goal
 
 abbrev pub invariant-loop-part : goal.invariant-loop-part
-invariant-loop-part l = string_bytes l.text ≡ string_bytes l.initial.text ++ flat_map own_lines (take l.part-index l.parts)
+invariant-loop-part l = string_bytes l.text ≡ string_bytes l.initial.text ++ flat_map own_lines
+    (take l.part-index l.parts)

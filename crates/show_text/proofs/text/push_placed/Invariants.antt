@@ -5,4 +5,5 @@ use Rattle.show_text.specs.Text.{placed_lines}
 use Rattle.show_text.proofs.text.push_placed.Given as goal
 
 abbrev pub invariant-loop-part : goal.invariant-loop-part
-invariant-loop-part l = string_bytes l.text ≡ string_bytes l.initial.text ++ flat_map (placed_lines l.net) (take l.part-index l.placed)
+invariant-loop-part l = string_bytes l.text ≡ string_bytes l.initial.text ++ flat_map
+    (placed_lines l.net) (take l.part-index l.placed)

@@ -10,4 +10,6 @@ unfolding regions_text
 returns c =
     let rows = c.args.rows.now in
     rw (c.in_ok-push_rows.ensures, c.in_ok-writeln.ensures.bytes)
-    (append_assoc (string_bytes c.args.text.now) (line (codes "partitions " ++ decimal (length rows))) (flat_map (row_line c.args.net.now) (enumerate_from 0 rows)))
+    (append_assoc (string_bytes c.args.text.now)
+    (line (codes "partitions " ++ decimal (length rows)))
+    (flat_map (row_line c.args.net.now) (enumerate_from 0 rows)))

@@ -16,4 +16,5 @@ loop-number-preserved c =
     c.in_ok-push_row.ensures
     ∙ ap (λ b. b ++ row_line net (i, row)) c.loop-number.invariant
     ∙ append_assoc text lines (row_line net (i, row))
-    ∙ ap (λ t. text ++ t) (sym (rows_more net rows i row c.loop-number-test.true c.index-rows-number.is))
+    ∙ ap (λ t. text ++ t) (sym
+    (rows_more net rows i row c.loop-number-test.true c.index-rows-number.is))

@@ -8,14 +8,18 @@ use Rattle.switch_table.proofs.TableLemmas.{row_there, row_at}
 use Rattle.switch_table.proofs.search.redirect.Goals as goal
 
 pub unwrap-place-requires : goal.unwrap-place-requires
-unwrap-place-requires c = rw (c.row_place.ensures, c.number.ensures.number) (row_there c.args.header.now c.args.rows.now c.requires.one)
+unwrap-place-requires c = rw (c.row_place.ensures, c.number.ensures.number)
+    (row_there c.args.header.now c.args.rows.now c.requires.one)
 
 pub returns : goal.returns
 returns c =
     let header = c.args.header.now in
     let rows = c.args.rows.now in
     let place = c.unwrap-place.result in
-    let at : position (row_has header) rows ≡ Some place = ap (λ n. position (λ (row : PartRow). holds row.region n) rows) (sym c.number.ensures.number) ∙ sym c.row_place.ensures ∙ c.unwrap-place.ensures in
+    let at : position (row_has header) rows ≡ Some place =
+    ap (λ n. position (λ (row : PartRow). holds row.region n) rows)
+    (sym c.number.ensures.number) ∙ sym c.row_place.ensures ∙ c.unwrap-place.ensures in
     let row = row_at header rows place c.index-rows-place.result at in
     let targets = option_map_or (λ (r : PartRow). r.targets) (find (row_has header) rows) [] in
-    sym (ap (λ p. Redirect (unwrap_or p 0) targets) at ∙ ap (Redirect place) (row.targets c.index-rows-place.result))
+    sym (ap (λ p. Redirect (unwrap_or p 0) targets) at
+    ∙ ap (Redirect place) (row.targets c.index-rows-place.result))

@@ -6,8 +6,10 @@ use Rattle.update_machine.proofs.laws.schedules_have_one_answer.Goals as goal
 pub returns : goal.returns
 returns c = record {
   exists = λ setting events.
-      let steps = steps_of setting [] 1 events in
-      (after_steps setting [] steps.0, record { steps = steps.0; allowed = steps.1; written = refl });
+      let steps = steps_of setting [] 1 events in (
+        after_steps setting [] steps.0,
+        record { steps = steps.0; allowed = steps.1; written = refl },
+      );
   one = one_answer;
   begins = begins_itself;
 }

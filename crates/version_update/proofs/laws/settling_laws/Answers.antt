@@ -3,4 +3,11 @@ use Rattle.version_update.proofs.Masks.{named}
 use Rattle.version_update.proofs.laws.settling_laws.Goals as goal
 
 pub returns : goal.returns
-returns c = record { one_result = one_result; one_answer = one_answer; idle = settled_stay; named = named; least = least_of_numbers }
+returns c = record {
+  one_result = one_result;
+  one_answer = one_answer;
+  idle = settled_stay;
+  named =
+      named;
+  least = least_of_numbers;
+}

@@ -18,4 +18,5 @@ loop-s-preserved c =
       | then-told w ↦ w.from-is ∙ w.is_member.ensures ∙ and_told c.args.told _ w.if-told.true
       | else-told w ↦ w.from-is ∙ and_untold c.args.told _ w.if-told.false
     ] in
-    Names-more _ _ _ c.args.switches.now c.loop-s.s _ _ (omega arith) (omega arith) refl (c.from.ensures ∙ ap from_bool named) c.loop-s.invariant
+    Names-more _ _ _ c.args.switches.now c.loop-s.s _ _ (omega arith) (omega arith) refl
+    (c.from.ensures ∙ ap from_bool named) c.loop-s.invariant

@@ -9,6 +9,10 @@ pub loop-s-preserved : goal.loop-s-preserved
 loop-s-preserved c =
     let same = mapped_read (opened_at c.args.current) _ _ c.loop-s.s _ c.loop-s.invariant.opened in
     record {
-      named = Names-more _ _ (opens_at c.args.current) c.args.switches.now c.loop-s.s _ _ (omega arith) (omega arith) refl (c.from.ensures ∙ ap from_bool (c.open_at.ensures.opens ∙ ap (opens_at c.args.current) same)) c.loop-s.invariant.named;
-      opened = mapped_more (opened_at c.args.current) _ _ c.loop-s.s _ _ (omega arith) c.loop-s.invariant.opened c.open_at.ensures.after;
+      named = Names-more _ _ (opens_at c.args.current) c.args.switches.now c.loop-s.s _ _
+          (omega arith) (omega arith) refl
+          (c.from.ensures ∙ ap from_bool
+          (c.open_at.ensures.opens ∙ ap (opens_at c.args.current) same)) c.loop-s.invariant.named;
+      opened = mapped_more (opened_at c.args.current) _ _ c.loop-s.s _ _ (omega arith)
+          c.loop-s.invariant.opened c.open_at.ensures.after;
     }

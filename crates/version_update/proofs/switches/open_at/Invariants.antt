@@ -7,5 +7,6 @@ use Rattle.version_update.proofs.switches.open_at.Given as goal
 abbrev pub invariant-loop-s : goal.invariant-loop-s
 invariant-loop-s l = record {
   named : Names l.mask (opens_at l.current) (take l.s l.initial.switches);
-  opened : l.switches ≡ map (opened_at l.current) (take l.s l.initial.switches) ++ drop l.s l.initial.switches;
+  opened : l.switches ≡ map (opened_at l.current) (take l.s l.initial.switches) ++ drop l.s
+      l.initial.switches;
 }

@@ -13,5 +13,7 @@ returns-in-Ok-clause-takes c =
     let fields = fields_of c.read_byte_record.new.row in
     let r = c.self.invariant c.if-self.false in
     let (xs, source) = source_known old r.going in
-    let left : records_left old ≡ c.args.self.now = ap (λ over. cond over [] (records_left old)) (sym c.if-self.false) ∙ c.self.view_is in
-    subst (λ before. TakesNext before found fields (cond (not found) [] (records_left new))) left (takes_next old new found fields xs r.config source (c.in-Ok.ensures.reads r.trim r.ready))
+    let left : records_left old ≡ c.args.self.now = ap (λ over. cond over [] (records_left old))
+    (sym c.if-self.false) ∙ c.self.view_is in
+    subst (λ before. TakesNext before found fields (cond (not found) [] (records_left new))) left
+    (takes_next old new found fields xs r.config source (c.in-Ok.ensures.reads r.trim r.ready))

@@ -4,4 +4,5 @@ use Rattle.cut_tree.specs.Counts.{count_at}
 use Rattle.cut_tree.proofs.counters.Counters.add.Given as goal
 
 abbrev pub invariant-loop-place : goal.invariant-loop-place
-invariant-loop-place l = (bit : ℕ) → count_at l.self.planes bit + 2 ^ l.place * bit_at l.carry bit ≡ count_at l.fn.self.planes bit + bit_at l.bits bit
+invariant-loop-place l = (bit : ℕ) → count_at l.self.planes bit + 2 ^ l.place * bit_at l.carry bit
+    ≡ count_at l.fn.self.planes bit + bit_at l.bits bit

@@ -9,14 +9,27 @@ use Rattle.cut_tree.proofs.counters.Counters.count.Goals as goal
 pub loop-place-init : goal.loop-place-init
 loop-place-init c = record {
   within = omega arith;
-  counted = sym (at_drop_all (λ (planes : List ℕ). count_at planes c.args.bit) c.args.self.now.planes 32 (omega arith));
+  counted = sym (at_drop_all (λ (planes : List ℕ). count_at planes c.args.bit)
+      c.args.self.now.planes 32 (omega arith));
 }
 
 pub overflow_mul-count : goal.overflow_mul-count
 overflow_mul-count c =
-    omega (arith, c.loop-place.invariant.counted, rest_below c.args.self.now.planes c.loop-place.place c.args.bit (omega arith) (omega arith))
+    omega (
+      arith,
+      c.loop-place.invariant.counted,
+      rest_below c.args.self.now.planes
+          c.loop-place.place c.args.bit (omega arith) (omega arith),
+    )
 
 pub overflow_add-count : goal.overflow_add-count
 overflow_add-count c =
     let plane = slice_index_or c.args.self.now.planes (c.loop-place.place - 1) 0 in
-    omega (arith, c.loop-place.invariant.counted, rest_below c.args.self.now.planes c.loop-place.place c.args.bit (omega arith) (omega arith), shr_and_one plane c.args.bit, bit_at-lt plane c.args.bit)
+    omega (
+      arith,
+      c.loop-place.invariant.counted,
+      rest_below c.args.self.now.planes
+          c.loop-place.place c.args.bit (omega arith) (omega arith),
+      shr_and_one plane c.args.bit,
+      bit_at-lt plane c.args.bit,
+    )

@@ -12,11 +12,17 @@ loop-row-preserved c =
     let row = c.row-item.result in
     record {
       items = inv.items;
-      bits = λ k. in_mask_or c.loop-row.mask row.ports k ∙ ap (λ b. b || has_port k row) (inv.bits k) ∙ ap (λ other. have_port (take c.loop-row.row-index rows) k || has_port k other) c.row-item.is
+      bits = λ k. in_mask_or c.loop-row.mask row.ports k
+          ∙ ap (λ b. b || has_port k row) (inv.bits k)
+          ∙ ap (λ other. have_port (take c.loop-row.row-index rows) k || has_port k other)
+          c.row-item.is
           ∙ sym (list_any_more (has_port k) rows c.loop-row.row-index row c.loop-row-test.true);
     }
 
 pub returns : goal.returns
 returns c =
     let inv = c.loop-row.invariant in
-    mask_of_is c.loop-row.mask _ (Fits-lt-pow c.loop-row.auto.mask-fits) (λ k. inv.bits k ∙ ap (λ rows. have_port rows k) (take_all c.loop-row.row-index c.rows-row-items.result.now c.loop-row-test.false ∙ inv.items))
+    mask_of_is c.loop-row.mask _ (Fits-lt-pow c.loop-row.auto.mask-fits)
+    (λ k. inv.bits k ∙ ap (λ rows. have_port rows k)
+    (take_all c.loop-row.row-index c.rows-row-items.result.now c.loop-row-test.false
+    ∙ inv.items))

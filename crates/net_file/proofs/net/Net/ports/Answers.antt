@@ -7,5 +7,6 @@ pub returns : goal.returns
 returns c = λ port.
     elim (cases_lt port 64) [
       | inl small ↦ rw (← c.rows.ensures) (c.owners.ensures.owners port small)
-      | inr past ↦ c.owners.ensures.past port past ∙ sym (no_owner c.args.self.now.switches port c.requires.switches past)
+      | inr past ↦ c.owners.ensures.past port past
+          ∙ sym (no_owner c.args.self.now.switches port c.requires.switches past)
     ]

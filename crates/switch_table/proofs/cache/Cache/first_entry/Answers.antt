@@ -12,6 +12,10 @@ same_option (Some x) = refl
 
 pub returns : goal.returns
 returns c =
-    let test = λ (entry : CacheEntry). eqb entry.version c.args.version && holds entry.word c.args.number in
-    let found = find_from_yields_List test _ _ c.find.result c.find.ensures.ran (YieldsList-from_first (λ x. x) (λ s. s) c.self.inside.queue c.iter.ensures.entries) (λ x b q k. search rules) in
-    sym (same_option c.find.result) ∙ found ∙ ap (λ (v : CacheValue). first_entry c.args.version c.args.number v.entries) c.self.view_is
+    let test = λ (entry : CacheEntry). eqb entry.version c.args.version
+    && holds entry.word c.args.number in
+    let found = find_from_yields_List test _ _ c.find.result c.find.ensures.ran
+    (YieldsList-from_first (λ x. x) (λ s. s) c.self.inside.queue c.iter.ensures.entries)
+    (λ x b q k. search rules) in
+    sym (same_option c.find.result) ∙ found
+    ∙ ap (λ (v : CacheValue). first_entry c.args.version c.args.number v.entries) c.self.view_is

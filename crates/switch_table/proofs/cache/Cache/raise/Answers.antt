@@ -6,4 +6,10 @@ use Rattle.switch_table.proofs.cache.Cache.raise.Goals as goal
 pub invariant_of-self : goal.invariant_of-self
 invariant_of-self c =
     let kept = λ (entry : CacheEntry). leb c.args.stamp entry.version in
-    omega (arith, ap length c.keep_from.ensures, length-filter kept c.self.inside.queue, count_by-le-length kept c.self.inside.queue, c.self.invariant)
+    omega (
+      arith,
+      ap length c.keep_from.ensures,
+      length-filter kept c.self.inside.queue,
+      count_by-le-length kept c.self.inside.queue,
+      c.self.invariant,
+    )

@@ -8,5 +8,7 @@ pub returns : goal.returns
 unfolding same_key equal_keys
 returns c =
     let key = key_of c.args.entry.now in
-    let there : c.contains.result ≡ list_any (equal_keys c.of.result) c.self.inside.keys.keys = c.contains.ensures in
-    there ∙ ap (λ k. list_any (equal_keys k) c.self.inside.keys.keys) c.of.ensures ∙ c.self.invariant.same key ∙ ap (list_any (same_key c.args.entry.now)) c.self.view_is
+    let there : c.contains.result ≡ list_any (equal_keys c.of.result) c.self.inside.keys.keys =
+    c.contains.ensures in
+    there ∙ ap (λ k. list_any (equal_keys k) c.self.inside.keys.keys) c.of.ensures
+    ∙ c.self.invariant.same key ∙ ap (list_any (same_key c.args.entry.now)) c.self.view_is

@@ -17,10 +17,16 @@ invariant_of-self-2 c =
     let entries = c.self.inside.queue.items in
     let keys = c.self.inside.keys.keys in
     let fewer = c.remove-2.new.self.keys in
-    let updates : (q : CacheKey) → list_any (equal_keys q) fewer ≡ cond (equal_keys c.of.result q) false (list_any (equal_keys q) keys) = c.remove-2.ensures.updates.0 in
-    let taken = λ (q : CacheKey). updates q ∙ ap (λ k. cond (equal_keys k q) false (list_any (equal_keys q) keys)) c.of.ensures in
-    rw c.in_ok-entry.ensures.items (keyed_remove entries c.args.place entry keys fewer c.self.invariant (there c) c.in_ok-entry.ensures.value taken)
+    let updates : (q : CacheKey) → list_any (equal_keys q) fewer ≡ cond (equal_keys c.of.result q)
+    false (list_any (equal_keys q) keys) = c.remove-2.ensures.updates.0 in
+    let taken = λ (q : CacheKey). updates q
+    ∙ ap (λ k. cond (equal_keys k q) false (list_any (equal_keys q) keys)) c.of.ensures in
+    rw c.in_ok-entry.ensures.items
+    (keyed_remove entries c.args.place entry keys fewer c.self.invariant (there c)
+    c.in_ok-entry.ensures.value taken)
 
 pub returns-clause-entry : goal.returns-clause-entry
 returns-clause-entry c =
-    rw (← c.self.view_is) (ap Some c.in_ok-entry.ensures.value ∙ sym (slice_get-get_or c.self.inside.queue.items c.args.place c.in_ok-entry.entry (there c)))
+    rw (← c.self.view_is) (ap Some c.in_ok-entry.ensures.value
+    ∙ sym (slice_get-get_or c.self.inside.queue.items c.args.place c.in_ok-entry.entry
+    (there c)))

@@ -13,7 +13,8 @@ returns-clause-either c = λ h.
 
 pub returns-clause-word : goal.returns-clause-word
 returns-clause-word c =
-    subst IsWord (sym (returns-clause-pair c)) (free_word c.args.self.now c.args.bit (subst IsWord c.self.view_is c.self.invariant))
+    subst IsWord (sym (returns-clause-pair c))
+    (free_word c.args.self.now c.args.bit (subst IsWord c.self.view_is c.self.invariant))
 
 pub invariant_of-result : goal.invariant_of-result
 invariant_of-result c = returns-clause-word c

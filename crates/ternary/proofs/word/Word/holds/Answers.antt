@@ -8,4 +8,5 @@ returns-clause-test c = rw (← c.self.view_is) (masked_holds _ c.self.invariant
 
 pub returns-clause-agrees : goal.returns-clause-agrees
 returns-clause-agrees c =
-    subst (λ t. IsTrue t ↔ AgreesOnMask c.args.self.now c.args.h) (sym (returns-clause-test c)) (holds_decides c.args.self.now c.args.h)
+    subst (λ t. IsTrue t ↔ AgreesOnMask c.args.self.now c.args.h) (sym (returns-clause-test c))
+    (holds_decides c.args.self.now c.args.h)

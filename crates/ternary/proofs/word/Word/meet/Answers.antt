@@ -8,22 +8,29 @@ invariant_of-result c = sum_word _ _ c.self.invariant c.other.invariant
 
 pub returns-then-self-common-clause-pair : goal.returns-then-self-common-clause-pair
 returns-then-self-common-clause-pair c =
-    rw (← c.self.view_is, ← c.other.view_is) (sum_meet _ _ c.self.invariant c.other.invariant c.if-self-common.true)
+    rw (← c.self.view_is, ← c.other.view_is)
+    (sum_meet _ _ c.self.invariant c.other.invariant c.if-self-common.true)
 
 pub returns-then-self-common-clause-both : goal.returns-then-self-common-clause-both
-returns-then-self-common-clause-both c =
-    (meet_both _ _ _ (sym (returns-then-self-common-clause-pair c)), sum_word _ _ c.self.invariant c.other.invariant)
+returns-then-self-common-clause-both c = (
+  meet_both _ _ _ (sym (returns-then-self-common-clause-pair c)),
+  sum_word _ _ c.self.invariant
+      c.other.invariant,
+)
 
 pub returns-then-self-common-clause-none : goal.returns-then-self-common-clause-none
 returns-then-self-common-clause-none c =
-    subst (λ r. IsNone r ↔ AreDisjoint c.args.self.now c.args.other.now) (sym (returns-then-self-common-clause-pair c))
+    subst (λ r. IsNone r ↔ AreDisjoint c.args.self.now c.args.other.now)
+    (sym (returns-then-self-common-clause-pair c))
     (rw (← c.self.view_is, ← c.other.view_is) (disjoint _ _ c.self.invariant c.other.invariant))
 
 pub returns-else-self-common-clause-pair : goal.returns-else-self-common-clause-pair
 returns-else-self-common-clause-pair c =
-    rw (← c.self.view_is, ← c.other.view_is) (no_meet _ _ c.self.invariant c.other.invariant c.if-self-common.false)
+    rw (← c.self.view_is, ← c.other.view_is)
+    (no_meet _ _ c.self.invariant c.other.invariant c.if-self-common.false)
 
 pub returns-else-self-common-clause-none : goal.returns-else-self-common-clause-none
 returns-else-self-common-clause-none c =
-    subst (λ r. IsNone r ↔ AreDisjoint c.args.self.now c.args.other.now) (sym (returns-else-self-common-clause-pair c))
+    subst (λ r. IsNone r ↔ AreDisjoint c.args.self.now c.args.other.now)
+    (sym (returns-else-self-common-clause-pair c))
     (rw (← c.self.view_is, ← c.other.view_is) (disjoint _ _ c.self.invariant c.other.invariant))

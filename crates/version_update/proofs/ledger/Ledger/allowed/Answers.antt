@@ -8,16 +8,20 @@ pub overflow_sub-result : goal.overflow_sub-result
 overflow_sub-result c =
     let now = c.args.self.now in
     let bounds = c.switches.ensures.bounds in
-    let least = least_stamp-version now.count now.current now.switches bounds.first bounds.last bounds.records in
+    let least = least_stamp-version now.count now.current now.switches bounds.first bounds.last
+    bounds.records in
     let current = ap (λ (v : MarksValue). v.current) c.self.view_is in
-    let same : c.unwrap_or.result ≡ unwrap_or (least_of (stamps now.switches)) now.current = c.unwrap_or.ensures ∙ cc (c.least_stamp.ensures, c.switches.ensures.switches, current) in
+    let same : c.unwrap_or.result ≡ unwrap_or (least_of (stamps now.switches)) now.current =
+    c.unwrap_or.ensures ∙ cc (c.least_stamp.ensures, c.switches.ensures.switches, current) in
     omega (arith, least.0, same)
 
 pub returns-clause-live : goal.returns-clause-live
 returns-clause-live c =
     let now = c.args.self.now in
     let bounds = c.switches.ensures.bounds in
-    let least = least_stamp-version now.count now.current now.switches bounds.first bounds.last bounds.records in
+    let least = least_stamp-version now.count now.current now.switches bounds.first bounds.last
+    bounds.records in
     let current = ap (λ (v : MarksValue). v.current) c.self.view_is in
-    let same : c.unwrap_or.result ≡ unwrap_or (least_of (stamps now.switches)) now.current = c.unwrap_or.ensures ∙ cc (c.least_stamp.ensures, c.switches.ensures.switches, current) in
+    let same : c.unwrap_or.result ≡ unwrap_or (least_of (stamps now.switches)) now.current =
+    c.unwrap_or.ensures ∙ cc (c.least_stamp.ensures, c.switches.ensures.switches, current) in
     omega (arith, least.0, least.1, same, bounds.first)

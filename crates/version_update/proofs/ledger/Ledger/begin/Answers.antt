@@ -5,11 +5,17 @@ use Rattle.version_update.specs.Record.{first_record}
 use Rattle.version_update.proofs.Opening.{first-bounded}
 use Rattle.version_update.proofs.ledger.Ledger.begin.Goals as goal
 
-firsts : (n : ℕ) (records : List SwitchRecord) → records ≡ replicate 64 first_record → n ≤ 64 → take n records ≡ replicate n first_record
+firsts : (n : ℕ) (records : List SwitchRecord) → records ≡ replicate 64 first_record → n ≤ 64
+    → take n records ≡ replicate n first_record
 firsts n records all few = ap (take n) all ∙ take-replicate n 64 first_record few
 
 pub invariant_of-result : goal.invariant_of-result
-invariant_of-result c = (c.requires.few, rw (firsts c.args.number _ c.first_records.ensures c.requires.few) (first-bounded c.args.number c.requires.some c.requires.few))
+invariant_of-result c = (
+  c.requires.few,
+  rw (firsts c.args.number _ c.first_records.ensures c.requires.few)
+      (first-bounded c.args.number c.requires.some c.requires.few),
+)
 
 pub returns : goal.returns
-returns c = ap (λ l. record { count = 1; current = 1; retired = 0; switches = l }) (firsts c.args.number _ c.first_records.ensures c.requires.few)
+returns c = ap (λ l. record { count = 1; current = 1; retired = 0; switches = l })
+    (firsts c.args.number _ c.first_records.ensures c.requires.few)

@@ -8,7 +8,8 @@ abbrev pub invariant-loop-current : goal.invariant-loop-current
 invariant-loop-current l = record {
   rises : l.self.current ≤ l.current;
   bound : l.current ≤ l.self.count;
-  acknowledged : (version : ℕ) → l.self.current < version → version ≤ l.current → IsTrue (all_acked version l.self.switches);
+  acknowledged : (version : ℕ) → l.self.current < version → version ≤ l.current
+      → IsTrue (all_acked version l.self.switches);
 }
 
 abbrev pub decreases-loop-current : goal.decreases-loop-current

@@ -4,7 +4,9 @@ use Rattle.version_update.proofs.Opening.{first-settled}
 use Rattle.version_update.proofs.marks.Marks.begin.Goals as goal
 
 pub invariant_of-result : goal.invariant_of-result
-invariant_of-result c = subst AreSettled (sym c.begin.ensures) (first-settled c.args.switches c.requires.some c.requires.few)
+invariant_of-result c = subst AreSettled (sym c.begin.ensures)
+    (first-settled c.args.switches c.requires.some c.requires.few)
 
 pub returns-clause-rule : goal.returns-clause-rule
-returns-clause-rule c = subst AreSettled (sym c.begin.ensures) (first-settled c.args.switches c.requires.some c.requires.few)
+returns-clause-rule c = subst AreSettled (sym c.begin.ensures)
+    (first-settled c.args.switches c.requires.some c.requires.few)

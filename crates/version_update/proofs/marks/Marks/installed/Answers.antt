@@ -8,5 +8,8 @@ use Rattle.version_update.proofs.marks.Marks.installed.Goals as goal
 pub set_record-requires-clause-sound : goal.set_record-requires-clause-sound
 set_record-requires-clause-sound c =
     let count = c.self.inside.ledger.count in
-    let last : c.args.version ≤ count = omega (arith, c.requires.last, ap (λ (m : MarksValue). m.count) c.self.view_is) in
-    subst (λ (k : SwitchRecord). IsSoundRecord count k) (sym c.installed-taken.ensures.after) (installed-sound count c.args.boot c.args.version _ c.requires.first last c.record-known.ensures.sound)
+    let last : c.args.version ≤ count =
+    omega (arith, c.requires.last, ap (λ (m : MarksValue). m.count) c.self.view_is) in
+    subst (λ (k : SwitchRecord). IsSoundRecord count k) (sym c.installed-taken.ensures.after)
+    (installed-sound count c.args.boot c.args.version _ c.requires.first last
+    c.record-known.ensures.sound)
