@@ -1,1 +1,5 @@
 pub mod PlanLemmas
+mod Picking
+mod Telling
+mod Versions
+mod Unheard

@@ -26,45 +26,63 @@ use Rattle.policy_rules.specs.declared.rules.Partition.{Partition}
 use Rattle.policy_rules.specs.declared.rules.Rule.{Rule}
 use Rattle.controller.specs.Plan.{IsSoundPlan, RefusesPlan}
 
-pub plan_sound : (rows : List Row) (net : Net) (plan : List Placed) → IsNet net → IsPlan rows net plan → IsSoundPlan (record { policy = rows; placed = plan })
+pub plan_sound : (rows : List Row) (net : Net) (plan : List Placed) → IsNet net
+    → IsPlan rows net plan → IsSoundPlan (record { policy = rows; placed = plan })
 plan_sound rows net plan network is = record {
   sound = is.sound;
   few = omega (arith, is.few);
-  few_rules = All-weaker (λ placed. length placed.0.rules ≤ net.leaf_rules) (λ placed. length placed.0.rules < 2 ^ 32) (λ placed small. omega (arith, small, network.leaf_rules)) plan is.leaves;
+  few_rules = All-weaker (λ placed. length placed.0.rules ≤ net.leaf_rules)
+      (λ placed. length placed.0.rules < 2 ^ 32)
+      (λ placed small. omega (arith, small, network.leaf_rules)) plan is.leaves;
 }
 
-pub small_rules : (most : ℕ) (parts : List Partition) → most ≤ 8192 → All (λ part. length part.rules ≤ most) parts → All (λ part. length part.rules < 2 ^ 32) parts
-small_rules most parts few = All-weaker (λ part. length part.rules ≤ most) (λ part. length part.rules < 2 ^ 32) (λ part small. omega (arith, small, few)) parts
+pub small_rules : (most : ℕ) (parts : List Partition) → most ≤ 8192
+    → All (λ part. length part.rules ≤ most) parts → All (λ part. length part.rules < 2 ^ 32) parts
+small_rules most parts few = All-weaker (λ part. length part.rules ≤ most)
+    (λ part. length part.rules < 2 ^ 32) (λ part small. omega (arith, small, few)) parts
 
 -- ---- two lists as one of pairs
 
-pub zip_read : {A B : Type 0} (ks : List A) (vs : List B) (i : ℕ) (a : A) (b : B) → i < length ks → i < length vs → (get_or ks i a ≡ get_or ks i a) × (get_or vs i b ≡ get_or vs i b) × (take (i + 1) (zip ks vs) ≡ take i (zip ks vs) ++ (get_or ks i a, get_or vs i b) ∷ [])
+pub zip_read : {A B : Type 0} (ks : List A) (vs : List B) (i : ℕ) (a : A) (b : B) → i < length ks
+    → i < length vs → (get_or ks i a ≡ get_or ks i a) × (get_or vs i b ≡ get_or vs i b)
+    × (take (i + 1) (zip ks vs) ≡ take i (zip ks vs) ++ (get_or ks i a, get_or vs i b) ∷ [])
 zip_read ks vs i a b here there =
-    let within : i < length (zip ks vs) = grind (arith, length-zip ks vs) in
-    (refl, refl, (take_at_read (zip ks vs) i (a, b) within).1 ∙ ap (λ x. take i (zip ks vs) ++ x ∷ []) (get_or-zip ks vs i (a, b) here there))
+    let within : i < length (zip ks vs) = grind (arith, length-zip ks vs) in (
+      refl,
+      refl,
+      (take_at_read (zip ks vs) i (a, b) within).1
+          ∙ ap (λ x. take i (zip ks vs) ++ x ∷ []) (get_or-zip ks vs i (a, b) here there),
+    )
 
-pub zip_all : {A B : Type 0} (ks : List A) (vs : List B) → length vs ≡ length ks → take (length ks) (zip ks vs) ≡ zip ks vs
-zip_all ks vs same = let all : length (zip ks vs) ≤ length ks = grind (arith, length-zip ks vs) in take_all (length ks) (zip ks vs) all
+pub zip_all : {A B : Type 0} (ks : List A) (vs : List B) → length vs ≡ length ks
+    → take (length ks) (zip ks vs) ≡ zip ks vs
+zip_all ks vs same = let all : length (zip ks vs) ≤ length ks = grind (arith, length-zip ks vs) in
+    take_all (length ks) (zip ks vs) all
 
 -- ---- the refusals of the way are those of the plan
 
-pub rules_refused : (rows : List Row) (net : Net) (error : RulesError) → RefusesRules rows error → RefusesPlan rows net (of_rules error)
+pub rules_refused : (rows : List Row) (net : Net) (error : RulesError) → RefusesRules rows error
+    → RefusesPlan rows net (of_rules error)
 rules_refused rows net (rules.TooManyWords words) is =
     let many : 4096 < word_total rows = omega (arith, is.0, is.1) in
     no_words rows net many ∙ ap (λ n. Err (no_plan.TooManyWords n)) (sym is.0)
 rules_refused rows net rules.NoMemory is = tt
 
-pub tree_refused : (rows : List Row) (net : Net) (list : List Rule) (error : BuildError) → word_total rows ≤ 4096 → list ≡ rules_of rows → Exceeds (tree_of list net.leaf_rules) 512 error → RefusesPlan rows net (of_tree error)
+pub tree_refused : (rows : List Row) (net : Net) (list : List Rule) (error : BuildError)
+    → word_total rows ≤ 4096 → list ≡ rules_of rows → Exceeds (tree_of list net.leaf_rules) 512
+    error → RefusesPlan rows net (of_tree error)
 tree_refused rows net list error few is refused =
     let P : List Rule → Type 0 = λ list. Exceeds (tree_of list net.leaf_rules) 512 error in
     by error (subst P is refused)
   where
-    by : (error : BuildError) → Exceeds (tree_of (rules_of rows) net.leaf_rules) 512 error → RefusesPlan rows net (of_tree error)
+    by : (error : BuildError) → Exceeds (tree_of (rules_of rows) net.leaf_rules) 512 error
+        → RefusesPlan rows net (of_tree error)
     by tree.TooManyLeaves many = no_leaves rows net few many
     by tree.NoMemory many = tt
 
 -- what the way has found before it places the partitions
-pub record IsReady (rows : List Row) (net : Net) (list : List Rule) (shape : Shape) (sizes rooms : List ℕ) : Type 0 where
+pub record IsReady (rows : List Row) (net : Net) (list : List Rule) (shape : Shape)
+    (sizes rooms : List ℕ) : Type 0 where
   pub few : word_total rows ≤ 4096
   pub rules : list ≡ rules_of rows
   pub tree : shape ≡ tree_of list net.leaf_rules
@@ -72,16 +90,29 @@ pub record IsReady (rows : List Row) (net : Net) (list : List Rule) (shape : Sha
   pub sizes_are : sizes ≡ sizes_of (parts_of shape)
   pub rooms_are : rooms ≡ rooms_of net
 
-ready_tree : (rows : List Row) (net : Net) (list : List Rule) (shape : Shape) (sizes rooms : List ℕ) → IsReady rows net list shape sizes rooms → shape ≡ tree_of (rules_of rows) net.leaf_rules
-ready_tree rows net list shape sizes rooms is = is.tree ∙ ap (λ list. tree_of list net.leaf_rules) is.rules
+ready_tree : (rows : List Row) (net : Net) (list : List Rule) (shape : Shape) (sizes rooms : List ℕ)
+    → IsReady rows net list shape sizes rooms → shape ≡ tree_of (rules_of rows) net.leaf_rules
+ready_tree rows net list shape sizes rooms is = is.tree ∙ ap (λ list. tree_of list net.leaf_rules)
+    is.rules
 
-pub placement_refused : (rows : List Row) (net : Net) (list : List Rule) (shape : Shape) (sizes rooms : List ℕ) (error : PlaceError) → IsReady rows net list shape sizes rooms → RefusesPlacement sizes rooms net.backups error → RefusesPlan rows net (of_placement error)
+pub placement_refused : (rows : List Row) (net : Net) (list : List Rule) (shape : Shape)
+    (sizes rooms : List ℕ) (error : PlaceError) → IsReady rows net list shape sizes rooms
+    → RefusesPlacement sizes rooms net.backups error → RefusesPlan rows net (of_placement error)
 placement_refused rows net list shape sizes rooms (placement.NoRoom partition) is refused =
-    let none : placement_of (sizes_of (parts_of shape)) (rooms_of net) net.backups ≡ Err partition = sym (ap (λ s. placement_of s (rooms_of net) net.backups) is.sizes_are) ∙ sym (ap (λ r. placement_of sizes r net.backups) is.rooms_are) ∙ refused.0 in
-    no_room rows net shape partition is.few (ready_tree rows net list shape sizes rooms is) is.leaves none
+    let none : placement_of (sizes_of (parts_of shape)) (rooms_of net) net.backups ≡ Err partition =
+    sym (ap (λ s. placement_of s (rooms_of net) net.backups) is.sizes_are)
+    ∙ sym (ap (λ r. placement_of sizes r net.backups) is.rooms_are) ∙ refused.0 in
+    no_room rows net shape partition is.few (ready_tree rows net list shape sizes rooms is)
+    is.leaves none
 placement_refused rows net list shape sizes rooms placement.NoMemory is refused = tt
 
-pub planned_at : (rows : List Row) (net : Net) (list : List Rule) (shape : Shape) (sizes rooms : List ℕ) (targets : List (List ℕ)) → IsReady rows net list shape sizes rooms → placement_of sizes rooms net.backups ≡ Ok targets → plan_of rows net ≡ Ok (zip (parts_of shape) targets)
+pub planned_at : (rows : List Row) (net : Net) (list : List Rule) (shape : Shape)
+    (sizes rooms : List ℕ) (targets : List (List ℕ)) → IsReady rows net list shape sizes rooms
+    → placement_of sizes rooms net.backups ≡ Ok targets
+    → plan_of rows net ≡ Ok (zip (parts_of shape) targets)
 planned_at rows net list shape sizes rooms targets is placed =
-    let there : placement_of (sizes_of (parts_of shape)) (rooms_of net) net.backups ≡ Ok targets = sym (ap (λ s. placement_of s (rooms_of net) net.backups) is.sizes_are) ∙ sym (ap (λ r. placement_of sizes r net.backups) is.rooms_are) ∙ placed in
-    planned rows net shape targets is.few (ready_tree rows net list shape sizes rooms is) is.leaves there
+    let there : placement_of (sizes_of (parts_of shape)) (rooms_of net) net.backups ≡ Ok targets =
+    sym (ap (λ s. placement_of s (rooms_of net) net.backups) is.sizes_are)
+    ∙ sym (ap (λ r. placement_of sizes r net.backups) is.rooms_are) ∙ placed in
+    planned rows net shape targets is.few (ready_tree rows net list shape sizes rooms is) is.leaves
+    there

@@ -1,2 +1,6 @@
 pub mod Plan
 pub mod Causes
+pub mod Controller
+pub mod Sends
+pub mod Submit
+pub mod News

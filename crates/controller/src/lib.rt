@@ -9,16 +9,38 @@
 //! let plan = compile(alloc, &policy, &net)?;       // TooManyWords, TooManyLeaves or NoRoom
 //! let tables = tables_of(alloc, &plan, 1, switch)?; // regions and rules are the plan's, shared
 //! ```
+//!
+//! A `Controller` keeps the marks of the versions and the plans that a later call can name. Each of
+//! its calls promises exactly what is sent, as a list in order, and why each message goes. With two
+//! switches:
+//!
+//! ```text
+//! let mut controller = Controller::begin(alloc, &net, first)?;
+//! controller.submit(alloc, second)?;  // install 2 to a, install 2 to b
+//! controller.hear(alloc, &installed_by_a)?;  // nothing: b is a member and lacks version 2
+//! controller.hear(alloc, &installed_by_b)?;  // current 2, stamp 2 to a, stamp 2 to b
+//! controller.hear(alloc, &stamped_by_a)?;    // nothing
+//! controller.hear(alloc, &stamped_by_b)?;    // retired 1, collect 1 to a, collect 1 to b
+//! ```
 #![tactic(auto)]
 
+mod controller;
 mod plan;
 mod plan_error;
 mod planning;
+mod resending;
+mod sends;
+mod settling;
+mod submit_error;
 mod tables;
+mod version;
 
+pub use controller::Controller;
 pub use plan::Plan;
 pub use plan_error::PlanError;
 pub use planning::compile;
+pub use sends::{Act, Sends};
+pub use submit_error::SubmitError;
 pub use tables::tables_of;
 
 #[cfg(test)]

@@ -77,8 +77,8 @@ pub struct Message {
 }
 
 impl Body {
-    /// The boot that the message is for or of; an advertisement and a cache rule carry none of their
-    /// own.
+    /// The boot that the message is for or of; an advertisement and a cache rule carry none of
+    /// their own.
     pub fn boot(&self) -> Option<u32>
         ensures { result ≡ body_boot self.now }
     {

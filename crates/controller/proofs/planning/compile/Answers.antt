@@ -1,61 +1,91 @@
-use Rattle.std.proofs.Common.{◌≡◌, ◌∙◌, ℕ, Ok, List, length, ap, sym, subst}
+use Rattle.std.proofs.Common.{◌∙◌, ap}
 use Rattle.std.specs.List.{zip}
 use Rattle.std.proofs.lemmas.Result.{err_from_is_err_and}
 use Rattle.cut_tree.specs.Shape.{shape_of}
 use Rattle.partition.specs.Parts.{parts_of}
-use Rattle.partition.specs.Plan.{Placed, plan_of, sizes_of}
-use Rattle.controller.specs.Plan.{IsSoundPlan, PlanValue}
+use Rattle.partition.specs.Plan.{sizes_of}
 use Rattle.controller.proofs.PlanLemmas.{IsReady, placement_refused, plan_sound, planned_at, rules_refused, tree_refused}
 use Rattle.controller.proofs.planning.compile.Goals as goal
 
 pub returns-in_err-rules-clause-refused : goal.returns-in_err-rules-clause-refused
 returns-in_err-rules-clause-refused c =
     let p = err_from_is_err_and c.from_residual.result c.from_residual.ensures.1 in
-    rw (p.1, p.2) (rules_refused c.args.policy.now c.args.net.now c.in_err-rules.field-0.0 c.in_err-rules.ensures.refused)
+    rw (p.1, p.2) (rules_refused c.args.policy.now c.args.net.now c.in_err-rules.field-0.0
+    c.in_err-rules.ensures.refused)
 
 pub returns-in_err-tree-clause-refused : goal.returns-in_err-tree-clause-refused
 returns-in_err-tree-clause-refused c =
-    let p = err_from_is_err_and c.from_residual-in_err-tree.result c.from_residual-in_err-tree.ensures.1 in
+    let p = err_from_is_err_and c.from_residual-in_err-tree.result
+    c.from_residual-in_err-tree.ensures.1 in
     rw (p.1, p.2)
-    (tree_refused c.args.policy.now c.args.net.now c.deref.result.now c.in_err-tree.field-0.0 c.in_ok-rules.ensures.few (c.deref.ensures.value ∙ c.in_ok-rules.ensures.rules) c.in_err-tree.ensures.refused)
+    (tree_refused c.args.policy.now c.args.net.now c.deref.result.now c.in_err-tree.field-0.0
+    c.in_ok-rules.ensures.few (c.deref.ensures.value ∙ c.in_ok-rules.ensures.rules)
+    c.in_err-tree.ensures.refused)
 
 pub returns-in_err-targets-clause-refused : goal.returns-in_err-targets-clause-refused
 returns-in_err-targets-clause-refused c =
-    let p = err_from_is_err_and c.from_residual-in_err-targets.result c.from_residual-in_err-targets.ensures.1 in
-    let ready : IsReady c.args.policy.now c.args.net.now c.deref.result.now (shape_of c.in_ok-tree.tree) c.deref-3.result.now c.deref-4.result.now = record {
+    let p = err_from_is_err_and c.from_residual-in_err-targets.result
+    c.from_residual-in_err-targets.ensures.1 in
+    let ready : IsReady c.args.policy.now c.args.net.now c.deref.result.now
+    (shape_of c.in_ok-tree.tree) c.deref-3.result.now c.deref-4.result.now = record {
       few = c.in_ok-rules.ensures.few;
       rules = c.deref.ensures.value ∙ c.in_ok-rules.ensures.rules;
       tree = c.in_ok-tree.ensures.tree;
       leaves = c.in_ok-tree.ensures.few;
-      sizes_are = c.deref-3.ensures.value ∙ c.in_ok-sizes.ensures ∙ ap sizes_of (c.deref-2.ensures.value ∙ c.in_ok-parts.ensures.parts);
+      sizes_are = c.deref-3.ensures.value ∙ c.in_ok-sizes.ensures
+          ∙ ap sizes_of (c.deref-2.ensures.value ∙ c.in_ok-parts.ensures.parts);
       rooms_are = c.deref-4.ensures.value ∙ c.in_ok-rooms.ensures;
     } in
     rw (p.1, p.2)
-    (placement_refused c.args.policy.now c.args.net.now c.deref.result.now (shape_of c.in_ok-tree.tree) c.deref-3.result.now c.deref-4.result.now c.in_err-targets.field-0.0 ready c.in_err-targets.ensures.refused)
+    (placement_refused c.args.policy.now c.args.net.now c.deref.result.now
+    (shape_of c.in_ok-tree.tree) c.deref-3.result.now c.deref-4.result.now
+    c.in_err-targets.field-0.0 ready c.in_err-targets.ensures.refused)
 
 pub new-requires-clause-sound : goal.new-requires-clause-sound
 new-requires-clause-sound c =
-    let ready : IsReady c.args.policy.now c.args.net.now c.deref.result.now (shape_of c.in_ok-tree.tree) c.deref-3.result.now c.deref-4.result.now = record {
+    let ready : IsReady c.args.policy.now c.args.net.now c.deref.result.now
+    (shape_of c.in_ok-tree.tree) c.deref-3.result.now c.deref-4.result.now = record {
       few = c.in_ok-rules.ensures.few;
       rules = c.deref.ensures.value ∙ c.in_ok-rules.ensures.rules;
       tree = c.in_ok-tree.ensures.tree;
       leaves = c.in_ok-tree.ensures.few;
-      sizes_are = c.deref-3.ensures.value ∙ c.in_ok-sizes.ensures ∙ ap sizes_of (c.deref-2.ensures.value ∙ c.in_ok-parts.ensures.parts);
+      sizes_are = c.deref-3.ensures.value ∙ c.in_ok-sizes.ensures
+          ∙ ap sizes_of (c.deref-2.ensures.value ∙ c.in_ok-parts.ensures.parts);
       rooms_are = c.deref-4.ensures.value ∙ c.in_ok-rooms.ensures;
     } in
-    let planned = planned_at c.args.policy.now c.args.net.now c.deref.result.now (shape_of c.in_ok-tree.tree) c.deref-3.result.now c.deref-4.result.now c.in_ok-targets.targets.items ready c.in_ok-targets.ensures.value in
-    let sound = plan_sound c.args.policy.now c.args.net.now (zip (parts_of (shape_of c.in_ok-tree.tree)) c.in_ok-targets.targets.items) c.requires (c.plan_laws.ensures.holds c.args.policy.now c.args.net.now (zip (parts_of (shape_of c.in_ok-tree.tree)) c.in_ok-targets.targets.items) c.rows.ensures.policy c.requires planned) in
-    rw (c.in_ok-policy.ensures.cases, c.deref-5.ensures.value, c.deref-6.ensures.value, c.in_ok-parts.ensures.parts) sound
+    let planned = planned_at c.args.policy.now c.args.net.now c.deref.result.now
+    (shape_of c.in_ok-tree.tree) c.deref-3.result.now c.deref-4.result.now
+    c.in_ok-targets.targets.items ready c.in_ok-targets.ensures.value in
+    let sound = plan_sound c.args.policy.now c.args.net.now
+    (zip (parts_of (shape_of c.in_ok-tree.tree)) c.in_ok-targets.targets.items) c.requires
+    (c.plan_laws.ensures.holds c.args.policy.now c.args.net.now
+    (zip (parts_of (shape_of c.in_ok-tree.tree)) c.in_ok-targets.targets.items)
+    c.rows.ensures.policy c.requires planned) in
+    rw (
+      c.in_ok-policy.ensures.cases,
+      c.deref-5.ensures.value,
+      c.deref-6.ensures.value,
+      c.in_ok-parts.ensures.parts,
+    ) sound
 
 pub returns-clause-plan : goal.returns-clause-plan
 returns-clause-plan c =
-    let ready : IsReady c.args.policy.now c.args.net.now c.deref.result.now (shape_of c.in_ok-tree.tree) c.deref-3.result.now c.deref-4.result.now = record {
+    let ready : IsReady c.args.policy.now c.args.net.now c.deref.result.now
+    (shape_of c.in_ok-tree.tree) c.deref-3.result.now c.deref-4.result.now = record {
       few = c.in_ok-rules.ensures.few;
       rules = c.deref.ensures.value ∙ c.in_ok-rules.ensures.rules;
       tree = c.in_ok-tree.ensures.tree;
       leaves = c.in_ok-tree.ensures.few;
-      sizes_are = c.deref-3.ensures.value ∙ c.in_ok-sizes.ensures ∙ ap sizes_of (c.deref-2.ensures.value ∙ c.in_ok-parts.ensures.parts);
+      sizes_are = c.deref-3.ensures.value ∙ c.in_ok-sizes.ensures
+          ∙ ap sizes_of (c.deref-2.ensures.value ∙ c.in_ok-parts.ensures.parts);
       rooms_are = c.deref-4.ensures.value ∙ c.in_ok-rooms.ensures;
     } in
-    let planned = planned_at c.args.policy.now c.args.net.now c.deref.result.now (shape_of c.in_ok-tree.tree) c.deref-3.result.now c.deref-4.result.now c.in_ok-targets.targets.items ready c.in_ok-targets.ensures.value in
-    rw (c.in_ok-plan.ensures.placed, c.deref-5.ensures.value, c.deref-6.ensures.value, c.in_ok-parts.ensures.parts) planned
+    let planned = planned_at c.args.policy.now c.args.net.now c.deref.result.now
+    (shape_of c.in_ok-tree.tree) c.deref-3.result.now c.deref-4.result.now
+    c.in_ok-targets.targets.items ready c.in_ok-targets.ensures.value in
+    rw (
+      c.in_ok-plan.ensures.placed,
+      c.deref-5.ensures.value,
+      c.deref-6.ensures.value,
+      c.in_ok-parts.ensures.parts,
+    ) planned

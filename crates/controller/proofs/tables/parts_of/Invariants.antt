@@ -3,4 +3,5 @@ use Rattle.switch_table.specs.Tables.{has_target, part_of}
 use Rattle.controller.proofs.tables.parts_of.Given as goal
 
 abbrev pub invariant-loop-part : goal.invariant-loop-part
-invariant-loop-part l = l.parts.items ≡ map part_of (filter (has_target l.s) (take l.part-index l.placed))
+invariant-loop-part l = l.parts.items ≡ map part_of
+    (filter (has_target l.s) (take l.part-index l.placed))

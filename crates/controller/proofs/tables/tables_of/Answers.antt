@@ -4,5 +4,12 @@ pub returns-clause-sound : goal.returns-clause-sound
 returns-clause-sound c =
     let plan = c.args.plan.now in
     let is = c.placed.ensures.sound in
-    rw (c.in_ok-clone.ensures.cases, c.rows.ensures, c.new.ensures, c.in_ok-own.ensures, c.placed.ensures.placed)
-    (c.tables_laws.ensures.sound plan.policy plan.placed c.args.version c.args.s is.sound is.few is.few_rules)
+    rw (
+      c.in_ok-clone.ensures.cases,
+      c.rows.ensures,
+      c.new.ensures,
+      c.in_ok-own.ensures,
+      c.placed.ensures.placed,
+    )
+    (c.tables_laws.ensures.sound plan.policy plan.placed c.args.version c.args.s is.sound is.few
+    is.few_rules)

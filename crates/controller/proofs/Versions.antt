@@ -1,0 +1,232 @@
+-- The versions of the plans that are kept, as the marks settle.
+use Rattle.std.proofs.Common.{ℕ, suc, zero, ◌≡◌, ◌+◌, ◌-◌, ◌<◌, ◌≤◌, Bool, true, false, cond, leb, List, [], ◌∷◌, ◌++◌, length, get_or, map, filter, All, refl, ap, sym, ◌∙◌, subst, arith}
+use Rattle.std.specs.List.{range_with_len}
+use Rattle.std.proofs.lemmas.List.Elements.{All-append, All-filter}
+use Rattle.std.proofs.lemmas.List.{map-append, length-map, get_or-map}
+use Rattle.std.proofs.lemmas.List.FromFn.{length-range_with_len, get_or-range_with_len}
+use Rattle.std.proofs.lemmas.Bool.Decides.{nat_tests}
+use Rattle.version_update.specs.Marks.{MarksValue, StaySettled, at_switch, with_version}
+use Rattle.version_update.specs.Settling.{Settles}
+use Rattle.version_update.specs.declared.marks.Settled.{Settled}
+use Rattle.version_update.specs.declared.record.SwitchRecord.{SwitchRecord}
+use Rattle.controller.specs.Controller.{KeptPlan, ControllerValue, IsController, StaysController, SettlesWith, plans_from, versions_from_current}
+use Rattle.controller.specs.Plan.{PlanValue, IsSoundPlan}
+use Rattle.controller.proofs.Picking.{counting_from}
+
+test_le : (a b : ℕ) → a ≤ b → leb a b ≡ true
+test_le a b le = grind (arith, nat_tests)
+
+test_gt : (a b : ℕ) → b < a → leb a b ≡ false
+test_gt a b gt = grind (arith, nat_tests)
+
+-- all numbers pass
+all_from : (to a n : ℕ) → to ≤ a → filter (leb to) (range_with_len a n) ≡ range_with_len a n
+all_from to a zero le = refl
+all_from to a (suc n) le =
+    ap (λ b. cond b (a ∷ filter (leb to) (range_with_len (a + 1) n))
+    (filter (leb to) (range_with_len (a + 1) n))) (test_le to a le)
+    ∙ ap (λ l. a ∷ l) (all_from to (a + 1) n (omega arith))
+
+-- the numbers from `to` on
+numbers_from : (to a n : ℕ) → a ≤ to → to ≤ a + n → filter (leb to) (range_with_len a n)
+    ≡ range_with_len to (a + n - to)
+numbers_from to a zero low high = let none : 0 ≡ a + 0 - to = omega arith in ap (range_with_len to)
+    none
+numbers_from to a (suc n) low high = by_place (leb to a) refl
+    (λ above. numbers_from to (a + 1) n (omega (arith, above)) (omega (arith, above)))
+  where
+    rest : List ℕ
+    rest = filter (leb to) (range_with_len (a + 1) n)
+
+    by_place : (b : Bool) → leb to a ≡ b → (a < to → rest ≡ range_with_len to (a + 1 + n - to))
+        → cond b (a ∷ rest) rest ≡ range_with_len to (a + suc n - to)
+    by_place true is more =
+        let same : a ≡ to = grind (arith, nat_tests) in
+        let count : suc n ≡ a + suc n - to = omega arith in
+        ap (λ l. a ∷ l) (all_from to (a + 1) n (omega arith)) ∙ ap (λ k. range_with_len k (suc n))
+        same ∙ ap (range_with_len to) count
+    by_place false is more =
+        let above : a < to = grind (arith, nat_tests) in
+        let count : a + 1 + n - to ≡ a + suc n - to = omega arith in
+        more above ∙ ap (range_with_len to) count
+
+-- a test on versions
+versions_picked : (to : ℕ) (plans : List KeptPlan)
+    → map (λ kept. kept.version) (plans_from to plans) ≡ filter (leb to)
+    (map (λ kept. kept.version) plans)
+versions_picked to [] = refl
+versions_picked to (kept ∷ plans) = by_test (leb to kept.version) (versions_picked to plans)
+  where
+    by_test : (b : Bool) → map (λ kept. kept.version) (plans_from to plans) ≡ filter (leb to)
+        (map (λ kept. kept.version) plans)
+        → map (λ kept. kept.version) (cond b (kept ∷ plans_from to plans) (plans_from to plans))
+        ≡ cond b (kept.version ∷ filter (leb to) (map (λ kept. kept.version) plans))
+        (filter (leb to) (map (λ kept. kept.version) plans))
+    by_test true same = ap (λ l. kept.version ∷ l) same
+    by_test false same = same
+
+-- no plan is let go twice
+pub plans_twice : (to : ℕ) (plans : List KeptPlan) → plans_from to (plans_from to plans)
+    ≡ plans_from to plans
+plans_twice to [] = refl
+plans_twice to (kept ∷ plans) = by_test (leb to kept.version) refl (plans_twice to plans)
+  where
+    by_test : (b : Bool) → leb to kept.version ≡ b → plans_from to (plans_from to plans)
+        ≡ plans_from to plans → plans_from to
+        (cond b (kept ∷ plans_from to plans) (plans_from to plans)) ≡ cond b
+        (kept ∷ plans_from to plans) (plans_from to plans)
+    by_test true is same = ap
+        (λ b. cond b (kept ∷ plans_from to (plans_from to plans))
+        (plans_from to (plans_from to plans))) is ∙ ap (λ l. kept ∷ l) same
+    by_test false is same = same
+
+-- the plans that are kept as the marks settle are those of the versions from the current one to the
+-- last
+pub settled_versions : (before marks : MarksValue) (answer : Settled) (kept plans : List KeptPlan)
+    → Settles before marks answer → before.current ≤ before.count → map (λ kept. kept.version) kept
+    ≡ versions_from_current before → plans ≡ plans_from marks.current kept
+    → map (λ kept. kept.version) plans ≡ versions_from_current marks
+settled_versions before marks answer kept plans is low versions picked =
+    let high : marks.current ≤ before.current + (before.count + 1 - before.current) =
+    omega (arith, is.current.bound, low) in
+    let count : before.current + (before.count + 1 - before.current) - marks.current
+    ≡ marks.count + 1 - marks.current = omega (arith, is.count, low) in
+    ap (map (λ kept. kept.version)) picked ∙ versions_picked marks.current kept
+    ∙ ap (filter (leb marks.current)) versions
+    ∙ numbers_from marks.current before.current _ is.current.rises high
+    ∙ ap (range_with_len marks.current) count
+
+-- with one more version
+pub versions_more : (marks : MarksValue) (plans : List KeptPlan) (next : KeptPlan)
+    → marks.current ≤ marks.count → next.version ≡ marks.count + 1
+    → map (λ kept. kept.version) plans ≡ versions_from_current marks
+    → map (λ kept. kept.version) (plans ++ next ∷ []) ≡ versions_from_current (with_version marks)
+versions_more marks plans next low number versions =
+    let last : marks.current + (marks.count + 1 - marks.current) ≡ marks.count + 1 =
+    omega (arith, low) in
+    let count : (marks.count + 1 - marks.current) + 1 ≡ marks.count + 1 + 1 - marks.current =
+    omega (arith, low) in
+    map-append (λ (kept : KeptPlan). kept.version) plans (next ∷ [])
+    ∙ ap (λ l. l ++ next.version ∷ []) versions
+    ∙ ap (λ v. versions_from_current marks ++ v ∷ []) number
+    ∙ sym (counting_from marks.current (marks.count + 1 - marks.current) (marks.count + 1) last)
+    ∙ ap (range_with_len marks.current) count
+
+abbrev pub AreSoundPlans : List KeptPlan → Type 0
+AreSoundPlans plans = All (λ kept. IsSoundPlan kept.plan) plans
+
+-- a list of one sound plan
+pub one_sound : (next : KeptPlan) → IsSoundPlan next.plan → AreSoundPlans (next ∷ [])
+one_sound next sound zero d within = sound
+one_sound next sound (suc k) d within = absurd (omega (arith, within))
+
+-- what a controller's fields keep
+abbrev pub IsWhole : ℕ → MarksValue → List KeptPlan → Type 0
+IsWhole switches marks plans = (switches ≡ length marks.switches)
+    × IsController (record { marks = marks; plans = plans })
+
+pub whole : (old before marks : MarksValue) (answer : Settled) (switches : ℕ)
+    (kept plans : List KeptPlan) → switches ≡ length old.switches → StaySettled old marks
+    → Settles before marks answer → before.current ≤ before.count → map (λ kept. kept.version) kept
+    ≡ versions_from_current before → AreSoundPlans kept → plans ≡ plans_from marks.current kept
+    → IsWhole switches marks plans
+whole old before marks answer switches kept plans number stays is low versions sound picked =
+    let passes : KeptPlan → Bool = λ kept. leb marks.current kept.version in
+    let some = All-filter passes (λ kept. IsSoundPlan kept.plan) kept sound in (
+      number ∙ sym stays.switches,
+      record {
+        marks = stays.settled;
+        sound = subst AreSoundPlans (sym picked) some;
+        versions = settled_versions before marks answer kept plans is low versions picked;
+      },
+    )
+
+module _ (s : ℕ) (change : SwitchRecord → SwitchRecord) (old : MarksValue) (kept : List KeptPlan)
+    (marks : MarksValue) (answer : Settled) (switches : ℕ) (plans : List KeptPlan) where
+  -- one switch's record changed
+  pub whole_at : IsWhole switches old kept → StaySettled old marks
+      → Settles (at_switch s change old) marks answer → plans ≡ plans_from marks.current kept
+      → IsWhole switches marks plans
+  whole_at is stays settled picked = whole old (at_switch s change old) marks answer switches kept
+      plans is.0 stays settled is.1.marks.bounds.last is.1.versions is.1.sound picked
+
+  pub settles_at : (value : ControllerValue) → record { marks = old; plans = kept } ≡ value
+      → Settles (at_switch s change old) marks answer → plans ≡ plans_from marks.current kept
+      → SettlesWith (at_switch s change value.marks) value.plans
+      (record { marks = marks; plans = plans })
+  settles_at value seen settled picked =
+      let P : ControllerValue → Type 0 = λ value. SettlesWith (at_switch s change value.marks)
+      value.plans (record { marks = marks; plans = plans }) in
+      subst P seen (record { marks = (answer, settled); plans = picked })
+
+  pub stays_at : (value : ControllerValue) → record { marks = old; plans = kept } ≡ value
+      → IsWhole switches old kept → StaySettled old marks → Settles (at_switch s change old) marks
+      answer → plans ≡ plans_from marks.current kept
+      → StaysController value (record { marks = marks; plans = plans })
+  stays_at value seen is stays settled picked =
+      let P : ControllerValue → Type 0 = λ value. StaysController value
+      (record { marks = marks; plans = plans }) in
+      subst P seen (record {
+        controller = (whole_at is stays settled picked).1;
+        switches =
+            stays.switches;
+      })
+
+module _ (old : MarksValue) (kept : List KeptPlan) (plan : PlanValue) (marks : MarksValue)
+    (answer : Settled) (switches : ℕ) (mid plans : List KeptPlan) where
+  -- the kept plans and the next one
+  abbrev pub IsPushed : Type 0
+  IsPushed = mid ≡ kept ++ (record { version = old.count + 1; plan = plan }) ∷ []
+
+  with_next : IsPushed → plans ≡ plans_from marks.current mid → plans ≡ plans_from marks.current
+      (kept ++ (record { version = old.count + 1; plan = plan }) ∷ [])
+  with_next pushed picked = picked ∙ ap (plans_from marks.current) pushed
+
+  -- one more version
+  pub whole_more : IsSoundPlan plan → IsWhole switches old kept → StaySettled old marks
+      → Settles (with_version old) marks answer → IsPushed → plans ≡ plans_from marks.current mid
+      → IsWhole switches marks plans
+  whole_more sound is stays settled pushed picked =
+      let low : old.current ≤ old.count + 1 = omega (arith, is.1.marks.bounds.last) in
+      whole old (with_version old) marks answer switches
+      (kept ++ (record { version = old.count + 1; plan = plan }) ∷ []) plans is.0 stays settled
+      low (versions_more old kept _ is.1.marks.bounds.last refl is.1.versions)
+      (All-append (λ kept. IsSoundPlan kept.plan) kept _ is.1.sound (one_sound _ sound))
+      (with_next pushed picked)
+
+  pub stays_more : IsSoundPlan plan → (value : ControllerValue)
+      → record { marks = old; plans = kept } ≡ value
+      → IsWhole switches old kept → StaySettled old marks → Settles (with_version old) marks answer
+      → IsPushed → plans ≡ plans_from marks.current mid
+      → StaysController value (record { marks = marks; plans = plans })
+  stays_more sound value seen is stays settled pushed picked =
+      let P : ControllerValue → Type 0 = λ value. StaysController value
+      (record { marks = marks; plans = plans }) in
+      subst P seen (record {
+        controller = (whole_more sound is stays settled pushed picked).1;
+        switches =
+            stays.switches;
+      })
+
+-- what was pushed is the next version
+pub pushed_next : (kept mid : List KeptPlan) (next : KeptPlan) (number count : ℕ) (plan : PlanValue)
+    → mid ≡ kept ++ next ∷ [] → next ≡ record { version = number + 1; plan = plan } → number ≡ count
+    → mid ≡ kept ++ (record { version = count + 1; plan = plan }) ∷ []
+pushed_next kept mid next number count plan pushed is same =
+    let Next : ℕ → KeptPlan = λ n. record { version = n + 1; plan = plan } in
+    pushed ∙ ap (λ v. kept ++ v ∷ []) (is ∙ ap Next same)
+
+-- each version that is kept is there
+pub versions_within : (marks : MarksValue) (plans : List KeptPlan)
+    → IsController (record { marks = marks; plans = plans })
+    → All (λ kept. (1 ≤ kept.version) × (kept.version ≤ marks.count)) plans
+versions_within marks plans is k d within =
+    let number : length plans ≡ marks.count + 1 - marks.current =
+    sym (length-map plans (λ kept. kept.version)) ∙ ap length is.versions
+    ∙ length-range_with_len marks.current (marks.count + 1 - marks.current) in
+    let below : k < marks.count + 1 - marks.current = omega (arith, number, within) in
+    let read : (get_or plans k d).version ≡ marks.current + k =
+    sym (get_or-map (λ (kept : KeptPlan). kept.version) plans k d 0 within)
+    ∙ ap (λ l. get_or l k 0) is.versions ∙ get_or-range_with_len marks.current
+    (marks.count + 1 - marks.current) k 0 below in
+    (omega (arith, read, is.marks.bounds.first), omega (arith, read, below))

@@ -1,0 +1,64 @@
+use Rattle.std.proofs.Common.{ℕ, ◌≡◌, ◌+◌, ◌++◌, map, ap, ◌∙◌}
+use Rattle.std.specs.Prelude.{not}
+use Rattle.version_update.specs.Marks.{with_version}
+use Rattle.version_update.specs.Record.{is_over}
+use Rattle.controller.specs.Controller.{KeptPlan, ControllerValue}
+use Rattle.controller.specs.Sends.{boot_of, install, those, settling, submitting}
+use Rattle.controller.proofs.Versions.{pushed_next, whole_more, stays_more}
+use Rattle.controller.proofs.controller.Controller.add.Goals as goal
+
+pub invariant_of-self-in_err-settle : goal.invariant_of-self-in_err-settle
+invariant_of-self-in_err-settle c =
+    let old = c.self.inside.marks in
+    let kept = c.self.inside.versions.items in
+    let pushed = pushed_next kept c.push.new.self.items _ c.count.result old.count c.args.plan
+    c.in_ok-push.ensures.items c.in_ok-version.ensures c.count.ensures.count in
+    whole_more old kept c.args.plan _ _ _ _ _ c.placed.ensures.sound c.self.invariant
+    c.add_version-settled.ensures.rule
+    c.add_version-settled.ensures.settled pushed c.settle.ensures.versions
+
+pub returns-in_err-settle-clause-rule : goal.returns-in_err-settle-clause-rule
+returns-in_err-settle-clause-rule c =
+    let old = c.self.inside.marks in
+    let kept = c.self.inside.versions.items in
+    let pushed = pushed_next kept c.push.new.self.items _ c.count.result old.count c.args.plan
+    c.in_ok-push.ensures.items c.in_ok-version.ensures c.count.ensures.count in
+    stays_more old kept c.args.plan _ _ _ _ _ c.placed.ensures.sound _ c.self.view_is
+    c.self.invariant
+    c.add_version-settled.ensures.rule c.add_version-settled.ensures.settled pushed
+    c.settle.ensures.versions
+
+pub invariant_of-self-2 : goal.invariant_of-self-2
+invariant_of-self-2 c =
+    let old = c.self.inside.marks in
+    let kept = c.self.inside.versions.items in
+    let pushed = pushed_next kept c.push.new.self.items _ c.count.result old.count c.args.plan
+    c.in_ok-push.ensures.items c.in_ok-version.ensures c.count.ensures.count in
+    whole_more old kept c.args.plan _ _ _ _ _ c.placed.ensures.sound c.self.invariant
+    c.add_version-settled.ensures.rule
+    c.add_version-settled.ensures.settled pushed c.settle.ensures.versions
+
+pub returns-clause-sends : goal.returns-clause-sends
+returns-clause-sends c =
+    let old = c.self.inside.marks in
+    let new = c.add_version-settled.new.marks in
+    let Next : ℕ → KeptPlan = λ n. record { version = n + 1; plan = c.args.plan } in
+    let next : c.in_ok-version.version ≡ Next old.count = c.in_ok-version.ensures
+    ∙ ap Next c.count.ensures.count in
+    c.new-2.ensures ∙ c.in_ok-settle.ensures.acts _ c.add_version-settled.ensures.settled
+    ∙ ap (λ l. l ++ settling (with_version old) new)
+    (c.in_ok-acts.ensures ∙ ap
+    (λ (version : KeptPlan). map (λ s. install s (boot_of old s) version)
+    (those (λ known. not (is_over known.phase)) old.switches)) next)
+    ∙ ap (λ (value : ControllerValue). submitting value.marks c.args.plan new) c.self.view_is
+
+pub returns-clause-rule : goal.returns-clause-rule
+returns-clause-rule c =
+    let old = c.self.inside.marks in
+    let kept = c.self.inside.versions.items in
+    let pushed = pushed_next kept c.push.new.self.items _ c.count.result old.count c.args.plan
+    c.in_ok-push.ensures.items c.in_ok-version.ensures c.count.ensures.count in
+    stays_more old kept c.args.plan _ _ _ _ _ c.placed.ensures.sound _ c.self.view_is
+    c.self.invariant
+    c.add_version-settled.ensures.rule c.add_version-settled.ensures.settled pushed
+    c.settle.ensures.versions

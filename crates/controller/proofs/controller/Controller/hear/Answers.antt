@@ -1,0 +1,19 @@
+use Rattle.std.proofs.Common.{[], ◌++◌, refl, sym, ap, ◌∙◌, subst}
+use Rattle.version_update.specs.Marks.{MarksValue}
+use Rattle.controller.specs.Controller.{SettlesWith}
+use Rattle.controller.proofs.Unheard.{is_unheard}
+use Rattle.controller.proofs.controller.Controller.hear.Goals as goal
+
+pub returns-in_default : goal.returns-in_default
+returns-in_default c =
+    let value = c.args.self.now in
+    let is = is_unheard c.args.body.now value c.in_default.not-Hello c.in_default.not-Installed
+    c.in_default.not-Stamped in
+    let Settled : MarksValue → Type 0 = λ marks. SettlesWith marks value.plans value in
+    record {
+      after = subst Settled (sym is.same) c.unheard.ensures.after;
+      sends = c.unheard.ensures.none ∙ sym (is.sent ∙ ap (λ l. l ++ []) c.unheard.ensures.idle);
+      others = λ _. refl;
+      silent = λ _. c.unheard.ensures.none;
+      rule = record { controller = c.unheard.ensures.rule; switches = refl };
+    }

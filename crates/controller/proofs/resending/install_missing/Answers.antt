@@ -1,0 +1,26 @@
+use Rattle.std.proofs.Common.{Bool, ◌≡◌, ◌<◌, length, sym, ap, ◌∙◌, arith}
+use Rattle.version_update.specs.Marks.{record_of}
+use Rattle.controller.specs.Controller.{KeptPlan}
+use Rattle.controller.specs.Sends.{install, is_missing}
+use Rattle.controller.proofs.Picking.{item_add, item_skip}
+use Rattle.controller.proofs.resending.install_missing.Goals as goal
+use Rattle.controller.proofs.resending.install_missing.Goals.{then-is_missing+in_ok-install+in_ok-push, else-is_missing}
+
+pub loop-kept-preserved : goal.loop-kept-preserved
+loop-kept-preserved c =
+    let known = record_of c.args.marks.now c.args.s in
+    let lacks : KeptPlan → Bool = λ kept. is_missing known c.args.first kept.version in
+    let within : c.loop-kept.kept-index < length c.args.versions.now =
+    omega (arith, c.loop-kept-test.true) in
+    let test : lacks c.kept-item.result ≡ c.is_missing.result =
+    sym (c.is_missing.ensures ∙ ap (is_missing known c.args.first) c.version.ensures) in
+    elim c.if-is_missing.branch [
+      | then-is_missing+in_ok-install+in_ok-push w ↦ item_add (install c.args.s known.boot) lacks
+          c.args.versions.now c.loop-kept.kept-index c.kept-item.result _ c.loop-kept.acts.items _
+          within c.kept-item.is c.loop-kept.invariant (test ∙ w.if-is_missing.true)
+          (ap (λ v. v.items) w.acts-is
+          ∙ cc (c.boot-boot.ensures, w.in_ok-install.ensures, w.in_ok-push.ensures.items))
+      | else-is_missing w ↦ item_skip (install c.args.s known.boot) lacks c.args.versions.now
+          c.loop-kept.kept-index c.kept-item.result _ c.loop-kept.acts.items _ within c.kept-item.is
+          c.loop-kept.invariant (test ∙ w.if-is_missing.false) (ap (λ v. v.items) w.acts-is)
+    ]

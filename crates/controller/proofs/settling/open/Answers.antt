@@ -1,0 +1,6 @@
+use Rattle.controller.proofs.Telling.{opens_told}
+use Rattle.controller.proofs.settling.open.Goals as goal
+
+pub returns : goal.returns
+returns c = λ before is. opens_told before _ _ c.args.switches _ _ _ c.requires
+    c.current-current.ensures.current c.in_ok-tell.ensures is

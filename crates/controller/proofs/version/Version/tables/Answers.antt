@@ -1,0 +1,17 @@
+use Rattle.std.proofs.Common.{◌<◌, length, get_or, ap, ◌∙◌, arith}
+use Rattle.switch_table.specs.Tables.{tables_of}
+use Rattle.controller.specs.Controller.{KeptPlan}
+use Rattle.controller.proofs.Picking.{read_map}
+use Rattle.controller.proofs.version.Version.tables.Goals as goal
+
+pub returns-in-Some : goal.returns-in-Some
+returns-in-Some c =
+    let lookup = c.in-Some.ensures.lookup in
+    let inside = c.self.inside in
+    let within : c.args.s < length inside.made.items =
+    omega (arith, lookup.3.0, ap length c.deref.ensures.value) in
+    c.in_ok-tables.ensures.cases
+    ∙ read_map (tables_of inside.plan.placed inside.version) inside.made.items c.args.s _
+    c.self.invariant within (lookup.1 ∙ ap (λ l. get_or l c.args.s c.in-Some.tables.now)
+    c.deref.ensures.value)
+    ∙ ap (λ (kept : KeptPlan). tables_of kept.plan.placed kept.version c.args.s) c.self.view_is

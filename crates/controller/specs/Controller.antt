@@ -1,0 +1,63 @@
+-- A controller: the marks of the versions, and the plans of those that a later call can name.
+use Rattle.std.specs.Prelude.{ℕ, ◌≡◌, ◌+◌, ◌-◌, nat_le, List, [], ◌∷◌, length, map, filter, All}
+use Rattle.std.specs.List.{range_with_len}
+use Rattle.switch_table.specs.Tables.{tables_of}
+use Rattle.switch_table.specs.declared.tables.Tables.{Tables}
+use Rattle.version_update.specs.Marks.{MarksValue, first_marks, AreSettled}
+use Rattle.version_update.specs.Settling.{Settles}
+use Rattle.version_update.specs.declared.marks.Settled.{Settled}
+use Rattle.controller.specs.Plan.{PlanValue, IsSoundPlan}
+
+-- a version with its plan
+pub record KeptPlan : Type 0 where
+  pub version : ℕ
+  pub plan : PlanValue
+
+-- the plans stand by ascending version
+pub record ControllerValue : Type 0 where
+  pub marks : MarksValue
+  pub plans : List KeptPlan
+
+-- the tables of each switch, by the switches' numbers, as far as these are
+abbrev pub tables_by_switch : KeptPlan → ℕ → List Tables
+tables_by_switch kept switches =
+    map (tables_of kept.plan.placed kept.version) (range_with_len 0 switches)
+
+-- at the start every switch has version 1
+abbrev pub first_controller : ℕ → PlanValue → ControllerValue
+first_controller switches plan = record {
+  marks = first_marks switches;
+  plans = (record { version = 1; plan = plan }) ∷ [];
+}
+
+-- the versions from the current one to the last
+abbrev pub versions_from_current : MarksValue → List ℕ
+versions_from_current marks = range_with_len marks.current (marks.count + 1 - marks.current)
+
+-- the plans are those of the versions from the current one to the last: no later call names an
+-- earlier one
+pub record IsController (controller : ControllerValue) : Type 0 where
+  pub marks : AreSettled controller.marks
+  pub sound : All (λ kept. IsSoundPlan kept.plan) controller.plans
+  pub versions : (map (λ kept. kept.version) controller.plans
+      ≡ versions_from_current controller.marks)
+
+-- a controller still, of the same switches
+pub record StaysController (old new : ControllerValue) : Type 0 where
+  pub controller : IsController new
+  pub switches : length new.marks.switches ≡ length old.marks.switches
+
+-- the marks settle, whoever is to be told
+abbrev pub HasSettled : MarksValue → MarksValue → Type 0
+HasSettled before after = (answer : Settled) × Settles before after answer
+
+-- the plans from this version on
+abbrev pub plans_from : ℕ → List KeptPlan → List KeptPlan
+plans_from version plans = filter (λ kept. nat_le version kept.version) plans
+
+-- from these marks and plans on: the marks settle, and the plans of the versions before the current
+-- one are let go
+pub record SettlesWith (before : MarksValue) (kept : List KeptPlan)
+    (new : ControllerValue) : Type 0 where
+  pub marks : HasSettled before new.marks
+  pub plans : new.plans ≡ plans_from new.marks.current kept

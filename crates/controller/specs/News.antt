@@ -1,0 +1,17 @@
+-- What several switches are told at once.
+use Rattle.std.specs.Prelude.{ℕ, ◌==◌, List, filter}
+use Rattle.std.specs.Int.{bit_at}
+use Rattle.std.specs.List.{range_with_len}
+use Rattle.ctrl_msg.specs.declared.message.Body.{Body}
+use Rattle.ctrl_msg.specs.declared.message.Body.TheVariants as body
+use Rattle.controller.specs.declared.settling.News.{News}
+use Rattle.controller.specs.declared.settling.News.TheVariants.{Stamp, OpenAt, Collect}
+
+abbrev pub body_of : News → ℕ → ℕ → Body
+body_of Stamp version boot = body.Stamp boot version
+body_of OpenAt version boot = body.OpenAt boot version
+body_of Collect version boot = body.Collect boot version
+
+-- of so many switches those that a mask names: switch s is bit s
+abbrev pub named : ℕ → ℕ → List ℕ
+named mask switches = filter (λ s. bit_at mask s == 1) (range_with_len 0 switches)

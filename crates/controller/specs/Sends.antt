@@ -1,0 +1,150 @@
+-- What a controller sends at each call, in order, as a function of its marks before and after it
+-- and of its plans. The two phases are those of Reitblatt, Foster, Rexford, Schlesinger and Walker,
+-- "Abstractions for Network Update".
+use Rattle.std.specs.Prelude.{⊤, ℕ, ◌+◌, ◌<◌, ◌≤◌, ◌&&◌, Bool, false, not, nat_lt, nat_le, if◌then◌else◌, List, [], ◌∷◌, ◌++◌, length, map, filter, slice_get}
+use Rattle.std.specs.List.{range_with_len}
+use Rattle.std.specs.Option.{option_map_or}
+use Rattle.ctrl_msg.specs.declared.message.Body.{Body}
+use Rattle.ctrl_msg.specs.declared.message.Body.TheVariants.{Install, OpenAt, Stamp, Collect, Hello, Installed, Stamped}
+use Rattle.ctrl_msg.specs.declared.message.Place.TheVariants.{Switch}
+use Rattle.switch_table.specs.Tables.{tables_of}
+use Rattle.version_update.specs.Marks.{MarksValue, record_of, at_switch, with_version}
+use Rattle.version_update.specs.Record.{is_member, is_over, has_acked, takes_hello, after_hello, after_installed, after_stamped, opens_at}
+use Rattle.version_update.specs.declared.record.Phase.{Phase}
+use Rattle.version_update.specs.declared.record.Phase.TheVariants.{Joining, Member, Over}
+use Rattle.version_update.specs.declared.record.SwitchRecord.{SwitchRecord}
+use Rattle.controller.specs.Plan.{PlanValue}
+use Rattle.controller.specs.Controller.{KeptPlan, ControllerValue, plans_from}
+use Rattle.controller.specs.declared.sends.Act.{Act}
+use Rattle.controller.specs.declared.sends.Act.TheVariants.{Current, Retired, Post}
+
+-- ---- messages
+
+-- a message to a switch
+abbrev pub post : ℕ → Body → Act
+post s body = Post (record { to = Switch s; body = body })
+
+-- the tables that the version's plan gives to the switch
+abbrev pub install : ℕ → ℕ → KeptPlan → Act
+install s boot kept = post s (Install boot (tables_of kept.plan.placed kept.version s))
+
+-- the boot that is known of a switch
+abbrev pub boot_of : MarksValue → ℕ → ℕ
+boot_of marks s = (record_of marks s).boot
+
+-- the switches that pass, by ascending number
+abbrev pub those : (SwitchRecord → Bool) → List SwitchRecord → List ℕ
+those passes switches =
+    filter (λ s. option_map_or passes (slice_get switches s) false)
+    (range_with_len 0 (length switches))
+
+-- to each of these switches the message for the boot that is known of it
+abbrev pub tell : MarksValue → (ℕ → Body) → List ℕ → List Act
+tell marks body switches = map (λ s. post s (body (boot_of marks s))) switches
+
+-- ---- settling
+
+-- a new current version, and its stamps to the members from before: they have its tables, and
+-- those that join open at it
+abbrev pub stamps : MarksValue → MarksValue → List Act
+stamps before after = if nat_lt before.current after.current
+    then Current after.current ∷ tell after (λ boot. Stamp boot after.current)
+    (those (λ known. is_member known.phase) before.switches)
+    else []
+
+-- the new members open at the current version, which they acknowledged
+abbrev pub opens : MarksValue → MarksValue → List Act
+opens before after = tell after (λ boot. OpenAt boot after.current)
+    (those (opens_at after.current) before.switches)
+
+-- a newly retired version, and to all members that they drop the tables up to it: no member stamps
+-- with it any more
+abbrev pub collects : MarksValue → MarksValue → List Act
+collects before after = if nat_lt before.retired after.retired
+    then Retired after.retired ∷ tell after (λ boot. Collect boot after.retired)
+    (those (λ known. is_member known.phase) after.switches)
+    else []
+
+-- what is sent as marks settle
+abbrev pub settling : MarksValue → MarksValue → List Act
+settling before after = stamps before after ++ opens before after ++ collects before after
+
+-- ---- the calls
+
+-- the new version to each switch that isn't over; then settling
+abbrev pub submitting : MarksValue → PlanValue → MarksValue → List Act
+submitting old plan new =
+    map (λ s. install s (boot_of old s) (record { version = old.count + 1; plan = plan }))
+    (those (λ known. not (is_over known.phase)) old.switches)
+    ++ settling (with_version old) new
+
+-- what a message changes of what is known
+abbrev pub after_hearing : Body → MarksValue → MarksValue
+after_hearing (Hello switch boot) marks = at_switch switch (after_hello boot) marks
+after_hearing (Installed switch boot version) marks =
+    at_switch switch (after_installed boot version) marks
+after_hearing (Stamped switch boot version) marks =
+    at_switch switch (after_stamped boot version) marks
+after_hearing _ marks = marks
+
+-- after a new boot, which has no tables, the versions from the current one to the last
+abbrev pub installs_after : Body → MarksValue → ControllerValue → List Act
+installs_after (Hello switch boot) old new = if takes_hello boot (record_of old switch)
+    then map (install switch boot) (plans_from new.marks.current new.plans)
+    else []
+installs_after _ old new = []
+
+-- settling, and then what a new boot lacks
+abbrev pub hearing : Body → MarksValue → ControllerValue → List Act
+hearing body old new = settling (after_hearing body old) new.marks ++ installs_after body old new
+
+-- the switch is there, and so is the version
+pub record NamesBoth (switch version : ℕ) (marks : MarksValue) : Type 0 where
+  pub switch_is : switch < length marks.switches
+  pub first : 1 ≤ version
+  pub last : version ≤ marks.count
+
+-- what a body for the controller names is there
+abbrev pub NamesThere : Body → MarksValue → Type 0
+NamesThere (Hello switch boot) marks = switch < length marks.switches
+NamesThere (Installed switch boot version) marks = NamesBoth switch version marks
+NamesThere (Stamped switch boot version) marks = NamesBoth switch version marks
+NamesThere _ marks = ⊤
+
+-- ---- sending again
+
+-- a version from this one on that the switch didn't acknowledge
+abbrev pub is_missing : SwitchRecord → ℕ → ℕ → Bool
+is_missing known first version = nat_le first version && not (has_acked known version)
+
+-- the versions from this one on that the switch didn't acknowledge
+abbrev pub missing : ControllerValue → ℕ → ℕ → List Act
+missing controller s first =
+    let known = record_of controller.marks s in
+    map (install s known.boot)
+    (filter (λ kept. is_missing known first kept.version) controller.plans)
+
+-- to a member the current stamp, where it acknowledged a lower one
+abbrev pub stamp_again : MarksValue → ℕ → List Act
+stamp_again marks s = if nat_lt (record_of marks s).acked_stamp marks.current
+    then post s (Stamp (boot_of marks s) marks.current) ∷ []
+    else []
+
+-- to a member that it drops the tables of the retired versions, where there are any
+abbrev pub collect_again : MarksValue → ℕ → List Act
+collect_again marks s = if nat_lt 0 marks.retired
+    then post s (Collect (boot_of marks s) marks.retired) ∷ []
+    else []
+
+-- what a switch that stands so may lack
+abbrev pub resending_to : Phase → ControllerValue → ℕ → List Act
+resending_to Joining controller s = missing controller s controller.marks.current
+resending_to Member controller s =
+    post s (OpenAt (boot_of controller.marks s) (record_of controller.marks s).open_version)
+    ∷ missing controller s (controller.marks.current + 1)
+    ++ stamp_again controller.marks s ++ collect_again controller.marks s
+resending_to Over controller s = []
+
+-- by how the switch stands
+abbrev pub resending : ControllerValue → ℕ → List Act
+resending controller s = resending_to (record_of controller.marks s).phase controller s

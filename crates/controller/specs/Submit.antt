@@ -1,0 +1,26 @@
+-- What a controller is after a plan was submitted, or refused.
+use Rattle.std.specs.Prelude.{◌≡◌, ◌⊎◌, ◌+◌, [], ◌∷◌, ◌++◌}
+use Rattle.version_update.specs.Marks.{with_version}
+use Rattle.version_update.specs.declared.marks.SubmitError.{SubmitError as MarksError}
+use Rattle.version_update.specs.declared.marks.SubmitError.TheVariants as marks
+use Rattle.controller.specs.Plan.{PlanValue}
+use Rattle.controller.specs.Controller.{ControllerValue, SettlesWith}
+use Rattle.controller.specs.declared.submit_error.SubmitError.{SubmitError}
+use Rattle.controller.specs.declared.submit_error.SubmitError.TheVariants.{TooManyLive, TooManyVersions, NoMemory}
+
+-- the plan is that of one more version
+abbrev pub Submits : ControllerValue → PlanValue → ControllerValue → Type 0
+Submits old plan new = SettlesWith (with_version old.marks)
+    (old.plans ++ (record { version = old.marks.count + 1; plan = plan }) ∷ []) new
+
+-- a refusal changes nothing; where memory ran out, either nothing changed, or the version stands
+-- and what it causes is lost
+abbrev pub IsLeft : ControllerValue → PlanValue → ControllerValue → SubmitError → Type 0
+IsLeft old plan new TooManyLive = new ≡ old
+IsLeft old plan new TooManyVersions = new ≡ old
+IsLeft old plan new NoMemory = (new ≡ old) ⊎ Submits old plan new
+
+-- the refusal of the marks
+abbrev pub of_marks : MarksError → SubmitError
+of_marks marks.TooManyLive = TooManyLive
+of_marks marks.TooManyVersions = TooManyVersions

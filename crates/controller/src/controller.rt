@@ -1,0 +1,380 @@
+ghost use Rattle.std.specs.Prelude.{◌≡◌, ◌≢◌, ◌+◌, ◌-◌, ◌<◌, ◌≤◌, ◌↔◌, ◌++◌, [], ◌∷◌, map, filter, length, not, nat_le, Err, IsTrue, IsFalse, IfOk, IfErr, OnOk, OnErr};
+ghost use Rattle.net_file.specs.Net.{IsNet};
+ghost use Rattle.ctrl_msg.specs.Bodies.{is_for_controller};
+ghost use Rattle.ctrl_msg.specs.declared.message.Body.TheVariants.{Hello, Installed, Stamped};
+ghost use Rattle.version_update.specs.Marks.{AreSettled, StaySettled, at_switch, record_of, with_version};
+ghost use Rattle.version_update.specs.Record.{is_member, is_over, after_over};
+ghost use Rattle.version_update.specs.Settling.{Settles};
+ghost use Rattle.version_update.specs.declared.record.Phase.TheVariants.{Joining, Member};
+ghost use Rattle.controller.specs.Controller.{first_controller, plans_from, IsController, StaysController, SettlesWith};
+ghost use Rattle.controller.specs.Sends.{those, boot_of, install, settling, submitting, after_hearing, hearing, NamesBoth, NamesThere, resending, resending_to};
+ghost use Rattle.controller.specs.Submit.{Submits, IsLeft};
+ghost use Rattle.controller.specs.declared.submit_error.SubmitError.TheVariants.{TooManyLive, TooManyVersions, NoMemory};
+
+use crate::plan::Plan;
+use crate::resending::{collect_again, install_missing, stamp_again};
+use crate::sends::{Act, Sends};
+use crate::settling::settle;
+use crate::submit_error::SubmitError;
+use crate::version::Version;
+use ctrl_msg::Body;
+use net_file::Net;
+use std::alloc::{AllocError, Global};
+use std::marker::Model;
+use version_update::{Marks, Phase, Settled, settling_laws};
+
+/// The controller of a network: what it knows of the switches, and the plan of each version that a
+/// later call can name. Version v is the v-th plan that was submitted; the first is that of
+/// `begin`.
+///
+/// Contracts see the marks, and the versions from the current one to the last with their plans.
+/// Each call answers what it causes, in order, and each message carries the boot that is known of
+/// its switch. Where memory runs out in a call, what it causes is lost: the controller is spent.
+#[derive(Drop)]
+pub struct Controller {
+    marks: Marks,
+    switches: u32,
+    versions: Vec<Version>,
+}
+
+impl Model for Controller {
+    ghost use Rattle.std.specs.Prelude.{◌≡◌, length};
+    ghost use Rattle.controller.specs.Controller.{ControllerValue, IsController};
+
+    ghost Value = { ControllerValue };
+
+    ghost view = { λ c. record { marks = c.marks; plans = c.versions.items } };
+
+    ghost invariant = { λ c. (c.switches ≡ length c.marks.switches)
+        × IsController (record { marks = c.marks; plans = c.versions.items }) };
+}
+
+impl Controller {
+    /// Every switch of the network has version 1, of which this is the plan.
+    ///
+    /// # Errors
+    /// Want of memory alone.
+    pub fn begin(alloc: Global, net: &Net, plan: Plan) -> Result<Controller, AllocError>
+        requires { IsNet net.now }
+        ensures first { IfOk result (λ controller.
+            controller ≡ first_controller (length net.now.switches) plan) }
+        ensures rule { IfOk result IsController }
+    {
+        let switches = net.switches.rows().len() as u32;
+        // The plan is sound.
+        let _ = plan.placed();
+        let mut versions = Vec::new(alloc);
+        versions.push(Version::new(alloc, 1, plan, switches)?)?;
+        Ok(Controller {
+            marks: Marks::begin(switches),
+            switches,
+            versions,
+        })
+    }
+
+    /// What is known of the switches, and how far the versions are.
+    pub fn marks(&self) -> &Marks
+        ensures { result.now ≡ self.now.marks }
+    {
+        &self.marks
+    }
+
+    /// How many switches there are.
+    pub fn switches(&self) -> u32
+        ensures { result ≡ length self.now.marks.switches }
+    {
+        self.switches
+    }
+
+    /// One more version, of which this is the plan: it goes to each switch that isn't over. A clone
+    /// of a plan shares it.
+    ///
+    /// # Errors
+    /// `TooManyLive` exactly where 8 versions are not retired; otherwise `TooManyVersions` exactly
+    /// where there are 64. Nothing changed then.
+    pub fn submit(&mut self, alloc: Global, plan: Plan) -> Result<Sends, SubmitError>
+        ensures after { OnOk result (Submits self.old plan self.new) }
+        ensures sends { IfOk result (λ sends.
+            sends ≡ submitting self.old.marks plan self.new.marks) }
+        ensures live { (result ≡ Err TooManyLive)
+            ↔ (self.old.marks.count - self.old.marks.retired ≡ 8) }
+        ensures versions { (result ≡ Err TooManyVersions)
+            ↔ ((self.old.marks.count - self.old.marks.retired ≢ 8) × (self.old.marks.count ≡ 64)) }
+        ensures refused { IfErr result (IsLeft self.old plan self.new) }
+        ensures rule { StaysController self.old self.new }
+    {
+        if let Some(error) = self.marks.refusal() {
+            return Err(error.into());
+        }
+        let sends = self.add(alloc, plan)?;
+        Ok(sends)
+    }
+
+    /// A message came: what it tells is taken in, and the marks settle. After a hello of a new
+    /// boot the switch is sent each version from the current one on. A body that isn't for the
+    /// controller gives no sends and no change.
+    ///
+    /// # Errors
+    /// Want of memory alone; what was told is taken in.
+    pub fn hear(&mut self, alloc: Global, body: &Body) -> Result<Sends, AllocError>
+        requires { NamesThere body.now self.old.marks }
+        ensures after { SettlesWith
+            (after_hearing body.now self.old.marks) self.old.plans self.new }
+        ensures sends { IfOk result (λ sends. sends ≡ hearing body.now self.old.marks self.new) }
+        ensures others { IsFalse (is_for_controller body.now) → self.new ≡ self.old }
+        ensures silent { IsFalse (is_for_controller body.now)
+            → IfOk result (λ sends. sends ≡ []) }
+        ensures rule { StaysController self.old self.new }
+    {
+        match body {
+            Body::Hello { switch, boot } => self.hello(alloc, *switch, *boot),
+            Body::Installed {
+                switch,
+                boot,
+                version,
+            } => self.installed(alloc, *switch, *boot, *version),
+            Body::Stamped {
+                switch,
+                boot,
+                version,
+            } => self.stamped(alloc, *switch, *boot, *version),
+            _ => Ok(self.unheard(alloc)),
+        }
+    }
+
+    /// The switch is confirmed to be gone until it tells a greater boot.
+    ///
+    /// # Errors
+    /// Want of memory alone; the switch is over.
+    pub fn over(&mut self, alloc: Global, s: u32) -> Result<Sends, AllocError>
+        requires { s < length self.old.marks.switches }
+        ensures after { SettlesWith
+            (at_switch s after_over self.old.marks) self.old.plans self.new }
+        ensures sends { IfOk result (λ sends.
+            sends ≡ settling (at_switch s after_over self.old.marks) self.new.marks) }
+        ensures rule { StaysController self.old self.new }
+    {
+        let settled = self.marks.over(s);
+        let mut acts = Vec::new(alloc);
+        settle(
+            &mut acts,
+            &mut self.versions,
+            &self.marks,
+            self.switches,
+            &settled,
+        )?;
+        Ok(Sends::new(acts))
+    }
+
+    /// What the switch may lack, once more: nothing that it acknowledged.
+    ///
+    /// # Errors
+    /// Want of memory alone.
+    pub fn resend(&self, alloc: Global, s: u32) -> Result<Sends, AllocError>
+        requires { s < length self.now.marks.switches }
+        ensures { IfOk result (λ sends. sends ≡ resending self.now s) }
+    {
+        match self.marks.phase(s) {
+            Phase::Joining => self.resend_to_joining(alloc, s),
+            Phase::Member => self.resend_to_member(alloc, s),
+            Phase::Over => Ok(Sends::new(Vec::new(alloc))),
+        }
+    }
+
+    fn resend_to_joining(&self, alloc: Global, s: u32) -> Result<Sends, AllocError>
+        requires { s < length self.now.marks.switches }
+        ensures { IfOk result (λ sends. sends ≡ resending_to Joining self.now s) }
+    {
+        let mut acts = Vec::new(alloc);
+        let current = self.marks.current();
+        install_missing(&mut acts, alloc, &self.marks, &self.versions, s, current)?;
+        Ok(Sends::new(acts))
+    }
+
+    fn resend_to_member(&self, alloc: Global, s: u32) -> Result<Sends, AllocError>
+        requires switch { s < length self.now.marks.switches }
+        requires member { IsTrue (is_member (record_of self.now.marks s).phase) }
+        ensures { IfOk result (λ sends. sends ≡ resending_to Member self.now s) }
+    {
+        let mut acts = Vec::new(alloc);
+        let next = self.marks.current() + 1;
+        let boot = self.marks.boot(s);
+        let version = self.marks.open_version(s);
+        acts.push(Act::post(s, Body::OpenAt { boot, version }))?;
+        install_missing(&mut acts, alloc, &self.marks, &self.versions, s, next)?;
+        stamp_again(&mut acts, &self.marks, s)?;
+        collect_again(&mut acts, &self.marks, s)?;
+        Ok(Sends::new(acts))
+    }
+
+    // One more version, which the marks don't refuse.
+    fn add(&mut self, alloc: Global, plan: Plan) -> Result<Sends, AllocError>
+        requires live { self.old.marks.count - self.old.marks.retired ≢ 8 }
+        requires versions { self.old.marks.count ≢ 64 }
+        ensures after { OnOk result (Submits self.old plan self.new) }
+        ensures sends { IfOk result (λ sends.
+            sends ≡ submitting self.old.marks plan self.new.marks) }
+        ensures left { OnErr result (IsLeft self.old plan self.new NoMemory) }
+        ensures rule { StaysController self.old self.new }
+    {
+        // The plan is sound.
+        let _ = plan.placed();
+        let version = Version::new(alloc, self.marks.count() + 1, plan, self.switches)?;
+        let mut acts = install_each(alloc, &self.marks, self.switches, &version)?;
+        self.versions.push(version)?;
+        let settled = add_version(&mut self.marks);
+        settle(
+            &mut acts,
+            &mut self.versions,
+            &self.marks,
+            self.switches,
+            &settled,
+        )?;
+        Ok(Sends::new(acts))
+    }
+
+    // A body that isn't for the controller causes nothing: settled marks stay as they are.
+    fn unheard(&self, alloc: Global) -> Sends
+        ensures none { result ≡ [] }
+        ensures idle { settling self.now.marks self.now.marks ≡ [] }
+        ensures after { SettlesWith self.now.marks self.now.plans self.now }
+        ensures rule { IsController self.now }
+    {
+        let _ = &self.marks;
+        settling_laws();
+        Sends::new(Vec::new(alloc))
+    }
+
+    fn hello(&mut self, alloc: Global, s: u32, boot: u32) -> Result<Sends, AllocError>
+        requires { s < length self.old.marks.switches }
+        ensures after { SettlesWith
+            (after_hearing (Hello s boot) self.old.marks) self.old.plans self.new }
+        ensures sends { IfOk result (λ sends.
+            sends ≡ hearing (Hello s boot) self.old.marks self.new) }
+        ensures rule { StaysController self.old self.new }
+    {
+        let settled = self.marks.hello(s, boot);
+        let mut acts = Vec::new(alloc);
+        settle(
+            &mut acts,
+            &mut self.versions,
+            &self.marks,
+            self.switches,
+            &settled,
+        )?;
+        if settled.taken {
+            install_all(&mut acts, alloc, &self.versions, s, boot)?;
+        }
+        Ok(Sends::new(acts))
+    }
+
+    fn installed(
+        &mut self,
+        alloc: Global,
+        s: u32,
+        boot: u32,
+        version: u32,
+    ) -> Result<Sends, AllocError>
+        requires { NamesBoth s version self.old.marks }
+        ensures after { SettlesWith
+            (after_hearing (Installed s boot version) self.old.marks) self.old.plans self.new }
+        ensures sends { IfOk result (λ sends.
+            sends ≡ hearing (Installed s boot version) self.old.marks self.new) }
+        ensures rule { StaysController self.old self.new }
+    {
+        let settled = self.marks.installed(s, boot, version);
+        let mut acts = Vec::new(alloc);
+        settle(
+            &mut acts,
+            &mut self.versions,
+            &self.marks,
+            self.switches,
+            &settled,
+        )?;
+        Ok(Sends::new(acts))
+    }
+
+    fn stamped(
+        &mut self,
+        alloc: Global,
+        s: u32,
+        boot: u32,
+        version: u32,
+    ) -> Result<Sends, AllocError>
+        requires { NamesBoth s version self.old.marks }
+        ensures after { SettlesWith
+            (after_hearing (Stamped s boot version) self.old.marks) self.old.plans self.new }
+        ensures sends { IfOk result (λ sends.
+            sends ≡ hearing (Stamped s boot version) self.old.marks self.new) }
+        ensures rule { StaysController self.old self.new }
+    {
+        let settled = self.marks.stamped(s, boot, version);
+        let mut acts = Vec::new(alloc);
+        settle(
+            &mut acts,
+            &mut self.versions,
+            &self.marks,
+            self.switches,
+            &settled,
+        )?;
+        Ok(Sends::new(acts))
+    }
+}
+
+// One more version of marks that don't refuse it.
+fn add_version(marks: &mut Marks) -> Settled
+    requires live { marks.old.count - marks.old.retired ≢ 8 }
+    requires versions { marks.old.count ≢ 64 }
+    ensures settled { Settles (with_version marks.old) marks.new result }
+    ensures rule { StaySettled marks.old marks.new }
+{
+    match marks.submit() {
+        Ok(settled) => settled,
+        Err(version_update::SubmitError::TooManyLive) => unreachable!(),
+        Err(version_update::SubmitError::TooManyVersions) => unreachable!(),
+    }
+}
+
+// The version to each switch that isn't over.
+fn install_each(
+    alloc: Global,
+    marks: &Marks,
+    switches: u32,
+    version: &Version,
+) -> Result<Vec<Act>, AllocError>
+    requires { switches ≡ length marks.now.switches }
+    ensures { IfOk result (λ acts. acts.items
+        ≡ map (λ s. install s (boot_of marks.now s) version.now)
+        (those (λ known. not (is_over known.phase)) marks.now.switches)) }
+{
+    let mut acts = Vec::new(alloc);
+    for s in 0..switches {
+        if is_there(marks.phase(s)) {
+            acts.push(version.install(alloc, s, marks.boot(s))?)?;
+        }
+    }
+    Ok(acts)
+}
+
+// Whether a switch that stands so isn't over.
+fn is_there(phase: Phase) -> bool
+    ensures { result ≡ not (is_over phase) }
+{
+    phase != Phase::Over
+}
+
+// All versions to one switch.
+fn install_all(
+    acts: &mut Vec<Act>,
+    alloc: Global,
+    versions: &[Version],
+    s: u32,
+    boot: u32,
+) -> Result<(), AllocError>
+    ensures { OnOk result (acts.new.items ≡ acts.old.items ++ map (install s boot) versions.now) }
+{
+    for kept in versions {
+        acts.push(kept.install(alloc, s, boot)?)?;
+    }
+    Ok(())
+}

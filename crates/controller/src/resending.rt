@@ -1,0 +1,81 @@
+//! What a switch may lack is sent again.
+ghost use Rattle.std.specs.Prelude.{◌≡◌, ◌++◌, ◌+◌, ◌<◌, ◌≤◌, ◌&&◌, not, nat_le, length, map, filter, All, IsTrue, OnOk};
+ghost use Rattle.version_update.specs.Record.{is_member};
+ghost use Rattle.version_update.specs.Marks.{record_of};
+ghost use Rattle.controller.specs.Sends.{is_missing, missing, stamp_again, collect_again};
+
+use crate::sends::Act;
+use crate::version::Version;
+use ctrl_msg::Body;
+use std::alloc::{AllocError, Global};
+use version_update::Marks;
+
+/// Adds the versions from this one on that the switch did not acknowledge.
+///
+/// # Errors
+/// Want of memory alone.
+pub fn install_missing(
+    acts: &mut Vec<Act>,
+    alloc: Global,
+    marks: &Marks,
+    versions: &[Version],
+    s: u32,
+    first: u32,
+) -> Result<(), AllocError>
+    requires switch { s < length marks.now.switches }
+    requires versions { All (λ kept. (1 ≤ kept.version) × (kept.version ≤ marks.now.count))
+        versions.now }
+    ensures { OnOk result (acts.new.items ≡ acts.old.items
+        ++ missing (record { marks = marks.now; plans = versions.now }) s first) }
+{
+    let boot = marks.boot(s);
+    for kept in versions {
+        if is_missing(marks, kept.version(), s, first) {
+            acts.push(kept.install(alloc, s, boot)?)?;
+        }
+    }
+    Ok(())
+}
+
+// Whether the switch is to have the version and did not acknowledge it.
+fn is_missing(marks: &Marks, version: u32, s: u32, first: u32) -> bool
+    requires switch { s < length marks.now.switches }
+    requires one { 1 ≤ version }
+    requires last { version ≤ marks.now.count }
+    ensures { result ≡ is_missing (record_of marks.now s) first version }
+{
+    first <= version && !marks.has_acked(s, version)
+}
+
+/// Adds the current stamp, where the member acknowledged a lower one.
+///
+/// # Errors
+/// Want of memory alone.
+pub fn stamp_again(acts: &mut Vec<Act>, marks: &Marks, s: u32) -> Result<(), AllocError>
+    requires switch { s < length marks.now.switches }
+    requires member { IsTrue (is_member (record_of marks.now s).phase) }
+    ensures { OnOk result (acts.new.items ≡ acts.old.items ++ stamp_again marks.now s) }
+{
+    let boot = marks.boot(s);
+    let version = marks.current();
+    if marks.acked_stamp(s) < version {
+        acts.push(Act::post(s, Body::Stamp { boot, version }))?;
+    }
+    Ok(())
+}
+
+/// Adds that the tables of the retired versions are to be dropped, where there are any.
+///
+/// # Errors
+/// Want of memory alone.
+pub fn collect_again(acts: &mut Vec<Act>, marks: &Marks, s: u32) -> Result<(), AllocError>
+    requires { s < length marks.now.switches }
+    ensures { OnOk result (acts.new.items ≡ acts.old.items ++ collect_again marks.now s) }
+{
+    let boot = marks.boot(s);
+    let version = marks.retired();
+    if version > 0 {
+        acts.push(Act::post(s, Body::Collect { boot, version }))?;
+    }
+    Ok(())
+}

@@ -1,0 +1,153 @@
+//! What is sent as the marks settle.
+ghost use Rattle.std.specs.Prelude.{◌≡◌, ◌++◌, ◌==◌, ◌<◌, length, OnOk};
+ghost use Rattle.std.specs.Int.{bit_at};
+ghost use Rattle.std.specs.List.{range_with_len};
+ghost use Rattle.version_update.specs.Marks.{MarksValue};
+ghost use Rattle.version_update.specs.Settling.{Settles};
+ghost use Rattle.controller.specs.Controller.{plans_from};
+ghost use Rattle.controller.specs.News.{body_of, named};
+ghost use Rattle.controller.specs.Sends.{tell, stamps, opens, collects, settling};
+
+use crate::sends::Act;
+use crate::version::Version;
+use ctrl_msg::Body;
+use std::alloc::AllocError;
+use version_update::{Marks, Settled};
+
+/// What several switches are told at once.
+#[derive(Clone, Copy)]
+pub enum News {
+    Stamp,
+    OpenAt,
+    Collect,
+}
+
+impl News {
+    fn body(self, boot: u32, version: u32) -> Body
+        ensures { result ≡ body_of self version boot }
+    {
+        match self {
+            News::Stamp => Body::Stamp { boot, version },
+            News::OpenAt => Body::OpenAt { boot, version },
+            News::Collect => Body::Collect { boot, version },
+        }
+    }
+}
+
+/// The marks settled, and this is the answer: adds what is then sent, and lets the versions before
+/// the current one go.
+///
+/// # Errors
+/// Want of memory alone; the versions are let go.
+pub fn settle(
+    acts: &mut Vec<Act>,
+    versions: &mut Vec<Version>,
+    marks: &Marks,
+    switches: u32,
+    settled: &Settled,
+) -> Result<(), AllocError>
+    requires { switches ≡ length marks.now.switches }
+    ensures acts { OnOk result ((before : MarksValue) → Settles before marks.now settled.now
+        → acts.new.items ≡ acts.old.items ++ settling before marks.now) }
+    ensures versions { versions.new.items ≡ plans_from marks.now.current versions.old.items }
+{
+    let_go(versions, marks.current());
+    stamp(acts, marks, switches, settled)?;
+    open(acts, marks, switches, settled)?;
+    collect(acts, marks, switches, settled)?;
+    Ok(())
+}
+
+// Lets the versions before the current one go: no later call names them.
+fn let_go(versions: &mut Vec<Version>, current: u32)
+    ensures { versions.new.items ≡ plans_from current versions.old.items }
+{
+    versions.retain(|kept| current <= kept.version());
+}
+
+fn stamp(
+    acts: &mut Vec<Act>,
+    marks: &Marks,
+    switches: u32,
+    settled: &Settled,
+) -> Result<(), AllocError>
+    requires { switches ≡ length marks.now.switches }
+    ensures { OnOk result ((before : MarksValue) → Settles before marks.now settled.now
+        → acts.new.items ≡ acts.old.items ++ stamps before marks.now) }
+{
+    if let Some(current) = settled.current {
+        acts.push(Act::Current(current))?;
+        tell(acts, marks, switches, settled.stamps, News::Stamp, current)?;
+    }
+    Ok(())
+}
+
+fn open(
+    acts: &mut Vec<Act>,
+    marks: &Marks,
+    switches: u32,
+    settled: &Settled,
+) -> Result<(), AllocError>
+    requires { switches ≡ length marks.now.switches }
+    ensures { OnOk result ((before : MarksValue) → Settles before marks.now settled.now
+        → acts.new.items ≡ acts.old.items ++ opens before marks.now) }
+{
+    let current = marks.current();
+    tell(acts, marks, switches, settled.opens, News::OpenAt, current)?;
+    Ok(())
+}
+
+fn collect(
+    acts: &mut Vec<Act>,
+    marks: &Marks,
+    switches: u32,
+    settled: &Settled,
+) -> Result<(), AllocError>
+    requires { switches ≡ length marks.now.switches }
+    ensures { OnOk result ((before : MarksValue) → Settles before marks.now settled.now
+        → acts.new.items ≡ acts.old.items ++ collects before marks.now) }
+{
+    if let Some(retired) = settled.retired {
+        acts.push(Act::Retired(retired))?;
+        tell(
+            acts,
+            marks,
+            switches,
+            settled.collects,
+            News::Collect,
+            retired,
+        )?;
+    }
+    Ok(())
+}
+
+// Tells the switches of the mask, each in the boot that is known of it.
+fn tell(
+    acts: &mut Vec<Act>,
+    marks: &Marks,
+    switches: u32,
+    mask: u64,
+    news: News,
+    version: u32,
+) -> Result<(), AllocError>
+    requires { switches ≡ length marks.now.switches }
+    ensures { OnOk result (acts.new.items
+        ≡ acts.old.items ++ tell marks.now (body_of news version) (named mask switches)) }
+{
+    // There are at most 64 switches.
+    let _ = marks.count();
+    for s in 0..switches {
+        if is_named(mask, s) {
+            acts.push(Act::post(s, news.body(marks.boot(s), version)))?;
+        }
+    }
+    Ok(())
+}
+
+// Whether the mask names the switch.
+fn is_named(mask: u64, s: u32) -> bool
+    requires { s < 64 }
+    ensures { result ≡ (bit_at mask s == 1) }
+{
+    (mask >> s) & 1 == 1
+}

@@ -1,0 +1,102 @@
+ghost use Rattle.std.specs.Prelude.{◌≡◌, IfOk};
+ghost use Rattle.switch_table.specs.Tables.{tables_of};
+ghost use Rattle.controller.specs.Controller.{tables_by_switch};
+ghost use Rattle.controller.specs.Sends.{install};
+
+use crate::plan::Plan;
+use crate::sends::Act;
+use crate::tables::tables_of;
+use ctrl_msg::{Body, SharedTables};
+use std::alloc::{AllocError, Global};
+use std::marker::Model;
+
+/// A version with its plan. The tables of each switch are made once, and shared by each `Install`
+/// that carries them. Contracts see the version and the plan.
+#[derive(Drop)]
+pub struct Version {
+    version: u32,
+    plan: Plan,
+    /// By the switches' numbers, for as many switches as there are.
+    made: Vec<SharedTables>,
+}
+
+impl Model for Version {
+    ghost use Rattle.std.specs.Prelude.{◌≡◌, length};
+    ghost use Rattle.controller.specs.Controller.{KeptPlan, tables_by_switch};
+
+    ghost Value = { KeptPlan };
+
+    ghost view = { λ v. record { version = v.version; plan = v.plan } };
+
+    ghost invariant = { λ v. v.made.items ≡ tables_by_switch
+        (record { version = v.version; plan = v.plan }) (length v.made.items) };
+}
+
+impl Version {
+    /// This version with this plan, and the tables of so many switches.
+    ///
+    /// # Errors
+    /// Want of memory alone.
+    pub fn new(
+        alloc: Global,
+        version: u32,
+        plan: Plan,
+        switches: u32,
+    ) -> Result<Version, AllocError>
+        ensures { IfOk result (λ kept. kept ≡ record { version = version; plan = plan }) }
+    {
+        let made = make_each(alloc, version, &plan, switches)?;
+        Ok(Version {
+            version,
+            plan,
+            made,
+        })
+    }
+
+    pub fn version(&self) -> u32
+        ensures { result ≡ self.now.version }
+    {
+        self.version
+    }
+
+    /// The message that carries a switch's tables, for this boot.
+    ///
+    /// # Errors
+    /// Want of memory alone.
+    pub fn install(&self, alloc: Global, s: u32, boot: u32) -> Result<Act, AllocError>
+        ensures { IfOk result (λ act. act ≡ install s boot self.now) }
+    {
+        let tables = self.tables(alloc, s)?;
+        Ok(Act::post(s, Body::Install { boot, tables }))
+    }
+
+    // The tables of a switch: those that were made, where they were.
+    fn tables(&self, alloc: Global, s: u32) -> Result<SharedTables, AllocError>
+        ensures { IfOk result (λ tables.
+            tables ≡ tables_of self.now.plan.placed self.now.version s) }
+    {
+        if let Some(tables) = self.made.get(s as usize) {
+            let tables = tables.clone()?;
+            return Ok(tables);
+        }
+        SharedTables::new(alloc, tables_of(alloc, &self.plan, self.version, s)?)
+    }
+}
+
+// The tables of each switch.
+fn make_each(
+    alloc: Global,
+    version: u32,
+    plan: &Plan,
+    switches: u32,
+) -> Result<Vec<SharedTables>, AllocError>
+    ensures { IfOk result (λ made. made.items
+        ≡ tables_by_switch (record { version = version; plan = plan.now }) switches) }
+{
+    let mut made = Vec::with_capacity(alloc, switches as usize)?;
+    for s in 0..switches {
+        let tables = tables_of(alloc, plan, version, s)?;
+        made.push(SharedTables::new(alloc, tables)?)?;
+    }
+    Ok(made)
+}
