@@ -1,0 +1,64 @@
+-- A body for each neighbour below a number.
+use Rattle.std.proofs.Common.{◌≡◌, ◌∙◌, ℕ, zero, suc, ◌+◌, ◌≤◌, Bool, true, false, cond, List, [], ◌∷◌, ◌++◌, map, filter, refl, ap, arith, append-nil}
+use Rattle.std.specs.List.{range_with_len}
+use Rattle.std.proofs.lemmas.List.Elements.{filter-append}
+use Rattle.std.proofs.lemmas.List.{map-append}
+use Rattle.failover.specs.Masks.{has, switches}
+use Rattle.ctrl_msg.specs.declared.message.Body.{Body}
+use Rattle.ctrl_msg.specs.declared.message.Message.{Message}
+use Rattle.ctrl_msg.specs.declared.message.Place.TheVariants.{Switch}
+use Rattle.switch_core.specs.Hearing.{flood}
+
+abbrev for_switch : Body → ℕ → Message
+for_switch body other = record { to = Switch other; body = body }
+
+-- the messages for the neighbours below n
+unfoldable pub told : ℕ → Body → ℕ → List Message
+told near body n = map (for_switch body) (filter (has near) (range_with_len 0 n))
+
+range_more : (a n : ℕ) → range_with_len a (suc n) ≡ range_with_len a n ++ (a + n) ∷ []
+range_more a zero = grind arith
+range_more a (suc n) =
+    let same : a + 1 + n ≡ a + suc n = omega arith in
+    let more : range_with_len (a + 1) (suc n) ≡ range_with_len (a + 1) n ++ (a + suc n) ∷ [] =
+    range_more (a + 1) n ∙ ap (λ (k : ℕ). range_with_len (a + 1) n ++ k ∷ []) same in
+    ap (λ (xs : List ℕ). a ∷ xs) more
+
+-- one more switch
+told_one : (near : ℕ) (body : Body) (n : ℕ) →
+    told near body (n + 1)
+    ≡ told near body n ++ map (for_switch body) (filter (has near) (n ∷ []))
+unfolding told
+told_one near body n =
+    let one : n + 1 ≡ suc n = omega arith in
+    let same : 0 + n ≡ n = omega arith in
+    let range : range_with_len 0 (n + 1) ≡ range_with_len 0 n ++ n ∷ [] =
+    ap (range_with_len 0) one ∙ range_more 0 n
+    ∙ ap (λ (k : ℕ). range_with_len 0 n ++ k ∷ []) same in
+    ap (λ (xs : List ℕ). map (for_switch body) (filter (has near) xs)) range
+    ∙ ap (map (for_switch body)) (filter-append (has near) (range_with_len 0 n) (n ∷ []))
+    ∙ map-append (for_switch body) (filter (has near) (range_with_len 0 n))
+    (filter (has near) (n ∷ []))
+
+pub told_none : (near : ℕ) (body : Body) → told near body 0 ≡ []
+unfolding told
+told_none near body = refl
+
+pub told_near : (near : ℕ) (body : Body) (n : ℕ) → has near n ≡ true →
+    told near body (n + 1) ≡ told near body n ++ record { to = Switch n; body = body } ∷ []
+told_near near body n is =
+    told_one near body n ∙ ap (λ (b : Bool). told near body n
+    ++ map (for_switch body) (cond b (n ∷ []) [])) is
+
+pub told_far : (near : ℕ) (body : Body) (n : ℕ) → has near n ≡ false →
+    told near body (n + 1) ≡ told near body n
+told_far near body n is =
+    told_one near body n ∙ ap (λ (b : Bool). told near body n
+    ++ map (for_switch body) (cond b (n ∷ []) [])) is ∙ append-nil (told near body n)
+
+pub told_all : (near : ℕ) (body : Body) (n : ℕ) → 64 ≤ n → n ≤ 64 →
+    told near body n ≡ flood near body
+unfolding told flood switches
+told_all near body n least most =
+    let all : n ≡ 64 = omega arith in
+    ap (λ (k : ℕ). map (for_switch body) (filter (has near) (range_with_len 0 k))) all

@@ -1,0 +1,125 @@
+-- What a switch finds among its tables, and a partition of its own by the number.
+use Rattle.std.proofs.Common.{ℕ, suc, ◌≡◌, ◌≢◌, ◌∙◌, ◌-◌, ◌^◌, ◌<◌, ◌==◌, length, Bool, true, false, cond, Option, Some, None, IsSome, List, [], ◌∷◌, find, position, unwrap_or, slice_get, get_or, refl, ap, sym, subst, inl, inr, arith, All, AllPairs, Contains, eqb-true}
+use Rattle.std.specs.Bool.{IsTrue}
+use Rattle.std.specs.Option.{IsSomeAnd, option_and_then, option_map_or}
+use Rattle.std.proofs.lemmas.Bool.{cases_lt}
+use Rattle.std.proofs.lemmas.Bool.Decides.{nat_tests}
+use Rattle.std.proofs.lemmas.List.Elements.{All-contains}
+use Rattle.five_tuple.specs.Header.{IsHeader, number_of}
+use Rattle.five_tuple.specs.declared.header.Header.{Header}
+use Rattle.policy_rules.proofs.CallerLemmas.{find-position}
+use Rattle.policy_rules.specs.Partitions.{is_in}
+use Rattle.policy_rules.specs.Rules.{first_rule, is_held}
+use Rattle.policy_rules.specs.declared.rules.Partition.{Partition}
+use Rattle.policy_rules.specs.declared.rules.Rule.{Rule}
+use Rattle.switch_table.proofs.TableLemmas.{find-there}
+use Rattle.switch_table.specs.Cache.{first_entry}
+use Rattle.switch_table.specs.Lookup.{authority_of, redirect_of, lookup_of, table_lookup}
+use Rattle.switch_table.specs.Tables.{AreSoundTables, DecidesAll}
+use Rattle.switch_table.specs.declared.cache.CacheEntry.{CacheEntry}
+use Rattle.switch_table.specs.declared.tables.Tables.{Tables}
+use Rattle.switch_table.specs.declared.search.Found.TheVariants.{Cached}
+use Rattle.switch_core.specs.Deciding.{IsFirstHit, IsFound, first_place, own_part}
+
+-- tables that are found are sound, as all of them are
+pub sound_found : (list : List Tables) (version : ℕ) (tables : Tables) → All AreSoundTables list →
+    Some tables ≡ find (λ tables. tables.version == version) list → AreSoundTables tables
+sound_found list version tables sound is =
+    All-contains AreSoundTables list tables sound
+    (find-there (λ (tables : Tables). tables.version == version) list tables (sym is)).0
+
+-- ---- a switch's own partitions
+
+-- a partition is the first of its number
+find_numbered : (parts : List Partition) (part : Partition) →
+    AllPairs (λ a b. a.number ≢ b.number) parts → Contains parts part →
+    find (λ other. other.number == part.number) parts ≡ Some part
+find_numbered [] part distinct there = absurd (omega (arith, there.1))
+find_numbered (first ∷ parts) part distinct there =
+    by_case (first.number == part.number) refl (find_numbered parts part)
+  where
+    same : first.number ≡ part.number → first ≡ part
+    same number = elim (cases_lt 0 there.0) [
+      | inl later ↦ absurd (distinct 0 there.0 part later there.1
+          (number ∙ ap (λ (p : Partition). p.number) (sym there.2)))
+      | inr at ↦ let zero : there.0 ≡ 0 = omega arith in
+          ap (λ k. get_or (first ∷ parts) k part) (sym zero) ∙ there.2
+    ]
+
+    later : first.number ≢ part.number → Contains parts part
+    later other = elim (cases_lt 0 there.0) [
+      | inl after ↦ let is : there.0 ≡ suc (there.0 - 1) = omega arith in (
+        there.0 - 1,
+        omega (arith, there.1),
+        ap (λ k. get_or (first ∷ parts) k part) (sym is) ∙ there.2,
+      )
+      | inr at ↦ let zero : there.0 ≡ 0 = omega arith in
+          absurd (other (ap (λ (p : Partition). p.number)
+          (ap (λ k. get_or (first ∷ parts) k part) (sym zero) ∙ there.2)))
+    ]
+
+    by_case : (b : Bool) → (first.number == part.number) ≡ b →
+        (AllPairs (λ a b. a.number ≢ b.number) parts → Contains parts part →
+        find (λ other. other.number == part.number) parts ≡ Some part) →
+        cond b (Some first) (find (λ other. other.number == part.number) parts) ≡ Some part
+    by_case true is rest = ap Some (same (eqb-true _ _ is))
+    by_case false is rest =
+        rest (λ i j d less within. distinct (suc i) (suc j) d (omega arith) (omega arith))
+        (later (λ number. grind (arith, nat_tests)))
+
+-- where some rule holds the header, the first place is that of the first such rule
+first_hit : (header : Header) (part : Partition) → IsTrue (is_in header part) →
+    IsSome (first_rule part.rules header) → IsFirstHit header part (first_place header part)
+first_hit header part held some = record {
+  region = held;
+  first = by_case (position (is_held (number_of header)) part.rules)
+      (find-position (is_held (number_of header)) part.rules);
+}
+  where
+    by_case : (place : Option ℕ) →
+        option_and_then (slice_get part.rules) place ≡ first_rule part.rules header →
+        place ≡ Some (unwrap_or place 0)
+    by_case (Some place) leads = refl
+    by_case None leads =
+        let nothing : Option Rule = None in
+        let none : IsSome nothing = subst (λ (r : Option Rule). IsSome r) (sym leads) some in
+        absurd (cc)
+
+-- a partition of one's own has a first hit for each header of its region
+pub own_hit : (tables : Tables) (number : ℕ) (part : Partition) (header : Header) →
+    AreSoundTables tables → IsHeader header → own_part tables number ≡ Some part →
+    IsTrue (is_in header part) → IsFirstHit header part (first_place header part)
+own_hit tables number part header sound is found held =
+    let there = (find-there (λ (p : Partition). p.number == number) tables.auth part found).0 in
+    first_hit header part held
+    (All-contains DecidesAll tables.auth part sound.decides there header is held)
+
+-- what a lookup in sound tables finds
+pub lookup_is_found : (entries : List CacheEntry) (tables : Tables) (header : Header) →
+    AreSoundTables tables → IsHeader header →
+    IsFound tables header (lookup_of entries tables header)
+lookup_is_found entries tables header sound is =
+    by_entry (first_entry tables.version (number_of header) entries)
+  where
+    by_part : (part : Option Partition) → find (is_in header) tables.auth ≡ part →
+        IsFound tables header
+        (option_map_or (authority_of header) part (redirect_of header tables.parts))
+    by_part None none = tt
+    by_part (Some part) found =
+        let there = find-there (is_in header) tables.auth part found in
+        let own : own_part tables part.number ≡ Some part =
+        find_numbered tables.auth part sound.distinct there.0 in
+        subst (λ (o : Option Partition). IsSomeAnd o
+        (λ p. IsFirstHit header p (first_place header part))) (sym own)
+        (own_hit tables part.number part header sound is own there.1)
+
+    by_entry : (entry : Option CacheEntry) →
+        IsFound tables header (option_map_or Cached entry (table_lookup tables header))
+    by_entry (Some entry) = tt
+    by_entry None = by_part (find (is_in header) tables.auth) refl
+
+pub own_few : (tables : Tables) (number : ℕ) (part : Partition) → AreSoundTables tables →
+    own_part tables number ≡ Some part → length part.rules < 2 ^ 32
+own_few tables number part sound found =
+    All-contains (λ (p : Partition). length p.rules < 2 ^ 32) tables.auth part sound.few_rules
+    (find-there (λ (p : Partition). p.number == number) tables.auth part found).0

@@ -1,0 +1,6 @@
+pub mod Held
+pub mod OwnAdverts
+pub mod Flooding
+pub mod SwitchLaws
+pub mod Holding
+pub mod TestTables

@@ -1,0 +1,154 @@
+-- The laws of one switch.
+use Rattle.std.proofs.Common.{◌≡◌, ◌∙◌, ℕ, ◌<◌, ◌≤◌, ◌↔◌, Bool, true, false, ◌&&◌, cond, Option, Some, None, option_map, List, [], ◌∷◌, ◌++◌, filter, refl, sym, subst, arith, All, nat_lt, max}
+use Rattle.std.specs.Bool.{IsTrue}
+use Rattle.std.specs.List.{list_all, slice_index}
+use Rattle.std.specs.Option.{ok_or}
+use Rattle.std.specs.Result.{IsErr}
+use Rattle.std.proofs.lemmas.Bool.Decides.{nat_tests}
+use Rattle.std.proofs.lemmas.List.Sums.{AllPass-from_list_all, list_all-from_AllPass}
+use Rattle.failover.specs.declared.advert.Advert.{Advert}
+use Rattle.failover.specs.Adverts.{after_hearing, first_advert, first_adverts, is_newer}
+use Rattle.failover.specs.Links.{is_isolated}
+use Rattle.failover.specs.Routes.{route_of}
+use Rattle.failover.proofs.Adverts.{held-first}
+use Rattle.policy_rules.specs.declared.packet.Leg.{Leg}
+use Rattle.policy_rules.specs.declared.packet.Cause.{Cause}
+use Rattle.policy_rules.specs.declared.packet.Cause.TheVariants.{NoAuthority, NoRoute}
+use Rattle.ctrl_msg.specs.declared.message.Body.{Body}
+use Rattle.ctrl_msg.specs.declared.message.Body.TheVariants.{Install, OpenAt, Stamp, Collect, CacheRule, Advertise}
+use Rattle.switch_table.specs.Cache.{CacheValue, raised}
+use Rattle.switch_table.specs.declared.tables.Tables.{Tables}
+use Rattle.switch_core.specs.declared.packet.Packet.{Packet}
+use Rattle.switch_core.specs.Ends.{are_isolated, cause_of, is_seek, set_out}
+use Rattle.switch_core.specs.Hearing.{after_body, collected_to, heard, informed, installed, obeys, raised_to}
+use Rattle.switch_core.specs.Laws.{IsHeard}
+use Rattle.switch_core.specs.State.{HasOwnUpTo, SwitchValue, own_advert}
+
+-- ---- packets
+
+pub stuck_without_route : (s : SwitchValue) (near : ℕ) (packet : Packet) (leg : Leg)
+    (targets : List ℕ) → IsErr (set_out s near packet leg targets) ↔
+    (route_of s.database s.number targets near packet.down ≡ None)
+unfolding set_out
+stuck_without_route s near packet leg targets =
+    by_route _ _ (route_of s.database s.number targets near packet.down)
+  where
+    by_route : {X : Type 0} (f : List ℕ → X) (cause : Cause) (route : Option (List ℕ)) →
+        IsErr (ok_or (option_map f route) cause) ↔ (route ≡ None)
+    by_route f cause None = (λ _. refl, λ _. refl)
+    by_route f cause (Some route) = (λ h. cc, λ h. cc)
+
+pub no_authority_left : (s : SwitchValue) (near : ℕ) (down : List ℕ) (leg : Leg)
+    (targets : List ℕ) → (cause_of s near down leg targets ≡ NoAuthority) ↔
+    (IsTrue (is_seek leg)
+    × All (λ target. IsTrue (is_isolated s.database s.number target near down)) targets)
+unfolding cause_of are_isolated
+no_authority_left s near down leg targets =
+    let test = λ (target : ℕ). is_isolated s.database s.number target near down in
+    by_tests (is_seek leg) (list_all test targets) (AllPass-from_list_all test targets)
+    (list_all-from_AllPass test targets)
+  where
+    by_tests : {P : Type 0} (seek isolated : Bool) → (isolated ≡ true → P) → (P → isolated ≡ true) →
+        (cond (seek && isolated) NoAuthority NoRoute ≡ NoAuthority) ↔ (IsTrue seek × P)
+    by_tests true true all test = (λ _. (refl, all refl), λ _. refl)
+    by_tests true false all test =
+        (λ is. cc, λ both. absurd (let no : false ≡ true = test both.1 in cc))
+    by_tests false isolated all test =
+        (λ is. cc, λ both. absurd (let no : false ≡ true = both.0 in cc))
+
+-- ---- adverts
+
+pub own_first : (near : List ℕ) (count number : ℕ) → number < 64 →
+    HasOwnUpTo (first_adverts near count) number 1 1
+own_first near count number below advert is =
+    by_test (nat_lt number count) (sym (held-first near count number below) ∙ is)
+  where
+    by_test : (test : Bool) →
+        cond test (Some (first_advert number (slice_index near number))) None ≡ Some advert →
+        is_newer advert (own_advert number 1 1 0) ≡ false
+    by_test true is =
+        let it : first_advert number (slice_index near number) ≡ advert = cc in
+        subst (λ (a : Advert). is_newer a (own_advert number 1 1 0) ≡ false) it refl
+    by_test false is = absurd (cc)
+
+-- ---- messages
+
+-- what a message may change
+kept : (s : SwitchValue) (is_open : Bool) (stamp collected : ℕ) (tables : List Tables)
+    (cache : CacheValue) (database : List (Option Advert)) →
+    s.stamp ≤ stamp → s.collected ≤ collected →
+    IsHeard s (record s {
+      is_open = is_open;
+      stamp = stamp;
+      collected = collected;
+      tables = tables;
+      cache = cache;
+      database = database;
+    })
+kept s is_open stamp collected tables cache database stamped marked = record {
+  number = refl;
+  boot = refl;
+  is_up = refl;
+  seq = refl;
+  handled = refl;
+  stamp = stamped;
+  collected = marked;
+}
+
+same : (s : SwitchValue) → IsHeard s s
+same s = kept s s.is_open s.stamp s.collected s.tables s.cache s.database (omega arith)
+    (omega arith)
+
+either : (s one other : SwitchValue) (test : Bool) → IsHeard s one → IsHeard s other →
+    IsHeard s (cond test one other)
+either s one other true left right = left
+either s one other false left right = right
+
+raised_heard : (s : SwitchValue) (is_open : Bool) (version : ℕ) →
+    IsHeard s (record (raised_to s version) { is_open = is_open })
+unfolding raised_to
+raised_heard s is_open version = by_test (nat_lt s.stamp version) refl
+  where
+    by_test : (test : Bool) → nat_lt s.stamp version ≡ test →
+        IsHeard s (record (cond test
+        (record s { stamp = version; cache = raised version s.cache }) s) { is_open = is_open })
+    by_test true less = kept s is_open version s.collected s.tables (raised version s.cache)
+        s.database (grind (arith, nat_tests)) (omega arith)
+    by_test false more = kept s is_open s.stamp s.collected s.tables s.cache s.database
+        (omega arith) (omega arith)
+
+stamped_heard : (s : SwitchValue) (version : ℕ) → IsHeard s (raised_to s version)
+unfolding raised_to
+stamped_heard s version = by_test (nat_lt s.stamp version) refl
+  where
+    by_test : (test : Bool) → nat_lt s.stamp version ≡ test →
+        IsHeard s (cond test (record s { stamp = version; cache = raised version s.cache }) s)
+    by_test true less = kept s s.is_open version s.collected s.tables (raised version s.cache)
+        s.database (grind (arith, nat_tests)) (omega arith)
+    by_test false more = same s
+
+heard_body : (s : SwitchValue) (number : ℕ) (body : Body) → IsHeard s (after_body s number body)
+unfolding installed collected_to informed
+heard_body s number (Install boot tables) = either s _ _ _ (same s)
+    (kept s s.is_open s.stamp s.collected (s.tables ++ tables ∷ []) s.cache s.database
+    (omega arith) (omega arith))
+heard_body s number (OpenAt boot version) = raised_heard s true version
+heard_body s number (Stamp boot version) = stamped_heard s version
+heard_body s number (Collect boot version) = kept s s.is_open s.stamp (max s.collected version)
+    (filter (λ (tables : Tables). nat_lt (max s.collected version) tables.version) s.tables)
+    s.cache s.database (omega arith) (omega arith)
+heard_body s number (CacheRule version word rule action) =
+    kept s s.is_open s.stamp s.collected s.tables _ s.database (omega arith) (omega arith)
+heard_body s number (Advertise advert) = either s _ _ _
+    (kept s s.is_open s.stamp s.collected s.tables s.cache (after_hearing s.database advert)
+    (omega arith) (omega arith)) (same s)
+heard_body s number _ = same s
+
+pub heard_keeps : (s : SwitchValue) (number : ℕ) (body : Body) → IsHeard s (heard s number body)
+unfolding heard
+heard_keeps s number body = either s _ _ (obeys s body) (heard_body s number body) (same s)
+
+pub not_obeyed : (s : SwitchValue) (number : ℕ) (body : Body) → obeys s body ≡ false →
+    heard s number body ≡ s
+unfolding heard
+not_obeyed s number body other = rw other refl

@@ -1,0 +1,81 @@
+-- By which rule a switch decides a packet, and the rule that it sends to the cache of the switch
+-- where the packet entered (Yu, Rexford, Freedman and Wang, "Scalable Flow-Based Networking with
+-- DIFANE", SIGCOMM 2010).
+use Rattle.std.specs.Prelude.{ℕ, ◌≡◌, ◌==◌, if◌then◌else◌, Option, Some, None, unwrap_or, [], find, position, slice_index_or, IsTrue, IsSomeAnd}
+use Rattle.five_tuple.specs.Header.{number_of}
+use Rattle.five_tuple.specs.declared.header.Header.{Header}
+use Rattle.ternary.specs.Word.{any_word, holds}
+use Rattle.policy_rules.specs.Rules.{is_held}
+use Rattle.policy_rules.specs.declared.policy.Action.TheVariants.{Drop}
+use Rattle.policy_rules.specs.declared.packet.How.TheVariants.{Cached, Authority}
+use Rattle.policy_rules.specs.declared.rules.Partition.{Partition}
+use Rattle.policy_rules.specs.declared.rules.Rule.{Rule}
+use Rattle.switch_table.specs.declared.cache.CacheEntry.{CacheEntry}
+use Rattle.switch_table.specs.declared.search.Found.{Found}
+use Rattle.switch_table.specs.declared.search.Found.TheVariants.{Authority as ByAuthority}
+use Rattle.switch_table.specs.declared.tables.Tables.{Tables}
+use Rattle.cache_maker.specs.Independent.{widen}
+use Rattle.ctrl_msg.specs.declared.message.Body.{Body}
+use Rattle.ctrl_msg.specs.declared.message.Body.TheVariants.{CacheRule}
+use Rattle.switch_core.specs.declared.answers.Decision.{Decision}
+use Rattle.switch_core.specs.declared.packet.Packet.{Packet}
+
+-- ---- rules by their numbers
+
+abbrev pub no_rule : Rule
+no_rule = record { word = any_word; rank = 0; rule = None; action = Drop }
+
+abbrev pub no_part : Partition
+no_part = record { number = 0; region = any_word; rules = [] }
+
+-- a switch's own partition of this number
+abbrev pub own_part : Tables → ℕ → Option Partition
+own_part tables number = find (λ part. part.number == number) tables.auth
+
+abbrev pub part_numbered : Tables → ℕ → Partition
+part_numbered tables number = unwrap_or (own_part tables number) no_part
+
+abbrev pub rule_in : Partition → ℕ → Rule
+rule_in part place = slice_index_or part.rules place no_rule
+
+-- the place of its first rule that holds the header
+abbrev pub first_place : Header → Partition → ℕ
+first_place header part = unwrap_or (position (is_held (number_of header)) part.rules) 0
+
+-- ---- decisions
+
+-- a cached rule decides
+abbrev pub by_entry : CacheEntry → Decision
+by_entry entry = record {
+  version = entry.version;
+  rule = entry.rule;
+  action = entry.action;
+  how = Cached entry.message;
+}
+
+-- a rule of a partition decides, at one of its authority switches
+abbrev pub by_rule : ℕ → ℕ → ℕ → Rule → Decision
+by_rule switch version partition rule = record {
+  version = version;
+  rule = rule.rule;
+  action = rule.action;
+  how = Authority switch partition;
+}
+
+-- the rule at the place is the first of the partition to hold the header, which is in its region
+pub record IsFirstHit (header : Header) (part : Partition) (place : ℕ) : Type 0 where
+  pub region : IsTrue (holds part.region (number_of header))
+  pub first : position (is_held (number_of header)) part.rules ≡ Some place
+
+-- an authority rule that a lookup found is the first hit of one of the switch's own partitions
+abbrev pub IsFound : Tables → Header → Found → Type 0
+IsFound tables header (ByAuthority partition place) =
+    IsSomeAnd (own_part tables partition) (λ part. IsFirstHit header part place)
+IsFound tables header _ = Unit {0}
+
+-- the cache rule of a decision by the rule at a place: none for a packet that entered here
+unfoldable pub cache_rule : ℕ → Packet → ℕ → Partition → ℕ → Option Body
+cache_rule switch packet version part place =
+    let rule = rule_in part place in
+    let word = widen (number_of packet.header) part.region part.rules place in
+    if packet.ingress == switch then None else Some (CacheRule version word rule.rule rule.action)

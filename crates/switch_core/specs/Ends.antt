@@ -1,0 +1,75 @@
+-- Where a packet goes once it is decided, and why it is stuck: both rules in one place.
+use Rattle.std.specs.Prelude.{ℕ, Bool, true, false, ◌&&◌, ◌==◌, if◌then◌else◌, Option, Some, None, option_map, Result, Ok, Err, List, [], ◌∷◌}
+use Rattle.std.specs.List.{list_all}
+use Rattle.std.specs.Option.{ok_or}
+use Rattle.policy_rules.specs.declared.policy.Action.{Action}
+use Rattle.policy_rules.specs.declared.policy.Action.TheVariants.{Drop, Out as OutBy}
+use Rattle.policy_rules.specs.declared.packet.Leg.{Leg}
+use Rattle.policy_rules.specs.declared.packet.Leg.TheVariants.{Seek as SeekLeg, Exit as ExitLeg}
+use Rattle.policy_rules.specs.declared.packet.Cause.{Cause}
+use Rattle.policy_rules.specs.declared.packet.Cause.TheVariants.{NoAuthority, NoRoute}
+use Rattle.net_file.specs.declared.ports.Ports.{Ports}
+use Rattle.net_file.specs.Owners.{port_owner}
+use Rattle.failover.specs.Links.{is_isolated}
+use Rattle.failover.specs.Routes.{route_of}
+use Rattle.tunnel.specs.Tunnel.{TunnelValue}
+use Rattle.tunnel.specs.Moves.{begun}
+use Rattle.switch_core.specs.declared.answers.Next.{Next}
+use Rattle.switch_core.specs.declared.answers.Next.TheVariants.{Dropped, Out, Exit, Stuck}
+use Rattle.switch_core.specs.declared.packet.Packet.{Packet}
+use Rattle.switch_core.specs.State.{SwitchValue}
+
+-- what a switch is told with a packet: a mask of the switches to which it has a usable link, and
+-- which switch has a port
+pub record Surroundings : Type 0 where
+  pub near : ℕ
+  pub ports : Ports
+
+abbrev pub around : ℕ → Ports → Surroundings
+around near ports = record { near = near; ports = ports }
+
+-- ---- the cause rule
+
+abbrev pub is_seek : Leg → Bool
+is_seek (SeekLeg version partition) = true
+is_seek (ExitLeg port) = false
+
+-- each target is another switch, at which no link ends that the switch knows and the packet didn't
+-- find down
+unfoldable pub are_isolated : SwitchValue → ℕ → List ℕ → List ℕ → Bool
+are_isolated s near down targets =
+    list_all (λ target. is_isolated s.database s.number target near down) targets
+
+-- why a packet without a route on its leg is stuck
+unfoldable pub cause_of : SwitchValue → ℕ → List ℕ → Leg → List ℕ → Cause
+cause_of s near down leg targets =
+    if is_seek leg && are_isolated s near down targets then NoAuthority else NoRoute
+
+-- the packet at the beginning of its route to the leg's targets; stuck exactly where there is none
+unfoldable pub set_out : SwitchValue → ℕ → Packet → Leg → List ℕ → Result TunnelValue Cause
+set_out s near packet leg targets =
+    ok_or
+    (option_map
+    (λ route. begun packet.number packet.header packet.ingress leg targets route packet.down)
+    (route_of s.database s.number targets near packet.down))
+    (cause_of s near packet.down leg targets)
+
+-- ---- the exit rule
+
+abbrev pub exit_by : Result TunnelValue Cause → Next
+exit_by (Ok tunnel) = Exit tunnel
+exit_by (Err cause) = Stuck cause
+
+-- out by a port, where its switch is this one; otherwise to its switch. No route leads to a port
+-- that no switch has
+unfoldable pub leave_by : SwitchValue → ℕ → Packet → ℕ → Option ℕ → Next
+leave_by s near packet port None = Stuck NoRoute
+leave_by s near packet port (Some owner) = if owner == s.number
+    then Out port
+    else exit_by (set_out s near packet (ExitLeg port) (owner ∷ []))
+
+-- where a packet goes that was decided in this way
+unfoldable pub next_of : SwitchValue → Surroundings → Packet → Action → Next
+next_of s told packet Drop = Dropped
+next_of s told packet (OutBy port) =
+    leave_by s told.near packet port (port_owner told.ports port)

@@ -1,0 +1,118 @@
+-- What a message does at a switch, and what the switch sends upon it. Policies change in two phases
+-- (Reitblatt, Foster, Rexford, Schlesinger and Walker, "Abstractions for Network Update", SIGCOMM
+-- 2012); adverts are flooded as in OSPF (RFC 2328, section 13).
+use Rattle.std.specs.Prelude.{ℕ, Bool, true, not, ◌&&◌, ◌||◌, ◌==◌, max, nat_le, nat_lt, if◌then◌else◌, Option, Some, None, List, [], ◌∷◌, ◌++◌, filter, map}
+use Rattle.std.specs.Option.{option_map_or}
+use Rattle.failover.specs.Adverts.{after_hearing, is_news}
+use Rattle.failover.specs.Masks.{has, switches}
+use Rattle.failover.specs.declared.advert.Advert.{Advert}
+use Rattle.switch_table.specs.Cache.{accepted, raised}
+use Rattle.switch_table.specs.Tables.{AreSoundTables}
+use Rattle.switch_table.specs.declared.cache.CacheEntry.{CacheEntry}
+use Rattle.switch_table.specs.declared.tables.Tables.{Tables}
+use Rattle.ctrl_msg.specs.Bodies.{body_boot, is_for_controller}
+use Rattle.ctrl_msg.specs.declared.message.Body.{Body}
+use Rattle.ctrl_msg.specs.declared.message.Body.TheVariants.{Install, OpenAt, Stamp, Collect, CacheRule, Advertise, Installed, Stamped}
+use Rattle.ctrl_msg.specs.declared.message.Message.{Message}
+use Rattle.ctrl_msg.specs.declared.message.Place.TheVariants.{Switch, Controller}
+use Rattle.switch_core.specs.State.{SwitchValue, holds_version}
+
+-- tables that come in are sound
+abbrev pub IsSoundBody : Body → Type 0
+IsSoundBody (Install boot tables) = AreSoundTables tables
+IsSoundBody _ = Unit {0}
+
+-- the switch is up, and the body is for a switch, of this boot if it carries one
+unfoldable pub obeys : SwitchValue → Body → Bool
+obeys s body =
+    s.is_up && not (is_for_controller body) && option_map_or (λ boot. boot == s.boot)
+    (body_boot body) true
+
+-- ---- what the switch is afterwards
+
+-- it keeps the tables, unless it has that version or has dropped it
+unfoldable pub installed : SwitchValue → Tables → SwitchValue
+installed s tables =
+    if holds_version s tables.version || nat_le tables.version s.collected
+    then s
+    else record s { tables = s.tables ++ tables ∷ [] }
+
+-- its stamp is at least this version; where it rises, the cache is raised to it
+unfoldable pub raised_to : SwitchValue → ℕ → SwitchValue
+raised_to s version = if nat_lt s.stamp version
+    then record s { stamp = version; cache = raised version s.cache }
+    else s
+
+abbrev pub opened_at : SwitchValue → ℕ → SwitchValue
+opened_at s version = record (raised_to s version) { is_open = true }
+
+-- its collect mark is at least this version, and the tables up to the mark are gone
+unfoldable pub collected_to : SwitchValue → ℕ → SwitchValue
+collected_to s version = let mark = max s.collected version in record s {
+  collected = mark;
+  tables = filter (λ tables. nat_lt mark tables.version) s.tables;
+}
+
+-- the cache takes the rule in, as the one of this message
+abbrev pub learnt : SwitchValue → CacheEntry → SwitchValue
+learnt s entry = record s { cache = accepted s.stamp entry s.cache }
+
+-- the advert is of another switch, and none of that switch is held or this one is newer
+unfoldable pub is_news_to : SwitchValue → Advert → Bool
+is_news_to s advert = not (advert.origin == s.number) && is_news s.database advert
+
+unfoldable pub informed : SwitchValue → Advert → SwitchValue
+informed s advert = if is_news_to s advert
+    then record s { database = after_hearing s.database advert }
+    else s
+
+-- once it obeyed the message of this number
+abbrev pub after_body : SwitchValue → ℕ → Body → SwitchValue
+after_body s number (Install boot tables) = installed s tables
+after_body s number (OpenAt boot version) = opened_at s version
+after_body s number (Stamp boot version) = raised_to s version
+after_body s number (Collect boot version) = collected_to s version
+after_body s number (CacheRule version word rule action) = learnt s (record {
+  version = version;
+  word = word;
+  rule = rule;
+  action = action;
+  message = number;
+})
+after_body s number (Advertise advert) = informed s advert
+after_body s number _ = s
+
+unfoldable pub heard : SwitchValue → ℕ → Body → SwitchValue
+heard s number body = if obeys s body then after_body s number body else s
+
+-- ---- what it sends
+
+abbrev pub to_controller : Body → Message
+to_controller body = record { to = Controller; body = body }
+
+-- to each neighbour, ascending
+unfoldable pub flood : ℕ → Body → List Message
+flood near body = map (λ other. record { to = Switch other; body = body })
+    (filter (has near) switches)
+
+abbrev pub replies_to : SwitchValue → ℕ → Body → List Message
+replies_to s near (Install boot tables) =
+    to_controller (Installed s.number s.boot tables.version) ∷ []
+replies_to s near (Stamp boot version) = to_controller (Stamped s.number s.boot version) ∷ []
+replies_to s near (Advertise advert) =
+    if is_news_to s advert then flood near (Advertise advert) else []
+replies_to s near _ = []
+
+unfoldable pub replies : SwitchValue → ℕ → Body → List Message
+replies s near body = if obeys s body then replies_to s near body else []
+
+-- ---- whether it opens
+
+abbrev pub opened_by : SwitchValue → Body → Option ℕ
+opened_by s (OpenAt boot version) =
+    if s.is_open then None else Some (max s.stamp version)
+opened_by s _ = None
+
+-- the stamp of a switch that was closed, and opens
+unfoldable pub opened : SwitchValue → Body → Option ℕ
+opened s body = if obeys s body then opened_by s body else None

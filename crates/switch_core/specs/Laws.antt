@@ -1,0 +1,58 @@
+-- The laws of one switch: `switch_laws` of the crate ensures the record.
+use Rattle.std.specs.Prelude.{ℕ, ◌≡◌, ◌<◌, ◌≤◌, ◌↔◌, max, nat_lt, false, ◌&&◌, ◌==◌, if◌then◌else◌, Some, None, List, All, IsTrue, IsErr}
+use Rattle.std.specs.Option.{option_or}
+use Rattle.failover.specs.Adverts.{after_hearing, first_adverts}
+use Rattle.failover.specs.declared.advert.Advert.{Advert}
+use Rattle.failover.specs.Links.{is_isolated}
+use Rattle.failover.specs.Routes.{route_of}
+use Rattle.policy_rules.specs.declared.packet.Leg.{Leg}
+use Rattle.policy_rules.specs.declared.packet.Cause.TheVariants.{NoAuthority}
+use Rattle.ctrl_msg.specs.declared.message.Body.{Body}
+use Rattle.switch_table.specs.declared.tables.Tables.{Tables}
+use Rattle.switch_core.specs.declared.packet.Packet.{Packet}
+use Rattle.switch_core.specs.Ends.{cause_of, is_seek, set_out}
+use Rattle.switch_core.specs.Hearing.{collected_to, heard, informed, installed, obeys, raised_to}
+use Rattle.switch_core.specs.State.{HasOwnUpTo, SwitchValue, held_tables}
+
+-- what a message leaves as it is, and that a stamp and a collect mark never fall within a boot
+pub record IsHeard (before after : SwitchValue) : Type 0 where
+  pub number : after.number ≡ before.number
+  pub boot : after.boot ≡ before.boot
+  pub is_up : after.is_up ≡ before.is_up
+  pub seq : after.seq ≡ before.seq
+  pub handled : after.handled ≡ before.handled
+  pub stamp : before.stamp ≤ after.stamp
+  pub collected : before.collected ≤ after.collected
+
+pub record SwitchLaws : Type 0 where
+  -- the adverts with which a network begins are those with which its switches may begin
+  pub first : (near : List ℕ) (count number : ℕ) → number < 64 →
+      HasOwnUpTo (first_adverts near count) number 1 1
+  -- a packet is stuck exactly where no route leads to the targets of its leg ..
+  pub stuck : (s : SwitchValue) (near : ℕ) (packet : Packet) (leg : Leg) (targets : List ℕ) →
+      IsErr (set_out s near packet leg targets) ↔
+      (route_of s.database s.number targets near packet.down ≡ None)
+  -- .. and has no authority exactly where it looks for one, and each target is isolated
+  pub no_authority : (s : SwitchValue) (near : ℕ) (down : List ℕ) (leg : Leg) (targets : List ℕ) →
+      (cause_of s near down leg targets ≡ NoAuthority) ↔
+      (IsTrue (is_seek leg)
+      × All (λ target. IsTrue (is_isolated s.database s.number target near down)) targets)
+  pub after_message : (s : SwitchValue) (number : ℕ) (body : Body) →
+      IsHeard s (heard s number body)
+  pub not_obeyed : (s : SwitchValue) (number : ℕ) (body : Body) → obeys s body ≡ false →
+      heard s number body ≡ s
+  -- tables that come in are held, unless those of their version are or the collect mark is there
+  pub after_install : (s : SwitchValue) (tables : Tables) (version : ℕ) →
+      held_tables (installed s tables) version
+      ≡ option_or (held_tables s version)
+      (if (tables.version == version) && nat_lt s.collected version then Some tables else None)
+  -- of what was held, exactly the versions above the collect mark are
+  pub after_collect : (s : SwitchValue) (mark version : ℕ) →
+      held_tables (collected_to s mark) version
+      ≡ (if nat_lt (max s.collected mark) version then held_tables s version else None)
+  pub after_rise : (s : SwitchValue) (version : ℕ) →
+      (raised_to s version).stamp ≡ max s.stamp version
+  -- adverts of others are heard, and its own are left alone
+  pub after_advert : (s : SwitchValue) (advert : Advert) →
+      (informed s advert).database
+      ≡ (if advert.origin == s.number then s.database else after_hearing s.database advert)

@@ -1,0 +1,40 @@
+-- What becomes of a switch when its links change, an entry's time is up, it crashes, or it boots.
+use Rattle.std.specs.Prelude.{ℕ, ◌+◌, true, false, Some, [], slice_set}
+use Rattle.failover.specs.Adverts.{no_adverts}
+use Rattle.failover.specs.declared.advert.Advert.{Advert}
+use Rattle.switch_table.specs.Cache.{cleared, expired}
+use Rattle.switch_core.specs.State.{SwitchValue, own_advert}
+
+-- the next advert of its own, of these neighbours
+abbrev pub next_advert : SwitchValue → ℕ → Advert
+next_advert s near = own_advert s.number s.boot (s.seq + 1) near
+
+-- it holds its next advert
+abbrev pub near_changed : SwitchValue → ℕ → SwitchValue
+near_changed s near = record s {
+  seq = s.seq + 1;
+  database = slice_set s.database s.number (Some (next_advert s near));
+}
+
+-- the cache entry at a place goes
+abbrev pub entry_expired : SwitchValue → ℕ → SwitchValue
+entry_expired s place = record s { cache = expired place s.cache }
+
+-- closed, and with nothing of what it learnt: its number, boot, cache capacity and count are left
+abbrev pub forgetful : SwitchValue → SwitchValue
+forgetful s = record s {
+  is_open = false;
+  stamp = 0;
+  collected = 0;
+  tables = [];
+  cache = cleared s.cache;
+  database = no_adverts;
+  seq = 0;
+}
+
+abbrev pub crashed : SwitchValue → SwitchValue
+crashed s = record (forgetful s) { is_up = false }
+
+-- in its next boot
+abbrev pub restarted : SwitchValue → SwitchValue
+restarted s = record (forgetful s) { is_up = true; boot = s.boot + 1 }

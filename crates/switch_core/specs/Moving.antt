@@ -1,0 +1,44 @@
+-- What becomes of a packet that is on its way at a switch.
+use Rattle.std.specs.Prelude.{ℕ, Option, Some, None, if◌then◌else◌, List}
+use Rattle.failover.specs.Masks.{has}
+use Rattle.tunnel.specs.Tunnel.{TunnelValue}
+use Rattle.tunnel.specs.Moves.{next, advanced, marked_down, on_route, route_from_here}
+use Rattle.switch_core.specs.declared.answers.HopEnd.{HopEnd}
+use Rattle.switch_core.specs.declared.answers.HopEnd.TheVariants.{Arrive, Move, Stuck}
+use Rattle.switch_core.specs.Ends.{cause_of}
+use Rattle.switch_core.specs.State.{SwitchValue}
+
+-- where the hop ends, and the packet after it
+pub record Moved : Type 0 where
+  pub end : HopEnd
+  pub tunnel : TunnelValue
+
+-- to the next switch of its route, or at its end
+abbrev pub moved : TunnelValue → Option ℕ → Moved
+moved t None = record { end = Arrive; tunnel = t }
+moved t (Some other) = record { end = Move other; tunnel = advanced t }
+
+-- along a new route; stuck exactly where there is none
+abbrev pub moved_along : SwitchValue → ℕ → TunnelValue → Option (List ℕ) → Moved
+moved_along s near t None = record {
+  end = Stuck (cause_of s near t.down t.leg t.targets);
+  tunnel = t;
+}
+moved_along s near t (Some route) = moved (on_route t route) (next (on_route t route))
+
+-- the switch takes a new route for the packet, by its usable links and what it knows of others
+unfoldable pub rerouted : SwitchValue → ℕ → TunnelValue → Moved
+rerouted s near t = moved_along s near t (route_from_here t s.database near)
+
+-- the link to the next switch that is found down: one that isn't usable
+abbrev pub found_down : ℕ → Option ℕ → Option ℕ
+found_down near None = None
+found_down near (Some other) = if has near other then None else Some other
+
+-- a link that is found down is marked, and the packet takes a new route; otherwise it goes on
+abbrev pub hopped_to : SwitchValue → ℕ → TunnelValue → Option ℕ → Moved
+hopped_to s near t None = moved t (next t)
+hopped_to s near t (Some other) = rerouted s near (marked_down t other)
+
+unfoldable pub hopped : SwitchValue → ℕ → TunnelValue → Moved
+hopped s near t = hopped_to s near t (found_down near (next t))

@@ -1,0 +1,83 @@
+-- One switch of the data plane, as contracts see it, and what is read off it: cached rules,
+-- authority rules and partition rules (Yu, Rexford, Freedman and Wang, "Scalable Flow-Based
+-- Networking with DIFANE", SIGCOMM 2010), by the versions of a two-phase update (Reitblatt, Foster,
+-- Rexford, Schlesinger and Walker, "Abstractions for Network Update", SIGCOMM 2012).
+use Rattle.std.specs.Prelude.{ℕ, ◌≡◌, ◌+◌, ◌-◌, ◌^◌, ◌<◌, min, Bool, true, ◌&&◌, ◌==◌, Option, Some, is_some, unwrap_or, List, [], ◌∷◌, find, All, IsFalse}
+use Rattle.failover.specs.Adverts.{held, is_newer}
+use Rattle.failover.specs.declared.advert.Advert.{Advert}
+use Rattle.switch_table.specs.Cache.{CacheValue}
+use Rattle.switch_table.specs.Tables.{AreSoundTables}
+use Rattle.switch_table.specs.declared.tables.Tables.{Tables}
+
+pub record SwitchValue : Type 0 where
+  -- its place in the network
+  pub number : ℕ
+  pub boot : ℕ
+  pub is_up : Bool
+  pub is_open : Bool
+  -- the version by which it looks headers up
+  pub stamp : ℕ
+  -- the greatest version of which it dropped the tables
+  pub collected : ℕ
+  -- its tables, in the order in which they came
+  pub tables : List Tables
+  pub cache : CacheValue
+  -- the newest advert of each origin that it heard, by the origin
+  pub database : List (Option Advert)
+  -- of its own newest advert in this boot
+  pub seq : ℕ
+  -- how many packet calls it answered
+  pub handled : ℕ
+
+-- it looks headers up: it is up, and was opened in this boot
+abbrev pub serves : SwitchValue → Bool
+serves s = s.is_up && s.is_open
+
+-- the tables of a version, where it has them
+abbrev pub held_tables : SwitchValue → ℕ → Option Tables
+held_tables s version = find (λ tables. tables.version == version) s.tables
+
+abbrev pub holds_version : SwitchValue → ℕ → Bool
+holds_version s version = is_some (held_tables s version)
+
+abbrev pub no_tables : Tables
+no_tables = record { version = 0; parts = []; auth = [] }
+
+-- the tables of its stamp, which a switch that serves has
+abbrev pub stamp_tables : SwitchValue → Tables
+stamp_tables s = unwrap_or (held_tables s s.stamp) no_tables
+
+-- one more packet call; the count stands still at its last value
+abbrev pub counted : SwitchValue → SwitchValue
+counted s = record s { handled = min (s.handled + 1) (2 ^ 64 - 1) }
+
+abbrev pub own_advert : ℕ → ℕ → ℕ → ℕ → Advert
+own_advert number boot seq up = record { origin = number; boot = boot; seq = seq; up = up }
+
+-- no advert that is held of the switch is newer than this boot and seq
+abbrev pub HasOwnUpTo : List (Option Advert) → ℕ → ℕ → ℕ → Type 0
+HasOwnUpTo adverts number boot seq =
+    (advert : Advert) → held adverts number ≡ Some advert
+    → IsFalse (is_newer advert (own_advert number boot seq 0))
+
+-- what holds of each switch
+pub record IsSwitch (s : SwitchValue) : Type 0 where
+  pub number : s.number < 64
+  pub sound : All AreSoundTables s.tables
+  pub own : HasOwnUpTo s.database s.number s.boot s.seq
+
+-- a switch that has just begun its first boot with tables of version 1
+abbrev pub begun : ℕ → ℕ → Tables → List (Option Advert) → SwitchValue
+begun number capacity tables database = record {
+  number = number;
+  boot = 1;
+  is_up = true;
+  is_open = true;
+  stamp = 1;
+  collected = 0;
+  tables = tables ∷ [];
+  cache = record { entries = []; capacity = capacity };
+  database = database;
+  seq = 1;
+  handled = 0;
+}

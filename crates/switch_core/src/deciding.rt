@@ -1,0 +1,98 @@
+ghost use Rattle.std.specs.Prelude.{◌≡◌, ◌<◌, ◌==◌, find, length};
+ghost use Rattle.std.specs.Option.{option_copied};
+ghost use Rattle.five_tuple.specs.Header.{IsHeader};
+ghost use Rattle.switch_table.specs.Lookup.{lookup_of};
+ghost use Rattle.switch_table.specs.Tables.{AreSoundTables};
+ghost use Rattle.switch_core.specs.Deciding.{IsFirstHit, IsFound, by_entry, by_rule, cache_rule, own_part, rule_in};
+
+use crate::answers::Decision;
+use crate::packet::Packet;
+use cache_maker::widen;
+use ctrl_msg::Body;
+use five_tuple::Header;
+use policy_rules::{How, Partition, Rule};
+use switch_table::{Cache, CacheEntry, Found, Tables, lookup};
+
+impl Decision {
+    /// By a cached rule.
+    pub(crate) fn by_entry(entry: &CacheEntry) -> Decision
+        ensures { result ≡ by_entry entry.now }
+    {
+        Decision {
+            version: entry.version,
+            rule: entry.rule,
+            action: entry.action,
+            how: How::Cached {
+                message: entry.message,
+            },
+        }
+    }
+
+    /// By a rule of a partition of which this switch is an authority.
+    pub(crate) fn by_rule(switch: u32, version: u32, partition: u32, rule: &Rule) -> Decision
+        ensures { result ≡ by_rule switch version partition rule.now }
+    {
+        Decision {
+            version,
+            rule: rule.rule,
+            action: rule.action,
+            how: How::Authority { switch, partition },
+        }
+    }
+}
+
+/// Looks a header up. An authority rule that is found is the first hit of its partition.
+pub fn look_up(cache: &Cache, tables: &Tables, header: &Header) -> Found
+    requires { AreSoundTables tables.now }
+    ensures found { result ≡ lookup_of cache.now.entries tables.now header.now }
+    ensures first_hit { IsFound tables.now header.now result }
+    ensures header { IsHeader header.now }
+{
+    let _ = header.number();
+    lookup(cache, tables, header)
+}
+
+/// A switch's own partition of this number.
+pub fn own_part(tables: &Tables, number: u32) -> Option<&Partition>
+    ensures { option_copied result ≡ own_part tables.now number }
+{
+    find_part(tables.auth.items(), number)
+}
+
+fn find_part(parts: &[Partition], number: u32) -> Option<&Partition>
+    ensures { option_copied result ≡ find (λ part. part.number == number) parts.now }
+{
+    parts.iter().find(|part| part.number == number)
+}
+
+/// The rule at a place.
+pub fn rule_in(part: &Partition, place: u32) -> &Rule
+    requires { place < length part.now.rules }
+    ensures { result.now ≡ rule_in part.now place }
+{
+    &part.rules.items()[place as usize]
+}
+
+/// The rule for the cache of the switch where the packet entered, unless it is this one.
+#[tactic(auto, unfolding(crate::specs::Deciding::cache_rule))]
+pub fn cache_rule(
+    switch: u32,
+    packet: &Packet,
+    version: u32,
+    part: &Partition,
+    place: u32,
+) -> Option<Body>
+    requires { IsFirstHit packet.now.header part.now place }
+    ensures { result ≡ cache_rule switch packet.now version part.now place }
+{
+    if packet.ingress == switch {
+        return None;
+    }
+    let rule = rule_in(part, place);
+    Some(Body::CacheRule {
+        version,
+        word: widen(&packet.header, &part.region, part.rules.items(), place),
+        rule: rule.rule,
+        action: rule.action,
+    })
+}

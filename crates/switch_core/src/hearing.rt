@@ -1,0 +1,218 @@
+ghost use Rattle.std.specs.Prelude.{◌≡◌, ◌<◌, OnErr, OnOk, IfOk, IsTrue};
+ghost use Rattle.failover.specs.Masks.{has};
+ghost use Rattle.switch_table.specs.Tables.{AreSoundTables};
+ghost use Rattle.ctrl_msg.specs.declared.message.Body.TheVariants.{Advertise};
+ghost use Rattle.switch_core.specs.Hearing.{IsSoundBody, collected_to, flood, heard, informed, installed, is_news_to, learnt, obeys, opened, opened_at, opened_by, raised_to, replies, replies_to, to_controller};
+
+use crate::answers::{Heard, Replies};
+use crate::hopping::is_near;
+use crate::switch::Switch;
+use ctrl_msg::{Body, Message, Place, SharedTables};
+use failover::Advert;
+use std::alloc::{AllocError, Global};
+use switch_table::CacheEntry;
+
+impl Switch {
+    /// The message of this number is delivered here. A switch that is down does nothing, nor does
+    /// one to which comes a message of another boot, or one for the controller.
+    ///
+    /// `near` has a bit for each switch to which there is a usable link.
+    ///
+    /// # Errors
+    /// Want of memory alone; nothing changes then, and the message is as good as not delivered.
+    #[tactic(auto, unfolding(crate::specs::Hearing::heard, crate::specs::Hearing::replies, crate::specs::Hearing::opened))]
+    pub fn hear(
+        &mut self,
+        alloc: Global,
+        number: u32,
+        body: &Body,
+        near: u64,
+    ) -> Result<Heard, AllocError>
+        requires { IsSoundBody body.now }
+        ensures after { OnOk result (self.new ≡ heard self.old number body.now) }
+        ensures replies { IfOk result (λ h. h.replies ≡ replies self.old near body.now) }
+        ensures opened { IfOk result (λ h. h.opened ≡ opened self.old body.now) }
+        ensures err { OnErr result (self.new ≡ self.old) }
+    {
+        if !self.obeys(body) {
+            return Ok(Heard {
+                replies: Replies::none(alloc),
+                opened: None,
+            });
+        }
+        let replies = self.replies_to(alloc, body, near)?;
+        let opened = self.opened_by(body);
+        match body {
+            Body::Install { tables, .. } => self.install(tables)?,
+            Body::OpenAt { version, .. } => self.open_at(*version),
+            Body::Stamp { version, .. } => self.raise(*version),
+            Body::Collect { version, .. } => self.collect(*version),
+            Body::CacheRule {
+                version,
+                word,
+                rule,
+                action,
+            } => self.learn(CacheEntry {
+                version: *version,
+                word: *word,
+                rule: *rule,
+                action: *action,
+                message: number,
+            })?,
+            Body::Advertise { advert } => self.inform(advert),
+            _ => {}
+        }
+        Ok(Heard { replies, opened })
+    }
+
+    // Whether the switch is up, and the body is for a switch, of this boot if it carries one.
+    #[tactic(auto, unfolding(crate::specs::Hearing::obeys))]
+    fn obeys(&self, body: &Body) -> bool
+        ensures { result ≡ obeys self.now body.now }
+    {
+        self.is_up
+            && !body.is_for_controller()
+            && match body.boot() {
+                Some(boot) => boot == self.boot,
+                None => true,
+            }
+    }
+
+    // What the switch sends upon a body that it obeys.
+    fn replies_to(&self, alloc: Global, body: &Body, near: u64) -> Result<Replies, AllocError>
+        ensures { IfOk result (λ list. list ≡ replies_to self.now near body.now) }
+    {
+        match body {
+            Body::Install { tables, .. } => Replies::one(
+                alloc,
+                to_controller(Body::Installed {
+                    switch: self.number,
+                    boot: self.boot,
+                    version: tables.tables().version,
+                }),
+            ),
+            Body::Stamp { version, .. } => Replies::one(
+                alloc,
+                to_controller(Body::Stamped {
+                    switch: self.number,
+                    boot: self.boot,
+                    version: *version,
+                }),
+            ),
+            Body::Advertise { advert } if self.is_news(advert) => flood(alloc, near, advert),
+            _ => Ok(Replies::none(alloc)),
+        }
+    }
+
+    // The stamp of a switch that was closed, and opens.
+    fn opened_by(&self, body: &Body) -> Option<u32>
+        ensures { result ≡ opened_by self.now body.now }
+    {
+        match body {
+            Body::OpenAt { version, .. } if !self.is_open => Some(self.stamp.max(*version)),
+            _ => None,
+        }
+    }
+
+    // Keeps the tables, unless it has that version or has dropped it.
+    #[tactic(auto, unfolding(crate::specs::Hearing::installed))]
+    fn install(&mut self, tables: &SharedTables) -> Result<(), AllocError>
+        requires { AreSoundTables tables.now }
+        ensures after { OnOk result (self.new ≡ installed self.old tables.now) }
+        ensures err { OnErr result (self.new ≡ self.old) }
+    {
+        let version = tables.tables().version;
+        if version <= self.collected || self.holds_version(version) {
+            return Ok(());
+        }
+        self.tables.push(tables.clone()?)?;
+        Ok(())
+    }
+
+    // Serves from now on, under at least this version.
+    fn open_at(&mut self, version: u32)
+        ensures { self.new ≡ opened_at self.old version }
+    {
+        self.raise(version);
+        self.is_open = true;
+    }
+
+    // Stamps with at least this version from now on.
+    #[tactic(auto, unfolding(crate::specs::Hearing::raised_to))]
+    fn raise(&mut self, version: u32)
+        ensures { self.new ≡ raised_to self.old version }
+    {
+        if self.stamp < version {
+            self.stamp = version;
+            self.cache.raise(version);
+        }
+    }
+
+    // Drops the tables up to this version.
+    #[tactic(auto, unfolding(crate::specs::Hearing::collected_to))]
+    fn collect(&mut self, version: u32)
+        ensures { self.new ≡ collected_to self.old version }
+    {
+        self.collected = self.collected.max(version);
+        let mark = self.collected;
+        self.tables.retain(|shared| shared.tables().version > mark);
+    }
+
+    // Takes a rule into the cache.
+    fn learn(&mut self, entry: CacheEntry) -> Result<(), AllocError>
+        ensures after { OnOk result (self.new ≡ learnt self.old entry) }
+        ensures err { OnErr result (self.new ≡ self.old) }
+    {
+        self.cache.accept(self.stamp, entry)
+    }
+
+    // Takes an advert of another switch into the database.
+    #[tactic(auto, unfolding(crate::specs::Hearing::informed))]
+    fn inform(&mut self, advert: &Advert)
+        ensures { self.new ≡ informed self.old advert.now }
+    {
+        if self.is_news(advert) {
+            self.database.hear(advert);
+        }
+    }
+
+    // Whether the advert is of another switch, and newer than the one of it that is held, if any.
+    #[tactic(auto, unfolding(crate::specs::Hearing::is_news_to, failover::specs::Adverts::is_news))]
+    fn is_news(&self, advert: &Advert) -> bool
+        ensures { result ≡ is_news_to self.now advert.now }
+    {
+        advert.origin < 64
+            && advert.origin != self.number
+            && match self.database.get(advert.origin) {
+                Some(held) => advert.is_newer(&held),
+                None => true,
+            }
+    }
+}
+
+// A message for the controller.
+fn to_controller(body: Body) -> Message
+    ensures { result ≡ to_controller body }
+{
+    Message {
+        to: Place::Controller,
+        body,
+    }
+}
+
+// The advert for each neighbour, ascending.
+#[tactic(auto, using(crate::proofs::Flooding::told_none, crate::proofs::Flooding::told_near, crate::proofs::Flooding::told_far))]
+fn flood(alloc: Global, near: u64, advert: &Advert) -> Result<Replies, AllocError>
+    ensures { IfOk result (λ list. list ≡ flood near (Advertise advert.now)) }
+{
+    let mut messages = Vec::new(alloc);
+    for other in 0..64 {
+        if is_near(near, other) {
+            messages.push(Message {
+                to: Place::Switch(other),
+                body: Body::Advertise { advert: *advert },
+            })?;
+        }
+    }
+    Ok(Replies::of(messages))
+}

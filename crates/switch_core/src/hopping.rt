@@ -1,0 +1,74 @@
+ghost use Rattle.std.specs.Prelude.{◌≡◌, ◌<◌};
+ghost use Rattle.failover.specs.Masks.{has};
+ghost use Rattle.tunnel.specs.Moves.{next};
+ghost use Rattle.switch_core.specs.Moving.{found_down, hopped, rerouted};
+ghost use Rattle.switch_core.specs.State.{counted};
+
+use crate::answers::{Hop, HopEnd};
+use crate::switch::Switch;
+use tunnel::Tunnel;
+
+impl Switch {
+    /// A packet that stands here goes on: at the end of its route it arrives. Where the link to the
+    /// next switch is usable it moves there. Otherwise that link is found down and the packet takes
+    /// a new route, on which it moves or arrives, or is stuck.
+    ///
+    /// `near` has a bit for each switch to which there is a usable link.
+    #[tactic(auto, unfolding(crate::specs::Moving::hopped))]
+    pub fn hop(&mut self, t: &mut Tunnel, near: u64) -> Hop
+        ensures found { result.found ≡ found_down near (next t.old) }
+        ensures end { result.end ≡ (hopped self.old near t.old).end }
+        ensures tunnel { t.new ≡ (hopped self.old near t.old).tunnel }
+        ensures after { self.new ≡ counted self.old }
+    {
+        let hop = match t.next() {
+            None => Hop {
+                found: None,
+                end: HopEnd::Arrive,
+            },
+            Some(next) if is_near(near, next) => {
+                t.advance();
+                Hop {
+                    found: None,
+                    end: HopEnd::Move(next),
+                }
+            }
+            Some(next) => {
+                t.mark_down(next);
+                Hop {
+                    found: Some(next),
+                    end: self.reroute(near, t),
+                }
+            }
+        };
+        self.count();
+        hop
+    }
+
+    // Along a new route, once a link was found down.
+    #[tactic(auto, unfolding(crate::specs::Moving::rerouted))]
+    fn reroute(&self, near: u64, t: &mut Tunnel) -> HopEnd
+        ensures end { result ≡ (rerouted self.now near t.old).end }
+        ensures tunnel { t.new ≡ (rerouted self.now near t.old).tunnel }
+    {
+        if !t.reroute(&self.database, near) {
+            return HopEnd::Stuck(self.cause(near, &t.down, &t.leg, &t.targets));
+        }
+        match t.next() {
+            None => HopEnd::Arrive,
+            Some(next) => {
+                t.advance();
+                HopEnd::Move(next)
+            }
+        }
+    }
+}
+
+/// Whether the mask has this switch.
+#[tactic(auto, using(std::proofs::lemmas::Nat::Bits::shr_and_one), unfolding(failover::specs::Masks::has))]
+pub fn is_near(near: u64, switch: u32) -> bool
+    requires { switch < 64 }
+    ensures { result ≡ has near switch }
+{
+    (near >> switch) & 1 == 1
+}

@@ -1,0 +1,37 @@
+//! One switch of the data plane.
+//!
+//! A `Switch` promises that each of its calls is a step that `specs/` states on the record that
+//! contracts see: its number, boot, stamp, tables by version, cache, database of adverts, and how
+//! many packet calls it answered.
+//! Only `begin` and `hear` take memory.
+//!
+//! ```text
+//! let mut switch = Switch::begin(alloc, 0, 256, tables, base)?;
+//! match switch.enter(1, &header, near, &ports) {
+//!     Entered::Seek(mut packet) => {
+//!         let hop = switch.hop(&mut packet, near);
+//!     }
+//!     _ => {}
+//! }
+//! let heard = switch.hear(alloc, 7, &body, near)?;
+//! ```
+#![tactic(auto)]
+
+mod answers;
+mod arriving;
+mod deciding;
+mod ends;
+mod entering;
+mod hearing;
+mod hopping;
+mod laws;
+mod life;
+mod packet;
+mod switch;
+
+pub use answers::{Arrived, Decision, Entered, Heard, Hop, HopEnd, Next, Replies};
+pub use laws::switch_laws;
+pub use switch::Switch;
+
+#[cfg(test)]
+mod tests;

@@ -1,0 +1,68 @@
+ghost use Rattle.std.specs.Prelude.{◌≡◌, ◌+◌, ◌-◌, ◌^◌, ◌<◌, IsFalse, slice_get, option_map};
+ghost use Rattle.switch_core.specs.Life.{crashed, entry_expired, forgetful, near_changed, next_advert, restarted};
+
+use crate::switch::Switch;
+use failover::{Advert, Database};
+
+impl Switch {
+    /// Its usable links are these now: its own advert of them, which it holds, to be told.
+    pub fn near_changed(&mut self, near: u64) -> Advert
+        requires { self.old.seq < 2 ^ 32 - 1 }
+        ensures advert { result ≡ next_advert self.old near }
+        ensures after { self.new ≡ near_changed self.old near }
+    {
+        self.seq += 1;
+        let advert = Advert {
+            origin: self.number,
+            boot: self.boot,
+            seq: self.seq,
+            up: near,
+        };
+        self.database.hear(&advert);
+        advert
+    }
+
+    /// Takes the cached rule at this place, from 0, out and answers the number of its message;
+    /// `None` where there is none.
+    pub fn expire(&mut self, k: u32) -> Option<u32>
+        ensures message { result
+            ≡ option_map (λ entry. entry.message) (slice_get self.old.cache.entries k) }
+        ensures after { self.new ≡ entry_expired self.old k }
+    {
+        self.cache.expire(k)
+    }
+
+    /// It goes down, and loses all but its number, its boot, its cache's capacity and its count.
+    pub fn crash(&mut self)
+        ensures { self.new ≡ crashed self.old }
+    {
+        self.forget();
+        self.is_up = false;
+    }
+
+    /// It comes up again, closed, in its next boot, which is answered.
+    pub fn restart(&mut self) -> u32
+        requires down { IsFalse self.old.is_up }
+        requires boot { self.old.boot < 2 ^ 32 - 1 }
+        ensures boot { result ≡ self.old.boot + 1 }
+        ensures after { self.new ≡ restarted self.old }
+    {
+        self.forget();
+        self.is_up = true;
+        self.boot += 1;
+        self.boot
+    }
+
+    // All that it learnt is gone.
+    fn forget(&mut self)
+        ensures { self.new ≡ forgetful self.old }
+    {
+        self.is_open = false;
+        self.stamp = 0;
+        self.collected = 0;
+        self.tables.clear();
+        self.cache.clear();
+        self.database = Database::empty();
+        self.seq = 0;
+    }
+}

@@ -1,0 +1,195 @@
+ghost use Rattle.std.specs.Prelude.{◌≡◌, ◌<◌, ◌==◌, find, IfOk, IfSome, IsTrue};
+ghost use Rattle.std.specs.Option.{option_copied};
+ghost use Rattle.failover.specs.Adverts.{held};
+ghost use Rattle.switch_table.specs.Tables.{AreSoundTables};
+ghost use Rattle.switch_core.specs.State.{HasOwnUpTo, IsSwitch, begun, counted, held_tables, holds_version, serves, stamp_tables};
+
+use ctrl_msg::SharedTables;
+use failover::{Advert, Database};
+use std::alloc::{AllocError, Global};
+use std::marker::Model;
+use switch_table::{Cache, Tables};
+
+/// One switch. Contracts see the record of its number, boot, whether it is up and open, stamp,
+/// collect mark, tables, cache, adverts, own seq, and how many packet calls it answered.
+#[derive(Drop)]
+pub struct Switch {
+    pub(crate) number: u32,
+    pub(crate) boot: u32,
+    pub(crate) is_up: bool,
+    pub(crate) is_open: bool,
+    pub(crate) stamp: u32,
+    pub(crate) collected: u32,
+    pub(crate) tables: Vec<SharedTables>,
+    pub(crate) cache: Cache,
+    pub(crate) database: Database,
+    pub(crate) seq: u32,
+    pub(crate) handled: u64,
+}
+
+const _: () = prove!(size_of::<Switch>() < 8192);
+
+impl Model for Switch {
+    ghost use Rattle.switch_core.specs.State.{SwitchValue, IsSwitch};
+
+    ghost Value = { SwitchValue };
+
+    ghost view = { λ s. record {
+      number = s.number;
+      boot = s.boot;
+      is_up = s.is_up;
+      is_open = s.is_open;
+      stamp = s.stamp;
+      collected = s.collected;
+      tables = s.tables.items;
+      cache = s.cache;
+      database = s.database;
+      seq = s.seq;
+      handled = s.handled;
+    } };
+
+    ghost invariant = { λ s. IsSwitch (record {
+      number = s.number;
+      boot = s.boot;
+      is_up = s.is_up;
+      is_open = s.is_open;
+      stamp = s.stamp;
+      collected = s.collected;
+      tables = s.tables.items;
+      cache = s.cache;
+      database = s.database;
+      seq = s.seq;
+      handled = s.handled;
+    }) };
+}
+
+impl Switch {
+    /// The switch of this number, up and open in its first boot, with these tables of version 1 and
+    /// these adverts, and room for so many cached rules.
+    ///
+    /// # Errors
+    /// Want of memory alone.
+    pub fn begin(
+        alloc: Global,
+        number: u32,
+        cache: u32,
+        tables: SharedTables,
+        base: Database,
+    ) -> Result<Switch, AllocError>
+        requires switch { number < 64 }
+        requires sound { AreSoundTables tables }
+        requires version { tables.version ≡ 1 }
+        requires own { HasOwnUpTo base number 1 1 }
+        ensures { IfOk result (λ switch. switch ≡ begun number cache tables base) }
+    {
+        let mut list = Vec::new(alloc);
+        list.push(tables)?;
+        Ok(Switch {
+            number,
+            boot: 1,
+            is_up: true,
+            is_open: true,
+            stamp: 1,
+            collected: 0,
+            tables: list,
+            cache: Cache::new(alloc, cache),
+            database: base,
+            seq: 1,
+            handled: 0,
+        })
+    }
+
+    /// Its number, from 0 in the order of the network.
+    pub fn number(&self) -> u32
+        ensures number { result ≡ self.now.number }
+        ensures switch { IsSwitch self.now }
+    {
+        self.number
+    }
+
+    /// Whether it is up and open, so that it answers packets.
+    pub fn serves(&self) -> bool
+        ensures { result ≡ serves self.now }
+    {
+        self.is_up && self.is_open
+    }
+
+    /// Whether it is up; it may be closed then.
+    pub fn is_up(&self) -> bool
+        ensures { result ≡ self.now.is_up }
+    {
+        self.is_up
+    }
+
+    /// The number of the boot that it is in, or, where it is down, of its last one.
+    pub fn boot(&self) -> u32
+        ensures { result ≡ self.now.boot }
+    {
+        self.boot
+    }
+
+    /// The version by which it looks headers up; 0 before it was opened.
+    pub fn stamp(&self) -> u32
+        ensures { result ≡ self.now.stamp }
+    {
+        self.stamp
+    }
+
+    /// Whether it has the tables of this version.
+    pub fn holds_version(&self, version: u32) -> bool
+        ensures { result ≡ holds_version self.now version }
+    {
+        self.held_tables(version).is_some()
+    }
+
+    /// How many calls of `enter`, `hop` and `arrive` it answered; the count stands still at its
+    /// last value.
+    pub fn handled(&self) -> u64
+        ensures { result ≡ self.now.handled }
+    {
+        self.handled
+    }
+
+    /// The newest advert that it holds of this origin; `None` exactly where it holds none.
+    pub fn known(&self, origin: u32) -> Option<Advert>
+        ensures held { result ≡ held self.now.database origin }
+        ensures origin { IfSome result (λ advert. advert.origin ≡ origin) }
+    {
+        self.database.get(origin)
+    }
+
+    /// The tables of this version, where it has them.
+    pub(crate) fn held_tables(&self, version: u32) -> Option<&Tables>
+        ensures tables { option_copied result ≡ held_tables self.now version }
+        ensures sound { IfSome result (λ tables. AreSoundTables tables.now) }
+    {
+        match find_tables(&self.tables, version) {
+            Some(shared) => Some(shared.tables()),
+            None => None,
+        }
+    }
+
+    /// The tables of its stamp.
+    pub(crate) fn stamp_tables(&self) -> &Tables
+        requires { IsTrue (holds_version self.now self.now.stamp) }
+        ensures tables { result.now ≡ stamp_tables self.now }
+        ensures sound { AreSoundTables result.now }
+    {
+        self.held_tables(self.stamp).unwrap()
+    }
+
+    /// Counts one more packet call.
+    pub(crate) fn count(&mut self)
+        ensures { self.new ≡ counted self.old }
+    {
+        self.handled = self.handled.saturating_add(1);
+    }
+}
+
+// The first tables of this version.
+fn find_tables(list: &[SharedTables], version: u32) -> Option<&SharedTables>
+    ensures { option_copied result ≡ find (λ tables. tables.version == version) list.now }
+{
+    list.iter()
+        .find(|shared| shared.tables().version == version)
+}
