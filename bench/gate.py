@@ -28,7 +28,7 @@ def crates():
 
 def sizes(name):
     folder = HOME / "crates" / name
-    tests = {"tests.rt", "rule_tests.rt", "examples.rt"}
+    tests = {"tests.rt", "rule_tests.rt", "examples.rt", "plan_examples.rt", "plans.rt"}
     code = [path for path in folder.glob("src/**/*.rt") if path.name not in tests]
     return (
         count(code),

@@ -8,10 +8,10 @@ and how many seconds of the processor that took, with reading the file. It needs
 """
 import os
 import resource
-import shutil
 import subprocess
-import sys
 import tempfile
+
+from small import build
 
 MAIN = """//! Reads a network file.
 #![tactic(auto)]
@@ -53,24 +53,6 @@ def switches():
     return "switch = [" + "{}," * 5_000_000 + "{}]\n"
 
 
-def build(folder):
-    here = os.path.dirname(os.path.dirname(os.path.abspath(__file__)))
-    shutil.copytree(os.path.join(here, "crates", "net_file"), os.path.join(folder, "crates", "net_file"), ignore=shutil.ignore_patterns("out"))
-    with open(os.path.join(here, "crates.txt")) as listed:
-        lines = [line for line in listed if line.split(":")[0] == "net_file"]
-    with open(os.path.join(folder, "crates.txt"), "w") as file:
-        file.write("".join(lines) + "net_times: anyhow net_file\n")
-    source = os.path.join(folder, "crates", "net_times", "src")
-    os.makedirs(source)
-    with open(os.path.join(source, "main.rt"), "w") as file:
-        file.write(MAIN)
-    crate = os.path.dirname(source)
-    done = subprocess.run(["rt", "run"], cwd=crate, stdout=subprocess.PIPE, stderr=subprocess.STDOUT, text=True)
-    if done.returncode != 0:
-        sys.exit(done.stdout)
-    return os.path.join(crate, "out", "net_times")
-
-
 def seconds():
     usage = resource.getrusage(resource.RUSAGE_CHILDREN)
     return usage.ru_utime + usage.ru_stime
@@ -78,7 +60,7 @@ def seconds():
 
 def main():
     with tempfile.TemporaryDirectory() as folder:
-        program = build(folder)
+        program = build(folder, "net_times", ["anyhow", "net_file"], MAIN)
         for name, case in (("64 switches, 256 links", large), ("8,000,001 ports", ports), ("5,000,001 switches", switches)):
             path = os.path.join(folder, "net.toml")
             with open(path, "w") as file:

@@ -6,16 +6,14 @@ usage: bench/routes.py
 It makes a small program in a copy of `failover` and the crates below, lets `rt run` prove and build it, and prints the
 mean time of a route from each of 64 switches to the last one. It needs `rt` on the path.
 """
-import os
 import random
-import shutil
 import subprocess
-import sys
 import tempfile
 import time
 
+from small import build
+
 TURNS = 2_000_000
-CRATES = ("ternary", "five_tuple", "policy_rules", "failover")
 MAIN = """//! Asks for routes again and again.
 #![tactic(auto)]
 
@@ -90,25 +88,6 @@ def random_links(count=256):
     return masks(64, rng.sample(pairs, count))
 
 
-def build(folder):
-    here = os.path.dirname(os.path.dirname(os.path.abspath(__file__)))
-    for name in CRATES:
-        shutil.copytree(os.path.join(here, "crates", name), os.path.join(folder, "crates", name), ignore=shutil.ignore_patterns("out"))
-    with open(os.path.join(here, "crates.txt")) as listed:
-        lines = [line for line in listed if line.split(":")[0] in CRATES]
-    with open(os.path.join(folder, "crates.txt"), "w") as file:
-        file.write("".join(lines) + "route_turns: anyhow failover policy_rules\n")
-    source = os.path.join(folder, "crates", "route_turns", "src")
-    os.makedirs(source)
-    with open(os.path.join(source, "main.rt"), "w") as file:
-        file.write(MAIN)
-    crate = os.path.dirname(source)
-    done = subprocess.run(["rt", "run", "--", "0"], cwd=crate, stdout=subprocess.PIPE, stderr=subprocess.STDOUT, text=True)
-    if done.returncode != 0:
-        sys.exit(done.stdout)
-    return os.path.join(crate, "out", "route_turns")
-
-
 def seconds(program, near, turns, last):
     words = [program] + [str(mask) for mask in near] + [str(turns), str(last)]
     begun = time.monotonic()
@@ -118,7 +97,7 @@ def seconds(program, near, turns, last):
 
 def main():
     with tempfile.TemporaryDirectory() as folder:
-        program = build(folder)
+        program = build(folder, "route_turns", ["anyhow", "failover", "policy_rules"], MAIN, ["0"])
         for name, case in (("ring", ring), ("star", star), ("fat tree", fat_tree), ("mesh", mesh), ("256 random links", random_links)):
             near, last = case()
             spent = seconds(program, near, TURNS, last) - seconds(program, near, 0, last)

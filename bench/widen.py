@@ -6,14 +6,13 @@ usage: bench/widen.py
 Makes a program over the crates of this repository, in a folder of its own, that widens cache words behind 0, 100 and
 1,000 earlier rules, builds it by `rt run` (which proves it first), and prints microseconds a word.
 """
-import os
-import shutil
 import subprocess
 import tempfile
 import time
 
-TOP = os.path.dirname(os.path.dirname(os.path.abspath(__file__)))
-NEEDS = ("ternary", "five_tuple", "policy_rules", "cache_maker")
+from small import build
+
+USES = ["anyhow", "cache_maker", "five_tuple", "policy_rules", "ternary"]
 PROGRAM = """#![tactic(auto)]
 
 use anyhow::Result;
@@ -71,12 +70,7 @@ fn main(rt: HostRuntime) -> Result<()> {
 
 
 def seconds(folder, rows, turns):
-    crate = os.path.join(folder, "crates", "widen_bench")
-    os.makedirs(os.path.join(crate, "src"), exist_ok=True)
-    with open(os.path.join(crate, "src", "main.rt"), "w") as file:
-        file.write(PROGRAM.replace("ROWS", str(rows)).replace("TURNS", str(turns)))
-    subprocess.run(["rt", "run"], cwd=crate, check=True, stdout=subprocess.DEVNULL)
-    program = os.path.join(crate, "out", "widen_bench")
+    program = build(folder, "widen_bench", USES, PROGRAM.replace("ROWS", str(rows)).replace("TURNS", str(turns)))
     begun = time.monotonic()
     subprocess.run([program], check=True, stdout=subprocess.DEVNULL)
     return time.monotonic() - begun
@@ -84,17 +78,9 @@ def seconds(folder, rows, turns):
 
 def main():
     with tempfile.TemporaryDirectory() as folder:
-        for name in NEEDS:
-            shutil.copytree(os.path.join(TOP, "crates", name), os.path.join(folder, "crates", name), ignore=shutil.ignore_patterns("out"))
-        with open(os.path.join(TOP, "crates.txt")) as file:
-            lines = [line for line in file if line.split(":")[0] in NEEDS]
-        with open(os.path.join(folder, "crates.txt"), "w") as file:
-            file.writelines(lines + ["widen_bench: anyhow cache_maker five_tuple policy_rules ternary\n"])
-        shutil.copy(os.path.join(TOP, "HANDLES"), folder)
         for rows, turns in ((0, 1_000_000), (100, 100_000), (1_000, 20_000)):
             taken = seconds(folder, rows, turns)
             print("%4d earlier rules: %.2f microseconds a word" % (rows, taken / turns * 1e6))
 
 
-if __name__ == "__main__":
-    main()
+main()

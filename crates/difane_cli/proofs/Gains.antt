@@ -9,28 +9,39 @@ use Rattle.shelf.specs.Sink.{gained, gained-gained, GainedPart}
 use Rattle.difane_cli.specs.Run.{GainedSome}
 
 -- a part of the next bytes, behind what was written, is a part of the whole
-pub GainedPart-behind : (before middle now : Option (List ℕ)) (front piece rest : List ℕ) → middle ≡ gained before front → GainedPart middle piece now → GainedPart before (front ++ (piece ++ rest)) now
+pub GainedPart-behind : (before middle now : Option (List ℕ)) (front piece rest : List ℕ)
+    → middle ≡ gained before front → GainedPart middle piece now
+    → GainedPart before (front ++ (piece ++ rest)) now
 GainedPart-behind before middle now front piece rest written part =
     let n = part.0 in
     let shorter = part.1 in (
       length front + n,
       rw (length-append, length-append) (omega (arith, shorter)),
       part.2 ∙ ap (λ b. gained b (take n piece)) written ∙ gained-gained before front (take n piece)
-          ∙ ap (gained before) (ap (λ ys. front ++ ys) (sym (take-append-le n piece rest (omega (arith, shorter)))) ∙ sym (take-append-add front (piece ++ rest) n)),
+          ∙ ap (gained before) (ap (λ ys. front ++ ys)
+          (sym (take-append-le n piece rest (omega (arith, shorter))))
+          ∙ sym (take-append-add front (piece ++ rest) n)),
     )
 
 -- pieces are those before a place, the one there, and the rest
-pub flat_map-at : {X : Type 0} (f : X → List ℕ) (xs : List X) (i : ℕ) (d : X) → i < length xs → flat_map f (take i xs) ++ (f (get_or xs i d) ++ flat_map f (drop (suc i) xs)) ≡ flat_map f xs
+pub flat_map-at : {X : Type 0} (f : X → List ℕ) (xs : List X) (i : ℕ) (d : X) → i < length xs
+    → flat_map f (take i xs) ++ (f (get_or xs i d) ++ flat_map f (drop (suc i) xs)) ≡ flat_map f xs
 flat_map-at f xs i d within =
-    sym (flat_map-append f (take i xs) (get_or xs i d ∷ drop (suc i) xs)) ∙ ap (flat_map f) (ap (λ ys. take i xs ++ ys) (sym (drop-cons xs i d within)) ∙ take-append-drop i xs)
+    sym (flat_map-append f (take i xs) (get_or xs i d ∷ drop (suc i) xs))
+    ∙ ap (flat_map f) (ap (λ ys. take i xs ++ ys) (sym (drop-cons xs i d within))
+    ∙ take-append-drop i xs)
 
 -- the pieces of a list are those of its first, of the next few, and of the rest
-pub flat_map-block : {X : Type 0} (f : X → List ℕ) (xs block : List X) (at : ℕ) → block ≡ take (length block) (drop at xs) →
-    flat_map f (take at xs) ++ (flat_map f block ++ flat_map f (drop (length block) (drop at xs))) ≡ flat_map f xs
+pub flat_map-block : {X : Type 0} (f : X → List ℕ) (xs block : List X) (at : ℕ)
+    → block ≡ take (length block) (drop at xs) →
+    flat_map f (take at xs) ++ (flat_map f block ++ flat_map f (drop (length block) (drop at xs)))
+    ≡ flat_map f xs
 flat_map-block f xs block at is =
     let rest = drop (length block) (drop at xs) in
-    let both : block ++ rest ≡ drop at xs = ap (λ ys. ys ++ rest) is ∙ take-append-drop (length block) (drop at xs) in
-    ap (λ bytes. flat_map f (take at xs) ++ bytes) (sym (flat_map-append f block rest) ∙ ap (flat_map f) both)
+    let both : block ++ rest ≡ drop at xs = ap (λ ys. ys ++ rest) is
+    ∙ take-append-drop (length block) (drop at xs) in
+    ap (λ bytes. flat_map f (take at xs) ++ bytes)
+    (sym (flat_map-append f block rest) ∙ ap (flat_map f) both)
     ∙ sym (flat_map-append f (take at xs) (drop at xs)) ∙ ap (flat_map f) (take-append-drop at xs)
 
 -- so many as there are of the first
@@ -40,28 +51,41 @@ take_own (suc n) [] = refl
 take_own (suc n) (x ∷ xs) = ap (λ ys. x ∷ ys) (take_own n xs)
 
 -- the pieces of a few more
-pub flat_map-more : {X : Type 0} (f : X → List ℕ) (xs block : List X) (at : ℕ) → block ≡ take (length block) (drop at xs) → flat_map f (take at xs) ++ flat_map f block ≡ flat_map f (take (at + length block) xs)
+pub flat_map-more : {X : Type 0} (f : X → List ℕ) (xs block : List X) (at : ℕ)
+    → block ≡ take (length block) (drop at xs) → flat_map f (take at xs) ++ flat_map f block
+    ≡ flat_map f (take (at + length block) xs)
 flat_map-more f xs block at is =
-    sym (flat_map-append f (take at xs) block) ∙ ap (flat_map f) (ap (λ ys. take at xs ++ ys) is ∙ sym (take-add at (length block) xs))
+    sym (flat_map-append f (take at xs) block)
+    ∙ ap (flat_map f) (ap (λ ys. take at xs ++ ys) is ∙ sym (take-add at (length block) xs))
 
 -- some of the next bytes, behind what was written, are some of the whole
-pub GainedSome-behind : (before middle now : Option (List ℕ)) (front piece rest : List ℕ) → middle ≡ gained before front → GainedSome middle piece now → GainedSome before (front ++ (piece ++ rest)) now
-GainedSome-behind before middle now front piece rest written some = elim (cases_lt (length piece) some.0) [
-  | inl many ↦ behind (length piece) (omega arith) (some.1 ∙ ap (gained middle) (take_all some.0 piece (omega (arith, many)) ∙ sym (take_all (length piece) piece (omega arith))))
-  | inr few ↦ behind some.0 few some.1
-]
+pub GainedSome-behind : (before middle now : Option (List ℕ)) (front piece rest : List ℕ)
+    → middle ≡ gained before front → GainedSome middle piece now
+    → GainedSome before (front ++ (piece ++ rest)) now
+GainedSome-behind before middle now front piece rest written some =
+    elim (cases_lt (length piece) some.0) [
+      | inl many ↦ behind (length piece) (omega arith)
+          (some.1 ∙ ap (gained middle)
+          (take_all some.0 piece (omega (arith, many))
+          ∙ sym (take_all (length piece) piece (omega arith))))
+      | inr few ↦ behind some.0 few some.1
+    ]
   where
-    behind : (n : ℕ) → n ≤ length piece → now ≡ gained middle (take n piece) → GainedSome before (front ++ (piece ++ rest)) now
+    behind : (n : ℕ) → n ≤ length piece → now ≡ gained middle (take n piece)
+        → GainedSome before (front ++ (piece ++ rest)) now
     behind n few is = (
       length front + n,
       is ∙ ap (λ b. gained b (take n piece)) written ∙ gained-gained before front (take n piece)
-          ∙ ap (gained before) (ap (λ ys. front ++ ys) (sym (take-append-le n piece rest few)) ∙ sym (take-append-add front (piece ++ rest) n)),
+          ∙ ap (gained before) (ap (λ ys. front ++ ys) (sym (take-append-le n piece rest few))
+          ∙ sym (take-append-add front (piece ++ rest) n)),
     )
 
 -- a part is some
-pub GainedSome-part : (before now : Option (List ℕ)) (bytes : List ℕ) → GainedPart before bytes now → GainedSome before bytes now
+pub GainedSome-part : (before now : Option (List ℕ)) (bytes : List ℕ) → GainedPart before bytes now
+    → GainedSome before bytes now
 GainedSome-part before now bytes part = (part.0, part.2)
 
-pub some_on_err : {T E : Type 0} (r : Result T E) (before now : Option (List ℕ)) (bytes : List ℕ) → OnErr r (GainedPart before bytes now) → OnErr r (GainedSome before bytes now)
+pub some_on_err : {T E : Type 0} (r : Result T E) (before now : Option (List ℕ)) (bytes : List ℕ)
+    → OnErr r (GainedPart before bytes now) → OnErr r (GainedSome before bytes now)
 some_on_err (Ok x) before now bytes part = tt
 some_on_err (Err e) before now bytes part = GainedSome-part before now bytes part

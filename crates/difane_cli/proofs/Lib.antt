@@ -1,4 +1,5 @@
 mod Gains
+mod OneSwitch
 mod Plays
 mod ShelfReads
 mod Tried

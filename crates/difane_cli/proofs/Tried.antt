@@ -1,8 +1,9 @@
 -- The grammar of words, tried on literals by computing.
 use Rattle.std.proofs.Common.{◌≡◌, Some, None, [], ◌∷◌, codes, refl}
-use Rattle.difane_cli.specs.Words.{command_of}
+use Rattle.difane_cli.specs.Words.{Print, Replay, command_of}
 
-two_names : command_of (codes "replay" ∷ codes "s.csv" ∷ codes "p.csv" ∷ []) ≡ Some (record { schedule = codes "s.csv"; policy = codes "p.csv" })
+two_names : command_of (codes "replay" ∷ codes "s.csv" ∷ codes "p.csv" ∷ []) ≡ Some
+    (Replay (record { schedule = codes "s.csv"; policy = codes "p.csv" }))
 two_names = refl
 
 no_option : command_of (codes "replay" ∷ codes "s.csv" ∷ codes "--net" ∷ []) ≡ None
@@ -11,5 +12,37 @@ no_option = refl
 no_empty_name : command_of (codes "replay" ∷ [] ∷ codes "p.csv" ∷ []) ≡ None
 no_empty_name = refl
 
-no_third_name : command_of (codes "replay" ∷ codes "s.csv" ∷ codes "p.csv" ∷ codes "q.csv" ∷ []) ≡ None
+no_third_name : command_of (codes "replay" ∷ codes "s.csv" ∷ codes "p.csv" ∷ codes "q.csv" ∷ [])
+    ≡ None
 no_third_name = refl
+
+one_policy : command_of (codes "compile" ∷ codes "p.csv" ∷ []) ≡ Some
+    (Print (record { policy = codes "p.csv"; switch = None; net = None }))
+one_policy = refl
+
+net_behind : command_of (codes "show" ∷ codes "p.csv" ∷ codes "a" ∷ codes "--net" ∷ codes "n" ∷ [])
+    ≡ Some (Print (record {
+      policy = codes "p.csv";
+      switch = Some (codes "a");
+      net =
+          Some (codes "n");
+    }))
+net_behind = refl
+
+net_in_front : command_of (codes "compile" ∷ codes "--net=n" ∷ codes "p.csv" ∷ []) ≡ Some
+    (Print (record { policy = codes "p.csv"; switch = None; net = Some (codes "n") }))
+net_in_front = refl
+
+no_two_nets : command_of (codes "compile" ∷ codes "--net=n" ∷ codes "p.csv" ∷ codes "--net=m" ∷ [])
+    ≡ None
+no_two_nets = refl
+
+no_empty_net : command_of (codes "compile" ∷ codes "p.csv" ∷ codes "--net=" ∷ []) ≡ None
+no_empty_net = refl
+
+no_net_between : command_of (codes "show" ∷ codes "p.csv" ∷ codes "--net=n" ∷ codes "a" ∷ []) ≡ None
+no_net_between = refl
+
+no_net_for_replay : command_of
+    (codes "replay" ∷ codes "s.csv" ∷ codes "p.csv" ∷ codes "--net=n" ∷ []) ≡ None
+no_net_for_replay = refl

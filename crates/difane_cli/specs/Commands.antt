@@ -1,13 +1,42 @@
 -- What the words and the files that a command read are to the definitions.
-use Rattle.std.specs.Prelude.{[], ◌∷◌}
-use Rattle.difane_cli.specs.Inputs.{Inputs}
-use Rattle.difane_cli.specs.Words.{ReplayCommand}
+use Rattle.std.specs.Prelude.{⊤, ℕ, ◌≤◌, Option, option_map, List, [], ◌∷◌, length, map, All, string_bytes}
+use Rattle.std.specs.Borrow.{Bor}
+use Rattle.net_file.specs.Net.{IsNet}
+use Rattle.plain_schedule.specs.OneSwitch.{IsOfOneSwitch, NamesOwnPorts}
+use Rattle.plain_schedule.specs.declared.plain.TheConstants.{MAX_EVENTS}
+use Rattle.plain_machine.specs.Setting.{first_policy}
+use Rattle.difane_cli.specs.Run.{IsPrintingOf}
+use Rattle.difane_cli.specs.Inputs.{Inputs, Printing, Task, Play, Print}
+use Rattle.difane_cli.specs.Words as grammar
 use Rattle.difane_cli.specs.declared.inputs.ReplayInputs.{ReplayInputs}
+use Rattle.difane_cli.specs.declared.printing.PrintInputs.{PrintInputs}
+use Rattle.difane_cli.specs.declared.task.Task as declared_task
+use Rattle.difane_cli.specs.declared.task.Task.TheVariants as asked
+use Rattle.difane_cli.specs.declared.words.Command.{Command}
+use Rattle.difane_cli.specs.declared.words.Command.TheVariants as given
+use Rattle.difane_cli.specs.declared.words.Cut.{Cut}
+use Rattle.difane_cli.specs.declared.words.PrintWords.{PrintWords}
 use Rattle.difane_cli.specs.declared.words.ReplayWords.{ReplayWords}
 
+-- a name that a word may have given
+abbrev pub net_named : Option (Bor (List ℕ)) → Option (List ℕ)
+net_named name = option_map (λ n. n.now) name
+
+abbrev pub replay_named : ReplayWords → grammar.ReplayCommand
+replay_named words = record { schedule = words.schedule.now; policy = words.policy.now }
+
+abbrev pub print_named : PrintWords → grammar.PrintCommand
+print_named words =
+    record { policy = words.policy.now; switch = net_named words.switch; net = net_named words.net }
+
 -- the command that names these files
-abbrev pub command_named : ReplayWords → ReplayCommand
-command_named words = record { schedule = words.schedule.now; policy = words.policy.now }
+abbrev pub command_named : Command → grammar.Command
+command_named (given.Replay words) = grammar.Replay (replay_named words)
+command_named (given.Print words) = grammar.Print (print_named words)
+
+-- the words that were cut
+abbrev pub cut_seen : Cut → grammar.Cut
+cut_seen cut = record { net = net_named cut.net; words = map string_bytes cut.words.now }
 
 -- the inputs that were read
 abbrev pub inputs_stated : ReplayInputs → Inputs
@@ -15,3 +44,28 @@ inputs_stated inputs = record {
   setting = record { policies = inputs.policy ∷ [] };
   events = inputs.events.items;
 }
+
+abbrev pub printing_stated : PrintInputs → Printing
+printing_stated inputs = record {
+  policy = inputs.plan.policy;
+  net = inputs.net;
+  placed = inputs.plan.placed;
+  switch = inputs.switch;
+}
+
+abbrev pub task_stated : declared_task.Task → Task
+task_stated (asked.Play inputs) = Play (inputs_stated inputs)
+task_stated (asked.Print inputs) = Print (printing_stated inputs)
+
+-- inputs name the one switch and its ports alone; a plan is on a network
+abbrev pub IsSoundTask : Task → Type 0
+IsSoundTask (Play inputs) =
+    All IsOfOneSwitch inputs.events × (length inputs.events ≤ MAX_EVENTS)
+    × NamesOwnPorts (first_policy inputs.setting)
+IsSoundTask (Print printing) = IsNet printing.net
+
+-- the task is of the kind that the command asks for, and a plan is as it asks for it
+abbrev pub IsTaskOf : grammar.Command → Task → Type 0
+IsTaskOf (grammar.Replay words) (Play inputs) = ⊤
+IsTaskOf (grammar.Print words) (Print printing) = IsPrintingOf words printing
+IsTaskOf _ _ = ⊥

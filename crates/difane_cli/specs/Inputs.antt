@@ -1,18 +1,26 @@
--- The inputs of a replay: what its files are read to, or the first refusal in the order of work.
+-- The task of a command: what its files are read to, or the first refusal in the order of work.
 use Rattle.std.specs.Prelude.{⊤, ℕ, ◌≡◌, ◌+◌, ◌<◌, Bool, true, false, nat_le, if◌then◌else◌, Option, Some, None, Result, Ok, Err, is_ok, List, [], ◌∷◌, length}
+use Rattle.std.specs.Option.{option_map_or}
+use Rattle.net_file.specs.Net.{port_mask, solo_net, switch_number}
+use Rattle.net_file.specs.Reading.{net_of}
+use Rattle.net_file.specs.Refusals as net_text
+use Rattle.net_file.specs.declared.net.Net.{Net}
+use Rattle.partition.specs.Plan.{NoPlan, Placed, plan_of}
+use Rattle.partition.specs.Plan as no_plan
 use Rattle.policy_rules.specs.RuleList.{word_total}
 use Rattle.policy_rules.specs.declared.policy.Row.{Row}
 use Rattle.policy_file.specs.Ports.{first_without_port}
 use Rattle.policy_file.specs.Reading as policy_text
 use Rattle.policy_file.specs.declared.ports.NoPort.{NoPort}
-use Rattle.schedule.specs.OneSwitch.{port_mask}
-use Rattle.schedule.specs.Plain as schedule_text
-use Rattle.schedule.specs.declared.step.Event.{Event}
+use Rattle.plain_schedule.specs.OneSwitch as one_switch
+use Rattle.plain_schedule.specs.Plain as schedule_text
+use Rattle.plain_schedule.specs.declared.step.Event.{Event}
 use Rattle.shelf.specs.Shelf.{Files, file_named}
-use Rattle.update_machine.specs.Setting.{Setting}
-use Rattle.difane_cli.specs.Words.{ReplayCommand}
+use Rattle.plain_machine.specs.Setting.{Setting}
+use Rattle.difane_cli.specs.Words.{Command, PrintCommand, ReplayCommand}
+use Rattle.difane_cli.specs.Words as asked
 use Rattle.difane_cli.specs.declared.inputs.TheConstants.{MAX_BYTES, MISSING, TOO_LONG}
-use Rattle.difane_cli.specs.declared.policies.TheConstants.{MAX_WORDS, NO_PORT, TOO_MANY_WORDS}
+use Rattle.difane_cli.specs.declared.policies.TheConstants.{MAX_WORDS, NO_PORT, NO_ROOM, NO_SWITCH, TOO_MANY_LEAVES, TOO_MANY_WORDS}
 use Rattle.difane_cli.specs.declared.status.Refusal.{Refusal}
 use Rattle.difane_cli.specs.declared.status.Stop.{Stop}
 use Rattle.difane_cli.specs.declared.status.Stop.TheVariants as stop
@@ -56,19 +64,33 @@ abbrev pub with_ports : List ℕ → List Row → Option NoPort → Result (List
 with_ports name rows None = Ok rows
 with_ports name rows (Some lack) = Err (record { file = name; code = NO_PORT; row = lack.row })
 
--- the rows that the bytes of this file state, unless one names a port that the network lacks
-abbrev pub policy_in : List ℕ → List ℕ → Result (List Row) Refusal
-policy_in name bytes =
+-- the rows that the bytes of this file state, unless one names a port outside this mask
+abbrev pub policy_in : ℕ → List ℕ → List ℕ → Result (List Row) Refusal
+policy_in ports name bytes =
     and_then (policy_from name (policy_text.policy_of bytes)) (λ rows.
-    with_ports name rows (first_without_port port_mask rows))
+    with_ports name rows (first_without_port ports rows))
 
 abbrev pub read_schedule : Files → List ℕ → Result (List Event) Refusal
 read_schedule files name = and_then (content_of files name) (schedule_in name)
 
-abbrev pub read_policy : Files → List ℕ → Result (List Row) Refusal
-read_policy files name = and_then (content_of files name) (policy_in name)
+abbrev pub read_policy : ℕ → Files → List ℕ → Result (List Row) Refusal
+read_policy ports files name = and_then (content_of files name) (policy_in ports name)
 
--- ---- all files
+abbrev pub net_from : List ℕ → Result Net net_text.Refusal → Result Net Refusal
+net_from name (Ok net) = Ok net
+net_from name (Err refusal) =
+    Err (record { file = name; code = net_text.code_of refusal.refusal; row = refusal.row })
+
+-- the network that the bytes of this file state
+abbrev pub net_in : List ℕ → List ℕ → Result Net Refusal
+net_in name bytes = net_from name (net_of bytes)
+
+-- the network of this file, or that of one switch
+abbrev pub read_net : Files → Option (List ℕ) → Result Net Refusal
+read_net files None = Ok solo_net
+read_net files (Some name) = and_then (content_of files name) (net_in name)
+
+-- ---- all files of a replay
 
 -- the first policy, unless it has too many words
 abbrev pub first_plan : List ℕ → List Row → Result (List Row) Refusal
@@ -83,19 +105,73 @@ pub record Inputs : Type 0 where
 abbrev pub inputs_of : Files → ReplayCommand → Result Inputs Refusal
 inputs_of files command =
     and_then (read_schedule files command.schedule) (λ events.
-    and_then (read_policy files command.policy) (λ rows.
+    and_then (read_policy one_switch.port_mask files command.policy) (λ rows.
     and_then (first_plan command.policy rows) (λ policy.
     Ok (record { setting = record { policies = policy ∷ [] }; events = events }))))
 
--- the inputs or the refusal, where files are known and the words are a command
-abbrev pub known_inputs : Option Files → Option ReplayCommand → Option (Result Inputs Refusal)
-known_inputs (Some files) (Some command) = Some (inputs_of files command)
-known_inputs _ _ = None
+-- ---- all files of a plan
 
--- the inputs are known, and accepted
-abbrev pub AreAccepted : Option (Result Inputs Refusal) → Type 0
-AreAccepted (Some (Ok inputs)) = ⊤
-AreAccepted _ = ⊥
+-- the number of the switch of this name, if one is asked for
+abbrev pub switch_on : Net → Option (List ℕ) → Result (Option ℕ) Refusal
+switch_on net None = Ok None
+switch_on net (Some name) =
+    option_map_or (λ s. Ok (Some s)) (switch_number net.switches name) (Err (whole name NO_SWITCH))
+
+abbrev pub plan_from : List ℕ → Result (List Placed) NoPlan → Result (List Placed) Refusal
+plan_from name (Ok placed) = Ok placed
+plan_from name (Err (no_plan.TooManyWords words)) = Err (whole name TOO_MANY_WORDS)
+plan_from name (Err no_plan.TooManyLeaves) = Err (whole name TOO_MANY_LEAVES)
+plan_from name (Err (no_plan.NoRoom partition)) =
+    Err (record { file = name; code = NO_ROOM; row = partition })
+
+-- the plan of the rows of this file on the network
+abbrev pub plan_on : List ℕ → Net → List Row → Result (List Placed) Refusal
+plan_on name net rows = plan_from name (plan_of rows net)
+
+-- a policy planned on a network, and the switch whose tables are asked for
+pub record Printing : Type 0 where
+  pub policy : List Row
+  pub net : Net
+  pub placed : List Placed
+  pub switch : Option ℕ
+
+-- the network, and the switch on it
+abbrev pub place_of : Files → PrintCommand → Result (Net × Option ℕ) Refusal
+place_of files command =
+    and_then (read_net files command.net) (λ net.
+    and_then (switch_on net command.switch) (λ switch.
+    Ok (net, switch)))
+
+-- the network is read and checked, then the switch is looked for, then the policy is read and
+-- checked, and then it is planned
+abbrev pub printing_of : Files → PrintCommand → Result Printing Refusal
+printing_of files command =
+    and_then (place_of files command) (λ place.
+    and_then (read_policy (port_mask place.0.switches) files command.policy) (λ rows.
+    and_then (plan_on command.policy place.0 rows) (λ placed.
+    Ok (record { policy = rows; net = place.0; placed = placed; switch = place.1 }))))
+
+-- ---- all commands
+
+-- what a command is to do: to play inputs, or to print a plan or the tables of a switch
+pub data Task : Type 0 where
+  Play : Inputs → Task
+  Print : Printing → Task
+
+abbrev pub task_of : Files → Command → Result Task Refusal
+task_of files (asked.Replay words) = and_then (inputs_of files words) (λ inputs. Ok (Play inputs))
+task_of files (asked.Print words) =
+    and_then (printing_of files words) (λ printing. Ok (Print printing))
+
+-- the task or the refusal, where files are known and the words are a command
+abbrev pub known_task : Option Files → Option Command → Option (Result Task Refusal)
+known_task (Some files) (Some command) = Some (task_of files command)
+known_task _ _ = None
+
+-- the task is known, and accepted
+abbrev pub IsAccepted : Option (Result Task Refusal) → Type 0
+IsAccepted (Some (Ok task)) = ⊤
+IsAccepted _ = ⊥
 
 -- of files in order, which are accepted or not, how many are read: none behind the first that is
 -- refused
@@ -104,13 +180,21 @@ up_to_refusal [] = 0
 up_to_refusal (true ∷ files) = 1 + up_to_refusal files
 up_to_refusal (false ∷ files) = 1
 
+-- a network is read from a file, or not at all
+abbrev pub net_reads : Option (List ℕ) → ℕ
+net_reads None = 0
+net_reads (Some name) = 1
+
 -- how many reads a command makes at most
-abbrev pub most_reads : Option Files → Option ReplayCommand → ℕ
+abbrev pub most_reads : Option Files → Option Command → ℕ
 most_reads files None = 0
-most_reads None (Some command) = 2
-most_reads (Some files) (Some command) =
-    up_to_refusal (is_ok (read_schedule files command.schedule)
-    ∷ is_ok (read_policy files command.policy) ∷ [])
+most_reads None (Some (asked.Replay words)) = 2
+most_reads None (Some (asked.Print words)) = net_reads words.net + 1
+most_reads (Some files) (Some (asked.Replay words)) =
+    up_to_refusal (is_ok (read_schedule files words.schedule)
+    ∷ is_ok (read_policy one_switch.port_mask files words.policy) ∷ [])
+most_reads (Some files) (Some (asked.Print words)) =
+    net_reads words.net + (if is_ok (place_of files words) then 1 else 0)
 
 -- what a stop says of what was to be read: a refusal is the one that stands there
 abbrev pub Stops : {X : Type 0} → Result X Refusal → Stop → Type 0
@@ -130,3 +214,9 @@ StopsContent read (stop.Refused refusal) =
     (read ≡ Err refusal) × (MISSING < refusal.code) × (refusal.code < TOO_LONG)
 StopsContent read stop.NoMemory = ⊤
 StopsContent read stop.ReadFault = ⊥
+
+-- a stop at the switch: its refusal, by a code that no file has
+abbrev pub StopsSwitch : {X : Type 0} → Result X Refusal → Stop → Type 0
+StopsSwitch read (stop.Refused refusal) = (read ≡ Err refusal) × (TOO_LONG < refusal.code)
+StopsSwitch read stop.NoMemory = ⊤
+StopsSwitch read stop.ReadFault = ⊥

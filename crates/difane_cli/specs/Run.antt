@@ -1,74 +1,144 @@
 -- What became of a call of the program, by its status.
-use Rattle.std.specs.Prelude.{⊤, ℕ, ◌≡◌, ◌⊎◌, Option, Result, Ok, Err, IsOk, List, [], take}
+use Rattle.std.specs.Prelude.{⊤, ℕ, ◌≡◌, ◌⊎◌, Option, Some, None, is_some, IsTrue, Result, Ok, Err, IsOk, List, [], take}
 use Rattle.std.specs.Option.{ForSome}
+use Rattle.net_file.specs.Net.{IsNet, solo_net, switch_number}
+use Rattle.net_file.specs.declared.net.Net.{Net}
+use Rattle.partition.specs.Plan.{plan_of}
+use Rattle.policy_rules.specs.Policy.{IsPolicy}
 use Rattle.replay.specs.Text.{journal_text}
-use Rattle.shelf.specs.Sink.{gained, GainedPart}
-use Rattle.update_machine.specs.Answers.{Answers, BeginsAnswer}
-use Rattle.update_machine.specs.Causes.{EndsHaveCauses}
-use Rattle.update_machine.specs.Machine.{IsRun}
-use Rattle.update_machine.specs.declared.journal.Item.{Item}
-use Rattle.difane_cli.specs.Inputs.{Inputs}
+use Rattle.show_text.specs.Text.{compile_text, table_text}
+use Rattle.switch_table.specs.Tables.{tables_of}
+use Rattle.shelf.specs.Sink.{gained, GainedPart, SinkState}
+use Rattle.plain_machine.specs.Answers.{Answers, BeginsAnswer}
+use Rattle.plain_machine.specs.Causes.{EndsHaveCauses}
+use Rattle.plain_machine.specs.Machine.{IsRun}
+use Rattle.plain_machine.specs.declared.journal.Item.{Item}
+use Rattle.difane_cli.specs.Inputs.{Inputs, Play, Print, Printing, Task}
+use Rattle.difane_cli.specs.Words.{Command, PrintCommand}
+use Rattle.difane_cli.specs.Words as asked
 use Rattle.difane_cli.specs.declared.status.Refusal.{Refusal}
 use Rattle.difane_cli.specs.declared.status.Status.{Status}
 use Rattle.difane_cli.specs.declared.status.Status.TheVariants as status
 
--- what is known of the inputs
+-- what is known of the task
 abbrev pub Known : Type 0
-Known = Option (Result Inputs Refusal)
+Known = Option (Result Task Refusal)
 
 -- the output gained some of these bytes from the front
 abbrev pub GainedSome : Option (List ℕ) → List ℕ → Option (List ℕ) → Type 0
 GainedSome before bytes now = (n : ℕ) × (now ≡ gained before (take n bytes))
 
--- nothing was played, and nothing written
-pub record Unplayed (journal : List Item) (before now : Option (List ℕ)) : Type 0 where
+-- nothing was played, and the output wasn't touched: no write was made, not even of nothing
+pub record Unplayed (journal : List Item) (before now : SinkState) : Type 0 where
   pub nothing_played : journal ≡ []
-  pub nothing_written : now ≡ before
+  pub untouched : now ≡ before
 
--- the journal answers these inputs, which are the known ones where inputs are known; so it is a
+-- the journal answers these inputs, which are the known ones where the task is known; so it is a
 -- run of the machine, and its ends have their causes
 pub record IsAnswer (known : Known) (inputs : Inputs) (journal : List Item) : Type 0 where
-  pub accepted : ForSome known (λ read. read ≡ Ok inputs)
+  pub accepted : ForSome known (λ read. read ≡ Ok (Play inputs))
   pub answers : Answers inputs.setting inputs.events journal
   pub run : IsRun inputs.setting journal
   pub causes : EndsHaveCauses inputs.setting journal
 
 -- there are inputs that the journal answers, and the output gained its text
-pub record Replayed (known : Known) (journal : List Item) (before now : Option (List ℕ))
+pub record Replayed (known : Known) (journal : List Item) (before now : SinkState)
     : Type 0 where
   pub inputs : Inputs
   pub played : IsAnswer known inputs journal
-  pub written : now ≡ gained before (journal_text inputs.setting journal)
+  pub written : now.bytes ≡ gained before.bytes (journal_text inputs.setting journal)
 
 -- the same, but that the output failed and gained a part of the text
-pub record CutShort (known : Known) (journal : List Item) (before now : Option (List ℕ))
+pub record CutShort (known : Known) (journal : List Item) (before now : SinkState)
     : Type 0 where
   pub inputs : Inputs
   pub played : IsAnswer known inputs journal
-  pub written : GainedPart before (journal_text inputs.setting journal) now
+  pub written : GainedPart before.bytes (journal_text inputs.setting journal) now.bytes
 
 -- there are such inputs; the journal begins an answer to them, and the output gained some of its
 -- text
-pub record Begun (known : Known) (journal : List Item) (before now : Option (List ℕ))
+pub record Begun (known : Known) (journal : List Item) (before now : SinkState)
     : Type 0 where
   pub inputs : Inputs
-  pub accepted : ForSome known (λ read. read ≡ Ok inputs)
+  pub accepted : ForSome known (λ read. read ≡ Ok (Play inputs))
   pub begins : BeginsAnswer inputs.setting inputs.events journal
   pub run : IsRun inputs.setting journal
   pub causes : EndsHaveCauses inputs.setting journal
-  pub written : GainedSome before (journal_text inputs.setting journal) now
+  pub written : GainedSome before.bytes (journal_text inputs.setting journal) now.bytes
 
--- the journal and the output that a status comes with
-abbrev pub Outcome : Known → Status → List Item → (before now : Option (List ℕ)) → Type 0
-Outcome known status.Ok journal before now = Replayed known journal before now
-Outcome known status.WriteFault journal before now = CutShort known journal before now
-Outcome known status.NoMemory journal before now =
+-- the journal and the output that a status of a replay comes with
+abbrev pub ReplayOutcome : Known → Status → List Item → (before now : SinkState)
+    → Type 0
+ReplayOutcome known status.Ok journal before now = Replayed known journal before now
+ReplayOutcome known status.WriteFault journal before now = CutShort known journal before now
+ReplayOutcome known status.NoMemory journal before now =
     Unplayed journal before now ⊎ Begun known journal before now
-Outcome known _ journal before now = Unplayed journal before now
+ReplayOutcome known _ journal before now = Unplayed journal before now
 
--- what a status says of the known inputs: a refusal is the one that stands there, and work was done
--- only on accepted inputs
-abbrev pub Accounts : Result Inputs Refusal → Status → Type 0
+-- ---- plans and tables
+
+-- the network is that of a file, or of one switch
+abbrev pub IsNetOf : Option (List ℕ) → Net → Type 0
+IsNetOf None net = net ≡ solo_net
+IsNetOf (Some name) net = IsNet net
+
+-- the switch has the name that was asked for
+abbrev pub IsSwitchOf : Option (List ℕ) → Net → Option ℕ → Type 0
+IsSwitchOf None net switch = switch ≡ None
+IsSwitchOf (Some name) net switch =
+    (switch ≡ switch_number net.switches name) × IsTrue (is_some switch)
+
+-- a policy, its plan on the network that a command names, and the switch that it names
+pub record IsPrintingOf (command : PrintCommand) (printing : Printing) : Type 0 where
+  pub policy : IsPolicy printing.policy
+  pub net : IsNetOf command.net printing.net
+  pub switch : IsSwitchOf command.switch printing.net printing.switch
+  pub plan : plan_of printing.policy printing.net ≡ Ok printing.placed
+
+-- the plan, or the tables that it gives to the switch for version 1
+abbrev pub text_by : Option ℕ → Printing → List ℕ
+text_by None printing = compile_text printing.policy printing.placed printing.net
+text_by (Some s) printing = table_text s (tables_of printing.placed 1 s) printing.net
+
+abbrev pub printing_text : Printing → List ℕ
+printing_text printing = text_by printing.switch printing
+
+-- there is a plan as the command asks for it, which is the known one where the task is known; what
+-- the output gained is in this relation to its text
+pub record Printed (command : PrintCommand) (known : Known) (IsWritten : List ℕ → Type 0)
+    (journal : List Item) : Type 0 where
+  pub printing : Printing
+  pub accepted : ForSome known (λ read. read ≡ Ok (Print printing))
+  pub planned : IsPrintingOf command printing
+  pub nothing_played : journal ≡ []
+  pub written : IsWritten (printing_text printing)
+
+-- the output that a status of a printing command comes with; the journal is empty
+abbrev pub PrintOutcome : PrintCommand → Known → Status → List Item
+    → (before now : SinkState) → Type 0
+PrintOutcome command known status.Ok journal before now =
+    Printed command known (λ text. now.bytes ≡ gained before.bytes text) journal
+PrintOutcome command known status.WriteFault journal before now =
+    Printed command known (λ text. GainedPart before.bytes text now.bytes) journal
+PrintOutcome command known status.NoMemory journal before now =
+    Unplayed journal before now
+    ⊎ Printed command known (λ text. GainedPart before.bytes text now.bytes) journal
+PrintOutcome command known _ journal before now = Unplayed journal before now
+
+-- ---- all commands
+
+-- the journal and the output that a status of a command comes with
+abbrev pub Outcome : Option Command → Known → Status → List Item
+    → (before now : SinkState) → Type 0
+Outcome None known status journal before now = Unplayed journal before now
+Outcome (Some (asked.Replay words)) known status journal before now =
+    ReplayOutcome known status journal before now
+Outcome (Some (asked.Print words)) known status journal before now =
+    PrintOutcome words known status journal before now
+
+-- what a status says of the known task: a refusal is the one that stands there, and work was done
+-- only on an accepted one
+abbrev pub Accounts : Result Task Refusal → Status → Type 0
 Accounts read (status.Input file code row) =
     read ≡ Err (record { file = file; code = code; row = row })
 Accounts read status.Words = ⊥

@@ -1,9 +1,11 @@
 -- How a command ended: its number and its line.
-use Rattle.std.specs.Prelude.{⊤, ℕ, ◌≡◌, ◌≤◌, ◌⊎◌, Bool, IsTrue, Option, None, List, [], ◌∷◌, codes, decimal}
+use Rattle.std.specs.Prelude.{⊤, ℕ, ◌≡◌, ◌≤◌, ◌⊎◌, Bool, IsTrue, Option, None, Result, Ok, Err, List, [], ◌∷◌, codes, decimal}
 use Rattle.std.specs.List.{concat}
 use Rattle.shelf.specs.Faults.{Rose}
 use Rattle.shelf.specs.Shelf.{Files}
 use Rattle.shelf.specs.Sink.{SinkState, gained, GainedPart}
+use Rattle.shelf.specs.declared.output.SinkError.{SinkError}
+use Rattle.shelf.specs.declared.output.SinkError.TheVariants as sink
 use Rattle.difane_cli.specs.declared.status.Status.{Status}
 use Rattle.difane_cli.specs.declared.status.Status.TheVariants as status
 use Rattle.difane_cli.specs.declared.status.Stop.{Stop}
@@ -15,6 +17,12 @@ abbrev pub status_of : Stop → Status
 status_of (stop.Refused refusal) = status.Input refusal.file refusal.code refusal.row
 status_of stop.ReadFault = status.ReadFault
 status_of stop.NoMemory = status.NoMemory
+
+-- the status of a command whose work was written, or not
+abbrev pub status_after : Result (Unit {0}) SinkError → Status
+status_after (Ok done) = status.Ok
+status_after (Err sink.Failed) = status.WriteFault
+status_after (Err sink.NoMemory) = status.NoMemory
 
 abbrev pub status_number : Status → ℕ
 status_number status.Ok = 0
@@ -51,14 +59,3 @@ abbrev pub NeedsReadFault : Option Files → Status → Type 0
 NeedsReadFault files status.ReadFault = ⊤
 NeedsReadFault None (status.Input file code row) = (code ≡ MISSING) ⊎ (code ≡ TOO_LONG)
 NeedsReadFault _ _ = ⊥
-
--- the work was done, or memory ran out
-abbrev pub IsDone : Status → Type 0
-IsDone status.Ok = ⊤
-IsDone status.NoMemory = ⊤
-IsDone _ = ⊥
-
--- a status that a play ends with
-abbrev pub IsAfterPlay : Status → Type 0
-IsAfterPlay status.WriteFault = ⊤
-IsAfterPlay other = IsDone other

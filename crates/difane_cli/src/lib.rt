@@ -8,11 +8,16 @@
 #![tactic(auto)]
 
 mod inputs;
+mod laws;
+mod networks;
 mod playing;
 mod policies;
+mod printing;
 mod status;
+mod task;
 mod top_call;
 mod words;
 
+pub use laws::one_switch_laws;
 pub use status::{FileName, Refusal, Status, Stop, tell};
 pub use top_call::{Finished, run};

@@ -2,47 +2,48 @@
 ghost use Rattle.std.specs.Prelude.{◌≡◌, ◌≤◌, ◌<◌, ◌+◌, Ok, All, IfOk, IsErrOf, OnOk, OnErr, drop, length, take, vec_len};
 ghost use Rattle.std.specs.Option.{ForSome};
 ghost use Rattle.replay.specs.Text.{journal_text};
-ghost use Rattle.schedule.specs.OneSwitch.{IsOfOneSwitch, NamesOwnPorts};
-ghost use Rattle.schedule.specs.declared.plain.TheConstants.{MAX_EVENTS};
+ghost use Rattle.plain_schedule.specs.OneSwitch.{IsOfOneSwitch, NamesOwnPorts};
+ghost use Rattle.plain_schedule.specs.declared.plain.TheConstants.{MAX_EVENTS};
 ghost use Rattle.shelf.specs.Faults.{Rose};
 ghost use Rattle.shelf.specs.Sink.{GainedPart, gained};
-ghost use Rattle.update_machine.specs.Answers.{Answers};
-ghost use Rattle.update_machine.specs.Setting.{Setting};
+ghost use Rattle.plain_machine.specs.Answers.{Answers};
+ghost use Rattle.plain_machine.specs.Setting.{Setting};
 ghost use Rattle.difane_cli.specs.Commands.{inputs_stated};
-ghost use Rattle.difane_cli.specs.Run.{GainedSome, Known, Outcome};
-ghost use Rattle.difane_cli.specs.Status.{IsAfterPlay};
-ghost use Rattle.difane_cli.specs.declared.status.Status.TheVariants as status;
+ghost use Rattle.difane_cli.specs.Run.{GainedSome, Known, ReplayOutcome};
+ghost use Rattle.difane_cli.specs.Inputs.{Play};
+ghost use Rattle.difane_cli.specs.Status.{status_after};
 
 use crate::inputs::ReplayInputs;
-use crate::status::Status;
+use plain_machine::{Item, Journal};
 use replay::{lines, replay};
 use shelf::{Sink, SinkError, write_whole};
 use std::alloc::{AllocError, Global};
-use update_machine::{Item, Journal};
 
 /// How many items are printed before they are written: their lines have about 40,000 bytes.
 const BLOCK: usize = 1_024;
 
 /// Plays the inputs and writes the journal. What comes of it is told for whatever is known of them.
-pub fn play<K: Sink>(alloc: Global, inputs: ReplayInputs, out: &mut K) -> (Status, Journal)
+pub fn play<K: Sink>(
+    alloc: Global,
+    inputs: ReplayInputs,
+    out: &mut K,
+) -> (Result<(), SinkError>, Journal)
     requires one_switch { All IsOfOneSwitch inputs.events.items }
     requires few { vec_len inputs.events ≤ MAX_EVENTS }
     requires own_ports { NamesOwnPorts inputs.policy }
-    ensures outcome { (known : Known) → ForSome known (λ read. read ≡ Ok (inputs_stated inputs))
-        → Outcome known result.0 result.1 (K.state out.old).bytes (K.state out.new).bytes }
-    ensures status { IsAfterPlay result.0 }
-    ensures write_fault { result.0 ≡ status.WriteFault
+    ensures outcome { (known : Known)
+        → ForSome known (λ read. read ≡ Ok (Play (inputs_stated inputs)))
+        → ReplayOutcome known (status_after result.0) result.1
+        (K.state out.old) (K.state out.new) }
+    ensures failed { IsErrOf result.0 SinkError.Failed
         → Rose (K.state out.old).faults (K.state out.new).faults }
     ensures faults { (K.state out.old).faults ≤ (K.state out.new).faults }
 {
     let Ok(journal) = journal_of(alloc, inputs) else {
-        return (Status::NoMemory, Journal::new(alloc));
+        return (Err(SinkError::NoMemory), Journal::new(alloc));
     };
-    match write_journal(alloc, &journal, out) {
-        Ok(()) => (Status::Ok, journal),
-        Err(SinkError::Failed) => (Status::WriteFault, journal),
-        Err(SinkError::NoMemory) => (Status::NoMemory, journal),
-    }
+    let written = write_journal(alloc, &journal, out);
+    (written, journal)
 }
 
 fn journal_of(alloc: Global, inputs: ReplayInputs) -> Result<Journal, AllocError>

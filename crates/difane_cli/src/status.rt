@@ -2,7 +2,7 @@
 ghost use Rattle.std.specs.Prelude.{◌≡◌, IfOk};
 ghost use Rattle.std.specs.List.{flat_map};
 ghost use Rattle.shelf.specs.Sink.{IsAfterWrite};
-ghost use Rattle.difane_cli.specs.Status.{TellsLine, input_line, status_line, status_number, status_of};
+ghost use Rattle.difane_cli.specs.Status.{TellsLine, input_line, status_after, status_line, status_number, status_of};
 
 use itoa::Buffer;
 use shelf::{Sink, SinkError, write_whole};
@@ -91,6 +91,17 @@ impl From<Stop> for Status {
 }
 
 impl Status {
+    /// The status of a command whose work was written, or not.
+    pub fn after(written: Result<(), SinkError>) -> Status
+        ensures { result ≡ status_after written }
+    {
+        match written {
+            Ok(()) => Status::Ok,
+            Err(SinkError::Failed) => Status::WriteFault,
+            Err(SinkError::NoMemory) => Status::NoMemory,
+        }
+    }
+
     /// The number that a program ends with.
     pub fn number(&self) -> u8
         ensures { result ≡ status_number self.now }

@@ -1,22 +1,20 @@
 //! The top call.
-ghost use Rattle.std.specs.Prelude.{◌≡◌, ◌≤◌, ◌⊎◌, ◌↔◌, All, None, vec_len};
+ghost use Rattle.std.specs.Prelude.{◌≡◌, ◌≤◌, ◌⊎◌, ◌↔◌, None};
 ghost use Rattle.std.specs.Option.{ForSome};
-ghost use Rattle.schedule.specs.OneSwitch.{IsOfOneSwitch, NamesOwnPorts};
 ghost use Rattle.shelf.specs.Faults.{Rose};
 ghost use Rattle.shelf.specs.Shelf.{IsAfterReads};
-ghost use Rattle.difane_cli.specs.Inputs.{AreAccepted, known_inputs, most_reads};
+ghost use Rattle.difane_cli.specs.Inputs.{IsAccepted, known_task, most_reads};
 ghost use Rattle.difane_cli.specs.Run.{Accounts, Outcome};
-ghost use Rattle.difane_cli.specs.Status.{IsDone, NeedsReadFault, TellsLine, status_line};
+ghost use Rattle.difane_cli.specs.Status.{NeedsReadFault, TellsLine, status_line};
 ghost use Rattle.difane_cli.specs.Words.{command_of, texts};
 ghost use Rattle.difane_cli.specs.declared.status.Status.TheVariants as status;
 
-use crate::inputs::read_inputs;
-use crate::playing::play;
 use crate::status::{Status, tell};
+use crate::task::{read_task, work};
 use crate::words::read_words;
+use plain_machine::Journal;
 use shelf::{Shelf, Sink};
 use std::alloc::Global;
-use update_machine::Journal;
 
 /// How a command ended, and the journal of its play; the empty one where nothing was played.
 #[derive(Drop)]
@@ -26,12 +24,13 @@ pub struct Finished {
 }
 
 /// Does what the words ask: `replay SCHEDULE POLICY` plays the schedule on one switch and writes
-/// the journal to `out`.
+/// the journal to `out`; `compile POLICY` writes the plan of the policy, and `show POLICY SWITCH`
+/// the tables that it gives to the switch, each on the network of `--net NET` or on one switch.
 ///
 /// A status other than `Ok` writes its line to `errs`. The words are those of the command line
 /// without the program's name. The first refusal in the order of work ends the call: the words, the
-/// schedule, the policy, the plan of the policy, the play, the writing; each file is read and
-/// checked before the next one is read.
+/// network and the switch on it, the schedule, the policy, the plan of the policy, the play, the
+/// writing; each file is read and checked before the next one is read.
 pub fn run<F: Shelf, K: Sink, E: Sink>(
     alloc: Global,
     words: &Vec<String>,
@@ -41,14 +40,14 @@ pub fn run<F: Shelf, K: Sink, E: Sink>(
 ) -> Finished
     // By its status: what was played, that it answers the inputs, is a run of the abstract machine
     // whose ends have their causes, and what the output gained.
-    ensures outcome { Outcome
-        (known_inputs (F.state shelf.old).files (command_of (texts words.now)))
-        result.status result.journal (K.state out.old).bytes (K.state out.new).bytes }
+    ensures outcome { Outcome (command_of (texts words.now))
+        (known_task (F.state shelf.old).files (command_of (texts words.now)))
+        result.status result.journal (K.state out.old) (K.state out.new) }
 
     // Each status has its cause.
     ensures words { (result.status ≡ status.Words) ↔ (command_of (texts words.now) ≡ None) }
     ensures accounts { ForSome
-        (known_inputs (F.state shelf.old).files (command_of (texts words.now)))
+        (known_task (F.state shelf.old).files (command_of (texts words.now)))
         (λ read. Accounts read result.status) }
     ensures read_fault { NeedsReadFault (F.state shelf.old).files result.status
         → Rose (F.state shelf.old).faults (F.state shelf.new).faults }
@@ -56,11 +55,11 @@ pub fn run<F: Shelf, K: Sink, E: Sink>(
         → Rose (K.state out.old).faults (K.state out.new).faults }
 
     // Where the inputs are accepted and nothing fails, the work is done or memory ran out.
-    ensures complete { AreAccepted
-        (known_inputs (F.state shelf.old).files (command_of (texts words.now)))
+    ensures complete { IsAccepted
+        (known_task (F.state shelf.old).files (command_of (texts words.now)))
         → Rose (F.state shelf.old).faults (F.state shelf.new).faults
         ⊎ Rose (K.state out.old).faults (K.state out.new).faults
-        ⊎ IsDone result.status }
+        ⊎ (result.status ≡ status.Ok) ⊎ (result.status ≡ status.NoMemory) }
 
     // The line of the status is written, whole unless the sink of errors fails.
     ensures line { TellsLine (status_line result.status) E.takes_memory
@@ -74,11 +73,11 @@ pub fn run<F: Shelf, K: Sink, E: Sink>(
 {
     match read_words(words) {
         None => end(Status::Words, Journal::new(alloc), errs),
-        Some(command) => match read_inputs(alloc, shelf, command) {
+        Some(command) => match read_task(alloc, shelf, command) {
             Err(stop) => end(Status::from(stop), Journal::new(alloc), errs),
-            Ok(inputs) => {
-                let (status, journal) = play(alloc, inputs, out);
-                end(status, journal, errs)
+            Ok(task) => {
+                let (written, journal) = work(alloc, task, out);
+                end(Status::after(written), journal, errs)
             }
         },
     }

@@ -1,13 +1,13 @@
 -- Journals that go on by the steps of events.
 use Rattle.std.proofs.Common.{ℕ, ◌≡◌, ◌+◌, ◌<◌, List, [], ◌∷◌, ◌++◌, length, drop, get_or, refl, drop-cons, add-one}
-use Rattle.schedule.specs.declared.step.Event.{Event}
-use Rattle.schedule.specs.declared.step.Event.TheVariants.{One}
-use Rattle.schedule.specs.declared.step.Step.{Step}
-use Rattle.schedule.specs.declared.step.Step.TheVariants.{Packet}
-use Rattle.update_machine.specs.Setting.{Setting}
-use Rattle.update_machine.specs.Answers.{Answers, AreSteps, StepOfRow, after_steps, next_packet, piece}
-use Rattle.update_machine.specs.declared.journal.Item.{Item}
-use Rattle.update_machine.proofs.CallerLemmas.{next_packet_behind_packet}
+use Rattle.plain_schedule.specs.declared.step.Event.{Event}
+use Rattle.plain_schedule.specs.declared.step.Event.TheVariants.{One}
+use Rattle.plain_schedule.specs.declared.step.Step.{Step}
+use Rattle.plain_schedule.specs.declared.step.Step.TheVariants.{Packet}
+use Rattle.plain_machine.specs.Setting.{Setting}
+use Rattle.plain_machine.specs.Answers.{Answers, AreSteps, StepOfRow, after_steps, next_packet, piece}
+use Rattle.plain_machine.specs.declared.journal.Item.{Item}
+use Rattle.plain_machine.proofs.CallerLemmas.{next_packet_behind_packet}
 
 -- the journal is what stands before and the pieces of the events from this row on
 pub record GoesOn (setting : Setting) (before : List Item) (row : ℕ) (events : List Event)

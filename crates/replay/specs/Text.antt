@@ -5,12 +5,12 @@ use Rattle.five_tuple.specs.Printing.{fields_text}
 use Rattle.policy_rules.specs.Print.{action_text, rule_text}
 use Rattle.policy_rules.specs.declared.packet.How.{How}
 use Rattle.policy_rules.specs.declared.packet.How.TheVariants.{Cached, Authority}
-use Rattle.schedule.specs.OneSwitch.{switch_name}
-use Rattle.schedule.specs.declared.step.Step.{Step}
-use Rattle.schedule.specs.declared.step.Step.TheVariants.{Packet}
-use Rattle.update_machine.specs.Setting.{Setting}
-use Rattle.update_machine.specs.declared.journal.Item.{Item}
-use Rattle.update_machine.specs.declared.journal.Item.TheVariants as item
+use Rattle.plain_schedule.specs.OneSwitch.{switch_name}
+use Rattle.plain_schedule.specs.declared.step.Step.{Step}
+use Rattle.plain_schedule.specs.declared.step.Step.TheVariants.{Packet}
+use Rattle.plain_machine.specs.Setting.{Setting}
+use Rattle.plain_machine.specs.declared.journal.Item.{Item}
+use Rattle.plain_machine.specs.declared.journal.Item.TheVariants as item
 
 -- the names of switches by their numbers
 abbrev pub Names : Type 0

@@ -8,8 +8,8 @@
 mod play;
 mod printing;
 
+pub use plain_machine::{Item, Journal};
+pub use plain_schedule::{Event, Step};
 pub use play::{Played, replay};
 pub use policy_rules::{Action, Header, Hit, How, Leaving, Policy};
 pub use printing::{lines, text};
-pub use schedule::{Event, Step};
-pub use update_machine::{Item, Journal};

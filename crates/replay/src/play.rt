@@ -1,11 +1,11 @@
 ghost use Rattle.std.specs.Prelude.{◌≡◌, ◌++◌, ◌∷◌, [], ◌≤◌, ◌<◌, length, vec_len, IfOk, OnOk};
-ghost use Rattle.schedule.specs.declared.plain.TheConstants.{MAX_EVENTS};
-ghost use Rattle.update_machine.specs.Answers.{Answers, ending, next_packet, packet_piece, piece};
+ghost use Rattle.plain_schedule.specs.declared.plain.TheConstants.{MAX_EVENTS};
+ghost use Rattle.plain_machine.specs.Answers.{Answers, ending, next_packet, packet_piece, piece};
 
+use plain_machine::{Item, Journal};
+use plain_schedule::{Event, Step};
 use policy_rules::{Action, Header, Hit, How, Leaving, Policy};
-use schedule::{Event, Step};
 use std::alloc::{AllocError, Global};
-use update_machine::{Item, Journal};
 
 /// What a play leaves.
 #[derive(Drop)]

@@ -1,15 +1,15 @@
 ghost use Rattle.std.specs.Prelude.{◌≡◌, ◌++◌, ◌∷◌, [], Some, IfOk};
 ghost use Rattle.std.specs.String.{string_bytes};
-ghost use Rattle.schedule.specs.OneSwitch.{switch_name};
+ghost use Rattle.plain_schedule.specs.OneSwitch.{switch_name};
 ghost use Rattle.replay.specs.Text.{how_text, item_line, journal_text, step_text};
-ghost use Rattle.update_machine.specs.Setting.{Setting};
+ghost use Rattle.plain_machine.specs.Setting.{Setting};
 
+use plain_machine::{Item, Journal};
+use plain_schedule::Step;
 use policy_rules::{How, RuleName};
-use schedule::Step;
 use std::alloc::{AllocError, Global};
 use std::fmt;
 use std::fmt::Write;
-use update_machine::{Item, Journal};
 
 // A switch, printed by its name.
 #[derive(Clone, Copy)]

@@ -1,2 +1,5 @@
-mod AllRead
-mod Splitting
+pub mod Fields
+pub mod Rows
+pub mod Headers
+pub mod Sound
+pub mod Words

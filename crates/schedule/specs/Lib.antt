@@ -1,2 +1,4 @@
-pub mod OneSwitch
-pub mod Plain
+pub mod Refusals
+pub mod Kinds
+pub mod Rows
+pub mod Reading

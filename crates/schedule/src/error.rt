@@ -1,33 +1,68 @@
-ghost use Rattle.std.specs.Prelude.{◌≡◌};
-ghost use Rattle.schedule.specs.declared.error.ScheduleError.TheVariants.{Refused, NoMemory};
+ghost use Rattle.std.specs.Prelude.{◌≡◌, ◌≤◌};
+ghost use Rattle.schedule.specs.Refusals.{code_of};
+ghost use Rattle.schedule.specs.declared.error.ScheduleError.TheVariants.{NoMemory};
 
-use crate::plain::NOT_YET;
 use std::alloc::{AllocError, AllocFailed};
+use thiserror::Error;
 
-/// Why a text is read as no schedule.
-#[derive(Drop)]
-pub enum ScheduleError {
-    /// It is refused by this code in this row; 0 stands for the file as a whole.
-    Refused { code: u32, row: u32 },
-    NoMemory,
+/// Why a schedule's text is refused.
+#[derive(Clone, Copy, Debug, PartialEq, Eq)]
+pub enum ScheduleRefusal {
+    /// There is no first record, or it is not the heading.
+    Heading = 1,
+    /// The row has another number of fields than its kind.
+    Width = 2,
+    /// The first field is no kind.
+    Kind = 3,
+    /// No switch has the name.
+    Switch = 4,
+    /// A packet, a message or a place is no number from 0 to 999999999.
+    Number = 5,
+    /// A field of the packet's header is no address, port or protocol.
+    Address = 6,
+    /// The file is no number from 1 to that of the policy files.
+    File = 7,
+    /// There is a row 100,001.
+    TooManyRows = 8,
+    /// No link joins the two switches.
+    NoLink = 9,
+    /// Events of this kind cannot be played yet.
+    NotBuilt = 10,
 }
 
-impl ScheduleError {
-    /// The text isn't a plain schedule.
-    pub(crate) fn not_yet() -> Self
-        ensures { result ≡ Refused NOT_YET 0 }
+impl ScheduleRefusal {
+    /// The refusal's number, from 1 to 10 in the order of the variants.
+    pub fn code(self) -> u32
+        ensures code { result ≡ code_of self }
+        ensures some { 1 ≤ result }
+        ensures most { result ≤ 10 }
     {
-        ScheduleError::Refused {
-            code: NOT_YET,
-            row: 0,
-        }
+        self as u32
     }
+}
+
+/// Why a text is read as no schedule.
+#[derive(Clone, Copy, Debug, PartialEq, Eq, Error)]
+pub enum ScheduleError {
+    /// The first refusal in the text, and its row, counted from 1; the row of the heading is 0.
+    #[error("row {row}: {refusal:?}")]
+    Refused { refusal: ScheduleRefusal, row: u32 },
+    #[error("no memory")]
+    NoMemory,
 }
 
 impl From<AllocError> for ScheduleError {
     ghost from_gives = { λ _ e. e ≡ NoMemory };
 
     fn from(_: AllocError) -> Self {
+        ScheduleError::NoMemory
+    }
+}
+
+impl<T: Drop> From<AllocFailed<T>> for ScheduleError {
+    ghost from_gives = { λ _ e. e ≡ NoMemory };
+
+    fn from(_: AllocFailed<T>) -> Self {
         ScheduleError::NoMemory
     }
 }

@@ -1,20 +1,30 @@
-//! Schedules: the events that are played against a network.
+//! Schedules as CSV text: a heading, and a record for each event.
 //!
-//! `read_schedule` promises the events that a text states, or that the text is refused, and why.
-//! For now it reads plain schedules alone, which are lines of packets at the one switch:
+//! `read_schedule` promises the events that the text states for a network and so many policy files,
+//! or the text's first refusal and its row. In a row the kind is looked at first, then the number
+//! of fields, and then the fields from left to right. Which bytes make a record is what the crate
+//! `csv` defines.
 //!
 //! ```text
-//! event,arguments
-//! packet,s0,10.1.1.1,9.9.9.9,5000,80,tcp
+//! let net = read_net(alloc, network)?;
+//! let text = b"event,arguments\npacket,a,1.2.3.4,10.2.0.1,5000,80,tcp\ndrain\n";
+//! let events = read_schedule(alloc, text, &net, 1)?; // a packet at the switch `a`, and a drain
 //! ```
 #![tactic(auto)]
 
 mod error;
-mod plain;
-mod split;
-mod step;
+mod kind;
+mod laws;
+mod read;
+mod row;
+#[cfg(test)]
+mod tests;
 
-pub use error::ScheduleError;
-pub use five_tuple::{Fields, Header};
-pub use plain::{MAX_EVENTS, NOT_YET, read_schedule};
-pub use step::{Event, Step};
+pub use csv_records::ByteRecord;
+pub use error::{ScheduleError, ScheduleRefusal};
+pub use kind::{KINDS, Kind, read_kind};
+pub use laws::{kind_laws, schedule_laws};
+pub use net_file::Net;
+pub use read::read_schedule;
+pub use row::read_event;
+pub use steps::{Event, Header, MAX_EVENTS, MAX_NUMBER, Step};

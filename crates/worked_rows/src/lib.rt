@@ -2,6 +2,6 @@
 #![tactic(auto)]
 
 #[cfg(test)]
-mod examples;
+mod plans;
 #[cfg(test)]
 mod tests;

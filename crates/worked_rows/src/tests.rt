@@ -1,6 +1,3 @@
-use crate::examples::{
-    FIRST_JOURNAL, FIRST_POLICY, FIRST_SCHEDULE, RANGES_JOURNAL, RANGES_POLICY, RANGES_SCHEDULE,
-};
 use difane_cli::run;
 use shelf::{MemShelf, MemSink};
 use std::alloc::{AllocError, Global};
@@ -14,7 +11,7 @@ const TWO_ROWS: &str = "priority,src,dst,sport,dport,proto,action\n\
     100,10.0.0.0/8,any,any,80,tcp,out:3\n\
     50,any,any,any,any,any,drop\n";
 
-// The same in quotes, with a range of ports, ends of lines as in RFC 4180, a blank line and no last
+// The same in quotes, with a range of ports, CR LF at the ends of lines, a blank line and no last
 // line end.
 const QUOTED: &str = "priority,src,dst,sport,dport,proto,action\r\n\
     100,\"10.0.0.0/8\",any,any,80-90,\"tcp\",out:3\r\n\r\n50,any,any,any,any,any,drop";
@@ -96,8 +93,6 @@ fn replays_on_one_switch(rt: HostRuntime) -> Result<(), Fail> {
         (ONE_PACKET, QUOTED, MATCHED),
         ("event,arguments\n", HEADER, ""),
         ("event,arguments", HEADER, ""),
-        (FIRST_SCHEDULE, FIRST_POLICY, FIRST_JOURNAL),
-        (RANGES_SCHEDULE, RANGES_POLICY, RANGES_JOURNAL),
     ] {
         let case = Case {
             schedule,

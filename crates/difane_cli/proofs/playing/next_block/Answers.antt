@@ -7,4 +7,5 @@ pub returns-clause-block : goal.returns-clause-block
 returns-clause-block c =
     let items = c.args.items.now in
     let rest = drop c.args.written items in
-    rw (take-take c.min.result (length items - c.args.written) rest (omega (arith, c.min.ensures))) (sym (take_own c.min.result rest))
+    rw (take-take c.min.result (length items - c.args.written) rest (omega (arith, c.min.ensures)))
+    (sym (take_own c.min.result rest))

@@ -1,7 +1,7 @@
 use Rattle.std.proofs.Common.{ℕ, ◌++◌, ◌∷◌, [], ◌∙◌, ap, subst, List, drop, take, length, arith}
 use Rattle.std.specs.List.{flat_map}
 use Rattle.shelf.specs.Sink.{gained, gained-gained, GainedPart}
-use Rattle.update_machine.specs.declared.journal.Item.{Item}
+use Rattle.plain_machine.specs.declared.journal.Item.{Item}
 use Rattle.replay.specs.Text.{item_line, names_of}
 use Rattle.difane_cli.specs.Run.{GainedSome}
 use Rattle.difane_cli.proofs.Gains.{GainedPart-behind, GainedSome-behind, flat_map-block, flat_map-more}
@@ -16,8 +16,11 @@ loop-written-preserved g c =
       within = c.next_block-block.ensures.within;
       gained = λ setting.
           let line : Item → List ℕ = λ item. item_line (names_of setting) item ++ 10 ∷ [] in
-          c.in-Ok.ensures.whole setting ∙ ap (λ b. gained b (flat_map line block)) (c.loop-written.invariant.gained setting)
-          ∙ gained-gained before (flat_map line (take at items)) (flat_map line block) ∙ ap (gained before) (flat_map-more line items block at c.next_block-block.ensures.block);
+          c.in-Ok.ensures.whole setting ∙ ap (λ b. gained b (flat_map line block))
+          (c.loop-written.invariant.gained setting)
+          ∙ gained-gained before (flat_map line (take at items)) (flat_map line block)
+          ∙ ap (gained before) (flat_map-more line items block at
+          c.next_block-block.ensures.block);
       faults = omega (arith, c.loop-written.invariant.faults, c.in-Ok.ensures.faults);
     }
 
@@ -31,9 +34,12 @@ returns-in-Err-clause-part g c =
     let block = c.next_block-block.result.now in
     let at = c.loop-written.written in
     let line : Item → List ℕ = λ item. item_line (names_of setting) item ++ 10 ∷ [] in
-    let whole = flat_map-block line items block at c.next_block-block.ensures.block ∙ ap (flat_map line) c.items-items.ensures in
+    let whole = flat_map-block line items block at c.next_block-block.ensures.block
+    ∙ ap (flat_map line) c.items-items.ensures in
     let rest = flat_map line (drop (length block) (drop at items)) in
-    let behind = GainedPart-behind before middle now (flat_map line (take at items)) (flat_map line block) rest (c.loop-written.invariant.gained setting) (c.in-Err.ensures.part setting is) in
+    let behind = GainedPart-behind before middle now (flat_map line (take at items))
+    (flat_map line block) rest (c.loop-written.invariant.gained setting)
+    (c.in-Err.ensures.part setting is) in
     subst (λ bytes. GainedPart before bytes now) whole behind
 
 pub returns-in-Err-clause-some : goal.returns-in-Err-clause-some
@@ -46,7 +52,10 @@ returns-in-Err-clause-some g c =
     let block = c.next_block-block.result.now in
     let at = c.loop-written.written in
     let line : Item → List ℕ = λ item. item_line (names_of setting) item ++ 10 ∷ [] in
-    let whole = flat_map-block line items block at c.next_block-block.ensures.block ∙ ap (flat_map line) c.items-items.ensures in
+    let whole = flat_map-block line items block at c.next_block-block.ensures.block
+    ∙ ap (flat_map line) c.items-items.ensures in
     let rest = flat_map line (drop (length block) (drop at items)) in
-    let behind = GainedSome-behind before middle now (flat_map line (take at items)) (flat_map line block) rest (c.loop-written.invariant.gained setting) (c.in-Err.ensures.some setting) in
+    let behind = GainedSome-behind before middle now (flat_map line (take at items))
+    (flat_map line block) rest (c.loop-written.invariant.gained setting)
+    (c.in-Err.ensures.some setting) in
     subst (λ bytes. GainedSome before bytes now) whole behind

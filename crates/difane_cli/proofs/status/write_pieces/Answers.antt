@@ -14,10 +14,12 @@ returns-in-Err g c =
     let now = (g.E.Sink.state c.write_whole.new.sink).bytes in
     let after = c.in-Err.ensures.after in
     let behind = GainedPart-behind before (g.E.Sink.state c.loop-piece.errs).bytes now
-    (flat_map view (take i pieces)) _ (flat_map view (drop (suc i) pieces)) c.loop-piece.invariant.written after.part in
+    (flat_map view (take i pieces)) _ (flat_map view (drop (suc i) pieces))
+    c.loop-piece.invariant.written after.part in
     record {
       whole = tt;
-      part = subst (λ bytes. GainedPart before bytes now) (flat_map-at view pieces i _ c.loop-piece-test.true) behind;
+      part = subst (λ bytes. GainedPart before bytes now)
+          (flat_map-at view pieces i _ c.loop-piece-test.true) behind;
       faults = omega (arith, c.loop-piece.invariant.faults, after.faults);
       failed = λ is. omega (arith, c.loop-piece.invariant.faults, after.failed is);
       no_memory = after.no_memory;

@@ -5,6 +5,7 @@ use Rattle.difane_cli.proofs.status.write_pieces.Given as goal
 
 abbrev pub invariant-loop-piece : goal.invariant-loop-piece
 invariant-loop-piece g l = record {
-  written : (g.E.Sink.state l.errs).bytes ≡ gained (g.E.Sink.state l.fn.errs).bytes (flat_map (λ piece. piece.now) (take l.piece-index l.pieces));
+  written : (g.E.Sink.state l.errs).bytes ≡ gained (g.E.Sink.state l.fn.errs).bytes
+      (flat_map (λ piece. piece.now) (take l.piece-index l.pieces));
   faults : (g.E.Sink.state l.fn.errs).faults ≤ (g.E.Sink.state l.errs).faults;
 }

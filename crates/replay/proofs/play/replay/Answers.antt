@@ -1,6 +1,6 @@
 use Rattle.std.proofs.Common.{◌+◌, ◌∙◌, sym, ap, subst}
 use Rattle.std.proofs.lemmas.List.{drop_all}
-use Rattle.update_machine.specs.Setting.{Setting}
+use Rattle.plain_machine.specs.Setting.{Setting}
 use Rattle.replay.proofs.Playing.{GoesOn, goes_on_by, goes_on_from_start, goes_on_no_more, next_packet_behind}
 use Rattle.replay.proofs.play.replay.Goals as goal
 

@@ -1,6 +1,6 @@
 use Rattle.std.proofs.Common.{◌≡◌, ◌+◌, [], List, drop}
-use Rattle.update_machine.specs.declared.journal.Item.{Item}
-use Rattle.update_machine.specs.Answers.{next_packet}
+use Rattle.plain_machine.specs.declared.journal.Item.{Item}
+use Rattle.plain_machine.specs.Answers.{next_packet}
 use Rattle.replay.proofs.Playing.{GoesOn}
 use Rattle.replay.proofs.play.replay.Given as goal
 

@@ -1,6 +1,6 @@
 use Rattle.std.proofs.Common.{◌≡◌, take}
 use Rattle.std.specs.String.{string_bytes}
-use Rattle.update_machine.specs.Setting.{Setting}
+use Rattle.plain_machine.specs.Setting.{Setting}
 use Rattle.replay.specs.Text.{journal_text}
 use Rattle.replay.proofs.printing.lines.Given as goal
 

@@ -1,0 +1,155 @@
+#!/usr/bin/env python3
+"""The texts of `compile` and `show`, worked out anew from their definitions and slowly: `bench/plan_model.py POLICY [SWITCH] [--net NET]`.
+
+It shares nothing with the program. The expected texts of examples/ come from it, and `bench/examples.py` compares them with it.
+It reads accepted files alone, and refuses nothing but a plan without room.
+"""
+import csv
+import sys
+import tomllib
+
+BITS = 104
+SOLO = {"leaf_rules": 8192, "switch": [{"name": "s0", "authority": 8192}]}
+PROTOCOLS = {"any": (0, 0), "icmp": (1, 255), "tcp": (6, 255), "udp": (17, 255)}
+
+
+def address(text):
+    if text == "any":
+        return 0, 0
+    base, _, length = text.partition("/")
+    parts = [int(part) for part in base.split(".")]
+    mask = (2**32 - 1) >> (32 - int(length or 32)) << (32 - int(length or 32))
+    return int.from_bytes(bytes(parts), "big"), mask
+
+
+def blocks(text):
+    """The blocks of a range of ports, the lowest first: each is as long as its start and the range's end let it be."""
+    low, high = (0, 65535) if text == "any" else [int(part) for part in (text.split("-") * 2)[:2]]
+    while low <= high:
+        size = 65536
+        while low % size or low + size - 1 > high:
+            size //= 2
+        yield low, 65536 - size
+        low += size
+
+
+def pack(src, dst, sport, dport, proto):
+    return src << 72 | dst << 40 | sport << 24 | dport << 8 | proto
+
+
+def rules_of(path):
+    """The rules, each a word, a rank, the row's name and its action; and how many words the rows have."""
+    with open(path, newline="") as file:
+        rows = [row for row in list(csv.reader(file))[1:] if row]
+    rows.sort(key=lambda row: -int(row[0]))
+    words = []
+    for priority, src, dst, sport, dport, proto, action in rows:
+        protocol = PROTOCOLS[proto] if proto in PROTOCOLS else (int(proto), 255)
+        for source in blocks(sport):
+            for target in blocks(dport):
+                fields = zip(address(src), address(dst), source, target, protocol)
+                value, mask = (pack(*field) for field in fields)
+                words.append(((value & mask, mask), priority, action))
+    count = len(words)
+    words.append(((0, 0), "default", "drop"))
+    return [(word, rank, name, action) for rank, (word, name, action) in enumerate(words)], count
+
+
+def meet(word, region):
+    if (word[0] ^ region[0]) & word[1] & region[1]:
+        return None
+    return word[0] | region[0], word[1] | region[1]
+
+
+def narrow(rules, region):
+    kept = []
+    for word, *rest in rules:
+        both = meet(word, region)
+        if both is not None:
+            kept.append((both, *rest))
+            if both == region:
+                break
+    return kept
+
+
+def halves(region, bit):
+    value, mask = region[0], region[1] | 1 << bit
+    return (value, mask), (value | 1 << bit, mask)
+
+
+def leaves(rules, region, cap):
+    if len(rules) <= cap:
+        return [(region, rules)]
+    least = None
+    for bit in range(BITS):
+        if not region[1] >> bit & 1:
+            sides = [narrow(rules, half) for half in halves(region, bit)]
+            sizes = [len(side) for side in sides]
+            cost = (max(sizes), sum(sizes), bit)
+            if least is None or cost < least[0]:
+                least = cost, sides
+    low, high = halves(region, least[0][2])
+    return leaves(least[1][0], low, cap) + leaves(least[1][1], high, cap)
+
+
+def targets_of(sizes, rooms, backups):
+    placed = [[] for _ in sizes]
+    for part in sorted(range(len(sizes)), key=lambda part: (-sizes[part], part)):
+        load = [sum(sizes[other] for other in range(len(sizes)) if s in placed[other]) for s in range(len(rooms))]
+        fit = [s for s in range(len(rooms)) if load[s] + sizes[part] <= rooms[s]]
+        placed[part] = sorted(fit, key=lambda s: (load[s], s))[: 1 + backups]
+        if len(placed[part]) <= backups:
+            sys.exit(f"no room for part {part}")
+    return placed
+
+
+def text_of(policy, switch, network):
+    net = SOLO
+    if network is not None:
+        with open(network, "rb") as file:
+            net = tomllib.load(file)
+    names = [row["name"] for row in net["switch"]]
+    rules, words = rules_of(policy)
+    parts = leaves(rules, (0, 0), net.get("leaf_rules", 64))
+    rooms = [row.get("authority", 0) for row in net["switch"]]
+    placed = targets_of([len(part[1]) for part in parts], rooms, net.get("backups", 0))
+
+    def word(pair):
+        return f"{pair[0]:026x}/{pair[1]:026x}"
+
+    def to(number):
+        return " targets" + "".join(" " + names[s] for s in placed[number])
+
+    def block(number, tail):
+        region, held = parts[number]
+        lines = [f"part {number} region {word(region)} rules {len(held)}{tail}"]
+        return lines + [f"  rank {rank} rule {name} word {word(w)} {action}" for w, rank, name, action in held]
+
+    if switch is None:
+        lines = [f"words {words}", f"partitions {len(parts)}"]
+        for number in range(len(parts)):
+            lines += block(number, to(number))
+    else:
+        own = [number for number in range(len(parts)) if names.index(switch) in placed[number]]
+        lines = [f"switch {switch} version 1", f"authority {len(own)}"]
+        for number in own:
+            lines += block(number, "")
+        lines.append(f"partitions {len(parts)}")
+        lines += [f"part {number} region {word(part[0])}{to(number)}" for number, part in enumerate(parts)]
+    return "".join(line + "\n" for line in lines)
+
+
+def main():
+    words = sys.argv[1:]
+    network = None
+    if "--net" in words:
+        at = words.index("--net")
+        network = words[at + 1]
+        del words[at : at + 2]
+    if len(words) not in (1, 2):
+        sys.exit(__doc__)
+    sys.stdout.write(text_of(words[0], words[1] if len(words) == 2 else None, network))
+
+
+if __name__ == "__main__":
+    main()

@@ -1,0 +1,92 @@
+//! Networks as a command takes them: of a file or of one switch, and the switches on them.
+ghost use Rattle.std.specs.Prelude.{◌≡◌, IfOk, IfErr, Ok};
+ghost use Rattle.std.specs.Option.{ForSome};
+ghost use Rattle.net_file.specs.Net.{IsNet};
+ghost use Rattle.shelf.specs.Faults.{Rose};
+ghost use Rattle.shelf.specs.Shelf.{IsAfterReads};
+ghost use Rattle.difane_cli.specs.Commands.{net_named};
+ghost use Rattle.difane_cli.specs.Inputs.{Stops, StopsContent, StopsSwitch, net_in, net_reads, read_net, switch_on};
+ghost use Rattle.difane_cli.specs.Run.{IsNetOf, IsSwitchOf};
+ghost use Rattle.difane_cli.specs.Status.{NeedsReadFault, status_of};
+
+use crate::inputs::{read_bytes, refused};
+use crate::policies::NO_SWITCH;
+use crate::status::Stop;
+use net_file::{Net, NetError, read_net, solo};
+use shelf::Shelf;
+use std::alloc::Global;
+
+/// The network that the bytes of this file state.
+fn check_net(alloc: Global, name: &str, bytes: &[u8]) -> Result<Net, Stop>
+    ensures value { IfOk result (λ net. net_in name.now bytes.now ≡ Ok net) }
+    ensures stopped { IfErr result (StopsContent (net_in name.now bytes.now)) }
+    ensures sound { IfOk result IsNet }
+{
+    match read_net(alloc, bytes) {
+        Ok(net) => Ok(net),
+        Err(NetError::Refused { refusal, row }) => Err(refused(alloc, name, refusal.code(), row)),
+        Err(NetError::NoMemory) => Err(Stop::NoMemory),
+    }
+}
+
+/// The network of one switch.
+fn one_switch(alloc: Global) -> Result<Net, Stop>
+    ensures value { IfOk result (IsNetOf None) }
+    ensures sound { IfOk result IsNet }
+    ensures stopped { IfErr result (λ stop. stop ≡ Stop.NoMemory) }
+{
+    match solo(alloc) {
+        Ok(net) => Ok(net),
+        Err(_) => Err(Stop::NoMemory),
+    }
+}
+
+/// The network of the file of this name.
+fn read_network<F: Shelf>(alloc: Global, shelf: &mut F, name: &str) -> Result<Net, Stop>
+    ensures value { IfOk result (λ net. ForSome (F.state shelf.old).files (λ files.
+        read_net files (Some name.now) ≡ Ok net)) }
+    ensures stopped { IfErr result (λ stop. ForSome (F.state shelf.old).files (λ files.
+        Stops (read_net files (Some name.now)) stop)) }
+    ensures faults { IfErr result (λ stop. NeedsReadFault (F.state shelf.old).files (status_of stop)
+        → Rose (F.state shelf.old).faults (F.state shelf.new).faults) }
+    ensures shelf { IsAfterReads 1 (F.state shelf.old) (F.state shelf.new) }
+    ensures sound { IfOk result IsNet }
+{
+    let bytes = read_bytes(alloc, shelf, name)?;
+    check_net(alloc, name, &bytes)
+}
+
+/// The network of the file, or that of one switch where none is named.
+pub fn take_network<F: Shelf>(alloc: Global, shelf: &mut F, name: Option<&str>) -> Result<Net, Stop>
+    ensures value { IfOk result (λ net. ForSome (F.state shelf.old).files (λ files.
+        read_net files (net_named name.entry) ≡ Ok net)) }
+    ensures stopped { IfErr result (λ stop. ForSome (F.state shelf.old).files (λ files.
+        Stops (read_net files (net_named name.entry)) stop)) }
+    ensures faults { IfErr result (λ stop. NeedsReadFault (F.state shelf.old).files (status_of stop)
+        → Rose (F.state shelf.old).faults (F.state shelf.new).faults) }
+    ensures shelf { IsAfterReads (net_reads (net_named name.entry))
+        (F.state shelf.old) (F.state shelf.new) }
+    ensures sound { IfOk result IsNet }
+    ensures named { IfOk result (IsNetOf (net_named name.entry)) }
+{
+    match name {
+        Some(name) => read_network(alloc, shelf, name),
+        None => one_switch(alloc),
+    }
+}
+
+/// The number of the switch of this name, if one is asked for.
+pub fn find_switch(alloc: Global, net: &Net, name: Option<&str>) -> Result<Option<u32>, Stop>
+    requires { IsNet net.now }
+    ensures value { IfOk result (λ switch. switch_on net.now (net_named name.entry) ≡ Ok switch) }
+    ensures stopped { IfErr result (StopsSwitch (switch_on net.now (net_named name.entry))) }
+    ensures named { IfOk result (IsSwitchOf (net_named name.entry) net.now) }
+{
+    let Some(name) = name else {
+        return Ok(None);
+    };
+    match net.number(name.as_bytes()) {
+        Some(s) => Ok(Some(s)),
+        None => Err(refused(alloc, name, NO_SWITCH, 0)),
+    }
+}

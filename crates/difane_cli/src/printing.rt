@@ -1,0 +1,87 @@
+//! The plan of a policy, or the tables of a switch: its files, and the writing of its text.
+ghost use Rattle.std.specs.Prelude.{◌≡◌, ◌≤◌, [], Ok, Some, IfOk, IfErr, IsErrOf};
+ghost use Rattle.std.specs.Option.{ForSome};
+ghost use Rattle.net_file.specs.Net.{IsNet};
+ghost use Rattle.shelf.specs.Faults.{Rose};
+ghost use Rattle.shelf.specs.Shelf.{IsAfterReads};
+ghost use Rattle.difane_cli.specs.Commands.{print_named, printing_stated};
+ghost use Rattle.difane_cli.specs.Inputs.{Print, Stops, most_reads, printing_of};
+ghost use Rattle.difane_cli.specs.Run.{IsPrintingOf, Known, PrintOutcome, printing_text};
+ghost use Rattle.difane_cli.specs.Status.{NeedsReadFault, status_after, status_of};
+ghost use Rattle.difane_cli.specs.Words as grammar;
+ghost use Rattle.difane_cli.specs.Words.{PrintCommand};
+
+use crate::inputs::read_policy;
+use crate::networks::{find_switch, take_network};
+use crate::policies::plan_policy;
+use crate::status::Stop;
+use crate::words::PrintWords;
+use controller::Plan;
+use net_file::Net;
+use shelf::{Shelf, Sink, SinkError, write_whole};
+use show_text::{compile_text, table_text};
+use std::alloc::{AllocError, Global};
+
+/// A plan on its network, and the switch whose tables are asked for.
+#[derive(Drop)]
+pub struct PrintInputs {
+    pub plan: Plan,
+    pub net: Net,
+    pub switch: Option<u32>,
+}
+
+/// The network is read and checked, then the switch is looked for, then the policy is read and
+/// checked, and last it is planned.
+pub fn read_printing<F: Shelf>(
+    alloc: Global,
+    shelf: &mut F,
+    words: PrintWords<'_>,
+) -> Result<PrintInputs, Stop>
+    ensures value { IfOk result (λ inputs. ForSome (F.state shelf.old).files (λ files.
+        printing_of files (print_named words.entry) ≡ Ok (printing_stated inputs))) }
+    ensures stopped { IfErr result (λ stop. ForSome (F.state shelf.old).files (λ files.
+        Stops (printing_of files (print_named words.entry)) stop)) }
+    ensures faults { IfErr result (λ stop. NeedsReadFault (F.state shelf.old).files (status_of stop)
+        → Rose (F.state shelf.old).faults (F.state shelf.new).faults) }
+    ensures shelf { IsAfterReads
+        (most_reads (F.state shelf.old).files (Some (grammar.Print (print_named words.entry))))
+        (F.state shelf.old) (F.state shelf.new) }
+    ensures sound { IfOk result (λ inputs. IsNet inputs.net) }
+    ensures planned { IfOk result (λ inputs.
+        IsPrintingOf (print_named words.entry) (printing_stated inputs)) }
+{
+    let net = take_network(alloc, shelf, words.net)?;
+    let switch = find_switch(alloc, &net, words.switch)?;
+    let policy = read_policy(alloc, shelf, words.policy, net.port_mask())?;
+    // The rows of a policy are sound.
+    let _ = policy.rows();
+    let plan = plan_policy(alloc, words.policy, &policy, &net)?;
+    Ok(PrintInputs { plan, net, switch })
+}
+
+/// The text of the plan, or of the tables that it gives to the switch.
+fn text_of(alloc: Global, inputs: &PrintInputs) -> Result<Vec<u8>, AllocError>
+    requires { IsNet inputs.now.net }
+    ensures { IfOk result (λ text. text.items ≡ printing_text (printing_stated inputs.now)) }
+{
+    match inputs.switch {
+        None => compile_text(alloc, &inputs.plan, &inputs.net),
+        Some(s) => table_text(alloc, &inputs.plan, &inputs.net, s),
+    }
+}
+
+/// Writes the text. What comes of it is told for whatever is known of the inputs.
+pub fn print<K: Sink>(alloc: Global, inputs: &PrintInputs, out: &mut K) -> Result<(), SinkError>
+    requires { IsNet inputs.now.net }
+    ensures outcome { (command : PrintCommand) (known : Known)
+        → IsPrintingOf command (printing_stated inputs.now)
+        → ForSome known (λ read. read ≡ Ok (Print (printing_stated inputs.now)))
+        → PrintOutcome command known (status_after result) []
+        (K.state out.old) (K.state out.new) }
+    ensures failed { IsErrOf result SinkError.Failed
+        → Rose (K.state out.old).faults (K.state out.new).faults }
+    ensures faults { (K.state out.old).faults ≤ (K.state out.new).faults }
+{
+    let text = text_of(alloc, inputs)?;
+    write_whole(out, &text)
+}

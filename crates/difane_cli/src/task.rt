@@ -1,0 +1,77 @@
+//! What a command is to do, once its files are read, and the doing of it.
+ghost use Rattle.std.specs.Prelude.{◌≡◌, ◌≤◌, Ok, Some, IfOk, IfErr, IsErrOf, Result};
+ghost use Rattle.std.specs.Option.{ForSome};
+ghost use Rattle.shelf.specs.Faults.{Rose};
+ghost use Rattle.shelf.specs.Shelf.{IsAfterReads};
+ghost use Rattle.difane_cli.specs.Commands.{IsSoundTask, IsTaskOf, command_named, task_stated};
+ghost use Rattle.difane_cli.specs.Inputs.{known_task, most_reads};
+ghost use Rattle.difane_cli.specs.Inputs.{Task as Stated};
+ghost use Rattle.difane_cli.specs.declared.status.Refusal.{Refusal};
+ghost use Rattle.difane_cli.specs.Run.{Accounts, Known, Outcome};
+ghost use Rattle.difane_cli.specs.Status.{NeedsReadFault, status_after, status_of};
+ghost use Rattle.difane_cli.specs.Words as grammar;
+
+use crate::inputs::{ReplayInputs, read_inputs};
+use crate::playing::play;
+use crate::printing::{PrintInputs, print, read_printing};
+use crate::status::Stop;
+use crate::words::Command;
+use plain_machine::Journal;
+use shelf::{Shelf, Sink, SinkError};
+use std::alloc::Global;
+
+/// What a command is to do.
+#[derive(Drop)]
+pub enum Task {
+    Play(ReplayInputs),
+    Print(PrintInputs),
+}
+
+/// The task of a command, whose files are read and checked one after another.
+pub fn read_task<F: Shelf>(alloc: Global, shelf: &mut F, command: Command<'_>) -> Result<Task, Stop>
+    ensures value { IfOk result (λ task. ForSome
+        (known_task (F.state shelf.old).files (Some (command_named command.entry)))
+        (λ read. read ≡ Ok (task_stated task))) }
+    ensures accounts { IfErr result (λ stop. ForSome
+        (known_task (F.state shelf.old).files (Some (command_named command.entry)))
+        (λ read. Accounts read (status_of stop))) }
+    ensures faults { IfErr result (λ stop. NeedsReadFault (F.state shelf.old).files (status_of stop)
+        → Rose (F.state shelf.old).faults (F.state shelf.new).faults) }
+    ensures shelf { IsAfterReads
+        (most_reads (F.state shelf.old).files (Some (command_named command.entry)))
+        (F.state shelf.old) (F.state shelf.new) }
+    ensures sound { IfOk result (λ task. IsSoundTask (task_stated task)) }
+    ensures asked { IfOk result (λ task.
+        IsTaskOf (command_named command.entry) (task_stated task)) }
+{
+    match command {
+        Command::Replay(words) => {
+            let inputs = read_inputs(alloc, shelf, words)?;
+            Ok(Task::Play(inputs))
+        }
+        Command::Print(words) => {
+            let inputs = read_printing(alloc, shelf, words)?;
+            Ok(Task::Print(inputs))
+        }
+    }
+}
+
+/// Does the task and writes what comes of it, which is told for whatever is known of the task.
+pub fn work<K: Sink>(alloc: Global, task: Task, out: &mut K) -> (Result<(), SinkError>, Journal)
+    requires { IsSoundTask (task_stated task) }
+    ensures outcome { (command : grammar.Command) (known : Known)
+        → IsTaskOf command (task_stated task)
+        → ForSome known (λ read. read ≡ Ok (task_stated task))
+        → Outcome (Some command) known (status_after result.0) result.1
+        (K.state out.old) (K.state out.new) }
+    ensures accounts { (read : Result Stated Refusal) → read ≡ Ok (task_stated task)
+        → Accounts read (status_after result.0) }
+    ensures failed { IsErrOf result.0 SinkError.Failed
+        → Rose (K.state out.old).faults (K.state out.new).faults }
+    ensures faults { (K.state out.old).faults ≤ (K.state out.new).faults }
+{
+    match task {
+        Task::Play(inputs) => play(alloc, inputs, out),
+        Task::Print(inputs) => (print(alloc, &inputs, out), Journal::new(alloc)),
+    }
+}

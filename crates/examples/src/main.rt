@@ -1,0 +1,79 @@
+//! Runs the examples of the repository, and compares what each writes with the file that says it.
+//!
+//! Each line of `index.txt` has the name of that file, or `-` where nothing is to be written, and
+//! then the words of a command, with blanks between. The folder of the examples is `data`, and
+//! `examples` at the top of the repository leads there.
+#![tactic(auto)]
+
+use difane_cli::run;
+use shelf::{DiskShelf, MemSink, Shelf, ShelfError, StdSink, write_whole};
+use std::alloc::{AllocError, Global};
+use std::process::ExitCode;
+
+/// The most bytes of an expected output.
+const LIMIT: u64 = 1 << 20;
+
+/// What a command wrote, how it ended, and the line that tells it.
+#[derive(Drop)]
+struct Answer {
+    status: u8,
+    out: MemSink,
+    errs: MemSink,
+}
+
+fn ask<F: Shelf>(alloc: Global, shelf: &mut F, words: &Vec<String>) -> Answer {
+    let mut out = MemSink::new(alloc, u64::MAX, Vec::new(alloc));
+    let mut errs = MemSink::new(alloc, u64::MAX, Vec::new(alloc));
+    let finished = run(alloc, words, shelf, &mut out, &mut errs);
+    Answer {
+        status: finished.status.number(),
+        out,
+        errs,
+    }
+}
+
+/// The content of the file of this name, or nothing where the name is `-`.
+fn expected<F: Shelf>(alloc: Global, shelf: &mut F, name: &str) -> Result<Vec<u8>, ShelfError> {
+    if name == "-" {
+        return Ok(Vec::new(alloc));
+    }
+    shelf.read(name, LIMIT)
+}
+
+fn words_of(alloc: Global, line: &str) -> Result<Vec<String>, AllocError> {
+    let mut words = Vec::new(alloc);
+    for word in line.split(' ') {
+        words.push(String::from_str(alloc, word)?)?;
+    }
+    Ok(words)
+}
+
+/// What is to be told of a line of the index.
+fn told<F: Shelf>(alloc: Global, shelf: &mut F, line: &str) -> anyhow::Result<String> {
+    let Some((name, words)) = line.split_once(' ') else {
+        return Ok(String::from_str(alloc, "no command\n")?);
+    };
+    let answer = ask(alloc, shelf, &words_of(alloc, words)?);
+    let wanted = expected(alloc, shelf, name)?;
+    let same = if answer.out.bytes() == wanted.as_slice() {
+        "as"
+    } else {
+        "NOT AS"
+    };
+    let errs = String::from_utf8_lossy(alloc, answer.errs.bytes())?;
+    Ok(format!(in alloc;
+        "{words}\n  status {}, {same} {name}\n{errs}",
+        answer.status
+    )?)
+}
+
+fn main(rt: HostRuntime) -> anyhow::Result<()> {
+    let alloc = rt.alloc();
+    let mut out = StdSink::new(rt.stdout());
+    let mut shelf = DiskShelf::new(rt);
+    let index = shelf.read("index.txt", LIMIT)?;
+    for line in String::from_utf8_lossy(alloc, &index)?.lines() {
+        write_whole(&mut out, told(alloc, &mut shelf, line)?.as_bytes())?;
+    }
+    Ok(())
+}

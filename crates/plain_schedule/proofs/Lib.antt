@@ -1,0 +1,2 @@
+mod AllRead
+mod Splitting

@@ -1,0 +1,2 @@
+pub mod OneSwitch
+pub mod Plain

@@ -1,0 +1,138 @@
+-- The fields of a record, one by one.
+use Rattle.std.proofs.Common.{ℕ, ◌≡◌, ◌∙◌, Bool, true, false, ◌&&◌, Some, None, List, [], ◌∷◌, length, drop, refl, ap, arith}
+use Rattle.std.specs.Prelude.{◌≢◌, Err, bytes_eq, codes, unwrap_or}
+use Rattle.csv.specs.Records.{field_at}
+use Rattle.net_file.specs.declared.net.Net.{Net}
+use Rattle.schedule.specs.Kinds.{is_built, kind_of}
+use Rattle.schedule.specs.Rows.{event_of, event_with, is_heading}
+use Rattle.schedule.specs.declared.error.ScheduleRefusal.TheVariants as why
+use Rattle.schedule.specs.declared.kind.Kind.{Kind}
+use Rattle.schedule.specs.declared.kind.Kind.TheVariants as kind
+
+abbrev pub field : List (List ℕ) → ℕ → List ℕ
+field fields place = unwrap_or (field_at fields place) []
+
+-- ---- the heading
+
+and_true : (b : Bool) → (b && true) ≡ b
+and_true true = refl
+and_true false = refl
+
+pub is_heading-two : (fields : List (List ℕ)) → length fields ≡ 2
+    → is_heading fields ≡ (bytes_eq (field fields 0) (codes "event")
+    && bytes_eq (field fields 1) (codes "arguments"))
+unfolding field_at
+is_heading-two (a ∷ b ∷ []) two = ap (λ last. bytes_eq a (codes "event") && last)
+    (and_true (bytes_eq b (codes "arguments")))
+is_heading-two _ two = absurd (omega arith)
+
+pub is_heading-other : (fields : List (List ℕ)) → length fields ≢ 2 → is_heading fields ≡ false
+is_heading-other [] other = refl
+is_heading-other (a ∷ []) other = grind arith
+is_heading-other (a ∷ b ∷ []) other = absurd (other refl)
+is_heading-other (a ∷ b ∷ c ∷ more) other = grind arith
+
+-- ---- the kind
+
+no_word : kind_of [] ≡ None
+unfolding kind_of
+no_word = refl
+
+pub event_of-no_kind : (net : Net) (files : ℕ) (fields : List (List ℕ))
+    → kind_of (field fields 0) ≡ None → event_of net files fields ≡ Err why.Kind
+unfolding field_at
+event_of-no_kind net files [] none = refl
+event_of-no_kind net files (word ∷ fields) none = rw none refl
+
+pub event_of-not_built : (net : Net) (files : ℕ) (fields : List (List ℕ)) (k : Kind)
+    → kind_of (field fields 0) ≡ Some k → is_built k ≡ false
+    → event_of net files fields ≡ Err why.NotBuilt
+unfolding field_at
+event_of-not_built net files [] k is built = cc (no_word, is)
+event_of-not_built net files (word ∷ fields) k is built = rw (is, built) refl
+
+-- ---- the width
+
+pub event_of-built : (net : Net) (files : ℕ) (fields : List (List ℕ)) (k : Kind)
+    → kind_of (field fields 0) ≡ Some k → is_built k ≡ true
+    → event_of net files fields ≡ event_with net files k (drop 1 fields)
+unfolding field_at
+event_of-built net files [] k is built = cc (no_word, is)
+event_of-built net files (word ∷ fields) k is built = rw (is, built) refl
+
+none_behind : (fields : List (List ℕ)) → length fields ≡ 1 → drop 1 fields ≡ []
+none_behind (word ∷ []) one = refl
+none_behind _ one = absurd (omega arith)
+
+one_behind : (fields : List (List ℕ)) → length fields ≡ 2 → drop 1 fields ≡ field fields 1 ∷ []
+unfolding field_at
+one_behind (word ∷ a ∷ []) two = refl
+one_behind _ two = absurd (omega arith)
+
+two_behind : (fields : List (List ℕ)) → length fields ≡ 3 → drop 1 fields ≡ field fields 1 ∷ field
+    fields 2 ∷ []
+unfolding field_at
+two_behind (word ∷ a ∷ b ∷ []) three = refl
+two_behind _ three = absurd (omega arith)
+
+pub six_behind : (fields : List (List ℕ)) → length fields ≡ 7
+    → drop 1 fields ≡ field fields 1 ∷ field fields 2 ∷ field fields 3 ∷ field fields 4 ∷ field
+    fields 5 ∷ field fields 6 ∷ []
+unfolding field_at
+six_behind (word ∷ a ∷ b ∷ c ∷ d ∷ e ∷ f ∷ []) seven = refl
+six_behind _ seven = absurd (omega arith)
+
+pub event_of-one : (net : Net) (files : ℕ) (fields : List (List ℕ)) (k : Kind)
+    → kind_of (field fields 0) ≡ Some k → is_built k ≡ true → length fields ≡ 1
+    → event_of net files fields ≡ event_with net files k []
+event_of-one net files fields k is built one = event_of-built net files fields k is built
+    ∙ ap (event_with net files k) (none_behind fields one)
+
+pub event_of-two : (net : Net) (files : ℕ) (fields : List (List ℕ)) (k : Kind)
+    → kind_of (field fields 0) ≡ Some k → is_built k ≡ true → length fields ≡ 2
+    → event_of net files fields ≡ event_with net files k (field fields 1 ∷ [])
+event_of-two net files fields k is built two = event_of-built net files fields k is built
+    ∙ ap (event_with net files k) (one_behind fields two)
+
+pub event_of-three : (net : Net) (files : ℕ) (fields : List (List ℕ)) (k : Kind)
+    → kind_of (field fields 0) ≡ Some k → is_built k ≡ true → length fields ≡ 3
+    → event_of net files fields ≡ event_with net files k (field fields 1 ∷ field fields 2 ∷ [])
+event_of-three net files fields k is built three = event_of-built net files fields k is built
+    ∙ ap (event_with net files k) (two_behind fields three)
+
+-- no kind has another width
+other_width : (net : Net) (files : ℕ) (k : Kind) (fields : List (List ℕ)) → length fields ≢ 0
+    → length fields ≢ 1 → length fields ≢ 2 → length fields ≢ 6 → event_with net files k fields
+    ≡ Err why.Width
+other_width net files k [] none one two six = absurd (none refl)
+other_width net files k (a ∷ []) none one two six = absurd (one refl)
+other_width net files k (a ∷ b ∷ []) none one two six = absurd (two refl)
+other_width net files k (a ∷ b ∷ c ∷ d ∷ e ∷ f ∷ []) none one two six = absurd (six refl)
+other_width net files kind.Packet (a ∷ b ∷ c ∷ []) none one two six = refl
+other_width net files kind.Packet (a ∷ b ∷ c ∷ d ∷ []) none one two six = refl
+other_width net files kind.Packet (a ∷ b ∷ c ∷ d ∷ e ∷ []) none one two six = refl
+other_width net files kind.Packet (a ∷ b ∷ c ∷ d ∷ e ∷ f ∷ g ∷ more) none one two six = refl
+other_width _ _ _ _ none one two six = refl
+
+pub event_of-other : (net : Net) (files : ℕ) (fields : List (List ℕ)) (k : Kind)
+    → kind_of (field fields 0) ≡ Some k → is_built k ≡ true
+    → length fields ≢ 1 → length fields ≢ 2 → length fields ≢ 3 → length fields ≢ 7
+    → event_of net files fields ≡ Err why.Width
+unfolding field_at
+event_of-other net files [] k is built one two three seven = cc (no_word, is)
+event_of-other net files (word ∷ fields) k is built one two three seven =
+    event_of-built net files (word ∷ fields) k is built
+    ∙ other_width net files k fields (λ e. one (omega arith)) (λ e. two (omega arith))
+    (λ e. three (omega arith)) (λ e. seven (omega arith))
+
+pub ruleset heading = (is_heading-two, is_heading-other)
+
+pub ruleset counted = (
+  event_of-no_kind,
+  event_of-not_built,
+  event_of-built,
+  event_of-one,
+  event_of-two,
+  event_of-three,
+  event_of-other,
+)

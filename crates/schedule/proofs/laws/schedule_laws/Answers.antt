@@ -1,0 +1,11 @@
+use Rattle.csv_records.specs.Texts.{records_of}
+use Rattle.schedule.specs.Reading.{schedule_of}
+use Rattle.schedule.proofs.Sound.{text_sound}
+use Rattle.schedule.proofs.laws.schedule_laws.Goals as goal
+
+pub returns : goal.returns
+unfolding schedule_of
+returns c = record {
+  sound = λ net files bytes events is. text_sound net files (records_of bytes)
+      events is;
+}

@@ -1,0 +1,73 @@
+-- The events that a text states, as CSV records: a heading, and a record for each event.
+use Rattle.std.specs.Prelude.{⊤, ℕ, ◌≡◌, ◌≤◌, nat_lt, if◌then◌else◌, Option, Some, option_map, Result, Ok, Err, List, [], ◌∷◌, All, filter_map, length, slice_get}
+use Rattle.std.specs.List.{enumerate_from}
+use Rattle.std.specs.Option.{option_map_or}
+use Rattle.std.specs.Result.{result_err, result_ok}
+use Rattle.csv_records.specs.Texts.{records_of}
+use Rattle.net_file.specs.declared.net.Net.{Net}
+use Rattle.steps.specs.Steps.{IsEvent}
+use Rattle.steps.specs.declared.step.Event.{Event}
+use Rattle.steps.specs.declared.step.TheConstants.{MAX_EVENTS}
+use Rattle.schedule.specs.Refusals.{Refusal}
+use Rattle.schedule.specs.Rows.{event_of, is_heading}
+use Rattle.schedule.specs.declared.error.ScheduleError.{ScheduleError}
+use Rattle.schedule.specs.declared.error.ScheduleError.TheVariants as error
+use Rattle.schedule.specs.declared.error.ScheduleRefusal.{ScheduleRefusal}
+use Rattle.schedule.specs.declared.error.ScheduleRefusal.TheVariants as why
+
+-- why a row is refused, if it is: it states no event, or it is row 100,001
+abbrev pub refusal_in : Net → ℕ → ℕ → List (List ℕ) → Option ScheduleRefusal
+refusal_in net files row fields =
+    if nat_lt MAX_EVENTS row then Some why.TooManyRows else result_err (event_of net files fields)
+
+-- the same with the row's number
+abbrev pub refused_row : Net → ℕ → ℕ × List (List ℕ) → Option Refusal
+refused_row net files row =
+    option_map (λ refusal. record { refusal = refusal; row = row.0 })
+    (refusal_in net files row.0 row.1)
+
+-- the refusals of all these rows, the first of which has this number
+abbrev pub refusals_from : Net → ℕ → ℕ → List (List (List ℕ)) → List Refusal
+refusals_from net files first records =
+    filter_map (refused_row net files) (enumerate_from first records)
+
+-- the events of the records that state one
+abbrev pub events_in : Net → ℕ → List (List (List ℕ)) → List Event
+events_in net files records = filter_map (λ fields. result_ok (event_of net files fields)) records
+
+-- the events that the rows state, one each; or the first refusal
+abbrev pub events_of : Net → ℕ → List (List (List ℕ)) → Result (List Event) Refusal
+events_of net files records =
+    option_map_or Err (slice_get (refusals_from net files 1 records) 0)
+    (Ok (events_in net files records))
+
+abbrev pub no_heading : Result (List Event) Refusal
+no_heading = Err (record { refusal = why.Heading; row = 0 })
+
+-- the events under the heading
+abbrev pub events_under_heading : Net → ℕ → List (List (List ℕ))
+    → Result (List Event) Refusal
+events_under_heading net files [] = no_heading
+events_under_heading net files (first ∷ records) =
+    if is_heading first then events_of net files records else no_heading
+
+-- the events that a text states
+unfoldable pub schedule_of : Net → ℕ → List ℕ → Result (List Event) Refusal
+schedule_of net files bytes = events_under_heading net files (records_of bytes)
+
+-- a refusal, or want of memory
+abbrev pub IsRefusal : Result (List Event) Refusal → ScheduleError → Type 0
+IsRefusal events (error.Refused refusal row) =
+    events ≡ Err (record { refusal = refusal; row = row })
+IsRefusal events error.NoMemory = ⊤
+
+-- ---- laws
+
+-- what is true of the events of any text
+pub record AreSound (net : Net) (files : ℕ) (events : List Event) : Type 0 where
+  pub steps : All (IsEvent net files) events
+  pub few : length events ≤ MAX_EVENTS
+
+pub record ScheduleLaws : Type 0 where
+  pub sound : (net : Net) (files : ℕ) (bytes : List ℕ) (events : List Event)
+      → schedule_of net files bytes ≡ Ok events → AreSound net files events

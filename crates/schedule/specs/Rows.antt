@@ -1,0 +1,100 @@
+-- The event that a row states, for a network and so many policy files: a word for its kind, and the
+-- fields of that kind.
+use Rattle.std.specs.Prelude.{ℕ, Bool, nat_le, option_map, ok_or, Result, Ok, Err, List, [], ◌∷◌, codes, bytes_eq}
+use Rattle.five_tuple.specs.Header.{header_of}
+use Rattle.five_tuple.specs.Texts.{number_up_to, packet_fields_of}
+use Rattle.five_tuple.specs.declared.header.Header.{Header}
+use Rattle.net_file.specs.Net.{are_linked, switch_number}
+use Rattle.net_file.specs.Refusals.{require, with_value}
+use Rattle.net_file.specs.declared.net.LinkRow.{LinkRow}
+use Rattle.net_file.specs.declared.net.Net.{Net}
+use Rattle.steps.specs.declared.step.Event.{Event}
+use Rattle.steps.specs.declared.step.Event.TheVariants.{One, Flush, Drain}
+use Rattle.steps.specs.declared.step.Step.TheVariants as step
+use Rattle.steps.specs.declared.step.TheConstants.{MAX_NUMBER}
+use Rattle.schedule.specs.Kinds.{is_built, kind_of}
+use Rattle.schedule.specs.declared.error.ScheduleRefusal.{ScheduleRefusal}
+use Rattle.schedule.specs.declared.error.ScheduleRefusal.TheVariants as why
+use Rattle.schedule.specs.declared.kind.Kind.{Kind}
+use Rattle.schedule.specs.declared.kind.Kind.TheVariants as kind
+use lib.Pointwise.{pointwise}
+
+abbrev pub heading_fields : List (List ℕ)
+heading_fields = codes "event" ∷ codes "arguments" ∷ []
+
+abbrev pub is_heading : List (List ℕ) → Bool
+is_heading fields = pointwise bytes_eq fields heading_fields
+
+-- ---- fields
+
+-- the switch of this name
+abbrev pub switch_in : Net → List ℕ → Result ℕ ScheduleRefusal
+switch_in net name = ok_or (switch_number net.switches name) why.Switch
+
+-- the number of a packet, a message or a place
+abbrev pub number_in : List ℕ → Result ℕ ScheduleRefusal
+number_in text = ok_or (number_up_to MAX_NUMBER text) why.Number
+
+-- a policy file, from 1
+abbrev pub file_in : ℕ → List ℕ → Result ℕ ScheduleRefusal
+file_in files text =
+    with_value (ok_or (number_up_to files text) why.File) (λ file.
+    require (nat_le 1 file) why.File (Ok file))
+
+-- the link between the switches of these names
+abbrev pub link_in : Net → List ℕ → List ℕ → Result LinkRow ScheduleRefusal
+link_in net one two =
+    with_value (switch_in net one) (λ one.
+    with_value (switch_in net two) (λ two.
+    require (are_linked net.links one two) why.NoLink (Ok (record { one = one; two = two }))))
+
+-- two addresses, two ports and a protocol, none of them `any`
+abbrev pub header_in : List ℕ → List ℕ → List ℕ → List ℕ → List ℕ
+    → Result Header ScheduleRefusal
+header_in src dst sport dport proto =
+    ok_or (option_map header_of (packet_fields_of src dst sport dport proto)) why.Address
+
+-- ---- rows
+
+-- the event of a kind and of the fields behind it
+abbrev pub event_with : Net → ℕ → Kind → List (List ℕ) → Result Event ScheduleRefusal
+event_with net files kind.Packet (switch ∷ src ∷ dst ∷ sport ∷ dport ∷ proto ∷ []) =
+    with_value (switch_in net switch) (λ switch.
+    with_value (header_in src dst sport dport proto) (λ header.
+    Ok (One (step.Packet switch header))))
+event_with net files kind.Hop (packet ∷ []) =
+    with_value (number_in packet) (λ packet. Ok (One (step.Hop packet)))
+event_with net files kind.Lose (packet ∷ []) =
+    with_value (number_in packet) (λ packet. Ok (One (step.Lose packet)))
+event_with net files kind.Deliver (message ∷ []) =
+    with_value (number_in message) (λ message. Ok (One (step.Deliver message)))
+event_with net files kind.Forget (message ∷ []) =
+    with_value (number_in message) (λ message. Ok (One (step.Forget message)))
+event_with net files kind.Expire (switch ∷ place ∷ []) =
+    with_value (switch_in net switch) (λ switch.
+    with_value (number_in place) (λ place. Ok (One (step.Expire switch place))))
+event_with net files kind.Update (file ∷ []) =
+    with_value (file_in files file) (λ file. Ok (One (step.Update file)))
+event_with net files kind.LinkDown (one ∷ two ∷ []) =
+    with_value (link_in net one two) (λ link. Ok (One (step.LinkDown link.one link.two)))
+event_with net files kind.LinkUp (one ∷ two ∷ []) =
+    with_value (link_in net one two) (λ link. Ok (One (step.LinkUp link.one link.two)))
+event_with net files kind.Crash (switch ∷ []) =
+    with_value (switch_in net switch) (λ switch. Ok (One (step.Crash switch)))
+event_with net files kind.Restart (switch ∷ []) =
+    with_value (switch_in net switch) (λ switch. Ok (One (step.Restart switch)))
+event_with net files kind.Confirm (switch ∷ []) =
+    with_value (switch_in net switch) (λ switch. Ok (One (step.Confirm switch)))
+event_with net files kind.Resend (switch ∷ []) =
+    with_value (switch_in net switch) (λ switch. Ok (One (step.Resend switch)))
+event_with net files kind.Flush [] = Ok Flush
+event_with net files kind.Drain [] = Ok Drain
+event_with net files kind fields = Err why.Width
+
+-- the event that a record states, or why it states none: first the kind, then the width, then the
+-- fields from left to right
+abbrev pub event_of : Net → ℕ → List (List ℕ) → Result Event ScheduleRefusal
+event_of net files [] = Err why.Kind
+event_of net files (word ∷ fields) =
+    with_value (ok_or (kind_of word) why.Kind) (λ kind.
+    require (is_built kind) why.NotBuilt (event_with net files kind fields))

@@ -1,0 +1,91 @@
+ghost use Rattle.std.specs.Prelude.{◌≡◌, find, bytes_eq};
+ghost use Rattle.schedule.specs.Kinds.{is_built, kind_of, word_of};
+
+/// The kinds of a schedule's rows, each named as the step or the event that it stands for.
+#[derive(Clone, Copy, Debug, PartialEq, Eq)]
+pub enum Kind {
+    Packet,
+    Hop,
+    Lose,
+    Deliver,
+    Forget,
+    Expire,
+    Update,
+    LinkDown,
+    LinkUp,
+    Crash,
+    Restart,
+    Confirm,
+    Resend,
+    Flush,
+    Drain,
+}
+
+/// All kinds.
+pub const KINDS: [Kind; 15] = [
+    Kind::Packet,
+    Kind::Hop,
+    Kind::Lose,
+    Kind::Deliver,
+    Kind::Forget,
+    Kind::Expire,
+    Kind::Update,
+    Kind::LinkDown,
+    Kind::LinkUp,
+    Kind::Crash,
+    Kind::Restart,
+    Kind::Confirm,
+    Kind::Resend,
+    Kind::Flush,
+    Kind::Drain,
+];
+
+impl Kind {
+    /// The word that names the kind: the first field of its rows.
+    pub fn word(self) -> &'static str
+        ensures { result.now ≡ word_of self }
+    {
+        match self {
+            Kind::Packet => "packet",
+            Kind::Hop => "hop",
+            Kind::Lose => "lose",
+            Kind::Deliver => "deliver",
+            Kind::Forget => "forget",
+            Kind::Expire => "expire",
+            Kind::Update => "update",
+            Kind::LinkDown => "linkdown",
+            Kind::LinkUp => "linkup",
+            Kind::Crash => "crash",
+            Kind::Restart => "restart",
+            Kind::Confirm => "confirm",
+            Kind::Resend => "resend",
+            Kind::Flush => "flush",
+            Kind::Drain => "drain",
+        }
+    }
+
+    /// Whether events of this kind can be played.
+    pub fn is_built(self) -> bool
+        ensures { result ≡ is_built self }
+    {
+        matches!(self, Kind::Packet | Kind::Hop | Kind::Lose | Kind::Drain)
+    }
+}
+
+// The first of the kinds that the word names.
+fn first_named(kinds: &[Kind], text: &[u8]) -> Option<Kind>
+    ensures { result ≡ find (λ kind. bytes_eq (word_of kind) text.now) kinds.now }
+{
+    kinds
+        .iter()
+        .copied()
+        .find(|kind| kind.word().as_bytes() == text)
+}
+
+/// The kind that the word names; `None` for any other text.
+#[tactic(auto, unfolding(crate::specs::Kinds::kind_of))]
+pub fn read_kind(text: &[u8]) -> Option<Kind>
+    ensures { result ≡ kind_of text.now }
+{
+    first_named(&KINDS, text)
+}

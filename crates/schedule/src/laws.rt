@@ -1,0 +1,13 @@
+ghost use Rattle.schedule.specs.Kinds.{KindLaws};
+ghost use Rattle.schedule.specs.Reading.{ScheduleLaws};
+
+/// The events that a text states are such as the network can be asked for, and at most 100,000: a
+/// law on the texts alone.
+pub fn schedule_laws()
+    ensures { ScheduleLaws }
+{}
+
+/// Each kind has a word of its own, and each word that names a kind is the kind's.
+pub fn kind_laws()
+    ensures { KindLaws }
+{}

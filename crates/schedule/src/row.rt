@@ -1,0 +1,228 @@
+ghost use Rattle.std.specs.Prelude.{◌≡◌, [], ◌∷◌, drop, length, bytes_eq, unwrap_or};
+ghost use Rattle.csv.specs.Records.{field_at, fields_of};
+ghost use Rattle.net_file.specs.Net.{IsNet, are_linked};
+ghost use Rattle.schedule.specs.Rows.{event_of, event_with, file_in, header_in, is_heading, link_in, number_in, switch_in};
+
+use crate::error::ScheduleRefusal;
+use crate::kind::{Kind, read_kind};
+use csv_records::ByteRecord;
+use five_tuple::{Header, read_fields};
+use net_file::{LinkRow, Net};
+use steps::{Event, MAX_NUMBER, Step};
+
+// The field at this place, or an empty one where the record ends before it.
+fn field(fields: &ByteRecord, place: usize) -> &[u8]
+    ensures { result.now ≡ unwrap_or (field_at (fields_of fields.now) place) [] }
+{
+    fields.get(place).unwrap_or(b"")
+}
+
+// Whether the field at this place is this text.
+fn has_text(fields: &ByteRecord, place: usize, text: &str) -> bool
+    ensures { result ≡ bytes_eq (unwrap_or (field_at (fields_of fields.now) place) []) text.now }
+{
+    field(fields, place) == text.as_bytes()
+}
+
+/// Whether the record is the heading.
+#[tactic(auto, using(crate::proofs::Fields::heading))]
+pub fn is_heading(fields: &ByteRecord) -> bool
+    ensures { result ≡ is_heading (fields_of fields.now) }
+{
+    if fields.len() != 2 {
+        return false;
+    }
+    has_text(fields, 0, "event") && has_text(fields, 1, "arguments")
+}
+
+// The switch that the text names.
+fn read_switch(net: &Net, text: &[u8]) -> Result<u32, ScheduleRefusal>
+    requires { IsNet net.now }
+    ensures { result ≡ switch_in net.now text.now }
+{
+    net.number(text).ok_or(ScheduleRefusal::Switch)
+}
+
+// The packet, message or place that the text names.
+fn read_number(text: &[u8]) -> Result<u32, ScheduleRefusal>
+    ensures { result ≡ number_in text.now }
+{
+    match five_tuple::read_number(text, u64::from(MAX_NUMBER)) {
+        Some(number) => Ok(number as u32),
+        None => Err(ScheduleRefusal::Number),
+    }
+}
+
+// The policy file that the text names.
+fn read_file(files: u32, text: &[u8]) -> Result<u32, ScheduleRefusal>
+    ensures { result ≡ file_in files text.now }
+{
+    let file = five_tuple::read_number(text, u64::from(files)).ok_or(ScheduleRefusal::File)?;
+    if file == 0 {
+        return Err(ScheduleRefusal::File);
+    }
+    Ok(file as u32)
+}
+
+// Whether a link joins the two switches.
+fn are_linked(net: &Net, one: u32, two: u32) -> bool
+    ensures { result ≡ are_linked net.now.links one two }
+{
+    net.links.rows().iter().any(|link| link.joins(one, two))
+}
+
+// The link between the switches that the texts name.
+fn read_link(net: &Net, one: &[u8], two: &[u8]) -> Result<LinkRow, ScheduleRefusal>
+    requires { IsNet net.now }
+    ensures { result ≡ link_in net.now one.now two.now }
+{
+    let one = read_switch(net, one)?;
+    let two = read_switch(net, two)?;
+    if !are_linked(net, one, two) {
+        return Err(ScheduleRefusal::NoLink);
+    }
+    Ok(LinkRow { one, two })
+}
+
+// The header that the texts state.
+fn read_header(
+    src: &[u8],
+    dst: &[u8],
+    sport: &[u8],
+    dport: &[u8],
+    proto: &[u8],
+) -> Result<Header, ScheduleRefusal>
+    ensures { result ≡ header_in src.now dst.now sport.now dport.now proto.now }
+{
+    match read_fields(src, dst, sport, dport, proto) {
+        Some(fields) => Ok(Header::pack(&fields)),
+        None => Err(ScheduleRefusal::Address),
+    }
+}
+
+// The event of a kind alone.
+fn read_word(net: &Net, files: u32, kind: Kind) -> Result<Event, ScheduleRefusal>
+    ensures { result ≡ event_with net.now files kind [] }
+{
+    match kind {
+        Kind::Flush => Ok(Event::Flush),
+        Kind::Drain => Ok(Event::Drain),
+        _ => Err(ScheduleRefusal::Width),
+    }
+}
+
+// The step of a kind and one field behind it.
+fn read_one(net: &Net, files: u32, kind: Kind, text: &[u8]) -> Result<Event, ScheduleRefusal>
+    requires { IsNet net.now }
+    ensures { result ≡ event_with net.now files kind (text.now ∷ []) }
+{
+    let step = match kind {
+        Kind::Hop => Step::Hop {
+            packet: read_number(text)?,
+        },
+        Kind::Lose => Step::Lose {
+            packet: read_number(text)?,
+        },
+        Kind::Deliver => Step::Deliver {
+            message: read_number(text)?,
+        },
+        Kind::Forget => Step::Forget {
+            message: read_number(text)?,
+        },
+        Kind::Update => Step::Update {
+            file: read_file(files, text)?,
+        },
+        Kind::Crash => Step::Crash {
+            switch: read_switch(net, text)?,
+        },
+        Kind::Restart => Step::Restart {
+            switch: read_switch(net, text)?,
+        },
+        Kind::Confirm => Step::Confirm {
+            switch: read_switch(net, text)?,
+        },
+        Kind::Resend => Step::Resend {
+            switch: read_switch(net, text)?,
+        },
+        _ => return Err(ScheduleRefusal::Width),
+    };
+    Ok(Event::One(step))
+}
+
+// The step of a kind and two fields behind it.
+fn read_two(
+    net: &Net,
+    files: u32,
+    kind: Kind,
+    one: &[u8],
+    two: &[u8],
+) -> Result<Event, ScheduleRefusal>
+    requires { IsNet net.now }
+    ensures { result ≡ event_with net.now files kind (one.now ∷ two.now ∷ []) }
+{
+    let step = match kind {
+        Kind::Expire => {
+            let switch = read_switch(net, one)?;
+            let place = read_number(two)?;
+            Step::Expire { switch, place }
+        }
+        Kind::LinkDown => {
+            let LinkRow { one, two } = read_link(net, one, two)?;
+            Step::LinkDown { one, two }
+        }
+        Kind::LinkUp => {
+            let LinkRow { one, two } = read_link(net, one, two)?;
+            Step::LinkUp { one, two }
+        }
+        _ => return Err(ScheduleRefusal::Width),
+    };
+    Ok(Event::One(step))
+}
+
+// The step of a kind and the six fields behind it.
+#[tactic(auto, using(crate::proofs::Fields::six_behind))]
+fn read_six(
+    net: &Net,
+    files: u32,
+    kind: Kind,
+    fields: &ByteRecord,
+) -> Result<Event, ScheduleRefusal>
+    requires net { IsNet net.now }
+    requires seven { length (fields_of fields.now) ≡ 7 }
+    ensures { result ≡ event_with net.now files kind (drop 1 (fields_of fields.now)) }
+{
+    if kind != Kind::Packet {
+        return Err(ScheduleRefusal::Width);
+    }
+    let switch = read_switch(net, field(fields, 1))?;
+    let header = read_header(
+        field(fields, 2),
+        field(fields, 3),
+        field(fields, 4),
+        field(fields, 5),
+        field(fields, 6),
+    )?;
+    Ok(Event::One(Step::Packet { switch, header }))
+}
+
+/// The event that the record states for the network and so many policy files.
+///
+/// # Errors
+/// The first thing wrong: the kind, then the number of fields, then the fields from left to right.
+#[tactic(auto, using(crate::proofs::Fields::counted))]
+pub fn read_event(fields: &ByteRecord, net: &Net, files: u32) -> Result<Event, ScheduleRefusal>
+    requires { IsNet net.now }
+    ensures { result ≡ event_of net.now files (fields_of fields.now) }
+{
+    let kind = read_kind(field(fields, 0)).ok_or(ScheduleRefusal::Kind)?;
+    if !kind.is_built() {
+        return Err(ScheduleRefusal::NotBuilt);
+    }
+    match fields.len() {
+        1 => read_word(net, files, kind),
+        2 => read_one(net, files, kind, field(fields, 1)),
+        3 => read_two(net, files, kind, field(fields, 1), field(fields, 2)),
+        7 => read_six(net, files, kind, fields),
+        _ => Err(ScheduleRefusal::Width),
+    }
+}

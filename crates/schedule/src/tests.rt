@@ -1,0 +1,127 @@
+use crate::{
+    Event, Header, Kind, Net, ScheduleError, Step, kind_laws, read_kind, read_schedule,
+    schedule_laws,
+};
+use five_tuple::Fields;
+use net_file::read_net;
+use std::alloc::{AllocError, Global};
+use std::fmt::Write;
+use std::test::Fail;
+
+// Two switches and the link between them, and a third one without links.
+const NETWORK: &[u8] = b"switch = [{ name = 'a', ports = [1] }, { name = 'b' }, { name = 'c' }]
+link = [{ ends = ['b', 'a'] }]";
+
+// The rows of a whole run, of which the third cannot be played yet.
+const DAY: &str = "packet,a,10.0.1.5,10.0.2.10,40000,443,tcp
+drain
+flush
+packet,a,10.0.1.6,10.0.2.10,40001,443,tcp
+drain
+linkdown,b,d
+flush
+";
+
+fn under_heading(alloc: Global, rows: &str) -> Result<Vec<u8>, AllocError> {
+    let text = format!(in alloc; "event,arguments\n{rows}")?;
+    Ok(text.into_bytes())
+}
+
+// The code and the row of a refusal.
+fn refusal(outcome: Result<Vec<Event>, ScheduleError>) -> Option<(u32, u32)> {
+    match outcome {
+        Err(ScheduleError::Refused { refusal, row }) => Some((refusal.code(), row)),
+        _ => None,
+    }
+}
+
+#[test]
+fn reads_events(rt: HostRuntime) -> Result<(), Fail> {
+    let alloc = rt.alloc();
+    let net = read_net(alloc, NETWORK)?;
+    let text = b"\xef\xbb\xbf\"event\",arguments\r\n
+packet,b,10.0.1.5,10.0.2.10,40000,443,tcp
+\"hop\",1
+
+lose,999999999\r
+drain";
+    let events = read_schedule(alloc, text, &net, 1)?;
+    let header = Header::pack(&Fields {
+        src: 0x0a00_0105,
+        dst: 0x0a00_020a,
+        sport: 40000,
+        dport: 443,
+        proto: 6,
+    });
+    assert!(rt;
+        events.as_slice()
+            == [
+                Event::One(Step::Packet { switch: 1, header }),
+                Event::One(Step::Hop { packet: 1 }),
+                Event::One(Step::Lose {
+                    packet: 999_999_999
+                }),
+                Event::Drain,
+            ]
+            .as_slice()
+    );
+    assert!(rt; read_schedule(alloc, b"event,arguments\n", &net, 1)?.is_empty());
+    assert_eq!(rt; read_kind(b"linkup"), Some(Kind::LinkUp));
+    assert_eq!(rt; read_kind(b"link"), None);
+    schedule_laws();
+    kind_laws();
+    Ok(())
+}
+
+#[test]
+fn refuses_with_code_and_row(rt: HostRuntime) -> Result<(), Fail> {
+    let alloc = rt.alloc();
+    let net = read_net(alloc, NETWORK)?;
+    let day = under_heading(alloc, DAY)?;
+    assert_eq!(rt; refusal(read_schedule(alloc, &day, &net, 2)), Some((10, 3)));
+    assert_eq!(rt; refusal(read_schedule(alloc, b"", &net, 1)), Some((1, 0)));
+    assert_eq!(rt;
+        refusal(read_schedule(alloc, b"event,arguments,\n", &net, 1)),
+        Some((1, 0))
+    );
+    for (row, code) in [
+        ("drain,now", 2),
+        ("packet,z,1.2.3.4,10.2.0.1,any,80", 2),
+        ("skip,1,2,3", 3),
+        ("packet,z,1.2.3,10.2.0.1,5000,80,tcp", 4),
+        ("hop,1000000000", 5),
+        ("lose,01", 5),
+        ("packet,a,1.2.3.4,10.2.0.1,any,80,tcp", 6),
+        ("packet,a,1.2.3.4/32,10.2.0.1,5000,80,tcp", 6),
+        ("flush", 10),
+        ("linkdown,a,z,a", 10),
+    ] {
+        let rows = format!(in alloc; "drain\n{row}\nskip\n")?;
+        let text = under_heading(alloc, rows.as_str())?;
+        assert_eq!(rt;
+            refusal(read_schedule(alloc, &text, &net, 1)),
+            Some((code, 2)),
+            "at {row}"
+        );
+    }
+    Ok(())
+}
+
+#[test]
+fn takes_100000_rows_and_no_more(rt: HostRuntime) -> Result<(), Fail> {
+    let alloc = rt.alloc();
+    let net = read_net(alloc, NETWORK)?;
+    let mut rows = String::new(alloc);
+    for packet in 0..100_000u32 {
+        writeln!(rows, "hop,{packet}")?;
+    }
+    let text = under_heading(alloc, rows.as_str())?;
+    assert_eq!(rt; read_schedule(alloc, &text, &net, 1)?.len(), 100_000);
+    writeln!(rows, "skip")?;
+    let text = under_heading(alloc, rows.as_str())?;
+    assert_eq!(rt;
+        refusal(read_schedule(alloc, &text, &net, 1)),
+        Some((8, 100_001))
+    );
+    Ok(())
+}

@@ -1,0 +1,41 @@
+-- The steps that a network can be asked for: they name switches and links that it has, and policy
+-- files that there are.
+use Rattle.std.specs.Prelude.{⊤, ℕ, ◌<◌, ◌≤◌, length, IsTrue}
+use Rattle.five_tuple.specs.Header.{IsHeader}
+use Rattle.net_file.specs.Net.{are_linked}
+use Rattle.net_file.specs.declared.net.Net.{Net}
+use Rattle.steps.specs.declared.step.Event.{Event}
+use Rattle.steps.specs.declared.step.Event.TheVariants.{One, Flush, Drain}
+use Rattle.steps.specs.declared.step.Step.{Step}
+use Rattle.steps.specs.declared.step.Step.TheVariants as step
+use Rattle.steps.specs.declared.step.TheConstants.{MAX_NUMBER}
+
+-- the network has a switch of this number
+abbrev pub HasSwitch : Net → ℕ → Type 0
+HasSwitch net switch = switch < length net.switches
+
+-- one of its links joins these switches
+abbrev pub HasLink : Net → ℕ → ℕ → Type 0
+HasLink net one two = IsTrue (are_linked net.links one two)
+
+-- a step of this network, where so many policy files are named
+abbrev pub IsStep : Net → ℕ → Step → Type 0
+IsStep net files (step.Packet switch header) = HasSwitch net switch × IsHeader header
+IsStep net files (step.Hop packet) = packet ≤ MAX_NUMBER
+IsStep net files (step.Lose packet) = packet ≤ MAX_NUMBER
+IsStep net files (step.Deliver message) = message ≤ MAX_NUMBER
+IsStep net files (step.Forget message) = message ≤ MAX_NUMBER
+IsStep net files (step.Expire switch place) = HasSwitch net switch × (place ≤ MAX_NUMBER)
+IsStep net files (step.Update file) = (1 ≤ file) × (file ≤ files)
+IsStep net files (step.LinkDown one two) = HasLink net one two
+IsStep net files (step.LinkUp one two) = HasLink net one two
+IsStep net files (step.Crash switch) = HasSwitch net switch
+IsStep net files (step.Restart switch) = HasSwitch net switch
+IsStep net files (step.Confirm switch) = HasSwitch net switch
+IsStep net files (step.Resend switch) = HasSwitch net switch
+
+-- an event whose steps are of this network
+abbrev pub IsEvent : Net → ℕ → Event → Type 0
+IsEvent net files (One step) = IsStep net files step
+IsEvent net files Flush = ⊤
+IsEvent net files Drain = ⊤

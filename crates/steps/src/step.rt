@@ -1,0 +1,49 @@
+use five_tuple::Header;
+
+/// The most events of a schedule.
+pub const MAX_EVENTS: usize = 100_000;
+
+/// The greatest number by which a step names a packet, a message or a place of a cache.
+pub const MAX_NUMBER: u32 = 999_999_999;
+
+/// What one step does to the network.
+#[derive(Clone, Copy, Debug, PartialEq, Eq)]
+pub enum Step {
+    /// A packet with this header comes in at the switch.
+    Packet { switch: u32, header: Header },
+    /// The packet moves on over one link of its route, or arrives where the route ends.
+    Hop { packet: u32 },
+    /// The packet is lost on its way.
+    Lose { packet: u32 },
+    /// The message reaches its receiver, once more if it did before.
+    Deliver { message: u32 },
+    /// The message never reaches its receiver from now on.
+    Forget { message: u32 },
+    /// The entry at this place of the switch's cache times out; the place of the oldest is 0.
+    Expire { switch: u32, place: u32 },
+    /// The policy of this file becomes the newest version; the first file is 1.
+    Update { file: u32 },
+    /// The link between these two switches fails.
+    LinkDown { one: u32, two: u32 },
+    /// The link between these two switches works again.
+    LinkUp { one: u32, two: u32 },
+    /// The switch goes down, and loses all that it holds.
+    Crash { switch: u32 },
+    /// The switch comes up again, in a boot of its own.
+    Restart { switch: u32 },
+    /// The controller is told that the switch is down.
+    Confirm { switch: u32 },
+    /// What the switch and the controller have to tell each other is sent once more.
+    Resend { switch: u32 },
+}
+
+/// What one row of a schedule stands for.
+#[derive(Clone, Copy, Debug, PartialEq, Eq)]
+pub enum Event {
+    /// This one step.
+    One(Step),
+    /// Each message that waits is delivered, by ascending number, those sent meanwhile too.
+    Flush,
+    /// Each packet that travels hops until it travels no more, by ascending number.
+    Drain,
+}
