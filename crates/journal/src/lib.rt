@@ -1,0 +1,21 @@
+//! Journals: what happened in a network, item by item.
+//!
+//! An `Item` is one record, and a `Journal` the list of them. Routes, sets of links and messages
+//! are shared, so that an item stays small and a clone of one copies none.
+#![tactic(auto)]
+
+mod item;
+mod log;
+mod shared;
+
+pub use ctrl_msg::{Body, Message, Place, SharedTables};
+pub use failover::{Advert, DownSet, Route};
+pub use five_tuple::Header;
+pub use item::Item;
+pub use log::Journal;
+pub use policy_rules::{Action, Cause, How, Leaving, Leg};
+pub use shared::{SharedLinks, SharedMessage, SharedRoute};
+pub use steps::{Event, Step};
+
+#[cfg(test)]
+mod tests;

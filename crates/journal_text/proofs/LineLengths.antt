@@ -1,0 +1,388 @@
+-- How long lines are: each part has a bound, and the bounds of parts in a row are added.
+use Rattle.std.proofs.Common.{ℕ, zero, suc, ◌≡◌, ◌+◌, ◌*◌, ◌/◌, ◌%◌, ◌^◌, ◌<◌, ◌≤◌, ◌==◌, Bool, true, false, List, [], ◌∷◌, ◌++◌, length, get_or, subst, inl, inr, arith}
+use Rattle.std.specs.Prelude.{◌⊎◌, Option, Some, None, codes, decimal, filter, if◌then◌else◌, slice_get, min, max}
+use Rattle.std.specs.Fmt.{digit_glyph}
+use Rattle.std.specs.List.{range_with_len}
+use Rattle.std.proofs.lemmas.Fmt.{length-decimal-le}
+use Rattle.std.proofs.lemmas.List.{length-append}
+use Rattle.std.proofs.lemmas.List.Elements.{All-get_or}
+use Rattle.std.proofs.lemmas.List.Sums.{count_by-le-length, length-filter}
+use Rattle.std.proofs.lemmas.Option.{slice_get_cases}
+use Rattle.ctrl_msg.specs.declared.message.Body.{Body}
+use Rattle.ctrl_msg.specs.declared.message.Body.TheVariants.{Install, OpenAt, Stamp, Collect, CacheRule, Advertise, Hello, Installed, Stamped}
+use Rattle.ctrl_msg.specs.declared.message.Place.{Place}
+use Rattle.ctrl_msg.specs.declared.message.Place.TheVariants as place
+use Rattle.failover.specs.Masks.{has, switches}
+use Rattle.failover.specs.declared.advert.Advert.{Advert}
+use Rattle.five_tuple.specs.Header.{IsHeader}
+use Rattle.five_tuple.specs.Printing.{address_text, fields_text, proto_number_text}
+use Rattle.five_tuple.specs.declared.header.Header.{Header}
+use Rattle.net_file.specs.Laws.{NameLaws}
+use Rattle.net_file.specs.Net.{IsNet, IsSwitch}
+use Rattle.net_file.specs.declared.net.Net.{Net}
+use Rattle.net_file.specs.declared.net.SwitchRow.{SwitchRow}
+use Rattle.policy_rules.specs.Print.{action_text, rule_text}
+use Rattle.policy_rules.specs.declared.packet.Cause.{Cause}
+use Rattle.policy_rules.specs.declared.packet.Cause.TheVariants.{NoAuthority, NoRoute}
+use Rattle.policy_rules.specs.declared.packet.How.{How}
+use Rattle.policy_rules.specs.declared.packet.How.TheVariants.{Cached, Authority}
+use Rattle.policy_rules.specs.declared.policy.Action.{Action}
+use Rattle.policy_rules.specs.declared.policy.Action.TheVariants.{Drop, Out}
+use Rattle.ternary.specs.Word.{WordValue, hex_digits, word_text}
+use Rattle.journal.specs.declared.item.Item.{Item}
+use Rattle.journal.specs.declared.item.Item.TheVariants as item
+use Rattle.journal_text.specs.Lines.{advert_text, body_text, boot_text, cache_text, cause_text, decided_text, how_text, item_line, mask_text, name_of, named, names_text, numbered, packet_at, pair_text, place_text, state_text, step_text, submitted_text, tunnel_text, version_text}
+use Rattle.journal_text.specs.Sizes.{IsAction, IsBodyOfType, IsHow, IsItemOfType, IsNumber, IsRoute, IsRule, IsStepOfType, LinesFit}
+use Rattle.steps.specs.declared.step.Step.{Step}
+use Rattle.steps.specs.declared.step.Step.TheVariants.{Packet, Hop, Lose, Deliver, Forget, Expire, Update, LinkDown, LinkUp, Crash, Restart, Confirm, Resend}
+
+-- at most so many bytes
+record IsWithin (most : ℕ) (text : List ℕ) : Type 0 where
+  size : length text ≤ most
+
+all_of : (text : List ℕ) → IsWithin (length text) text
+all_of text = record { size = omega arith }
+
+row_of : {m n : ℕ} {xs ys : List ℕ} → IsWithin m xs → IsWithin n ys → IsWithin (m + n) (xs ++ ys)
+row_of {xs = xs} {ys = ys} a b =
+    record { size = omega (arith, a.size, b.size, length-append xs ys) }
+
+with_word : {m : ℕ} {xs : List ℕ} → IsWithin m xs → (word : List ℕ)
+    → IsWithin (m + length word) (xs ++ word)
+with_word a word = row_of a (all_of word)
+
+widened : {m : ℕ} {xs : List ℕ} → IsWithin m xs → (n : ℕ) → m ≤ n → IsWithin n xs
+widened a n le = record { size = omega (arith, a.size, le) }
+
+-- ---- numbers, rules, actions
+
+number : (n : ℕ) → IsNumber n → IsWithin 10 (decimal n)
+number n small = record {
+  size = length-decimal-le 10 n (omega arith) (omega (arith, small)) (omega (arith, small));
+}
+
+rule_within : (rule : Option ℕ) → IsRule rule → IsWithin 10 (rule_text rule)
+rule_within (Some priority) is = number priority is
+rule_within None is = widened (all_of (codes "default")) 10 (omega arith)
+
+action_within : (action : Action) → IsAction action → IsWithin 14 (action_text action)
+action_within (Out port) is =
+    row_of (all_of (codes "out:")) (number port is)
+action_within Drop is = widened (all_of (codes "drop")) 14 (omega arith)
+
+numbered_within : {m : ℕ} {word : List ℕ} → IsWithin m word → (n : ℕ) → IsNumber n
+    → IsWithin (m + 1 + 10) (numbered word n)
+numbered_within w n small =
+    row_of (with_word w (codes " ")) (number n small)
+
+-- ---- headers and words
+
+address_within : (a : ℕ) → a < 2 ^ 32 → IsWithin 43 (address_text a)
+unfolding address_text
+address_within a small =
+    row_of (number (a / 2 ^ 24) (omega (arith, small))) (row_of (all_of (46 ∷ []))
+    (row_of (number (a / 2 ^ 16 % 2 ^ 8) (omega arith)) (row_of (all_of (46 ∷ []))
+    (row_of (number (a / 2 ^ 8 % 2 ^ 8) (omega arith)) (row_of (all_of (46 ∷ []))
+    (number (a % 2 ^ 8) (omega arith)))))))
+
+proto_within : (n : ℕ) → n < 2 ^ 8 → IsWithin 10 (proto_number_text n)
+unfolding proto_number_text
+proto_within n small =
+    elim (n == 1) as (λ b. IsWithin 10 (if b then codes "icmp" else
+    (if n == 6 then codes "tcp" else (if n == 17 then codes "udp" else decimal n)))) [
+      | true ↦ widened (all_of (codes "icmp")) 10 (omega arith)
+      | false ↦ elim (n == 6) as (λ b. IsWithin 10 (if b then codes "tcp" else
+          (if n == 17 then codes "udp" else decimal n))) [
+            | true ↦ widened (all_of (codes "tcp")) 10 (omega arith)
+            | false ↦ elim (n == 17) as (λ b. IsWithin 10 (if b then codes "udp" else decimal n)) [
+              | true ↦ widened (all_of (codes "udp")) 10 (omega arith)
+              | false ↦ number n (omega (arith, small))
+            ]
+          ]
+    ]
+
+fields_within : (header : Header) → IsHeader header → IsWithin 200 (fields_text header.fields)
+unfolding fields_text
+fields_within header is =
+    widened (row_of (address_within header.fields.src is.src) (row_of (all_of (32 ∷ []))
+    (row_of (address_within header.fields.dst is.dst) (row_of (all_of (32 ∷ []))
+    (row_of (number header.fields.sport (omega (arith, is.sport))) (row_of (all_of (32 ∷ []))
+    (row_of (number header.fields.dport (omega (arith, is.dport))) (row_of (all_of (32 ∷ []))
+    (proto_within header.fields.proto is.proto))))))))) 200 (omega arith)
+
+one_byte : (byte : ℕ) → IsWithin 1 (byte ∷ [])
+one_byte byte = record { size = omega arith }
+
+digits_within : (count n : ℕ) → IsWithin count (hex_digits count n)
+unfolding hex_digits
+digits_within zero n = record { size = omega arith }
+digits_within (suc count) n =
+    widened (row_of (digits_within count (n / 16)) (one_byte (digit_glyph false (n % 16))))
+    (suc count) (omega arith)
+
+word_within : (w : WordValue) → IsWithin 53 (word_text w)
+unfolding word_text
+word_within w =
+    row_of (digits_within 26 w.value)
+    (row_of (all_of (47 ∷ [])) (digits_within 26 w.mask))
+
+-- ---- names
+
+few_switches : (mask : ℕ) → length (filter (has mask) switches) ≤ 64
+unfolding switches
+few_switches mask = omega (
+  arith,
+  length-filter (has mask) (range_with_len 0 64),
+  count_by-le-length (has mask) (range_with_len 0 64),
+)
+
+module _ (laws : NameLaws) (net : Net) (sound : IsNet net) where
+  name_within : (s : ℕ) → IsWithin 16 (name_of net s)
+  name_within s = by (slice_get_cases net.switches s).1
+    where
+      by : ((row : SwitchRow) × (s < length net.switches) × (slice_get net.switches s ≡ Some row)
+          × (get_or net.switches s row ≡ row))
+          ⊎ ((length net.switches ≤ s) × (slice_get net.switches s ≡ None))
+          → IsWithin 16 (name_of net s)
+      by (inl w) =
+          let is : IsSwitch w.0 = subst IsSwitch w.3
+          (All-get_or IsSwitch net.switches s w.0 w.1 sound.switches) in
+          rw w.2 (record { size = (laws.size w.0.name is.name).1 })
+      by (inr w) = rw w.1 (record { size = omega arith })
+
+  named_within : {m : ℕ} {word : List ℕ} → IsWithin m word → (s : ℕ)
+      → IsWithin (m + 1 + 16) (named net word s)
+  named_within w s =
+      row_of (with_word w (codes " ")) (name_within s)
+
+  -- each name takes 17 bytes with its blank
+  names_within : (list : List ℕ) → IsWithin (length list * 17) (names_text net list)
+  names_within [] = record { size = omega arith }
+  names_within (s ∷ list) =
+      widened (row_of (row_of (all_of (codes " ")) (name_within s)) (names_within list))
+      (length (s ∷ list) * 17) (omega arith)
+
+  route_within : (route : List ℕ) → IsRoute route → IsWithin 1088 (names_text net route)
+  route_within route is = widened (names_within route) 1088 (omega (arith, is))
+
+  mask_within : (mask : ℕ) → IsWithin 1088 (mask_text net mask)
+  mask_within mask =
+      elim (mask == 0) as (λ b. IsWithin 1088
+      (if b then codes " -" else names_text net (filter (has mask) switches))) [
+        | true ↦ widened (all_of (codes " -")) 1088 (omega arith)
+        | false ↦ route_within (filter (has mask) switches) (few_switches mask)
+      ]
+
+  at_within : {m : ℕ} {word : List ℕ} → IsWithin m word → (packet s : ℕ) → IsNumber packet
+      → IsWithin (m + 1 + 10 + 1 + 16) (packet_at net word packet s)
+  at_within w packet s is =
+      row_of (with_word (numbered_within w packet is) (codes " ")) (name_within s)
+
+  pair_within : {m : ℕ} {word : List ℕ} → IsWithin m word → (one two : ℕ)
+      → IsWithin (m + 1 + 16 + 1 + 16) (pair_text net word one two)
+  pair_within w one two =
+      row_of (with_word (named_within w one) (codes " ")) (name_within two)
+
+  -- ---- steps and messages
+
+  boot_within : {m : ℕ} {word : List ℕ} → IsWithin m word → (boot : ℕ) → IsNumber boot
+      → IsWithin (m + 6 + 10) (boot_text word boot)
+  boot_within w boot is =
+      row_of (with_word w (codes " boot ")) (number boot is)
+
+  version_within : {m : ℕ} {word : List ℕ} → IsWithin m word → (boot version : ℕ)
+      → IsNumber boot × IsNumber version
+      → IsWithin (m + 6 + 10 + 9 + 10) (version_text word boot version)
+  version_within w boot version is =
+      row_of (with_word (boot_within w boot is.0) (codes " version ")) (number version is.1)
+
+  step_within : (step : Step) → IsStepOfType step → IsWithin 300 (step_text net step)
+  step_within (Packet switch header) is =
+      widened (row_of (with_word (named_within (all_of (codes "packet")) switch) (codes " "))
+      (fields_within header is)) 300 (omega arith)
+  step_within (Hop packet) is =
+      widened (numbered_within (all_of (codes "hop")) packet is) 300 (omega arith)
+  step_within (Lose packet) is =
+      widened (numbered_within (all_of (codes "lose")) packet is) 300 (omega arith)
+  step_within (Deliver message) is =
+      widened (numbered_within (all_of (codes "deliver")) message is) 300 (omega arith)
+  step_within (Forget message) is =
+      widened (numbered_within (all_of (codes "forget")) message is) 300 (omega arith)
+  step_within (Expire switch place) is =
+      widened (row_of (with_word (named_within (all_of (codes "expire")) switch) (codes " "))
+      (number place is)) 300 (omega arith)
+  step_within (Update file) is =
+      widened (numbered_within (all_of (codes "update")) file is) 300 (omega arith)
+  step_within (LinkDown one two) is =
+      widened (pair_within (all_of (codes "linkdown")) (min one two) (max one two)) 300
+      (omega arith)
+  step_within (LinkUp one two) is =
+      widened (pair_within (all_of (codes "linkup")) (min one two) (max one two)) 300
+      (omega arith)
+  step_within (Crash switch) is =
+      widened (named_within (all_of (codes "crash")) switch) 300 (omega arith)
+  step_within (Restart switch) is =
+      widened (named_within (all_of (codes "restart")) switch) 300 (omega arith)
+  step_within (Confirm switch) is =
+      widened (named_within (all_of (codes "confirm")) switch) 300 (omega arith)
+  step_within (Resend switch) is =
+      widened (named_within (all_of (codes "resend")) switch) 300 (omega arith)
+
+  place_within : (to : Place) → IsWithin 16 (place_text net to)
+  place_within (place.Switch s) = name_within s
+  place_within place.Controller = widened (all_of (codes "controller")) 16 (omega arith)
+
+  cache_within : (version : ℕ) (word : WordValue) (rule : Option ℕ) (action : Action)
+      → IsNumber version → IsRule rule → IsAction action
+      → IsWithin 200 (cache_text version word rule action)
+  unfolding cache_text
+  cache_within version word rule action v r a =
+      widened (row_of (all_of (codes "cache version ")) (row_of (number version v)
+      (row_of (all_of (codes " word ")) (row_of (word_within word) (row_of (all_of (codes " rule "))
+      (row_of (rule_within rule r) (row_of (all_of (codes " ")) (action_within action a))))))))
+      200 (omega arith)
+
+  advert_within : (advert : Advert) → IsNumber advert.boot × IsNumber advert.seq
+      → IsWithin 1200 (advert_text net advert)
+  advert_within advert is =
+      widened (row_of (with_word (row_of (with_word (boot_within (named_within (all_of (codes
+      "advert")) advert.origin) advert.boot is.0) (codes " seq ")) (number advert.seq is.1)) (codes
+      " up")) (mask_within advert.up)) 1200 (omega arith)
+
+  body_within : (body : Body) → IsBodyOfType body → IsWithin 1200 (body_text net body)
+  body_within (Install boot tables) is =
+      widened (version_within (all_of (codes "install")) boot tables.version is) 1200 (omega arith)
+  body_within (OpenAt boot version) is =
+      widened (version_within (all_of (codes "open")) boot version is) 1200 (omega arith)
+  body_within (Stamp boot version) is =
+      widened (version_within (all_of (codes "stamp")) boot version is) 1200 (omega arith)
+  body_within (Collect boot version) is =
+      widened (version_within (all_of (codes "collect")) boot version is) 1200 (omega arith)
+  body_within (CacheRule version word rule action) is =
+      widened (cache_within version word rule action is.0 is.1 is.2) 1200 (omega arith)
+  body_within (Advertise advert) is = advert_within advert is
+  body_within (Hello switch boot) is =
+      widened (boot_within (named_within (all_of (codes "hello")) switch) boot is) 1200
+      (omega arith)
+  body_within (Installed switch boot version) is =
+      widened (version_within (named_within (all_of (codes "installed")) switch) boot version is)
+      1200 (omega arith)
+  body_within (Stamped switch boot version) is =
+      widened (version_within (named_within (all_of (codes "stamped")) switch) boot version is)
+      1200 (omega arith)
+
+  -- ---- items
+
+  how_within : (how : How) → IsHow how → IsWithin 50 (how_text net how)
+  how_within (Cached message) is =
+      widened (numbered_within (all_of (codes "cache")) message is) 50 (omega arith)
+  how_within (Authority switch partition) is =
+      widened (row_of (with_word (named_within (all_of (codes "authority")) switch) (codes
+      " part ")) (number partition is)) 50 (omega arith)
+
+  cause_within : (cause : Cause) → IsWithin 12 (cause_text cause)
+  cause_within NoAuthority = all_of (codes "no-authority")
+  cause_within NoRoute = widened (all_of (codes "no-route")) 12 (omega arith)
+
+  state_within : (up : Bool) → IsWithin 4 (state_text up)
+  state_within true = widened (all_of (codes "up")) 4 (omega arith)
+  state_within false = all_of (codes "down")
+
+  decided_within : (packet version : ℕ) (rule : Option ℕ) (action : Action)
+      → IsNumber packet → IsNumber version → IsRule rule → IsAction action
+      → IsWithin 100 (decided_text packet version rule action)
+  decided_within packet version rule action p v r a =
+      widened (row_of (with_word (row_of (with_word (row_of (with_word (numbered_within (all_of
+      (codes "  decided")) packet p) (codes " v")) (number version v)) (codes " rule "))
+      (rule_within rule r)) (codes " ")) (action_within action a)) 100 (omega arith)
+
+  tunnel_within : (packet version partition : ℕ) → IsNumber packet → IsNumber version
+      → IsNumber partition → IsWithin 100 (tunnel_text packet version partition)
+  unfolding tunnel_text
+  tunnel_within packet version partition p v q =
+      widened (row_of (all_of (codes "  tunnelled ")) (row_of (number packet p)
+      (row_of (all_of (codes " v")) (row_of (number version v) (row_of (all_of (codes " part "))
+      (row_of (number partition q) (all_of (codes " via")))))))) 100 (omega arith)
+
+  submitted_within : (file version : ℕ) → IsNumber file → IsNumber version
+      → IsWithin 100 (submitted_text file version)
+  unfolding submitted_text
+  submitted_within file version f v =
+      widened (row_of (all_of (codes "  submitted file ")) (row_of (number file f)
+      (row_of (all_of (codes " version ")) (number version v)))) 100 (omega arith)
+
+  item_within : (item : Item) → IsItemOfType item → IsWithin 2047 (item_line net item)
+  item_within (item.Row row step) is =
+      widened (row_of (with_word (numbered_within (all_of (codes "row")) row is.0) (codes ": "))
+      (step_within step is.1)) 2047 (omega arith)
+  item_within (item.Entered packet switch header) is =
+      widened (at_within (all_of (codes "  entered")) packet switch is) 2047 (omega arith)
+  item_within (item.Closed packet switch) is =
+      widened (at_within (all_of (codes "  closed")) packet switch is) 2047 (omega arith)
+  item_within (item.Seeking packet version partition route) is =
+      widened (row_of (tunnel_within packet version partition is.0 is.1 is.2) (route_within route
+      is.3)) 2047 (omega arith)
+  item_within (item.Exiting packet route) is =
+      widened (row_of (with_word (numbered_within (all_of (codes "  exit")) packet is.0) (codes
+      " via")) (route_within route is.1)) 2047 (omega arith)
+  item_within (item.Hopped packet switch) is =
+      widened (at_within (all_of (codes "  hopped")) packet switch is) 2047 (omega arith)
+  item_within (item.FoundDown packet one two) is =
+      widened (pair_within (numbered_within (all_of (codes "  found")) packet is) one two) 2047
+      (omega arith)
+  item_within (item.Rerouted packet route) is =
+      widened (row_of (with_word (numbered_within (all_of (codes "  rerouted")) packet is.0) (codes
+      " via")) (route_within route is.1)) 2047 (omega arith)
+  item_within (item.Decided packet version rule action how) is =
+      widened (row_of (with_word (decided_within packet version rule action is.0 is.1 is.2 is.3)
+      (codes " ")) (how_within how is.4)) 2047 (omega arith)
+  item_within (item.Left packet port leaving) is =
+      widened (row_of (with_word (numbered_within (all_of (codes "  out")) packet is.0) (codes
+      " port ")) (number port is.1)) 2047 (omega arith)
+  item_within (item.Dropped packet) is =
+      widened (numbered_within (all_of (codes "  dropped")) packet is) 2047 (omega arith)
+  item_within (item.Lost packet) is =
+      widened (numbered_within (all_of (codes "  lost")) packet is) 2047 (omega arith)
+  item_within (item.Stuck packet switch cause leg down) is =
+      widened (row_of (with_word (at_within (all_of (codes "  stuck")) packet switch is) (codes
+      " ")) (cause_within cause)) 2047 (omega arith)
+  item_within (item.Sent number message) is =
+      widened (row_of (with_word (row_of (with_word (numbered_within (all_of (codes "  sent"))
+      number is.0) (codes " ")) (place_within message.to)) (codes " ")) (body_within message.body
+      is.1)) 2047 (omega arith)
+  item_within (item.Delivered number) is =
+      widened (numbered_within (all_of (codes "  delivered")) number is) 2047 (omega arith)
+  item_within (item.Forgotten number) is =
+      widened (numbered_within (all_of (codes "  forgotten")) number is) 2047 (omega arith)
+  item_within (item.Expired switch place message) is =
+      widened (row_of (with_word (row_of (with_word (named_within (all_of (codes "  expired"))
+      switch) (codes " ")) (number place is.0)) (codes " message ")) (number message is.1)) 2047
+      (omega arith)
+  item_within (item.Submitted file version) is =
+      widened (submitted_within file version is.0 is.1) 2047 (omega arith)
+  item_within (item.Refused file code) is =
+      widened (row_of (with_word (numbered_within (all_of (codes "  refused file")) file is.0)
+      (codes " code ")) (number code is.1)) 2047 (omega arith)
+  item_within (item.Current version) is =
+      widened (numbered_within (all_of (codes "  current")) version is) 2047 (omega arith)
+  item_within (item.Retired version) is =
+      widened (numbered_within (all_of (codes "  retired")) version is) 2047 (omega arith)
+  item_within (item.Booted switch boot) is =
+      widened (row_of (with_word (named_within (all_of (codes "  booted")) switch) (codes " "))
+      (number boot is)) 2047 (omega arith)
+  item_within (item.Opened switch version) is =
+      widened (row_of (with_word (named_within (all_of (codes "  opened")) switch) (codes
+      " version ")) (number version is)) 2047 (omega arith)
+  item_within (item.Down switch) is =
+      widened (named_within (all_of (codes "  down")) switch) 2047 (omega arith)
+  item_within (item.OverNow switch) is =
+      widened (named_within (all_of (codes "  over")) switch) 2047 (omega arith)
+  item_within (item.LinkIs one two up) is =
+      widened (row_of (with_word (pair_within (all_of (codes "  link")) one two) (codes " "))
+      (state_within up)) 2047 (omega arith)
+  item_within item.Nothing is = widened (all_of (codes "  nothing")) 2047 (omega arith)
+
+pub lines_within : NameLaws → LinesFit
+lines_within laws net item sound is =
+    let line = row_of (item_within laws net sound item is) (all_of (10 ∷ [])) in
+    line.size

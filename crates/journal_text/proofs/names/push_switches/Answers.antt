@@ -1,0 +1,21 @@
+use Rattle.std.proofs.Common.{ℕ, ◌++◌, Bool, List, [], ap, sym, ◌∙◌, append_assoc}
+use Rattle.std.specs.Prelude.{codes, filter, if◌then◌else◌}
+use Rattle.std.specs.List.{range_with_len}
+use Rattle.std.specs.String.{string_bytes}
+use Rattle.failover.specs.Masks.{has}
+use Rattle.journal_text.specs.Lines.{name_of, names_text}
+use Rattle.journal_text.proofs.MaskLemmas.{names_more}
+use Rattle.journal_text.proofs.names.push_switches.Goals as goal
+
+pub loop-s-preserved : goal.loop-s-preserved
+loop-s-preserved c =
+    let named : Bool → List ℕ = λ b. if b then codes " " ++ name_of c.args.net.now c.loop-s.s else
+    [] in
+    let before : List ℕ = names_text c.args.net.now
+    (filter (has c.args.mask) (range_with_len 0 c.loop-s.s)) in
+    c.in_ok-push_if.ensures
+    ∙ ap (λ b. string_bytes c.loop-s.text ++ named b) c.is_in.ensures
+    ∙ ap (λ t. t ++ named (has c.args.mask c.loop-s.s)) c.loop-s.invariant
+    ∙ append_assoc (string_bytes c.args.text.now) before (named (has c.args.mask c.loop-s.s))
+    ∙ ap (λ t. string_bytes c.args.text.now ++ t)
+    (sym (names_more c.args.net.now c.args.mask c.loop-s.s))

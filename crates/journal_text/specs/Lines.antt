@@ -1,0 +1,190 @@
+-- The lines of a journal: one for each item, in which switches stand by their names.
+use Rattle.std.specs.Prelude.{ℕ, ◌==◌, Bool, true, false, min, max, if◌then◌else◌, Option, List, [], ◌∷◌, ◌++◌, filter, codes, decimal, slice_get}
+use Rattle.std.specs.List.{flat_map}
+use Rattle.std.specs.Option.{option_map_or}
+use Rattle.ctrl_msg.specs.declared.message.Body.{Body}
+use Rattle.ctrl_msg.specs.declared.message.Body.TheVariants.{Install, OpenAt, Stamp, Collect, CacheRule, Advertise, Hello, Installed, Stamped}
+use Rattle.ctrl_msg.specs.declared.message.Place.{Place}
+use Rattle.ctrl_msg.specs.declared.message.Place.TheVariants as place
+use Rattle.failover.specs.Masks.{has, switches}
+use Rattle.failover.specs.declared.advert.Advert.{Advert}
+use Rattle.five_tuple.specs.Printing.{fields_text}
+use Rattle.net_file.specs.declared.net.Net.{Net}
+use Rattle.policy_rules.specs.Print.{action_text, rule_text}
+use Rattle.policy_rules.specs.declared.packet.Cause.{Cause}
+use Rattle.policy_rules.specs.declared.packet.Cause.TheVariants.{NoAuthority, NoRoute}
+use Rattle.policy_rules.specs.declared.packet.How.{How}
+use Rattle.policy_rules.specs.declared.packet.How.TheVariants.{Cached, Authority}
+use Rattle.policy_rules.specs.declared.policy.Action.{Action}
+use Rattle.ternary.specs.Word.{WordValue, word_text}
+use Rattle.journal.specs.declared.item.Item.{Item}
+use Rattle.journal.specs.declared.item.Item.TheVariants as item
+use Rattle.steps.specs.declared.step.Step.{Step}
+use Rattle.steps.specs.declared.step.Step.TheVariants.{Packet, Hop, Lose, Deliver, Forget, Expire, Update, LinkDown, LinkUp, Crash, Restart, Confirm, Resend}
+
+-- ---- names and words
+
+-- the name of the switch of this number; one that the network lacks has none
+abbrev pub name_of : Net → ℕ → List ℕ
+name_of net s = option_map_or (λ row. row.name) (slice_get net.switches s) []
+
+-- a number behind a word, and a name behind one
+abbrev pub numbered : List ℕ → ℕ → List ℕ
+numbered word n = word ++ codes " " ++ decimal n
+
+abbrev pub named : Net → List ℕ → ℕ → List ℕ
+named net word s = word ++ codes " " ++ name_of net s
+
+-- the names of switches, each behind a blank
+abbrev pub names_text : Net → List ℕ → List ℕ
+names_text net list = flat_map (λ s. codes " " ++ name_of net s) list
+
+-- the names of a mask's switches, ascending, or a dash for none
+abbrev pub mask_text : Net → ℕ → List ℕ
+mask_text net mask =
+    if mask == 0 then codes " -" else names_text net (filter (has mask) switches)
+
+-- a packet and a switch, as where the packet came in
+abbrev pub packet_at : Net → List ℕ → ℕ → ℕ → List ℕ
+packet_at net word packet s = numbered word packet ++ codes " " ++ name_of net s
+
+-- two switches, as the ends of a link
+abbrev pub pair_text : Net → List ℕ → ℕ → ℕ → List ℕ
+pair_text net word one two = named net word one ++ codes " " ++ name_of net two
+
+-- ---- steps
+
+-- the fields of the step's row; a link's lower switch first
+abbrev pub step_text : Net → Step → List ℕ
+step_text net (Packet switch header) =
+    named net (codes "packet") switch ++ codes " " ++ fields_text header.fields
+step_text net (Hop packet) = numbered (codes "hop") packet
+step_text net (Lose packet) = numbered (codes "lose") packet
+step_text net (Deliver message) = numbered (codes "deliver") message
+step_text net (Forget message) = numbered (codes "forget") message
+step_text net (Expire switch place) =
+    named net (codes "expire") switch ++ codes " " ++ decimal place
+step_text net (Update file) = numbered (codes "update") file
+step_text net (LinkDown one two) = pair_text net (codes "linkdown") (min one two) (max one two)
+step_text net (LinkUp one two) = pair_text net (codes "linkup") (min one two) (max one two)
+step_text net (Crash switch) = named net (codes "crash") switch
+step_text net (Restart switch) = named net (codes "restart") switch
+step_text net (Confirm switch) = named net (codes "confirm") switch
+step_text net (Resend switch) = named net (codes "resend") switch
+
+-- ---- messages
+
+abbrev pub place_text : Net → Place → List ℕ
+place_text net (place.Switch s) = name_of net s
+place_text net place.Controller = codes "controller"
+
+abbrev pub boot_text : List ℕ → ℕ → List ℕ
+boot_text word boot = word ++ codes " boot " ++ decimal boot
+
+abbrev pub version_text : List ℕ → ℕ → ℕ → List ℕ
+version_text word boot version = boot_text word boot ++ codes " version " ++ decimal version
+
+abbrev pub advert_text : Net → Advert → List ℕ
+advert_text net advert =
+    boot_text (named net (codes "advert") advert.origin) advert.boot
+    ++ codes " seq " ++ decimal advert.seq ++ codes " up" ++ mask_text net advert.up
+
+unfoldable pub cache_text : ℕ → WordValue → Option ℕ → Action → List ℕ
+cache_text version word rule action =
+    codes "cache version " ++ (decimal version ++ (codes " word " ++ (word_text word
+    ++ (codes " rule " ++ (rule_text rule ++ (codes " " ++ action_text action))))))
+
+abbrev pub body_text : Net → Body → List ℕ
+body_text net (Install boot tables) = version_text (codes "install") boot tables.version
+body_text net (OpenAt boot version) = version_text (codes "open") boot version
+body_text net (Stamp boot version) = version_text (codes "stamp") boot version
+body_text net (Collect boot version) = version_text (codes "collect") boot version
+body_text net (CacheRule version word rule action) = cache_text version word rule action
+body_text net (Advertise advert) = advert_text net advert
+body_text net (Hello switch boot) = boot_text (named net (codes "hello") switch) boot
+body_text net (Installed switch boot version) =
+    version_text (named net (codes "installed") switch) boot version
+body_text net (Stamped switch boot version) =
+    version_text (named net (codes "stamped") switch) boot version
+
+-- ---- items
+
+abbrev pub how_text : Net → How → List ℕ
+how_text net (Cached message) = numbered (codes "cache") message
+how_text net (Authority switch partition) =
+    named net (codes "authority") switch ++ codes " part " ++ decimal partition
+
+abbrev pub cause_text : Cause → List ℕ
+cause_text NoAuthority = codes "no-authority"
+cause_text NoRoute = codes "no-route"
+
+abbrev pub state_text : Bool → List ℕ
+state_text true = codes "up"
+state_text false = codes "down"
+
+-- the version, the rule and the action that a packet got
+abbrev pub decided_text : ℕ → ℕ → Option ℕ → Action → List ℕ
+decided_text packet version rule action =
+    numbered (codes "  decided") packet ++ codes " v" ++ decimal version ++ codes " rule "
+    ++ rule_text rule ++ codes " " ++ action_text action
+
+-- a packet begins to seek a partition of a version
+unfoldable pub tunnel_text : ℕ → ℕ → ℕ → List ℕ
+tunnel_text packet version partition =
+    codes "  tunnelled " ++ (decimal packet ++ (codes " v" ++ (decimal version
+    ++ (codes " part " ++ (decimal partition ++ codes " via")))))
+
+-- the policy of a file is a version
+unfoldable pub submitted_text : ℕ → ℕ → List ℕ
+submitted_text file version =
+    codes "  submitted file " ++ (decimal file ++ (codes " version " ++ decimal version))
+
+-- the item's line without its line feed: a row at the left edge, each other item behind two blanks
+abbrev pub item_line : Net → Item → List ℕ
+item_line net (item.Row row step) =
+    numbered (codes "row") row ++ codes ": " ++ step_text net step
+item_line net (item.Entered packet switch header) = packet_at net (codes "  entered") packet switch
+item_line net (item.Closed packet switch) = packet_at net (codes "  closed") packet switch
+item_line net (item.Seeking packet version partition route) =
+    tunnel_text packet version partition ++ names_text net route
+item_line net (item.Exiting packet route) =
+    numbered (codes "  exit") packet ++ codes " via" ++ names_text net route
+item_line net (item.Hopped packet switch) = packet_at net (codes "  hopped") packet switch
+item_line net (item.FoundDown packet one two) =
+    pair_text net (numbered (codes "  found") packet) one two
+item_line net (item.Rerouted packet route) =
+    numbered (codes "  rerouted") packet ++ codes " via" ++ names_text net route
+item_line net (item.Decided packet version rule action how) =
+    decided_text packet version rule action ++ codes " " ++ how_text net how
+item_line net (item.Left packet port leaving) =
+    numbered (codes "  out") packet ++ codes " port " ++ decimal port
+item_line net (item.Dropped packet) = numbered (codes "  dropped") packet
+item_line net (item.Lost packet) = numbered (codes "  lost") packet
+item_line net (item.Stuck packet switch cause leg down) =
+    packet_at net (codes "  stuck") packet switch ++ codes " " ++ cause_text cause
+item_line net (item.Sent number message) =
+    numbered (codes "  sent") number ++ codes " " ++ place_text net message.to ++ codes " "
+    ++ body_text net message.body
+item_line net (item.Delivered number) = numbered (codes "  delivered") number
+item_line net (item.Forgotten number) = numbered (codes "  forgotten") number
+item_line net (item.Expired switch place message) =
+    named net (codes "  expired") switch ++ codes " " ++ decimal place ++ codes " message "
+    ++ decimal message
+item_line net (item.Submitted file version) = submitted_text file version
+item_line net (item.Refused file code) =
+    numbered (codes "  refused file") file ++ codes " code " ++ decimal code
+item_line net (item.Current version) = numbered (codes "  current") version
+item_line net (item.Retired version) = numbered (codes "  retired") version
+item_line net (item.Booted switch boot) =
+    named net (codes "  booted") switch ++ codes " " ++ decimal boot
+item_line net (item.Opened switch version) =
+    named net (codes "  opened") switch ++ codes " version " ++ decimal version
+item_line net (item.Down switch) = named net (codes "  down") switch
+item_line net (item.OverNow switch) = named net (codes "  over") switch
+item_line net (item.LinkIs one two up) =
+    pair_text net (codes "  link") one two ++ codes " " ++ state_text up
+item_line net item.Nothing = codes "  nothing"
+
+-- one line for each item, with its line feed
+abbrev pub journal_text : Net → List Item → List ℕ
+journal_text net items = flat_map (λ item. item_line net item ++ 10 ∷ []) items

@@ -1,0 +1,123 @@
+-- Answers, computed: what a drain and a flush stand for, and how often switches were called.
+use Rattle.update_machine.specs.Adverts.{own_seq, own_advert, adverts_known, held_adverts, route_from, is_cut_off}
+use Rattle.update_machine.specs.Boots.{boot_of, is_up, serves, heard}
+use Rattle.update_machine.specs.Caches.{cache_of, lookup_at}
+use Rattle.update_machine.specs.Deliveries.{link_changes, switch_items, controller_items, delivery_items}
+use Rattle.update_machine.specs.Handled.{handled_count}
+use Rattle.update_machine.specs.Links.{is_link_up, near}
+use Rattle.update_machine.specs.Marks.{controller_heard, known_boot, is_over, opened_at, is_member, has_acked, acked_stamp, current_mark, retired_mark, next_current, next_retired}
+use Rattle.update_machine.specs.Messages.{next_message, message_of, is_forgotten, was_delivered, is_deliverable, next_waiting, sent_from}
+use Rattle.update_machine.specs.Moves.{leg_items, end_items, cache_items, authority_items, lookup_items, arrive_items, reroute_items, move_items}
+use Rattle.update_machine.specs.Packets.{next_packet, header_in, ingress_of, standing, travels, next_travelling, decision_of, leg_of, route_in, route_place, next_switch, found_down}
+use Rattle.update_machine.specs.Pieces.{packet_items, hop_items, lose_items, deliver_items, forget_items, expire_items, update_items, link_items, crash_items, restart_items, confirm_items, resend_items, piece}
+use Rattle.update_machine.specs.Quiet.{sendings}
+use Rattle.update_machine.specs.Settling.{current_items, open_items, retired_items, settling, installs_to, installs_to_all, resent_by_controller}
+use Rattle.update_machine.specs.Steps.{steps_in, present_step}
+use Rattle.update_machine.specs.Versions.{version_count, file_of, stamp_of, holds_version}
+use Rattle.failover.specs.Masks.{has, marks, mask_of, switches, least_in}
+use Rattle.failover.specs.Adverts.{is_news, after_hearing, first_adverts}
+use Rattle.failover.specs.Links.{names, told_links, is_link, known_links, is_isolated}
+use Rattle.failover.specs.Routes.{wider, ball, nearer, onward, links_away, route_to, first_route, route_of}
+use Rattle.failover.specs.DownSet.{has_link, with_link}
+use Rattle.ternary.specs.Word.{holds, meets, meet_of, covers_of, is_fixed_of, free_of}
+use Rattle.cache_maker.specs.Independent.{is_apart, is_independent, widen, widened}
+use Rattle.switch_table.specs.Cache.{same_key}
+use Rattle.net_file.specs.Net.{mask_of as net_mask_of}
+use Rattle.std.proofs.Common.{◌≡◌, List, [], ◌∷◌, refl}
+use Rattle.steps.specs.declared.step.Event.{Event}
+use Rattle.steps.specs.declared.step.Event.TheVariants.{One, Flush, Drain}
+use Rattle.steps.specs.declared.step.Step.TheVariants as step
+use Rattle.journal.specs.declared.item.Item.{Item}
+use Rattle.update_machine.specs.Answers.{Answers, StepOfRow, after_steps}
+use Rattle.update_machine.proofs.Examples.{at, one, shielded}
+
+-- a packet comes in and is drained; then the cache rule that it brought is delivered
+abbrev entering : List StepOfRow
+entering = at 1 (step.Packet 0 one) ∷ []
+
+abbrev draining : List StepOfRow
+draining = at 2 (step.Hop 1) ∷ at 2 (step.Hop 1) ∷ []
+
+abbrev flushing : List StepOfRow
+flushing = at 3 (step.Deliver 1) ∷ []
+
+abbrev taken : List StepOfRow
+taken = at 1 (step.Packet 0 one) ∷ at 2 (step.Hop 1) ∷ at 2 (step.Hop 1) ∷ at 3
+    (step.Deliver 1) ∷ []
+
+abbrev events : List Event
+events = One (step.Packet 0 one) ∷ Drain ∷ Flush ∷ []
+
+abbrev journal : List Item
+journal = after_steps shielded [] taken
+
+pub answers_rows : Answers shielded events journal
+unfolding own_seq own_advert adverts_known held_adverts route_from is_cut_off boot_of is_up
+    serves heard cache_of lookup_at link_changes switch_items controller_items delivery_items
+    handled_count is_link_up near controller_heard known_boot is_over opened_at is_member
+    has_acked acked_stamp current_mark retired_mark next_current next_retired next_message
+    message_of is_forgotten was_delivered is_deliverable next_waiting sent_from leg_items
+    end_items cache_items authority_items lookup_items arrive_items reroute_items move_items
+    next_packet header_in ingress_of standing travels next_travelling decision_of leg_of route_in
+    route_place next_switch found_down packet_items hop_items lose_items deliver_items
+    forget_items expire_items update_items link_items crash_items restart_items confirm_items
+    resend_items piece sendings current_items open_items retired_items settling installs_to
+    installs_to_all resent_by_controller steps_in present_step version_count file_of stamp_of
+    holds_version has marks mask_of switches least_in is_news after_hearing first_adverts names
+    told_links is_link known_links is_isolated wider ball nearer onward links_away route_to
+    first_route route_of has_link with_link holds meets meet_of covers_of is_fixed_of free_of
+    is_apart is_independent widen widened same_key net_mask_of lib.Count.count_trailing_zeros
+answers_rows = record {
+  steps = taken;
+  allowed = (
+    entering,
+    at 2 (step.Hop 1) ∷ at 2 (step.Hop 1) ∷ at 3 (step.Deliver 1) ∷ [],
+    record { split = refl },
+    refl,
+    (
+      draining,
+      flushing,
+      record { split = refl },
+      (refl, refl, (refl, refl, refl)),
+      (flushing, [], record { split = refl }, (refl, refl, refl), refl),
+    ),
+  );
+  written = refl;
+}
+
+-- a took the packet in and moved it on; b received it
+pub handled_at_a : handled_count journal 0 ≡ 2
+unfolding own_seq own_advert adverts_known held_adverts route_from is_cut_off boot_of is_up
+    serves heard cache_of lookup_at link_changes switch_items controller_items delivery_items
+    handled_count is_link_up near controller_heard known_boot is_over opened_at is_member
+    has_acked acked_stamp current_mark retired_mark next_current next_retired next_message
+    message_of is_forgotten was_delivered is_deliverable next_waiting sent_from leg_items
+    end_items cache_items authority_items lookup_items arrive_items reroute_items move_items
+    next_packet header_in ingress_of standing travels next_travelling decision_of leg_of route_in
+    route_place next_switch found_down packet_items hop_items lose_items deliver_items
+    forget_items expire_items update_items link_items crash_items restart_items confirm_items
+    resend_items piece sendings current_items open_items retired_items settling installs_to
+    installs_to_all resent_by_controller steps_in present_step version_count file_of stamp_of
+    holds_version has marks mask_of switches least_in is_news after_hearing first_adverts names
+    told_links is_link known_links is_isolated wider ball nearer onward links_away route_to
+    first_route route_of has_link with_link holds meets meet_of covers_of is_fixed_of free_of
+    is_apart is_independent widen widened same_key net_mask_of lib.Count.count_trailing_zeros
+handled_at_a = refl
+
+pub handled_at_b : handled_count journal 1 ≡ 2
+unfolding own_seq own_advert adverts_known held_adverts route_from is_cut_off boot_of is_up
+    serves heard cache_of lookup_at link_changes switch_items controller_items delivery_items
+    handled_count is_link_up near controller_heard known_boot is_over opened_at is_member
+    has_acked acked_stamp current_mark retired_mark next_current next_retired next_message
+    message_of is_forgotten was_delivered is_deliverable next_waiting sent_from leg_items
+    end_items cache_items authority_items lookup_items arrive_items reroute_items move_items
+    next_packet header_in ingress_of standing travels next_travelling decision_of leg_of route_in
+    route_place next_switch found_down packet_items hop_items lose_items deliver_items
+    forget_items expire_items update_items link_items crash_items restart_items confirm_items
+    resend_items piece sendings current_items open_items retired_items settling installs_to
+    installs_to_all resent_by_controller steps_in present_step version_count file_of stamp_of
+    holds_version has marks mask_of switches least_in is_news after_hearing first_adverts names
+    told_links is_link known_links is_isolated wider ball nearer onward links_away route_to
+    first_route route_of has_link with_link holds meets meet_of covers_of is_fixed_of free_of
+    is_apart is_independent widen widened same_key net_mask_of lib.Count.count_trailing_zeros
+handled_at_b = refl

@@ -1,0 +1,153 @@
+-- Small networks, policies and messages on which the definitions are tried.
+use Rattle.std.proofs.Common.{true, ℕ, Some, None, List, [], ◌∷◌, Option, ◌-◌, ◌^◌}
+use Rattle.std.specs.Prelude.{Ok, codes}
+use Rattle.five_tuple.specs.Header.{header_of}
+use Rattle.five_tuple.specs.declared.header.Header.{Header}
+use Rattle.ternary.specs.Word.{WordValue}
+use Rattle.net_file.specs.declared.net.Net.{Net}
+use Rattle.net_file.specs.declared.net.LinkRow.{LinkRow}
+use Rattle.net_file.specs.declared.net.SwitchRow.{SwitchRow}
+use Rattle.partition.specs.Plan.{Placed}
+use Rattle.policy_rules.specs.declared.rules.Rule.{Rule}
+use Rattle.policy_rules.specs.declared.packet.Leaving.{Leaving}
+use Rattle.policy_rules.specs.declared.policy.Action.{Action}
+use Rattle.policy_rules.specs.declared.policy.Action.TheVariants.{Drop, Out}
+use Rattle.ctrl_msg.specs.declared.message.Body.{Body}
+use Rattle.ctrl_msg.specs.declared.message.Body.TheVariants.{Advertise}
+use Rattle.ctrl_msg.specs.declared.message.Message.{Message}
+use Rattle.ctrl_msg.specs.declared.message.Place.TheVariants as place
+use Rattle.steps.specs.declared.step.Step.{Step}
+use Rattle.update_machine.specs.Setting.{Setting}
+use Rattle.update_machine.specs.Answers.{StepOfRow}
+pub use Rattle.switch_table.specs.Tables.{tables_of}
+
+-- ---- steps and messages
+
+abbrev pub at : ℕ → Step → StepOfRow
+at row step = record { row = row; step = step }
+
+abbrev pub to : ℕ → Body → Message
+to s body = record { to = place.Switch s; body = body }
+
+abbrev pub to_controller : Body → Message
+to_controller body = record { to = place.Controller; body = body }
+
+abbrev pub advert : ℕ → ℕ → ℕ → ℕ → Body
+advert origin boot seq up =
+    Advertise (record { origin = origin; boot = boot; seq = seq; up = up })
+
+abbrev pub leaving : ℕ → Header → ℕ → Option ℕ → Leaving
+leaving packet header version rule =
+    record { packet = packet; header = header; version = version; rule = rule }
+
+-- ---- headers: from 1.2.3.4 to 10.2.0.1, 10.3.9.9 and 10.1.5.5, by TCP from port 5000 to port 80
+
+abbrev pub one : Header
+one = header_of (record { src = 16909060; dst = 167903233; sport = 5000; dport = 80; proto = 6 })
+
+abbrev pub other : Header
+other = header_of (record { src = 16909060; dst = 167971081; sport = 5000; dport = 80; proto = 6 })
+
+abbrev pub denied : Header
+denied = header_of (record { src = 16909060; dst = 167838981; sport = 5000; dport = 80; proto = 6 })
+
+-- ---- plans of one partition
+
+abbrev pub any_word : WordValue
+any_word = record { value = 0; mask = 0 }
+
+abbrev pub rule : WordValue → ℕ → Option ℕ → Action → Rule
+rule word rank priority action =
+    record { word = word; rank = rank; rule = priority; action = action }
+
+abbrev pub on : List ℕ → List Rule → List Placed
+on targets rules = (record { number = 0; region = any_word; rules = rules }, targets) ∷ []
+
+-- `200,any,10.1.0.0/16,any,80,tcp,drop` and `100,any,10.0.0.0/8,any,any,tcp,out:2`, on b
+abbrev pub web : WordValue
+web = record { value = 184539498331133464582; mask = 4722294425275624062975 }
+
+abbrev pub tcp : WordValue
+tcp = record { value = 184467440737095516166; mask = 4703919738795935662335 }
+
+abbrev pub shield_plan : List Placed
+shield_plan =
+    on (1 ∷ [])
+    (rule web 0 (Some 200) Drop ∷ rule tcp 1 (Some 100) (Out 2) ∷ rule any_word 2 None Drop ∷ [])
+
+-- the word of the cache rule that `one` brings
+abbrev pub cached : WordValue
+cached = record { value = 184611555925171372038; mask = 4704063853984011518207 }
+
+-- `100,any,any,any,any,any,out:2`, and the same with `drop`, on b; the latter on the one switch too
+abbrev pub plan_p : List Placed
+plan_p = on (1 ∷ []) (rule any_word 0 (Some 100) (Out 2) ∷ rule any_word 1 None Drop ∷ [])
+
+abbrev pub all_dropped : List Rule
+all_dropped = rule any_word 0 (Some 100) Drop ∷ rule any_word 1 None Drop ∷ []
+
+abbrev pub plan_q : List Placed
+plan_q = on (1 ∷ []) all_dropped
+
+abbrev pub plan_s : List Placed
+plan_s = on (0 ∷ []) all_dropped
+
+-- ---- networks
+
+abbrev pub switch : List ℕ → ℕ → ℕ → SwitchRow
+switch name ports room = record { name = name; ports = ports; room = room }
+
+abbrev pub link : ℕ → ℕ → LinkRow
+link one two = record { one = one; two = two }
+
+abbrev pub network : List SwitchRow → List LinkRow → Net
+network switches links = record {
+  switches = switches;
+  links = links;
+  leaf_rules = 8;
+  backups = 0;
+  cache = 4;
+}
+
+-- a has the port 1; b the port 2, and room for 100 rules
+abbrev pub two_switches : Net
+two_switches =
+    network (switch (codes "a") 2 0 ∷ switch (codes "b") 4 100 ∷ []) (link 0 1 ∷ [])
+
+abbrev pub shielded : Setting
+shielded = record { net = two_switches; policies = []; plans = Ok shield_plan ∷ []; caches = true }
+
+abbrev pub open_net : Setting
+open_net = record {
+  net = two_switches;
+  policies = [];
+  plans = Ok plan_p ∷ Ok plan_q ∷ [];
+  caches =
+      true;
+}
+
+-- a-b, a-c, b-d, c-d; d has the port 2, and room
+abbrev pub ring_net : Net
+ring_net =
+    network
+    (switch (codes "a") 0 0 ∷ switch (codes "b") 0 0 ∷ switch (codes "c") 0 0
+    ∷ switch (codes "d") 4 10 ∷ [])
+    (link 0 1 ∷ link 0 2 ∷ link 1 3 ∷ link 2 3 ∷ [])
+
+abbrev pub ring : Setting
+ring = record {
+  net = ring_net;
+  policies = [];
+  plans = Ok (on (3 ∷ []) all_dropped) ∷ [];
+  caches =
+      true;
+}
+
+-- one switch with all ports
+abbrev pub solo : Setting
+solo = record {
+  net = network (switch (codes "s0") (2 ^ 64 - 1) 8192 ∷ []) [];
+  policies = [];
+  plans = Ok plan_s ∷ [];
+  caches = true;
+}

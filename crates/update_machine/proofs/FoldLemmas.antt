@@ -1,0 +1,51 @@
+-- What a journal says once more items stand behind it, one law for each of the four folds.
+use Rattle.std.proofs.Common.{◌≡◌, ◌+◌, Bool, Option, Some, None, List, [], ◌∷◌, ◌++◌, refl, ap, ◌∙◌, sym, append_assoc, append-nil}
+use Rattle.std.specs.Option.{option_or}
+use Rattle.std.proofs.lemmas.List.Concat.{flat_map-append}
+use Rattle.std.proofs.lemmas.List.Sums.{sum_by-append}
+use Rattle.journal.specs.declared.item.Item.{Item}
+use Rattle.update_machine.specs.Folds.{all_given, count_of, folded, folded_from, last_told}
+
+-- the last that was told in two parts is that of the second, or else that of the first
+pub last_told_append : {X : Type 0} (told : Item → Option X) (before items : List Item)
+    → last_told told (before ++ items) ≡ option_or (last_told told items) (last_told told before)
+last_told_append told [] items = sym (or_none (last_told told items))
+  where
+    or_none : {Y : Type 0} (o : Option Y) → option_or o None ≡ o
+    or_none None = refl
+    or_none (Some y) = refl
+last_told_append told (item ∷ before) items = ap (λ o. option_or o (told item))
+    (last_told_append told before items) ∙ or_assoc (last_told told items) (last_told told before)
+    (told item)
+  where
+    or_assoc : {Y : Type 0} (o p q : Option Y) → option_or (option_or o p) q ≡ option_or o
+        (option_or p q)
+    or_assoc None p q = refl
+    or_assoc (Some y) p q = refl
+
+pub count_of_append : (test : Item → Bool) (before items : List Item)
+    → count_of test (before ++ items) ≡ count_of test before + count_of test items
+count_of_append test before items = sum_by-append _ before items
+
+pub all_given_append : {X : Type 0} (gives : Item → List X) (before items : List Item)
+    → all_given gives (before ++ items) ≡ all_given gives before ++ all_given gives items
+all_given_append gives before items = flat_map-append gives before items
+
+-- items behind others go on from what those made of the value, and from the journal with them
+pub folded_from_append : {X : Type 0} (changes : List Item → X → Item → X) (first : List Item)
+    (value : X) (before items : List Item) →
+    folded_from changes first value (before ++ items) ≡ folded_from changes (first ++ before)
+    (folded_from changes first value before) items
+folded_from_append changes first value [] items = ap (λ js. folded_from changes js value items)
+    (sym (append-nil first))
+folded_from_append changes first value (item ∷ before) items =
+    folded_from_append changes (first ++ item ∷ []) (changes first value item) before items
+    ∙ ap (λ js. folded_from changes js
+    (folded_from changes (first ++ item ∷ []) (changes first value item) before) items)
+    (append_assoc first (item ∷ []) before)
+
+pub folded_append : {X : Type 0} (changes : List Item → X → Item → X) (start : X)
+    (before items : List Item) →
+    folded changes start (before ++ items) ≡ folded_from changes before
+    (folded changes start before) items
+folded_append changes start before items = folded_from_append changes [] start before items

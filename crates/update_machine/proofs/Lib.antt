@@ -1,0 +1,25 @@
+mod Examples
+mod CacheRows
+mod BootRows
+mod OverRows
+mod UpdateRows
+mod LinkRows
+mod OtherRows
+mod CampusRows
+mod AnswerRows
+mod FoldLemmas
+mod OneAnswer
+mod CauseLemmas
+mod NumberBlocks
+mod NumberPieces
+mod AnswerCauses
+mod Numbering
+mod Silent
+mod SilentSwitches
+mod SilentPackets
+mod SilentController
+mod Start
+mod KnownLinks
+mod Beginnings
+mod WholeAnswers
+pub mod CallerLemmas

@@ -1,0 +1,68 @@
+-- There is one answer to the events of a schedule.
+use Rattle.std.proofs.Common.{ℕ, ◌≡◌, ◌+◌, Option, Some, None, List, [], ◌∷◌, ◌++◌, refl, ap, sym, subst, ◌∙◌}
+use Rattle.journal.specs.declared.item.Item.{Item}
+use Rattle.steps.specs.declared.step.Event.{Event}
+use Rattle.steps.specs.declared.step.Event.TheVariants.{One, Flush, Drain}
+use Rattle.steps.specs.declared.step.Step.{Step}
+use Rattle.update_machine.specs.Answers.{Answers, AreAll, AreSteps, AreStepsOf, StepOfRow, after_steps, next_delivery, next_hop}
+use Rattle.update_machine.specs.Pieces.{piece}
+use Rattle.update_machine.specs.Setting.{Setting}
+
+pub some_injective : {X : Type 0} (x y : X) → Some x ≡ Some y → x ≡ y
+some_injective x y e = cc
+
+pub same_step : (x y : StepOfRow) → x.row ≡ y.row → x.step ≡ y.step → x ≡ y
+same_step x y rows steps =
+    ap (λ row. record { row = row; step = x.step }) rows
+    ∙ ap (λ step. record { row = y.row; step = step }) steps
+
+-- a flush, or a drain, has one list of steps
+all_same : (setting : Setting) (next : List Item → Option Step) (row : ℕ) (before : List Item)
+    (one other : List StepOfRow) →
+    AreAll setting next row before one → AreAll setting next row before other → one ≡ other
+all_same setting next row before [] [] first second = refl
+all_same setting next row before [] (y ∷ other) first second =
+    let clash : None ≡ Some y.step = sym first ∙ second.1 in cc
+all_same setting next row before (x ∷ one) [] first second =
+    let clash : None ≡ Some x.step = sym second ∙ first.1 in cc
+all_same setting next row before (x ∷ one) (y ∷ other) first second =
+    let same : x ≡ y = same_step x y (first.0 ∙ sym second.0)
+    (some_injective x.step y.step (sym first.1 ∙ second.1)) in
+    let onward : AreAll setting next row (before ++ piece setting before x.row x.step) other =
+    subst (λ z. AreAll setting next row (before ++ piece setting before z.row z.step) other)
+    (sym same) second.2 in
+    ap (λ z. z ∷ one) same ∙ ap (λ zs. y ∷ zs)
+    (all_same setting next row (before ++ piece setting before x.row x.step) one other first.2
+    onward)
+
+pub event_same : (setting : Setting) (row : ℕ) (event : Event) (before : List Item)
+    (one other : List StepOfRow) →
+    AreStepsOf setting row event before one → AreStepsOf setting row event before other
+    → one ≡ other
+event_same setting row (One step) before one other first second = first ∙ sym second
+event_same setting row Flush before one other first second = all_same setting next_delivery row
+    before one other first second
+event_same setting row Drain before one other first second = all_same setting next_hop row before
+    one other first second
+
+pub one_list_of_steps : (setting : Setting) (row : ℕ) (events : List Event) (before : List Item)
+    (one other : List StepOfRow) →
+    AreSteps setting row events before one → AreSteps setting row events before other → one ≡ other
+one_list_of_steps setting row [] before one other first second = first ∙ sym second
+one_list_of_steps setting row (event ∷ events) before one other first second =
+    let mine : first.0 ≡ second.0 = event_same setting row event before first.0 second.0 first.3
+    second.3 in
+    let onward : AreSteps setting (row + 1) events (after_steps setting before first.0) second.1 =
+    subst (λ steps. AreSteps setting (row + 1) events (after_steps setting before steps) second.1)
+    (sym mine) second.4 in
+    let rest : first.1 ≡ second.1 = one_list_of_steps setting (row + 1) events
+    (after_steps setting before first.0) first.1 second.1 first.4 onward in
+    first.2.split ∙ ap (λ steps. steps ++ first.1) mine ∙ ap (λ steps. second.0 ++ steps) rest
+    ∙ sym second.2.split
+
+pub one_answer : (setting : Setting) (events : List Event) (one other : List Item)
+    → Answers setting events one → Answers setting events other → one ≡ other
+one_answer setting events one other first second =
+    first.written ∙ ap (after_steps setting [])
+    (one_list_of_steps setting 1 events [] first.steps second.steps first.allowed
+    second.allowed) ∙ sym second.written

@@ -1,0 +1,173 @@
+-- Items that don't concern a switch, or the links, leave its words as they are.
+use Rattle.std.proofs.Common.{ℕ, ◌≡◌, Bool, true, None, List, [], ◌∷◌, ◌++◌, refl, ap, arith}
+use Rattle.std.specs.Prelude.{IsFalse, filter, unwrap_or}
+use Rattle.ctrl_msg.specs.declared.message.Body.{Body}
+use Rattle.switch_table.specs.Cache.{CacheValue}
+use Rattle.net_file.specs.Net.{links_of}
+use Rattle.net_file.specs.declared.net.LinkRow.{LinkRow}
+use Rattle.journal.specs.declared.item.Item.{Item}
+use Rattle.journal.specs.declared.item.Item.TheVariants as item
+use Rattle.update_machine.specs.Boots.{boot_of, changes_heard, heard, is_up, said_to, serves, tells_boot, tells_serving, tells_up}
+use Rattle.update_machine.specs.Caches.{cache_of, changes_cache}
+use Rattle.update_machine.specs.Concerns.{NoneConcern, concerns_links, concerns_switch, is_message_to}
+use Rattle.update_machine.specs.Laws.{SwitchKeeps}
+use Rattle.update_machine.specs.Links.{is_link_up, is_usable, near, tells_link}
+use Rattle.update_machine.specs.Setting.{Setting}
+use Rattle.update_machine.specs.Versions.{holds_version, stamp_of}
+use Rattle.update_machine.proofs.Silent.{folded_stays, last_stays}
+
+boot_silent : (s : ℕ) (before : List Item) (item : Item) → IsFalse (concerns_switch s before item)
+    → tells_boot s item ≡ None
+boot_silent s before (item.Booted switch boot) apart = rw apart refl
+boot_silent s before _ apart = refl
+
+up_silent : (s : ℕ) (before : List Item) (item : Item) → IsFalse (concerns_switch s before item)
+    → tells_up s item ≡ None
+up_silent s before (item.Booted switch boot) apart = rw apart refl
+up_silent s before (item.Down switch) apart = rw apart refl
+up_silent s before _ apart = refl
+
+serving_silent : (s : ℕ) (before : List Item) (item : Item)
+    → IsFalse (concerns_switch s before item) → tells_serving s item ≡ None
+serving_silent s before (item.Booted switch boot) apart = rw apart refl
+serving_silent s before (item.Down switch) apart = rw apart refl
+serving_silent s before (item.Opened switch version) apart = rw apart refl
+serving_silent s before _ apart = refl
+
+-- a message for another receiver says nothing to the switch
+said_nothing : (before : List Item) (s number : ℕ) → IsFalse (is_message_to before s number)
+    → said_to before s number ≡ None
+said_nothing before s number apart = grind arith
+
+heard_silent : (s : ℕ) (before : List Item) (bodies : List Body) (item : Item)
+    → IsFalse (concerns_switch s before item) → changes_heard s before bodies item ≡ bodies
+heard_silent s before bodies (item.Booted switch boot) apart = rw apart refl
+heard_silent s before bodies (item.Down switch) apart = rw apart refl
+heard_silent s before bodies (item.Delivered number) apart = rw (said_nothing before s number apart)
+    refl
+heard_silent s before bodies _ apart = refl
+
+cache_silent : (s : ℕ) (before : List Item) (cache : CacheValue) (item : Item)
+    → IsFalse (concerns_switch s before item) → changes_cache s before cache item ≡ cache
+cache_silent s before cache (item.Booted switch boot) apart = rw apart refl
+cache_silent s before cache (item.Down switch) apart = rw apart refl
+cache_silent s before cache (item.Expired switch place message) apart = rw apart refl
+cache_silent s before cache (item.Delivered number) apart = rw (said_nothing before s number apart)
+    refl
+cache_silent s before cache _ apart = refl
+
+boot_stays : (s : ℕ) (before items : List Item) → NoneConcern (concerns_switch s) before items
+    → boot_of (before ++ items) s ≡ boot_of before s
+unfolding boot_of
+boot_stays s before items none = ap (λ o. unwrap_or o 1)
+    (last_stays (tells_boot s) (concerns_switch s) (boot_silent s) before items none)
+
+up_stays : (s : ℕ) (before items : List Item) → NoneConcern (concerns_switch s) before items
+    → is_up (before ++ items) s ≡ is_up before s
+unfolding is_up
+up_stays s before items none = ap (λ o. unwrap_or o true)
+    (last_stays (tells_up s) (concerns_switch s) (up_silent s) before items none)
+
+serving_stays : (s : ℕ) (before items : List Item) → NoneConcern (concerns_switch s) before items
+    → serves (before ++ items) s ≡ serves before s
+unfolding serves
+serving_stays s before items none = ap (λ o. unwrap_or o true)
+    (last_stays (tells_serving s) (concerns_switch s) (serving_silent s) before items none)
+
+heard_stays : (s : ℕ) (before items : List Item) → NoneConcern (concerns_switch s) before items
+    → heard (before ++ items) s ≡ heard before s
+unfolding heard
+heard_stays s before items none = folded_stays (changes_heard s) [] (concerns_switch s)
+    (heard_silent s) before items none
+
+stamp_stays : (s : ℕ) (before items : List Item) → NoneConcern (concerns_switch s) before items
+    → stamp_of (before ++ items) s ≡ stamp_of before s
+unfolding stamp_of
+stamp_stays s before items none =
+    let boot : boot_of (before ++ items) s ≡ boot_of before s = boot_stays s before items none in
+    let up : is_up (before ++ items) s ≡ is_up before s = up_stays s before items none in
+    let bodies : heard (before ++ items) s ≡ heard before s = heard_stays s before items none in
+    rw (boot, up, bodies) refl
+
+version_stays : (s v : ℕ) (before items : List Item) → NoneConcern (concerns_switch s) before items
+    → holds_version (before ++ items) s v ≡ holds_version before s v
+unfolding holds_version
+version_stays s v before items none =
+    let boot : boot_of (before ++ items) s ≡ boot_of before s = boot_stays s before items none in
+    let up : is_up (before ++ items) s ≡ is_up before s = up_stays s before items none in
+    let bodies : heard (before ++ items) s ≡ heard before s = heard_stays s before items none in
+    rw (boot, up, bodies) refl
+
+cache_stays : (setting : Setting) (s : ℕ) (before items : List Item)
+    → NoneConcern (concerns_switch s) before items → cache_of setting (before ++ items) s ≡ cache_of
+    setting before s
+unfolding cache_of
+cache_stays setting s before items none =
+    folded_stays (changes_cache s) (record { entries = []; capacity = setting.net.cache })
+    (concerns_switch s) (cache_silent s) before items none
+
+pub switch_keeps : (setting : Setting) (s : ℕ) (before items : List Item)
+    → NoneConcern (concerns_switch s) before items → SwitchKeeps setting s before (before ++ items)
+switch_keeps setting s before items none = record {
+  boot = boot_stays s before items none;
+  up = up_stays s before items none;
+  serving = serving_stays s before items none;
+  heard = heard_stays s before items none;
+  stamp = stamp_stays s before items none;
+  versions = λ v. version_stays s v before items none;
+  cache = cache_stays setting s before items none;
+}
+
+-- ---- links
+
+served_silent : (s : ℕ) (before : List Item) (item : Item) → IsFalse (concerns_links before item)
+    → tells_serving s item ≡ None
+served_silent s before (item.Booted switch boot) apart = cc
+served_silent s before (item.Down switch) apart = cc
+served_silent s before (item.Opened switch version) apart = cc
+served_silent s before _ apart = refl
+
+link_silent : (low high : ℕ) (before : List Item) (item : Item)
+    → IsFalse (concerns_links before item) → tells_link low high item ≡ None
+link_silent low high before (item.LinkIs one two up) apart = cc
+link_silent low high before _ apart = refl
+
+served_stays : (before items : List Item) → NoneConcern concerns_links before items → (s : ℕ)
+    → serves (before ++ items) s ≡ serves before s
+unfolding serves
+served_stays before items none s = ap (λ o. unwrap_or o true)
+    (last_stays (tells_serving s) concerns_links (served_silent s) before items none)
+
+link_stays : (before items : List Item) → NoneConcern concerns_links before items → (one other : ℕ)
+    → is_link_up (before ++ items) one other ≡ is_link_up before one other
+unfolding is_link_up
+link_stays before items none one other = ap (λ o. unwrap_or o true)
+    (last_stays _ concerns_links (link_silent _ _) before items none)
+
+usable_same : (after before : List Item) → ((s : ℕ) → serves after s ≡ serves before s)
+    → ((one other : ℕ) → is_link_up after one other ≡ is_link_up before one other) →
+    (link : LinkRow) → is_usable after link ≡ is_usable before link
+usable_same after before serving up link =
+    let a : serves after link.one ≡ serves before link.one = serving link.one in
+    let b : serves after link.two ≡ serves before link.two = serving link.two in
+    let c : is_link_up after link.one link.two ≡ is_link_up before link.one link.two =
+    up link.one link.two in
+    rw (a, b, c) refl
+
+filter_same : {X : Type 0} (p q : X → Bool) → ((x : X) → p x ≡ q x) → (xs : List X)
+    → filter p xs ≡ filter q xs
+filter_same p q same [] = refl
+filter_same p q same (x ∷ xs) =
+    let here : p x ≡ q x = same x in
+    let rest : filter p xs ≡ filter q xs = filter_same p q same xs in
+    rw (here, rest) refl
+
+pub near_stays : (setting : Setting) (s : ℕ) (before items : List Item)
+    → NoneConcern concerns_links before items → near setting (before ++ items) s ≡ near setting
+    before s
+unfolding near
+near_stays setting s before items none =
+    ap (λ links. links_of links s)
+    (filter_same (is_usable (before ++ items)) (is_usable before)
+    (usable_same (before ++ items) before (served_stays before items none)
+    (link_stays before items none)) setting.net.links)

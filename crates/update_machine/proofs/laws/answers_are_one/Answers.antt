@@ -1,0 +1,12 @@
+use Rattle.update_machine.proofs.Beginnings.{one_by_steps}
+use Rattle.update_machine.proofs.OneAnswer.{one_answer}
+use Rattle.update_machine.proofs.WholeAnswers.{answers_so_far, begins_itself}
+use Rattle.update_machine.proofs.laws.answers_are_one.Goals as goal
+
+pub returns : goal.returns
+returns c = record {
+  one = one_answer;
+  so_far = one_by_steps;
+  whole = answers_so_far;
+  begins = begins_itself;
+}

@@ -1,0 +1,106 @@
+-- The answer to a schedule: the pieces of the steps that its events take, one after another.
+use Rattle.std.specs.Prelude.{⊤, ℕ, ◌≡◌, ◌+◌, ◌⊎◌, Option, Some, None, option_map, List, [], ◌∷◌, ◌++◌, take}
+use Rattle.journal.specs.declared.item.Item.{Item}
+use Rattle.steps.specs.declared.step.Event.{Event}
+use Rattle.steps.specs.declared.step.Event.TheVariants.{One, Flush, Drain}
+use Rattle.steps.specs.declared.step.Step.{Step}
+use Rattle.steps.specs.declared.step.Step.TheVariants.{Deliver, Hop}
+use Rattle.update_machine.specs.Messages.{next_waiting}
+use Rattle.update_machine.specs.Packets.{next_travelling}
+use Rattle.update_machine.specs.Pieces.{piece}
+use Rattle.update_machine.specs.Setting.{Setting}
+
+-- a step, and the row of the schedule that it is of
+pub record StepOfRow : Type 0 where
+  pub row : ℕ
+  pub step : Step
+
+-- the journal once the steps wrote their pieces, one after another
+abbrev pub after_steps : Setting → List Item → List StepOfRow → List Item
+after_steps setting before [] = before
+after_steps setting before (next ∷ steps) =
+    after_steps setting (before ++ piece setting before next.row next.step) steps
+
+-- ---- flush and drain
+
+-- the delivery of the least waiting message; the hop of the least travelling packet
+abbrev pub next_delivery : List Item → Option Step
+next_delivery journal = option_map Deliver (next_waiting journal)
+
+abbrev pub next_hop : List Item → Option Step
+next_hop journal = option_map Hop (next_travelling journal)
+
+-- behind this journal, these are steps of the row, each the next one; and then there is none
+abbrev pub AreAll : Setting → (List Item → Option Step) → ℕ → List Item → List StepOfRow → Type 0
+AreAll setting next row before [] = next before ≡ None
+AreAll setting next row before (first ∷ steps) =
+    (first.row ≡ row) × (next before ≡ Some first.step)
+    × AreAll setting next row (before ++ piece setting before first.row first.step) steps
+
+-- the same of the first ones, behind which others may come
+abbrev pub AreSome : Setting → (List Item → Option Step) → ℕ → List Item → List StepOfRow → Type 0
+AreSome setting next row before [] = ⊤
+AreSome setting next row before (first ∷ steps) =
+    (first.row ≡ row) × (next before ≡ Some first.step)
+    × AreSome setting next row (before ++ piece setting before first.row first.step) steps
+
+-- ---- the steps of events
+
+-- behind this journal, these are all steps of the event of the row
+abbrev pub AreStepsOf : Setting → ℕ → Event → List Item → List StepOfRow → Type 0
+AreStepsOf setting row (One step) before steps = steps ≡ record { row = row; step = step } ∷ []
+AreStepsOf setting row Flush before steps = AreAll setting next_delivery row before steps
+AreStepsOf setting row Drain before steps = AreAll setting next_hop row before steps
+
+-- and these are its first steps
+abbrev pub AreFirstStepsOf : Setting → ℕ → Event → List Item → List StepOfRow → Type 0
+AreFirstStepsOf setting row (One step) before steps =
+    (steps ≡ []) ⊎ (steps ≡ record { row = row; step = step } ∷ [])
+AreFirstStepsOf setting row Flush before steps = AreSome setting next_delivery row before steps
+AreFirstStepsOf setting row Drain before steps = AreSome setting next_hop row before steps
+
+-- the steps are these of one event and then those of others
+pub record Splits (mine rest steps : List StepOfRow) : Type 0 where
+  pub split : steps ≡ mine ++ rest
+
+-- behind this journal, these are all steps of the events, the first of which has this row
+abbrev pub AreSteps : Setting → ℕ → List Event → List Item → List StepOfRow → Type 0
+AreSteps setting row [] before steps = steps ≡ []
+AreSteps setting row (event ∷ events) before steps =
+    (mine : List StepOfRow) × (rest : List StepOfRow) × Splits mine rest steps
+    × AreStepsOf setting row event before mine
+    × AreSteps setting (row + 1) events (after_steps setting before mine) rest
+
+-- and these are the first steps of the events: of the first event alone, or all of these and then
+-- first ones of the others
+abbrev pub AreFirstSteps : Setting → ℕ → List Event → List Item → List StepOfRow → Type 0
+AreFirstSteps setting row [] before steps = steps ≡ []
+AreFirstSteps setting row (event ∷ events) before steps =
+    AreFirstStepsOf setting row event before steps
+    ⊎ ((mine : List StepOfRow) × (rest : List StepOfRow) × Splits mine rest steps
+    × AreStepsOf setting row event before mine
+    × AreFirstSteps setting (row + 1) events (after_steps setting before mine) rest)
+
+-- ---- answers
+
+-- the journal answers the events: it is the pieces of their steps, one after another, and event k
+-- is row k
+pub record Answers (setting : Setting) (events : List Event) (journal : List Item) : Type 0 where
+  pub steps : List StepOfRow
+  pub allowed : AreSteps setting 1 events [] steps
+  pub written : journal ≡ after_steps setting [] steps
+
+-- the journal answers the events as far as it goes: it is the pieces of their first steps
+pub record AnswersSoFar (setting : Setting) (events : List Event) (journal : List Item)
+    : Type 0 where
+  pub steps : List StepOfRow
+  pub allowed : AreFirstSteps setting 1 events [] steps
+  pub written : journal ≡ after_steps setting [] steps
+
+-- the journal begins an answer to the events: items of the last of its steps may lack
+pub record BeginsAnswer (setting : Setting) (events : List Event) (journal : List Item)
+    : Type 0 where
+  pub whole : List Item
+  pub answers : AnswersSoFar setting events whole
+  pub length : ℕ
+  pub written : journal ≡ take length whole

@@ -1,0 +1,69 @@
+-- The life of a switch: its boots, whether it is up and serves, and what it heard in its boot.
+use Rattle.std.specs.Prelude.{ℕ, Bool, true, false, ◌&&◌, ◌==◌, if◌then◌else◌, Option, Some, None, unwrap_or, List, [], ◌∷◌, ◌++◌}
+use Rattle.std.specs.Option.{option_map_or}
+use Rattle.ctrl_msg.specs.Bodies.{body_boot}
+use Rattle.ctrl_msg.specs.declared.message.Body.{Body}
+use Rattle.journal.specs.declared.item.Item.{Item}
+use Rattle.journal.specs.declared.item.Item.TheVariants as item
+use Rattle.update_machine.specs.Folds.{folded, last_told}
+use Rattle.update_machine.specs.Messages.{is_to_switch, message_of}
+
+-- ---- boots
+
+abbrev pub tells_boot : ℕ → Item → Option ℕ
+tells_boot s (item.Booted switch boot) = if switch == s then Some boot else None
+tells_boot s _ = None
+
+-- the boot of its last `Booted`; the first one is 1
+unfoldable pub boot_of : List Item → ℕ → ℕ
+boot_of journal s = unwrap_or (last_told (tells_boot s) journal) 1
+
+abbrev pub tells_up : ℕ → Item → Option Bool
+tells_up s (item.Down switch) = if switch == s then Some false else None
+tells_up s (item.Booted switch boot) = if switch == s then Some true else None
+tells_up s _ = None
+
+-- a switch is up at first, and where it didn't go down since its last boot
+unfoldable pub is_up : List Item → ℕ → Bool
+is_up journal s = unwrap_or (last_told (tells_up s) journal) true
+
+abbrev pub tells_serving : ℕ → Item → Option Bool
+tells_serving s (item.Down switch) = if switch == s then Some false else None
+tells_serving s (item.Booted switch boot) = if switch == s then Some false else None
+tells_serving s (item.Opened switch version) = if switch == s then Some true else None
+tells_serving s _ = None
+
+-- it serves at first, and once it opened in its boot
+unfoldable pub serves : List Item → ℕ → Bool
+serves journal s = unwrap_or (last_told (tells_serving s) journal) true
+
+-- it is up in the boot in which it began
+abbrev pub is_in_first_boot : List Item → ℕ → Bool
+is_in_first_boot journal s = is_up journal s && boot_of journal s == 1
+
+-- ---- what a switch hears
+
+-- a body that carries a boot is for that boot alone
+abbrev pub is_for_boot : ℕ → Body → Bool
+is_for_boot boot body = option_map_or (λ of. of == boot) (body_boot body) true
+
+-- what the message of this number says to switch s as it is delivered behind this journal: nothing
+-- where it is for another switch or another boot, or the switch is down
+abbrev pub said_to : List Item → ℕ → ℕ → Option Body
+said_to before s number = elim (message_of before number) [
+  | None ↦ None
+  | Some message ↦
+      if is_to_switch s message.to && is_up before s && is_for_boot (boot_of before s) message.body
+      then Some message.body else None
+]
+
+abbrev pub changes_heard : ℕ → List Item → List Body → Item → List Body
+changes_heard s before bodies (item.Down switch) = if switch == s then [] else bodies
+changes_heard s before bodies (item.Booted switch boot) = if switch == s then [] else bodies
+changes_heard s before bodies (item.Delivered number) =
+    option_map_or (λ body. bodies ++ body ∷ []) (said_to before s number) bodies
+changes_heard s before bodies _ = bodies
+
+-- the bodies that were delivered to the switch in its boot; none where it is down
+unfoldable pub heard : List Item → ℕ → List Body
+heard journal s = folded (changes_heard s) [] journal

@@ -1,0 +1,54 @@
+-- The cache of a switch, and what it says of a header (Yu, Rexford, Freedman and Wang, "Scalable
+-- Flow-Based Networking with DIFANE", SIGCOMM 2010).
+use Rattle.std.specs.Prelude.{ℕ, ◌==◌, if◌then◌else◌, List, [], ◌∷◌, ◌++◌}
+use Rattle.std.specs.Option.{option_map_or}
+use Rattle.ctrl_msg.specs.declared.message.Body.{Body}
+use Rattle.ctrl_msg.specs.declared.message.Body.TheVariants.{OpenAt, Stamp, CacheRule}
+use Rattle.five_tuple.specs.declared.header.Header.{Header}
+use Rattle.switch_table.specs.Cache.{CacheValue, accepted, cleared, expired, raised}
+use Rattle.switch_table.specs.Lookup.{lookup_of}
+use Rattle.switch_table.specs.declared.search.Found.{Found}
+use Rattle.journal.specs.declared.item.Item.{Item}
+use Rattle.journal.specs.declared.item.Item.TheVariants as item
+use Rattle.update_machine.specs.Boots.{said_to}
+use Rattle.update_machine.specs.Folds.{folded}
+use Rattle.update_machine.specs.Setting.{Setting}
+use Rattle.update_machine.specs.Versions.{stamp_of, tables_at}
+
+-- what a delivered body makes of the cache, under the stamp after its delivery: a cache rule is
+-- taken in, and a new stamp removes the entries of lower versions
+abbrev pub cache_after : ℕ → ℕ → CacheValue → Body → CacheValue
+cache_after stamp number cache (CacheRule version word rule action) =
+    accepted stamp
+    (record {
+      version = version;
+      word = word;
+      rule = rule;
+      action = action;
+      message = number;
+    }) cache
+cache_after stamp number cache (OpenAt boot version) = raised stamp cache
+cache_after stamp number cache (Stamp boot version) = raised stamp cache
+cache_after stamp number cache _ = cache
+
+abbrev pub changes_cache : ℕ → List Item → CacheValue → Item → CacheValue
+changes_cache s before cache (item.Down switch) = if switch == s then cleared cache else cache
+changes_cache s before cache (item.Booted switch boot) =
+    if switch == s then cleared cache else cache
+changes_cache s before cache (item.Expired switch place message) =
+    if switch == s then expired place cache else cache
+changes_cache s before cache (item.Delivered number) =
+    let stamp = stamp_of (before ++ item.Delivered number ∷ []) s in
+    option_map_or (cache_after stamp number cache) (said_to before s number) cache
+changes_cache s before cache _ = cache
+
+-- the cache of the switch: what its deliveries and timeouts made of the empty one in its boot
+unfoldable pub cache_of : Setting → List Item → ℕ → CacheValue
+cache_of setting journal s =
+    folded (changes_cache s) (record { entries = []; capacity = setting.net.cache }) journal
+
+-- what the cache of the switch and the tables of its stamp say of the header
+unfoldable pub lookup_at : Setting → List Item → ℕ → Header → Found
+lookup_at setting journal s header =
+    lookup_of (cache_of setting journal s).entries
+    (tables_at setting journal (stamp_of journal s) s) header

@@ -1,0 +1,92 @@
+-- The causes of packets' ends: what stood in the journal before each item that ends a packet, or
+-- finds a link of its way down.
+use Rattle.std.specs.Prelude.{⊤, ℕ, ◌≡◌, ◌⊎◌, Some, None, List, [], ◌∷◌, ◌++◌, find, option_map, IsFalse}
+use Rattle.failover.specs.Masks.{has}
+use Rattle.net_file.specs.Net.{owner_of}
+use Rattle.policy_rules.specs.Partitions.{is_in}
+use Rattle.policy_rules.specs.declared.packet.Cause.{Cause}
+use Rattle.policy_rules.specs.declared.packet.Leaving.{Leaving}
+use Rattle.policy_rules.specs.declared.packet.Leg.{Leg}
+use Rattle.policy_rules.specs.declared.packet.Leg.TheVariants.{Seek, Exit}
+use Rattle.policy_rules.specs.declared.policy.Action.TheVariants.{Out}
+use Rattle.five_tuple.specs.declared.header.Header.{Header}
+use Rattle.switch_table.specs.Tables.{part_of}
+use Rattle.journal.specs.declared.item.Item.{Item}
+use Rattle.journal.specs.declared.item.Item.TheVariants as item
+use Rattle.steps.specs.declared.step.Step.TheVariants.{Crash, Lose}
+use Rattle.update_machine.specs.Adverts.{route_from}
+use Rattle.update_machine.specs.Links.{near}
+use Rattle.update_machine.specs.Moves.{cause_at}
+use Rattle.update_machine.specs.Packets.{Decision, decision_of, found_down, header_in, next_switch, standing, targets_of}
+use Rattle.update_machine.specs.Setting.{Setting}
+use Rattle.update_machine.specs.Steps.{present_step}
+use Rattle.update_machine.specs.Versions.{plan_at}
+
+-- a packet leaves where it stands, by a port of that switch, with its own header, version and rule
+pub record LeavesRightly (setting : Setting) (before : List Item) (packet port : ℕ)
+    (leaving : Leaving) : Type 0 where
+  pub switch : ℕ
+  pub stands : standing before packet ≡ Some switch
+  pub has_port : owner_of setting.net.switches port ≡ Some switch
+  pub number : leaving.packet ≡ packet
+  pub header : header_in before packet ≡ Some leaving.header
+  pub decided : decision_of before packet
+      ≡ Some (record { version = leaving.version; rule = leaving.rule; action = Out port })
+
+-- a packet is lost by its own row, or with the switch where it stands
+pub record IsLostWith (before : List Item) (packet : ℕ) : Type 0 where
+  pub switch : ℕ
+  pub crashes : present_step before ≡ Some (Crash switch)
+  pub stands : standing before packet ≡ Some switch
+
+abbrev pub IsLostRightly : List Item → ℕ → Type 0
+IsLostRightly before packet =
+    (present_step before ≡ Some (Lose packet)) ⊎ IsLostWith before packet
+
+-- a packet finds the link from where it stands to the next switch of its route, and can't use it
+pub record FindsDown (setting : Setting) (before : List Item) (packet one two : ℕ) : Type 0 where
+  pub stands : standing before packet ≡ Some one
+  pub next : next_switch before packet ≡ Some two
+  pub unusable : IsFalse (has (near setting before one) two)
+
+-- the leg is to the partition whose region holds the packet's header, or to the port of its
+-- decision
+abbrev pub IsOwnLeg : Setting → List Item → ℕ → Leg → Type 0
+IsOwnLeg setting before packet (Seek version partition) =
+    (header : Header) × (header_in before packet ≡ Some header)
+    × (option_map (λ placed. placed.0.number)
+    (find (λ placed. is_in header (part_of placed)) (plan_at setting before version))
+    ≡ Some partition)
+IsOwnLeg setting before packet (Exit port) =
+    (decision : Decision) × (decision_of before packet ≡ Some decision)
+    × (decision.action ≡ Out port)
+
+-- a packet is stuck where it stands: its switch knows no route to any target of its leg without the
+-- links that the packet found down
+pub record IsStuckRightly (setting : Setting) (before : List Item) (packet switch : ℕ)
+    (cause : Cause) (leg : Leg) (down : List ℕ) : Type 0 where
+  pub stands : standing before packet ≡ Some switch
+  pub found : down ≡ found_down before packet
+  pub own_leg : IsOwnLeg setting before packet leg
+  pub no_route : route_from setting before switch (targets_of setting before leg) down ≡ None
+  pub why : cause ≡ cause_at setting before switch down leg
+
+-- an item that ends a packet, or finds a link down, has its cause in the journal before it
+abbrev pub HasCause : Setting → List Item → Item → Type 0
+HasCause setting before (item.Left packet port leaving) =
+    LeavesRightly setting before packet port leaving
+HasCause setting before (item.Lost packet) = IsLostRightly before packet
+HasCause setting before (item.FoundDown packet one two) = FindsDown setting before packet one two
+HasCause setting before (item.Stuck packet switch cause leg down) =
+    IsStuckRightly setting before packet switch cause leg down
+HasCause setting before _ = ⊤
+
+-- behind this journal, each of the items has its cause in what stands before it: for any table of
+-- causes
+abbrev pub HaveCauses : (List Item → Item → Type 0) → List Item → List Item → Type 0
+HaveCauses cause before [] = ⊤
+HaveCauses cause before (item ∷ items) =
+    cause before item × HaveCauses cause (before ++ item ∷ []) items
+
+abbrev pub EndsHaveCauses : Setting → List Item → Type 0
+EndsHaveCauses setting journal = HaveCauses (HasCause setting) [] journal

@@ -1,0 +1,30 @@
+-- The four ways in which a journal says something: what an item told last, how many items satisfy a
+-- test, what the items give one after another, and what becomes of a value as each item changes it.
+-- An item that refers back, as a delivery to its message, is read on the journal before it.
+use Rattle.std.specs.Prelude.{ℕ, Bool, Option, None, List, [], ◌∷◌, ◌++◌, count_by}
+use Rattle.std.specs.List.{flat_map}
+use Rattle.std.specs.Option.{option_or}
+use Rattle.journal.specs.declared.item.Item.{Item}
+
+-- what the last item that tells something tells
+abbrev pub last_told : {X : Type 0} → (Item → Option X) → List Item → Option X
+last_told told [] = None
+last_told told (item ∷ items) = option_or (last_told told items) (told item)
+
+-- how many items satisfy the test
+abbrev pub count_of : (Item → Bool) → List Item → ℕ
+count_of test journal = count_by test journal
+
+-- what the items give, in order
+abbrev pub all_given : {X : Type 0} → (Item → List X) → List Item → List X
+all_given gives journal = flat_map gives journal
+
+-- what becomes of a value as each of these items changes it, behind this journal
+abbrev pub folded_from : {X : Type 0} → (List Item → X → Item → X) → List Item → X → List Item → X
+folded_from changes before value [] = value
+folded_from changes before value (item ∷ items) =
+    folded_from changes (before ++ item ∷ []) (changes before value item) items
+
+-- what becomes of a value as each item of a journal changes it
+abbrev pub folded : {X : Type 0} → (List Item → X → Item → X) → X → List Item → X
+folded changes start journal = folded_from changes [] start journal

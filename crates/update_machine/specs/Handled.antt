@@ -1,0 +1,48 @@
+-- How often a switch was called for a packet: to take it in, to move it on, and to receive it at
+-- the end of its route.
+use Rattle.std.specs.Prelude.{ℕ, ◌+◌, ◌-◌, ◌^◌, Bool, true, false, ◌||◌, ◌==◌, min, if◌then◌else◌, List, [], ◌∷◌, sum_by}
+use Rattle.std.specs.List.{list_any}
+use Rattle.journal.specs.declared.item.Item.{Item}
+use Rattle.journal.specs.declared.item.Item.TheVariants as item
+use Rattle.steps.specs.declared.step.Step.TheVariants.{Hop}
+use Rattle.update_machine.specs.Folds.{count_of}
+use Rattle.update_machine.specs.Packets.{travels_at}
+use Rattle.update_machine.specs.Steps.{StepItems, steps_in}
+
+-- a packet was taken in, or refused
+abbrev pub is_entry_at : ℕ → Item → Bool
+is_entry_at s (item.Entered packet switch header) = switch == s
+is_entry_at s (item.Closed packet switch) = switch == s
+is_entry_at s _ = false
+
+-- a packet moved on
+abbrev pub is_move : Item → Bool
+is_move (item.Hopped packet switch) = true
+is_move _ = false
+
+-- a link was found down, and the packet got stuck right there
+abbrev pub stuck_at_link : List Item → Bool
+stuck_at_link (item.FoundDown packet one two ∷ item.Stuck i s cause leg down ∷ items) = true
+stuck_at_link (other ∷ items) = stuck_at_link items
+stuck_at_link [] = false
+
+-- the items of a hop that moved its packet on, or found it stuck before it arrived
+abbrev pub stays_on_way : List Item → Bool
+stays_on_way items = list_any is_move items || stuck_at_link items
+
+-- a hop of a packet that stood at the switch is a call there, and another one where it arrives
+abbrev pub hop_calls : ℕ → StepItems → List Item → ℕ
+hop_calls s step (item.Row row (Hop packet) ∷ items) =
+    if travels_at step.before s packet then (if stays_on_way items then 1 else 2) else 0
+hop_calls s step _ = 0
+
+-- the greatest number that is counted
+abbrev pub most_handled : ℕ
+most_handled = 2 ^ 64 - 1
+
+-- the entries at the switch and the calls of its hops
+unfoldable pub handled_count : List Item → ℕ → ℕ
+handled_count journal s =
+    min most_handled
+    (count_of (is_entry_at s) journal
+    + sum_by (λ step. hop_calls s step step.items) (steps_in journal))

@@ -1,0 +1,121 @@
+-- The abstract machine: what a network that decides packets by versions of a policy may do, and
+-- nothing else. It has policies, a mark and packets; it knows no switch, link, table or message.
+-- The notion of a version that decides a whole packet is that of Reitblatt, Foster, Rexford,
+-- Schlesinger and Walker, "Abstractions for Network Update".
+use Rattle.std.specs.Prelude.{⊤, ℕ, ◌≡◌, ◌+◌, ◌-◌, ◌<◌, if◌then◌else◌, ◌==◌, Option, Some, None, option_map, List, [], ◌∷◌, ◌++◌, length, slice_get}
+use Rattle.five_tuple.specs.declared.header.Header.{Header}
+use Rattle.policy_rules.specs.Policy.{IsFirstMatch}
+use Rattle.policy_rules.specs.declared.policy.Row.{Row}
+use Rattle.policy_rules.specs.declared.policy.Hit.{Hit}
+use Rattle.policy_rules.specs.declared.policy.Action.TheVariants as action
+use Rattle.journal.specs.declared.item.Item.{Item}
+use Rattle.journal.specs.declared.item.Item.TheVariants as item
+use Rattle.update_machine.specs.Setting.{Setting, policy_of_file}
+
+-- how a packet ends
+pub data End : Type 0 where
+  Dropped : End
+  LeftBy : (port : ℕ) → End
+  Lost : End
+  Stuck : End
+
+-- what the machine knows of a packet: its header, the mark as it came in, its decision and its end
+pub record Packet : Type 0 where
+  pub header : Header
+  pub entry_mark : ℕ
+  pub decision : Option Hit
+  pub end : Option End
+
+-- the policies of the versions, the first version's first; the mark up to which versions are
+-- retired; the packets by number
+pub record Machine : Type 0 where
+  pub policies : List (List Row)
+  pub mark : ℕ
+  pub packets : ℕ → Option Packet
+
+-- it begins with the first policy, the mark 0 and no packet
+abbrev pub start : Setting → Machine
+start setting = record {
+  policies = policy_of_file setting 1 ∷ [];
+  mark = 0;
+  packets = λ _. None;
+}
+
+-- the policy of a version, if it was submitted; versions are numbered from 1
+abbrev pub policy_of : Machine → ℕ → Option (List Row)
+policy_of machine version = slice_get machine.policies (version - 1)
+
+-- the machine with this packet in the place of what it knew of it
+abbrev pub with_packet : Machine → ℕ → Packet → Machine
+with_packet machine number packet = record machine {
+  packets = λ other. if other == number then Some packet else machine.packets other;
+}
+
+-- a new policy is the newest version, and carries its number
+pub record Submits (old : Machine) (version : ℕ) (policy : List Row) (new : Machine) : Type 0 where
+  pub newest : version ≡ length old.policies + 1
+  pub after : new ≡ record old { policies = old.policies ++ policy ∷ [] }
+
+-- the mark rises, but not to the newest version
+pub record Retires (old : Machine) (mark : ℕ) (new : Machine) : Type 0 where
+  pub rises : old.mark < mark
+  pub below_newest : mark < length old.policies
+  pub after : new ≡ record old { mark = mark }
+
+-- a new packet comes in under the present mark
+pub record Enters (old : Machine) (number : ℕ) (header : Header) (new : Machine) : Type 0 where
+  pub unknown : old.packets number ≡ None
+  pub after : new ≡ with_packet old number
+      (record { header = header; entry_mark = old.mark; decision = None; end = None })
+
+-- a packet gets the first match of one whole version that wasn't retired as it came in, and gets it
+-- once
+pub record Decides (old : Machine) (number version : ℕ) (hit : Hit) (new : Machine) : Type 0 where
+  pub packet : Packet
+  pub policy : List Row
+  pub entered : old.packets number ≡ Some packet
+  pub undecided : packet.decision ≡ None
+  pub not_ended : packet.end ≡ None
+  pub not_retired : packet.entry_mark < version
+  pub submitted : policy_of old version ≡ Some policy
+  pub first_match : IsFirstMatch policy packet.header hit
+  pub after : new ≡ with_packet old number (record packet { decision = Some hit })
+
+-- a packet is dropped or leaves only as its decision says; it may be lost or get stuck at any time
+abbrev pub MayEnd : Packet → End → Type 0
+MayEnd packet Dropped = option_map (λ hit. hit.action) packet.decision ≡ Some action.Drop
+MayEnd packet (LeftBy port) =
+    option_map (λ hit. hit.action) packet.decision ≡ Some (action.Out port)
+MayEnd packet _ = ⊤
+
+-- a packet ends, and ends once
+pub record Ends (old : Machine) (number : ℕ) (end : End) (new : Machine) : Type 0 where
+  pub packet : Packet
+  pub entered : old.packets number ≡ Some packet
+  pub not_ended : packet.end ≡ None
+  pub may : MayEnd packet end
+  pub after : new ≡ with_packet old number (record packet { end = Some end })
+
+-- what an item does to the machine: a move that the machine may make, or nothing
+abbrev pub Takes : Setting → Machine → Item → Machine → Type 0
+Takes setting old (item.Submitted file version) new =
+    Submits old version (policy_of_file setting file) new
+Takes setting old (item.Retired version) new = Retires old version new
+Takes setting old (item.Entered packet switch header) new = Enters old packet header new
+Takes setting old (item.Decided packet version rule action how) new =
+    Decides old packet version (record { rule = rule; action = action }) new
+Takes setting old (item.Dropped packet) new = Ends old packet Dropped new
+Takes setting old (item.Left packet port leaving) new = Ends old packet (LeftBy port) new
+Takes setting old (item.Lost packet) new = Ends old packet Lost new
+Takes setting old (item.Stuck packet switch cause leg down) new = Ends old packet Stuck new
+Takes setting old _ new = new ≡ old
+
+-- the machine may take these items in turn
+abbrev pub Runs : Setting → Machine → List Item → Machine → Type 0
+Runs setting old [] new = new ≡ old
+Runs setting old (item ∷ items) new =
+    (middle : Machine) × Takes setting old item middle × Runs setting middle items new
+
+-- the journal is a run of the machine from its start
+abbrev pub IsRun : Setting → List Item → Type 0
+IsRun setting journal = (new : Machine) × Runs setting (start setting) journal new

@@ -1,0 +1,72 @@
+-- The messages of a journal. They are numbered from 1 in the order in which they were sent.
+use Rattle.std.specs.Prelude.{ℕ, ◌+◌, Bool, true, false, not, ◌&&◌, ◌==◌, nat_lt, if◌then◌else◌, Option, Some, None, is_some, List, [], ◌∷◌, find}
+use Rattle.std.specs.List.{range_with_len}
+use Rattle.ctrl_msg.specs.declared.message.Message.{Message}
+use Rattle.ctrl_msg.specs.declared.message.Place.{Place}
+use Rattle.ctrl_msg.specs.declared.message.Place.TheVariants as place
+use Rattle.journal.specs.declared.item.Item.{Item}
+use Rattle.journal.specs.declared.item.Item.TheVariants as item
+use Rattle.update_machine.specs.Folds.{count_of, last_told}
+
+abbrev pub is_sending : Item → Bool
+is_sending (item.Sent number message) = true
+is_sending _ = false
+
+-- the number of the next message that is sent
+unfoldable pub next_message : List Item → ℕ
+next_message journal = count_of is_sending journal + 1
+
+abbrev pub tells_message : ℕ → Item → Option Message
+tells_message n (item.Sent number message) = if number == n then Some message else None
+tells_message n _ = None
+
+-- the message of a number, if it was sent
+unfoldable pub message_of : List Item → ℕ → Option Message
+message_of journal number = last_told (tells_message number) journal
+
+abbrev pub is_forgetting : ℕ → Item → Bool
+is_forgetting n (item.Forgotten number) = number == n
+is_forgetting n _ = false
+
+abbrev pub is_delivery : ℕ → Item → Bool
+is_delivery n (item.Delivered number) = number == n
+is_delivery n _ = false
+
+unfoldable pub is_forgotten : List Item → ℕ → Bool
+is_forgotten journal number = nat_lt 0 (count_of (is_forgetting number) journal)
+
+unfoldable pub was_delivered : List Item → ℕ → Bool
+was_delivered journal number = nat_lt 0 (count_of (is_delivery number) journal)
+
+-- it was sent and isn't forgotten, so it may be delivered, also once more
+unfoldable pub is_deliverable : List Item → ℕ → Bool
+is_deliverable journal number =
+    is_some (message_of journal number) && not (is_forgotten journal number)
+
+-- it was never delivered and isn't forgotten
+abbrev pub is_waiting : List Item → ℕ → Bool
+is_waiting journal number =
+    is_deliverable journal number && not (was_delivered journal number)
+
+-- the least number of a waiting message
+unfoldable pub next_waiting : List Item → Option ℕ
+next_waiting journal =
+    find (is_waiting journal) (range_with_len 1 (count_of is_sending journal))
+
+abbrev pub is_to_switch : ℕ → Place → Bool
+is_to_switch s (place.Switch switch) = switch == s
+is_to_switch s place.Controller = false
+
+abbrev pub is_to_controller : Place → Bool
+is_to_controller (place.Switch switch) = false
+is_to_controller place.Controller = true
+
+-- the sending of messages, the first one under this number
+unfoldable pub sent_from : ℕ → List Message → List Item
+sent_from number [] = []
+sent_from number (message ∷ messages) =
+    item.Sent number message ∷ sent_from (number + 1) messages
+
+-- the sending of messages behind a journal
+abbrev pub sends : List Item → List Message → List Item
+sends journal messages = sent_from (next_message journal) messages

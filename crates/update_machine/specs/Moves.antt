@@ -1,0 +1,216 @@
+-- What becomes of a packet at a switch: lookups, decisions, tunnels and exits, as in Yu, Rexford,
+-- Freedman and Wang, "Scalable Flow-Based Networking with DIFANE", SIGCOMM 2010. Each block of
+-- items is read on the journal before it.
+use Rattle.std.specs.Prelude.{ℕ, true, false, not, ◌&&◌, ◌==◌, if◌then◌else◌, Option, Some, None, unwrap_or, option_and_then, option_map, List, [], ◌∷◌, ◌++◌, position, slice_get}
+use Rattle.std.specs.List.{list_all}
+use Rattle.cache_maker.specs.Independent.{widen}
+use Rattle.ctrl_msg.specs.declared.message.Body.TheVariants.{CacheRule}
+use Rattle.ctrl_msg.specs.declared.message.Message.{Message}
+use Rattle.ctrl_msg.specs.declared.message.Place.TheVariants as place
+use Rattle.failover.specs.Masks.{has}
+use Rattle.five_tuple.specs.Header.{header_of, number_of}
+use Rattle.five_tuple.specs.declared.header.Header.{Header}
+use Rattle.policy_rules.specs.Rules.{is_held}
+use Rattle.policy_rules.specs.declared.packet.Cause.{Cause}
+use Rattle.policy_rules.specs.declared.packet.Cause.TheVariants.{NoAuthority, NoRoute}
+use Rattle.policy_rules.specs.declared.packet.How.TheVariants as how
+use Rattle.policy_rules.specs.declared.packet.Leg.{Leg}
+use Rattle.policy_rules.specs.declared.packet.Leg.TheVariants.{Seek, Exit}
+use Rattle.policy_rules.specs.declared.policy.Action.{Action}
+use Rattle.policy_rules.specs.declared.policy.Action.TheVariants as action
+use Rattle.policy_rules.specs.declared.rules.Partition.{Partition}
+use Rattle.policy_rules.specs.declared.rules.Rule.{Rule}
+use Rattle.switch_table.specs.Tables.{part_of}
+use Rattle.switch_table.specs.declared.search.Found.{Found}
+use Rattle.switch_table.specs.declared.search.Found.TheVariants as found
+use Rattle.journal.specs.declared.item.Item.{Item}
+use Rattle.journal.specs.declared.item.Item.TheVariants as item
+use Rattle.update_machine.specs.Adverts.{is_cut_off, route_from}
+use Rattle.update_machine.specs.Caches.{lookup_at}
+use Rattle.update_machine.specs.Links.{near}
+use Rattle.update_machine.specs.Messages.{sends}
+use Rattle.update_machine.specs.Packets.{decision_of, found_down, header_in, ingress_of, is_at, leg_of, next_switch, owner, targets_of}
+use Rattle.update_machine.specs.Setting.{Setting}
+use Rattle.update_machine.specs.Versions.{holds_version, plan_at, stamp_of}
+
+-- ---- blocks
+
+-- these items, and what comes behind a journal that has them
+abbrev pub put : List Item → (List Item → List Item) → List Item → List Item
+put items rest journal = items ++ rest (journal ++ items)
+
+-- blocks one after another, each read on the journal with those before it
+abbrev pub in_turn : List (List Item → List Item) → List Item → List Item
+in_turn [] journal = []
+in_turn (block ∷ blocks) journal = put (block journal) (in_turn blocks) journal
+
+-- ---- legs
+
+-- a packet that finds no route is stuck for want of an authority exactly where it seeks one, and no
+-- known link ends at any target
+abbrev pub cause_at : Setting → List Item → ℕ → List ℕ → Leg → Cause
+cause_at setting journal s down (Seek version partition) =
+    if list_all (is_cut_off setting journal s down)
+    (targets_of setting journal (Seek version partition))
+    then NoAuthority else NoRoute
+cause_at setting journal s down (Exit port) = NoRoute
+
+-- the packet is stuck at the switch on this leg
+abbrev pub stuck_on : Setting → List Item → ℕ → ℕ → Leg → Item
+stuck_on setting journal i s leg =
+    item.Stuck i s (cause_at setting journal s (found_down journal i) leg) leg
+    (found_down journal i)
+
+-- the route from the switch to the targets of the leg, less the links that the packet found down
+abbrev pub route_for : Setting → List Item → ℕ → ℕ → Leg → Option (List ℕ)
+route_for setting journal i s leg =
+    route_from setting journal s (targets_of setting journal leg) (found_down journal i)
+
+abbrev pub takes_route : ℕ → Leg → List ℕ → Item
+takes_route i (Seek version partition) route = item.Seeking i version partition route
+takes_route i (Exit port) route = item.Exiting i route
+
+-- the packet takes a leg from the switch, or is stuck there
+unfoldable pub leg_items : Setting → List Item → ℕ → ℕ → Leg → List Item
+leg_items setting journal i s leg = elim (route_for setting journal i s leg) [
+  | None ↦ stuck_on setting journal i s leg ∷ []
+  | Some route ↦ takes_route i leg route ∷ []
+]
+
+-- ---- decisions
+
+-- the packet's header
+abbrev pub header_at : List Item → ℕ → Header
+header_at journal i =
+    unwrap_or (header_in journal i)
+    (header_of (record { src = 0; dst = 0; sport = 0; dport = 0; proto = 0 }))
+
+-- the packet leaves with its header, version and rule
+abbrev pub leaves : List Item → ℕ → ℕ → Item
+leaves journal i port = item.Left i port (record {
+  packet = i;
+  header = header_at journal i;
+  version = unwrap_or (option_map (λ decision. decision.version) (decision_of journal i)) 0;
+  rule = unwrap_or (option_map (λ decision. decision.rule) (decision_of journal i)) None;
+})
+
+-- a packet with this action is dropped, leaves by a port of the switch, or takes its way to another
+unfoldable pub end_items : Setting → ℕ → ℕ → Action → List Item → List Item
+end_items setting i s action.Drop journal = item.Dropped i ∷ []
+end_items setting i s (action.Out port) journal = elim (owner setting port == s) [
+  | true ↦ leaves journal i port ∷ []
+  | false ↦ leg_items setting journal i s (Exit port)
+]
+
+-- a rule of a partition of some version, by its place among the partition's rules
+pub record AuthorityRule : Type 0 where
+  pub version : ℕ
+  pub part : Partition
+  pub place : ℕ
+  pub rule : Rule
+
+-- the rule at a place of a partition of the version's plan, if there is one
+abbrev pub authority_rule : Setting → List Item → ℕ → ℕ → ℕ → Option AuthorityRule
+authority_rule setting journal version partition place =
+    elim (slice_get (plan_at setting journal version) partition) [
+      | None ↦ None
+      | Some placed ↦ option_map
+          (λ rule. record { version = version; part = part_of placed; place = place; rule = rule })
+          (slice_get placed.0.rules place)
+    ]
+
+-- the place of the first rule of the partition that holds the header
+abbrev pub first_place : Setting → List Item → ℕ → ℕ → Header → ℕ
+first_place setting journal version partition header =
+    unwrap_or (option_and_then
+    (λ placed. position (is_held (number_of header)) placed.0.rules)
+    (slice_get (plan_at setting journal version) partition)) 0
+
+-- the cache rule by which the ingress decides headers as this rule does
+abbrev pub cache_rule : AuthorityRule → ℕ → Header → Message
+cache_rule found ingress header = record {
+  to = place.Switch ingress;
+  body = CacheRule found.version
+      (widen (number_of header) found.part.region found.part.rules found.place)
+      found.rule.rule found.rule.action;
+}
+
+-- the switch tells it to another ingress than itself
+unfoldable pub cache_items : Setting → ℕ → ℕ → AuthorityRule → List Item → List Item
+cache_items setting i s found journal =
+    elim (setting.caches && not (is_at s (ingress_of journal i))) [
+      | false ↦ []
+      | true ↦ sends journal
+          (cache_rule found (unwrap_or (ingress_of journal i) 0) (header_at journal i) ∷ [])
+    ]
+
+-- an authority rule of the switch decides the packet
+unfoldable pub authority_items : Setting → ℕ → ℕ → Option AuthorityRule → List Item → List Item
+authority_items setting i s None journal = []
+authority_items setting i s (Some found) journal =
+    put
+    (item.Decided i found.version found.rule.rule found.rule.action
+    (how.Authority s found.part.number) ∷ [])
+    (in_turn (cache_items setting i s found ∷ end_items setting i s found.rule.action ∷ [])) journal
+
+-- what a lookup under the switch's stamp makes of the packet
+abbrev pub found_items : Setting → ℕ → ℕ → Found → List Item → List Item
+found_items setting i s (found.Cached entry) journal =
+    put
+    (item.Decided i entry.version entry.rule entry.action (how.Cached entry.message) ∷ [])
+    (end_items setting i s entry.action) journal
+found_items setting i s (found.Authority partition place) journal =
+    authority_items setting i s
+    (authority_rule setting journal (stamp_of journal s) partition place) journal
+found_items setting i s (found.Redirect partition targets) journal =
+    leg_items setting journal i s (Seek (stamp_of journal s) partition)
+
+unfoldable pub lookup_items : Setting → ℕ → ℕ → List Item → List Item
+lookup_items setting i s journal =
+    found_items setting i s (lookup_at setting journal s (header_at journal i)) journal
+
+-- ---- on the way
+
+-- a packet that arrives by its leg: at its port, at an authority switch that holds its version, or
+-- at one that doesn't and looks it up anew
+abbrev pub arrive_by : Setting → ℕ → ℕ → Option Leg → List Item → List Item
+arrive_by setting i s None journal = []
+arrive_by setting i s (Some (Exit port)) journal = leaves journal i port ∷ []
+arrive_by setting i s (Some (Seek version partition)) journal =
+    elim (holds_version journal s version) [
+      | false ↦ lookup_items setting i s journal
+      | true ↦ let place = first_place setting journal version partition (header_at journal i) in
+          authority_items setting i s (authority_rule setting journal version partition place)
+          journal
+    ]
+
+unfoldable pub arrive_items : Setting → ℕ → ℕ → List Item → List Item
+arrive_items setting i s journal = arrive_by setting i s (leg_of journal i) journal
+
+-- it moves on along its new route, or arrives where that is the switch alone
+abbrev pub go_on : Setting → ℕ → ℕ → List Item → List Item
+go_on setting i s journal = elim (next_switch journal i) [
+  | None ↦ arrive_items setting i s journal
+  | Some next ↦ item.Hopped i next ∷ []
+]
+
+-- with one more link found down, it takes a new route from the switch, or is stuck there
+abbrev pub reroute_by : Setting → ℕ → ℕ → Option Leg → List Item → List Item
+reroute_by setting i s None journal = []
+reroute_by setting i s (Some leg) journal = elim (route_for setting journal i s leg) [
+  | None ↦ stuck_on setting journal i s leg ∷ []
+  | Some route ↦ put (item.Rerouted i route ∷ []) (go_on setting i s) journal
+]
+
+unfoldable pub reroute_items : Setting → ℕ → ℕ → List Item → List Item
+reroute_items setting i s journal = reroute_by setting i s (leg_of journal i) journal
+
+-- a packet at its route's end arrives; otherwise it moves over the next link, or finds it down
+unfoldable pub move_items : Setting → ℕ → ℕ → List Item → List Item
+move_items setting i s journal = elim (next_switch journal i) [
+  | None ↦ arrive_items setting i s journal
+  | Some next ↦ elim (has (near setting journal s) next) [
+    | true ↦ item.Hopped i next ∷ []
+    | false ↦ put (item.FoundDown i s next ∷ []) (reroute_items setting i s) journal
+  ]
+]

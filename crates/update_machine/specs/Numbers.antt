@@ -1,0 +1,31 @@
+-- Packets and messages are numbered from 1 without a gap, in the order in which they came in or
+-- were sent.
+use Rattle.std.specs.Prelude.{⊤, ℕ, ◌≡◌, List, [], ◌∷◌}
+use Rattle.std.specs.List.{range_with_len}
+use Rattle.journal.specs.declared.item.Item.{Item}
+use Rattle.journal.specs.declared.item.Item.TheVariants as item
+use Rattle.update_machine.specs.Folds.{all_given, count_of}
+use Rattle.update_machine.specs.Messages.{is_sending, next_message}
+use Rattle.update_machine.specs.Packets.{next_packet, packets_in}
+
+abbrev pub packet_number : Item → List ℕ
+packet_number (item.Entered packet switch header) = packet ∷ []
+packet_number (item.Closed packet switch) = packet ∷ []
+packet_number _ = []
+
+abbrev pub message_number : Item → List ℕ
+message_number (item.Sent number message) = number ∷ []
+message_number _ = []
+
+-- the numbers are 1, 2 and so on, as many as there are packets, or messages
+pub record AreNumbered (journal : List Item) : Type 0 where
+  pub packets : all_given packet_number journal ≡ packets_in journal
+  pub messages : all_given message_number journal
+      ≡ range_with_len 1 (count_of is_sending journal)
+
+-- the cause of a number: it is the next one
+abbrev pub TakesNext : List Item → Item → Type 0
+TakesNext before (item.Sent number message) = number ≡ next_message before
+TakesNext before (item.Entered packet switch header) = packet ≡ next_packet before
+TakesNext before (item.Closed packet switch) = packet ≡ next_packet before
+TakesNext before _ = ⊤

@@ -1,0 +1,176 @@
+-- What each step writes into the journal.
+use Rattle.std.specs.Bool.{beq}
+use Rattle.std.specs.Prelude.{ℕ, ◌+◌, ◌-◌, Bool, true, false, ◌==◌, min, max, if◌then◌else◌, Ok, Err, Option, Some, None, unwrap_or, List, [], ◌∷◌, ◌++◌, map, slice_get}
+use Rattle.std.specs.List.{flat_map}
+use Rattle.ctrl_msg.specs.declared.message.Body.TheVariants.{Hello}
+use Rattle.ctrl_msg.specs.declared.message.Message.{Message}
+use Rattle.five_tuple.specs.declared.header.Header.{Header}
+use Rattle.partition.specs.Plan.{NoPlan, TooManyWords, TooManyLeaves, NoRoom}
+use Rattle.journal.specs.declared.item.Item.{Item}
+use Rattle.journal.specs.declared.item.Item.TheVariants as item
+use Rattle.steps.specs.declared.step.Step.{Step}
+use Rattle.steps.specs.declared.step.Step.TheVariants.{Packet, Hop, Lose, Deliver, Forget, Expire, Update, LinkDown, LinkUp, Crash, Restart, Confirm, Resend}
+use Rattle.update_machine.specs.Adverts.{held_adverts}
+use Rattle.update_machine.specs.Boots.{boot_of, is_up, serves}
+use Rattle.update_machine.specs.Caches.{cache_of}
+use Rattle.update_machine.specs.Deliveries.{advert_to, delivery_items, link_changes, to_controller}
+use Rattle.update_machine.specs.Links.{is_link_up, near, switches_in}
+use Rattle.update_machine.specs.Marks.{retired_mark}
+use Rattle.update_machine.specs.Messages.{is_deliverable, sends}
+use Rattle.update_machine.specs.Moves.{lookup_items, move_items, put}
+use Rattle.update_machine.specs.Packets.{next_packet, packets_at, standing, travels}
+use Rattle.update_machine.specs.Setting.{Setting, plan_of_file}
+use Rattle.update_machine.specs.Settling.{resent_by_controller, settling, submitted_items}
+use Rattle.update_machine.specs.Versions.{version_count}
+
+abbrev pub nothing : List Item
+nothing = item.Nothing ∷ []
+
+-- ---- packets
+
+-- a packet comes in at a switch that serves and is looked up there; another switch refuses it
+unfoldable pub packet_items : Setting → ℕ → ℕ → Header → List Item → List Item
+packet_items setting i s header journal = elim (serves journal s) [
+  | false ↦ item.Closed i s ∷ []
+  | true ↦ put (item.Entered i s header ∷ []) (lookup_items setting i s) journal
+]
+
+unfoldable pub hop_items : Setting → ℕ → List Item → List Item
+hop_items setting i journal = elim (travels journal i) [
+  | false ↦ nothing
+  | true ↦ move_items setting i (unwrap_or (standing journal i) 0) journal
+]
+
+unfoldable pub lose_items : ℕ → List Item → List Item
+lose_items i journal = elim (travels journal i) [
+  | false ↦ nothing
+  | true ↦ item.Lost i ∷ []
+]
+
+-- ---- messages
+
+unfoldable pub deliver_items : Setting → List Item → ℕ → List Item → List Item
+deliver_items setting before number journal = elim (is_deliverable before number) [
+  | false ↦ nothing
+  | true ↦ put (item.Delivered number ∷ []) (delivery_items setting before number) journal
+]
+
+unfoldable pub forget_items : ℕ → List Item → List Item
+forget_items number journal = elim (is_deliverable journal number) [
+  | false ↦ nothing
+  | true ↦ item.Forgotten number ∷ []
+]
+
+unfoldable pub expire_items : Setting → ℕ → ℕ → List Item → List Item
+expire_items setting s place journal =
+    elim (slice_get (cache_of setting journal s).entries place) [
+      | None ↦ nothing
+      | Some entry ↦ item.Expired s place entry.message ∷ []
+    ]
+
+-- ---- policies
+
+-- the code of a policy's refusal: it has no plan, or there are eight live versions, or 64 in all
+abbrev pub plan_code : NoPlan → ℕ
+plan_code (TooManyWords words) = 12
+plan_code TooManyLeaves = 14
+plan_code (NoRoom partition) = 15
+
+abbrev pub marks_code : List Item → Option ℕ
+marks_code journal =
+    if version_count journal - retired_mark journal == 8 then Some 16
+    else if version_count journal == 64 then Some 17
+    else None
+
+abbrev pub update_code : Setting → List Item → ℕ → Option ℕ
+update_code setting journal file = elim (plan_of_file setting file) [
+  | Err why ↦ Some (plan_code why)
+  | Ok plan ↦ marks_code journal
+]
+
+-- a policy that isn't refused is the newest version
+unfoldable pub update_items : Setting → ℕ → List Item → List Item
+update_items setting file journal = elim (update_code setting journal file) [
+  | Some code ↦ item.Refused file code ∷ []
+  | None ↦ put (item.Submitted file (version_count journal + 1) ∷ []) (submitted_items setting)
+      journal
+]
+
+-- ---- links and switches
+
+-- the link comes back or fails; nothing where it is already so
+unfoldable pub link_items : Setting → List Item → ℕ → ℕ → Bool → List Item → List Item
+link_items setting before one two up journal = elim (beq (is_link_up before one two) up) [
+  | true ↦ nothing
+  | false ↦ put (item.LinkIs (min one two) (max one two) up ∷ []) (link_changes setting before)
+      journal
+]
+
+-- the packets that stand there are lost with a switch that was up
+unfoldable pub crash_items : Setting → List Item → ℕ → List Item → List Item
+crash_items setting before s journal = elim (is_up before s) [
+  | false ↦ nothing
+  | true ↦ put (item.Down s ∷ map item.Lost (packets_at before s)) (link_changes setting before)
+      journal
+]
+
+-- a switch that was down begins its next boot, and tells the controller
+abbrev pub hello_of : List Item → ℕ → Message
+hello_of journal s = to_controller (Hello s (boot_of journal s))
+
+unfoldable pub restart_items : ℕ → List Item → List Item
+restart_items s journal = elim (is_up journal s) [
+  | true ↦ nothing
+  | false ↦ put (item.Booted s (boot_of journal s + 1) ∷ [])
+      (λ booted. sends booted (hello_of booted s ∷ [])) journal
+]
+
+-- the controller waits no longer for a switch that is down
+unfoldable pub confirm_items : Setting → ℕ → List Item → List Item
+confirm_items setting s journal = elim (is_up journal s) [
+  | true ↦ nothing
+  | false ↦ put (item.OverNow s ∷ []) (settling setting) journal
+]
+
+-- a switch that is up sends its hello again, and to each neighbour every advert that it holds
+abbrev pub resent_by_switch : Setting → List Item → ℕ → List Message
+resent_by_switch setting journal s = elim (is_up journal s) [
+  | false ↦ []
+  | true ↦ hello_of journal s
+      ∷ flat_map (λ neighbour. map (advert_to neighbour) (held_adverts setting journal s))
+      (switches_in setting (near setting journal s))
+]
+
+-- these are sent, or nothing happens where there are none
+abbrev pub sends_or_nothing : List Item → List Message → List Item
+sends_or_nothing journal [] = nothing
+sends_or_nothing journal (message ∷ messages) = sends journal (message ∷ messages)
+
+unfoldable pub resend_items : Setting → ℕ → List Item → List Item
+resend_items setting s journal =
+    sends_or_nothing journal
+    (resent_by_switch setting journal s ++ resent_by_controller setting journal s)
+
+-- ---- a step
+
+-- what a step writes behind its row, where `before` is the journal before the row
+abbrev pub step_items : Setting → List Item → Step → List Item → List Item
+step_items setting before (Packet switch header) =
+    packet_items setting (next_packet before) switch header
+step_items setting before (Hop packet) = hop_items setting packet
+step_items setting before (Lose packet) = lose_items packet
+step_items setting before (Deliver message) = deliver_items setting before message
+step_items setting before (Forget message) = forget_items message
+step_items setting before (Expire switch place) = expire_items setting switch place
+step_items setting before (Update file) = update_items setting file
+step_items setting before (LinkDown one two) = link_items setting before one two false
+step_items setting before (LinkUp one two) = link_items setting before one two true
+step_items setting before (Crash switch) = crash_items setting before switch
+step_items setting before (Restart switch) = restart_items switch
+step_items setting before (Confirm switch) = confirm_items setting switch
+step_items setting before (Resend switch) = resend_items setting switch
+
+-- what a step of this row writes behind the journal
+unfoldable pub piece : Setting → List Item → ℕ → Step → List Item
+piece setting journal row step =
+    put (item.Row row step ∷ []) (step_items setting journal step) journal

@@ -1,0 +1,133 @@
+-- What the controller sends: the two-phase update of Reitblatt, Foster, Rexford, Schlesinger and
+-- Walker, "Abstractions for Network Update", with boots and acknowledgements of our own. Each group
+-- is by ascending switch, and each message has the known boot of its switch.
+use Rattle.std.specs.Prelude.{ℕ, ◌+◌, ◌-◌, true, false, not, ◌&&◌, ◌==◌, nat_lt, if◌then◌else◌, List, [], ◌∷◌, ◌++◌, map, filter}
+use Rattle.std.specs.List.{range_with_len}
+use Rattle.ctrl_msg.specs.declared.message.Body.{Body}
+use Rattle.ctrl_msg.specs.declared.message.Body.TheVariants.{Install, OpenAt, Stamp, Collect}
+use Rattle.ctrl_msg.specs.declared.message.Message.{Message}
+use Rattle.ctrl_msg.specs.declared.message.Place.TheVariants as place
+use Rattle.journal.specs.declared.item.Item.{Item}
+use Rattle.journal.specs.declared.item.Item.TheVariants as item
+use Rattle.update_machine.specs.Marks.{acked_stamp, current_mark, has_acked, is_joining, is_member, is_over, known_boot, members, next_current, next_retired, open_version, retired_mark}
+use Rattle.update_machine.specs.Messages.{sends}
+use Rattle.update_machine.specs.Moves.{in_turn, put}
+use Rattle.update_machine.specs.Setting.{Setting, switches_of}
+use Rattle.update_machine.specs.Versions.{tables_at, version_count}
+
+-- ---- messages to a switch
+
+abbrev pub to_switch : ℕ → Body → Message
+to_switch s body = record { to = place.Switch s; body = body }
+
+-- keep the tables of this version
+abbrev pub install_for : Setting → List Item → ℕ → ℕ → Message
+install_for setting journal version s =
+    to_switch s (Install (known_boot journal s) (tables_at setting journal version s))
+
+-- serve from this version on
+abbrev pub open_for : List Item → ℕ → ℕ → Message
+open_for journal version s = to_switch s (OpenAt (known_boot journal s) version)
+
+-- stamp with this version
+abbrev pub stamp_for : List Item → ℕ → ℕ → Message
+stamp_for journal version s = to_switch s (Stamp (known_boot journal s) version)
+
+-- drop the tables up to this version
+abbrev pub collect_for : List Item → ℕ → ℕ → Message
+collect_for journal version s = to_switch s (Collect (known_boot journal s) version)
+
+-- ---- settling
+
+-- current rises as far as the members' acknowledgements allow, and they are told to stamp with it
+unfoldable pub current_items : Setting → List Item → List Item
+current_items setting journal =
+    let version = next_current setting journal in
+    elim (nat_lt (current_mark journal) version) [
+      | false ↦ []
+      | true ↦ put (item.Current version ∷ [])
+          (λ raised. sends raised (map (stamp_for journal version) (members setting journal)))
+          journal
+    ]
+
+-- the joining switches that acknowledged the current version
+abbrev pub opening : Setting → List Item → List ℕ
+opening setting journal =
+    filter (λ s. is_joining journal s && has_acked journal s (current_mark journal))
+    (switches_of setting)
+
+-- they are told to serve
+unfoldable pub open_items : Setting → List Item → List Item
+open_items setting journal =
+    sends journal (map (open_for journal (current_mark journal)) (opening setting journal))
+
+-- retired rises as far as the members' stamps allow, and they are told to drop those tables
+unfoldable pub retired_items : Setting → List Item → List Item
+retired_items setting journal =
+    let version = next_retired setting journal in
+    elim (nat_lt (retired_mark journal) version) [
+      | false ↦ []
+      | true ↦ put (item.Retired version ∷ [])
+          (λ raised. sends raised (map (collect_for journal version) (members setting journal)))
+          journal
+    ]
+
+-- each part only where there is something
+unfoldable pub settling : Setting → List Item → List Item
+settling setting journal =
+    in_turn (current_items setting ∷ open_items setting ∷ retired_items setting ∷ []) journal
+
+-- ---- what is sent beside it
+
+-- the versions from the current one to the last, ascending
+abbrev pub versions_from_current : List Item → List ℕ
+versions_from_current journal =
+    range_with_len (current_mark journal) (version_count journal + 1 - current_mark journal)
+
+-- a switch that began a boot is sent the tables of each version from the current one on
+unfoldable pub installs_to : Setting → ℕ → List Item → List Item
+installs_to setting s journal =
+    sends journal
+    (map (λ version. install_for setting journal version s) (versions_from_current journal))
+
+-- each switch that isn't over is sent the tables of the newest version
+unfoldable pub installs_to_all : Setting → List Item → List Item
+installs_to_all setting journal =
+    sends journal
+    (map (install_for setting journal (version_count journal))
+    (filter (λ s. not (is_over journal s)) (switches_of setting)))
+
+-- a new version is submitted
+abbrev pub submitted_items : Setting → List Item → List Item
+submitted_items setting journal =
+    in_turn (installs_to_all setting ∷ settling setting ∷ []) journal
+
+-- ---- sending again
+
+-- of the versions the tables of those that the switch didn't acknowledge
+abbrev pub unacked : Setting → List Item → ℕ → List ℕ → List Message
+unacked setting journal s versions =
+    map (λ version. install_for setting journal version s)
+    (filter (λ version. not (has_acked journal s version)) versions)
+
+-- a member may have missed its opening, later tables, the current stamp and the retired mark
+abbrev pub resent_to_member : Setting → List Item → ℕ → List Message
+resent_to_member setting journal s =
+    open_for journal (open_version journal s) s
+    ∷ unacked setting journal s (range_with_len (current_mark journal + 1)
+    (version_count journal - current_mark journal))
+    ++ (if nat_lt (acked_stamp journal s) (current_mark journal)
+    then stamp_for journal (current_mark journal) s ∷ [] else [])
+    ++ (if retired_mark journal == 0
+    then [] else collect_for journal (retired_mark journal) s ∷ [])
+
+-- what the controller sends again: tables alone to a joining switch, and nothing to one that is
+-- over
+unfoldable pub resent_by_controller : Setting → List Item → ℕ → List Message
+resent_by_controller setting journal s = elim (is_over journal s) [
+  | true ↦ []
+  | false ↦ elim (is_member journal s) [
+    | true ↦ resent_to_member setting journal s
+    | false ↦ unacked setting journal s (versions_from_current journal)
+  ]
+]

@@ -1,0 +1,81 @@
+-- The versions of a journal's policies, and which of them a switch holds and stamps packets with.
+-- Tables that are installed under a version before packets are stamped with it, and are removed
+-- once none is, are those of Reitblatt, Foster, Rexford, Schlesinger and Walker, "Abstractions for
+-- Network Update".
+use Rattle.std.specs.Prelude.{ℕ, ◌+◌, Bool, true, false, not, ◌&&◌, ◌||◌, ◌==◌, nat_le, max, if◌then◌else◌, Option, Some, None, unwrap_or, List, [], ◌∷◌, ◌++◌, fold, filter_map}
+use Rattle.std.specs.List.{list_any}
+use Rattle.ctrl_msg.specs.declared.message.Body.{Body}
+use Rattle.ctrl_msg.specs.declared.message.Body.TheVariants.{Install, OpenAt, Stamp, Collect}
+use Rattle.partition.specs.Plan.{Placed}
+use Rattle.policy_rules.specs.declared.policy.Row.{Row}
+use Rattle.switch_table.specs.Tables.{tables_of}
+use Rattle.switch_table.specs.declared.tables.Tables.{Tables}
+use Rattle.journal.specs.declared.item.Item.{Item}
+use Rattle.journal.specs.declared.item.Item.TheVariants as item
+use Rattle.update_machine.specs.Boots.{heard, is_in_first_boot}
+use Rattle.update_machine.specs.Folds.{count_of, last_told}
+use Rattle.update_machine.specs.Setting.{Setting, placed_in, plan_of_file, policy_of_file}
+
+-- ---- policies and plans
+
+abbrev pub is_submission : Item → Bool
+is_submission (item.Submitted file version) = true
+is_submission _ = false
+
+-- how many versions there are: the first policy's, and one for each that was submitted
+unfoldable pub version_count : List Item → ℕ
+version_count journal = count_of is_submission journal + 1
+
+abbrev pub tells_file : ℕ → Item → Option ℕ
+tells_file v (item.Submitted file version) = if version == v then Some file else None
+tells_file v _ = None
+
+-- the file of a version: the first is that of version 1
+unfoldable pub file_of : List Item → ℕ → ℕ
+file_of journal version = unwrap_or (last_told (tells_file version) journal) 1
+
+abbrev pub policy_at : Setting → List Item → ℕ → List Row
+policy_at setting journal version = policy_of_file setting (file_of journal version)
+
+abbrev pub plan_at : Setting → List Item → ℕ → List Placed
+plan_at setting journal version = placed_in (plan_of_file setting (file_of journal version))
+
+-- the tables of a version that its plan gives to switch s
+abbrev pub tables_at : Setting → List Item → ℕ → ℕ → Tables
+tables_at setting journal version s = tables_of (plan_at setting journal version) version s
+
+-- ---- stamps
+
+-- the greatest of numbers, and 0 where there is none
+abbrev pub greatest : List ℕ → ℕ
+greatest numbers = fold max 0 numbers
+
+-- the version with which a body lets a switch stamp
+abbrev pub stamp_in : Body → Option ℕ
+stamp_in (OpenAt boot version) = Some version
+stamp_in (Stamp boot version) = Some version
+stamp_in _ = None
+
+abbrev pub first_stamp : List Item → ℕ → List ℕ
+first_stamp journal s = if is_in_first_boot journal s then 1 ∷ [] else []
+
+-- the greatest version with which the switch was let stamp in its boot; version 1 counts in boot 1
+unfoldable pub stamp_of : List Item → ℕ → ℕ
+stamp_of journal s = greatest (first_stamp journal s ++ filter_map stamp_in (heard journal s))
+
+-- ---- held versions
+
+abbrev pub installs : ℕ → Body → Bool
+installs v (Install boot tables) = tables.version == v
+installs v _ = false
+
+abbrev pub collects : ℕ → Body → Bool
+collects v (Collect boot version) = nat_le v version
+collects v _ = false
+
+-- the version's tables were installed in this boot, or the switch began with them; and neither this
+-- version nor a greater one was collected
+unfoldable pub holds_version : List Item → ℕ → ℕ → Bool
+holds_version journal s v =
+    (list_any (installs v) (heard journal s) || (v == 1 && is_in_first_boot journal s))
+    && not (list_any (collects v) (heard journal s))

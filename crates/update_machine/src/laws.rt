@@ -1,0 +1,64 @@
+//! Laws on journals: functions without a body, whose contracts are facts of the definitions alone.
+ghost use Rattle.std.specs.Prelude.{◌≡◌, ◌+◌, ◌++◌, ℕ, Bool, Option, List, [], length};
+ghost use Rattle.std.specs.Option.{option_or};
+ghost use Rattle.journal.specs.declared.item.Item.{Item};
+ghost use Rattle.steps.specs.declared.step.Event.{Event};
+ghost use Rattle.update_machine.specs.Answers.{Answers, AnswersSoFar, BeginsAnswer};
+ghost use Rattle.update_machine.specs.Laws.{ConcernLaws, KnownLinkLaws, StartLaws};
+ghost use Rattle.update_machine.specs.Numbers.{AreNumbered};
+ghost use Rattle.update_machine.specs.Setting.{Setting};
+ghost use Rattle.update_machine.specs.Folds.{all_given, count_of, folded, folded_from, last_told};
+
+/// What a journal says, once more items stand behind it: a law for each of the four folds, over
+/// whatever an item tells.
+#[tactic(auto, using(crate::proofs::FoldLemmas::last_told_append, crate::proofs::FoldLemmas::folded_append))]
+pub fn journals_grow<X>()
+    ensures last { (told : Item → Option X) (before items : List Item)
+        → last_told told (before ++ items)
+        ≡ option_or (last_told told items) (last_told told before) }
+    ensures count { (test : Item → Bool) (before items : List Item)
+        → count_of test (before ++ items) ≡ count_of test before + count_of test items }
+    ensures given { (gives : Item → List X) (before items : List Item)
+        → all_given gives (before ++ items) ≡ all_given gives before ++ all_given gives items }
+    ensures fold { (changes : List Item → X → Item → X) (start : X) (before items : List Item)
+        → folded changes start (before ++ items)
+        ≡ folded_from changes before (folded changes start before) items }
+{}
+
+/// A schedule has at most one answer, and at most one that goes so many steps far; an answer goes
+/// as far as it goes, and what goes some steps far begins itself.
+pub fn answers_are_one()
+    ensures one { (setting : Setting) (events : List Event) (one other : List Item)
+        → Answers setting events one → Answers setting events other → one ≡ other }
+    ensures so_far { (setting : Setting) (events : List Event) (one other : List Item)
+        (first : AnswersSoFar setting events one) (second : AnswersSoFar setting events other)
+        → length first.steps ≡ length second.steps → one ≡ other }
+    ensures whole { (setting : Setting) (events : List Event) (journal : List Item)
+        → Answers setting events journal → AnswersSoFar setting events journal }
+    ensures begins { (setting : Setting) (events : List Event) (journal : List Item)
+        → AnswersSoFar setting events journal → BeginsAnswer setting events journal }
+{}
+
+/// In an answer, and in each beginning of one, packets and messages are numbered from 1 without a
+/// gap.
+pub fn answers_are_numbered()
+    ensures { (setting : Setting) (events : List Event) (journal : List Item)
+        → BeginsAnswer setting events journal → AreNumbered journal }
+{}
+
+/// What a journal without items says.
+pub fn journals_start()
+    ensures { StartLaws }
+{}
+
+/// Items that don't concern a switch, a packet, the links or the controller change none of its
+/// words.
+pub fn other_items_change_nothing()
+    ensures { ConcernLaws }
+{}
+
+/// A switch knows of each other one its newest advert, routes by the least shortest path over the
+/// links that it knows, and a target is cut off exactly where none of them ends at it.
+pub fn switches_know_links()
+    ensures { KnownLinkLaws }
+{}
