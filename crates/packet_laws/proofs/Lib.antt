@@ -1,0 +1,9 @@
+pub mod Calm
+pub mod Words
+pub mod Kept
+pub mod Routes
+pub mod Plans
+pub mod Blocks
+pub mod Played
+pub mod Runs
+pub mod Answered

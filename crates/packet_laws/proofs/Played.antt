@@ -1,0 +1,286 @@
+-- Each item of a played journal has its cause, and each piece leaves its packets on their way or at
+-- their end.
+use Rattle.std.proofs.Common.{ℕ, suc, ◌≡◌, ◌<◌, Bool, true, false, Some, List, [], ◌∷◌, ◌++◌, length, refl, ap, sym, subst, ◌∙◌, append_assoc, arith, inl, inr}
+use Rattle.std.specs.Prelude.{All, IsFalse, IsTrue, unwrap_or}
+use Rattle.std.proofs.lemmas.Bool.{cases_eq}
+use Rattle.failover.specs.DownSet.{no_links}
+use Rattle.five_tuple.specs.Header.{IsHeader}
+use Rattle.five_tuple.specs.declared.header.Header.{Header}
+use Rattle.journal.specs.declared.item.Item.{Item}
+use Rattle.journal.specs.declared.item.Item.TheVariants as item
+use Rattle.steps.specs.declared.step.Step.{Step}
+use Rattle.steps.specs.declared.step.Step.TheVariants.{Packet, Hop, Lose}
+use Rattle.update_machine.specs.Answers.{StepOfRow, after_steps}
+use Rattle.update_machine.specs.Boots.{serves}
+use Rattle.update_machine.specs.Causes.{HaveCauses}
+use Rattle.update_machine.specs.Marks.{retired_mark}
+use Rattle.update_machine.specs.Moves.{lookup_items, move_items, put}
+use Rattle.update_machine.specs.Packets.{changes_found, found_down, next_packet, standing, travels}
+use Rattle.update_machine.specs.Pieces.{hop_items, lose_items, nothing, packet_items, piece, step_items}
+use Rattle.update_machine.specs.Played.{IsPacketStep, IsPlayed, IsSetting, MayPlay}
+use Rattle.update_machine.specs.Setting.{Setting}
+use Rattle.update_machine.specs.Steps.{present_step, tells_step}
+use Rattle.update_machine.proofs.CallerLemmas.{folded_stays, have_append, last_told_append}
+use Rattle.packet_laws.specs.Calm.{HasPacketsAlone, IsOfPackets}
+use Rattle.packet_laws.specs.OnWay.{IsOnWay, IsUnknown}
+use Rattle.packet_laws.specs.PacketCauses.{IsPlayedItem, Stands}
+use Rattle.packet_laws.specs.Words.{PacketWords, names, told_by, words_of}
+use Rattle.packet_laws.proofs.Blocks.{IsDone, IsReady, Writes, ended, first_writes, lookup_writes, move_writes, one_writes, other_number, own_number, words_named, words_other}
+use Rattle.packet_laws.proofs.Calm.{Alone, calm, have_map}
+use Rattle.packet_laws.proofs.Kept.{kept, next_more, unknown}
+
+-- each item has its cause, and no packet is left in the middle of what its switch makes of it
+pub record IsSettled (setting : Setting) (journal : List Item) : Type 0 where
+  pub causes : HaveCauses (IsPlayedItem setting) [] journal
+  pub done : (i : ℕ) → IsDone (words_of journal i)
+
+pub alone_of : (setting : Setting) (journal : List Item) → HaveCauses (IsPlayedItem setting) []
+    journal → HasPacketsAlone journal
+alone_of setting journal causes = have_map (IsPlayedItem setting) Alone
+    (λ before item played. played.of_packets) [] journal causes
+
+-- an item that names no packet
+quiet_settled : (setting : Setting) (journal : List Item) (item : Item)
+    → ((i : ℕ) → names i item ≡ false) → IsPlayedItem setting journal item →
+    IsSettled setting journal → IsSettled setting (journal ++ item ∷ [])
+quiet_settled setting journal item quiet played settled = record {
+  causes = have_append (IsPlayedItem setting) [] journal (item ∷ []) settled.causes (played, tt);
+  done = λ i. subst IsDone (sym (words_other i journal item (quiet i))) (settled.done i);
+}
+
+row_settled : (setting : Setting) (journal : List Item) (row : ℕ) (step : Step) → IsPacketStep step
+    → IsSettled setting journal → IsSettled setting (journal ++ item.Row row step ∷ [])
+row_settled setting journal row step kind settled = quiet_settled setting journal
+    (item.Row row step) (λ i. refl) (record { of_packets = kind; cause = tt; end = tt }) settled
+
+nothing_settled : (setting : Setting) (journal : List Item) → IsSettled setting journal
+    → IsSettled setting (journal ++ nothing)
+nothing_settled setting journal settled = quiet_settled setting journal item.Nothing (λ i. refl)
+    (record { of_packets = tt; cause = tt; end = tt }) settled
+
+writes_settled : (setting : Setting) (i : ℕ) (journal items : List Item)
+    → Writes setting i journal items → IsSettled setting journal
+    → IsSettled setting (journal ++ items)
+writes_settled setting i journal items writes settled = record {
+  causes = have_append (IsPlayedItem setting) [] journal items settled.causes writes.causes;
+  done = λ j. elim (cases_eq j i) [
+    | inl same ↦ subst (λ k. IsDone (words_of (journal ++ items) k)) (sym same) writes.done
+    | inr apart ↦ subst IsDone (sym (writes.others j apart)) (settled.done j)
+  ];
+}
+
+-- ---- a packet comes in
+
+packet_writes : (setting : Setting) (journal : List Item) (i s : ℕ) (header : Header)
+    → IsSetting setting → IsSettled setting journal → i ≡ next_packet journal →
+    s < length setting.net.switches → IsHeader header
+    → Writes setting i journal (packet_items setting i s header journal)
+unfolding packet_items
+packet_writes setting journal i s header is settled number there sound =
+    let alone : HasPacketsAlone journal = alone_of setting journal settled.causes in
+    let serving : serves journal s ≡ true = (calm setting journal is.net alone).serving s in
+    let entered : Item = item.Entered i s header in
+    let more : HasPacketsAlone (journal ++ entered ∷ []) = have_append Alone [] journal
+    (entered ∷ []) alone (tt, tt) in
+    let after : words_of (journal ++ entered ∷ []) i ≡ told_by (retired_mark journal) entered
+    (words_of journal i) = words_named i journal entered (own_number i) in
+    let none : IsUnknown (words_of journal i) = unknown setting journal settled.causes i
+    (omega (arith, number)) in
+    let marked : (words_of (journal ++ entered ∷ []) i).mark ≡ retired_mark journal =
+    ap (λ (w : PacketWords). w.mark) after in
+    let before : retired_mark journal ≡ 0 = (calm setting journal is.net alone).retired in
+    let ready : IsReady setting (journal ++ entered ∷ []) i s header = record {
+      here = record {
+        alone = more;
+        stands = subst (λ words. Stands setting words header s) (sym after)
+            (record { travels = refl; entered = refl; stands = refl });
+        sound = sound;
+        there = there;
+      };
+      undecided = ap (λ (w : PacketWords). w.decision) after ∙ none.decision;
+      mark = omega (arith, marked, before);
+    } in
+    subst (λ b. Writes setting i journal (elim b [
+      | false ↦ item.Closed i s ∷ []
+      | true ↦ put (item.Entered i s header ∷ []) (lookup_items setting i s) journal
+    ])) (sym serving)
+    (first_writes setting i journal entered (lookup_items setting i s (journal ++ entered ∷ []))
+    (λ j apart. other_number i j apart)
+    (record {
+      of_packets = tt;
+      cause =
+          record { number = number; there = there; serving = serving; sound = sound };
+      end = tt;
+    })
+    (lookup_writes setting (journal ++ entered ∷ []) i s header is ready))
+
+-- ---- a packet moves on, or is lost
+
+travels_is : (journal : List Item) (i : ℕ) (b : Bool) → travels journal i ≡ b
+    → (words_of journal i).travels ≡ b
+unfolding words_of
+travels_is journal i b is = is
+
+place_of : (journal : List Item) (i s : ℕ) → (words_of journal i).place ≡ Some s
+    → unwrap_or (standing journal i) 0 ≡ s
+unfolding words_of
+place_of journal i s is = ap (λ o. unwrap_or o 0) is
+
+hop_settled : (setting : Setting) (journal : List Item) (i : ℕ) → IsSetting setting
+    → IsSettled setting journal → IsSettled setting (journal ++ hop_items setting i journal)
+unfolding hop_items
+hop_settled setting journal i is settled = by_travel (travels journal i) refl
+  where
+    by_travel : (b : Bool) → travels journal i ≡ b → IsSettled setting (journal ++ elim b [
+      | false ↦ nothing
+      | true ↦ move_items setting i (unwrap_or (standing journal i) 0) journal
+    ])
+    by_travel false e = nothing_settled setting journal settled
+    by_travel true e =
+        let on : IsTrue (words_of journal i).travels = travels_is journal i true e in
+        let way : IsOnWay setting journal (words_of journal i) =
+        (kept setting journal is.net settled.causes i).on_way on (settled.done i on) in
+        subst (λ s. IsSettled setting (journal ++ move_items setting i s journal))
+        (sym (place_of journal i way.under_way.place way.under_way.stands))
+        (writes_settled setting i journal _
+        (move_writes setting journal i way is (alone_of setting journal settled.causes) on)
+        settled)
+
+step_is : (journal : List Item) (row : ℕ) (step : Step)
+    → present_step (journal ++ item.Row row step ∷ []) ≡ Some step
+unfolding present_step
+step_is journal row step = last_told_append tells_step journal (item.Row row step ∷ [])
+
+lose_settled : (setting : Setting) (journal : List Item) (i : ℕ) → IsSettled setting journal
+    → present_step journal ≡ Some (Lose i) → IsSettled setting (journal ++ lose_items i journal)
+unfolding lose_items
+lose_settled setting journal i settled lost = by_travel (travels journal i) refl
+  where
+    by_travel : (b : Bool) → travels journal i ≡ b
+        → IsSettled setting (journal ++ elim b [ false ↦ nothing | true ↦ item.Lost i ∷ [] ])
+    by_travel false e = nothing_settled setting journal settled
+    by_travel true e =
+        writes_settled setting i journal (item.Lost i ∷ [])
+        (one_writes setting i journal (item.Lost i) tt (own_number i)
+        (λ j apart. other_number i j apart)
+        (record { of_packets = tt; cause = travels_is journal i true e; end = inl lost })) settled
+
+-- ---- pieces and steps
+
+-- a step that is played, whatever number it names
+abbrev pub IsPlayable : Setting → Step → Type 0
+IsPlayable setting (Packet s header) = (s < length setting.net.switches) × IsHeader header
+IsPlayable setting (Hop i) = Unit {0}
+IsPlayable setting (Lose i) = Unit {0}
+IsPlayable setting _ = ⊥
+
+pub may_play : (setting : Setting) (step : Step) → MayPlay setting step → IsPlayable setting step
+may_play setting (Packet s header) may = may.own
+may_play setting (Hop i) may = tt
+may_play setting (Lose i) may = tt
+may_play setting _ may = absurd may.kind
+
+abbrev pub ArePlayable : Setting → List StepOfRow → Type 0
+ArePlayable setting [] = Unit {0}
+ArePlayable setting (next ∷ steps) = IsPlayable setting next.step × ArePlayable setting steps
+
+all_playable : (setting : Setting) (steps : List StepOfRow)
+    → All (λ next. MayPlay setting next.step) steps → ArePlayable setting steps
+all_playable setting [] may = tt
+all_playable setting (next ∷ steps) may = (
+  may_play setting next.step (may 0 next (omega arith)),
+  all_playable setting steps
+      (λ k d within. may (suc k) d (omega (arith, within))),
+)
+
+stepped : (setting : Setting) (journal : List Item) (row : ℕ) (step : Step) → IsSetting setting
+    → IsPlayable setting step → IsSettled setting journal →
+    IsSettled setting ((journal ++ item.Row row step ∷ []) ++ step_items setting journal step
+    (journal ++ item.Row row step ∷ []))
+stepped setting journal row (Packet s header) is may settled =
+    let here : IsSettled setting (journal ++ item.Row row (Packet s header) ∷ []) =
+    row_settled setting journal row (Packet s header) tt settled in
+    let number : next_packet journal ≡ next_packet (journal ++ item.Row row (Packet s header) ∷ [])
+    = omega (arith, next_more journal (item.Row row (Packet s header))) in
+    writes_settled setting (next_packet journal) (journal ++ item.Row row (Packet s header) ∷ []) _
+    (packet_writes setting (journal ++ item.Row row (Packet s header) ∷ []) (next_packet journal) s
+    header is here number may.0 may.1) here
+stepped setting journal row (Hop i) is may settled = hop_settled setting
+    (journal ++ item.Row row (Hop i) ∷ []) i is (row_settled setting journal row (Hop i) tt settled)
+stepped setting journal row (Lose i) is may settled =
+    lose_settled setting (journal ++ item.Row row (Lose i) ∷ []) i
+    (row_settled setting journal row (Lose i) tt settled) (step_is journal row (Lose i))
+stepped setting journal row other is may settled = absurd may
+
+pub piece_settled : (setting : Setting) (journal : List Item) (row : ℕ) (step : Step)
+    → IsSetting setting → IsPlayable setting step → IsSettled setting journal →
+    IsSettled setting (journal ++ piece setting journal row step)
+unfolding piece
+piece_settled setting journal row step is may settled =
+    subst (IsSettled setting)
+    (append_assoc journal (item.Row row step ∷ [])
+    (step_items setting journal step (journal ++ item.Row row step ∷ [])))
+    (stepped setting journal row step is may settled)
+
+pub steps_settled : (setting : Setting) (before : List Item) (steps : List StepOfRow)
+    → IsSetting setting → ArePlayable setting steps → IsSettled setting before →
+    IsSettled setting (after_steps setting before steps)
+steps_settled setting before [] is may settled = settled
+steps_settled setting before (next ∷ steps) is may settled =
+    steps_settled setting (before ++ piece setting before next.row next.step) steps is may.1
+    (piece_settled setting before next.row next.step is may.0 settled)
+
+pub settled_at_first : (setting : Setting) → IsSettled setting []
+unfolding words_of travels
+settled_at_first setting = record { causes = tt; done = λ i. ended (words_of [] i) refl }
+
+pub played_settled : (setting : Setting) (journal : List Item) → IsSetting setting
+    → IsPlayed setting journal → IsSettled setting journal
+played_settled setting journal is played = subst (IsSettled setting) (sym played.written)
+    (steps_settled setting [] played.steps is (all_playable setting played.steps played.may)
+    (settled_at_first setting))
+
+-- ---- links found down
+
+abbrev finds : List Item → Item → Bool
+finds before (item.FoundDown packet one two) = true
+finds before _ = false
+
+apart_finds : (before : List Item) (item : Item) → IsOfPackets item → IsFalse (finds before item)
+apart_finds before (item.FoundDown packet one two) of = absurd of
+apart_finds before _ of = refl
+
+silent_found : (i : ℕ) (before : List Item) (links : List ℕ) (item : Item)
+    → IsFalse (finds before item) → changes_found i before links item ≡ links
+silent_found i before links (item.FoundDown packet one two) apart = cc
+silent_found i before links _ apart = refl
+
+found_none : (journal : List Item) (i : ℕ) → HasPacketsAlone journal → (words_of journal i).found
+    ≡ no_links
+unfolding words_of found_down
+found_none journal i alone =
+    folded_stays (changes_found i) no_links finds (silent_found i) [] journal
+    (have_map Alone (λ before item. IsFalse (finds before item)) apart_finds [] journal alone)
+
+-- ---- the laws
+
+pub played_causes : (setting : Setting) (journal : List Item) → IsSetting setting
+    → IsPlayed setting journal → HaveCauses (IsPlayedItem setting) [] journal
+played_causes setting journal is played = (played_settled setting journal is played).causes
+
+pub played_alone : (setting : Setting) (journal : List Item) → IsSetting setting
+    → IsPlayed setting journal → HasPacketsAlone journal
+played_alone setting journal is played = alone_of setting journal
+    (played_causes setting journal is played)
+
+pub on_way : (setting : Setting) (journal : List Item) → IsSetting setting
+    → IsPlayed setting journal → (i : ℕ) → IsTrue (travels journal i)
+    → IsOnWay setting journal (words_of journal i)
+on_way setting journal is played i travelling =
+    let settled : IsSettled setting journal = played_settled setting journal is played in
+    let on : IsTrue (words_of journal i).travels = travels_is journal i true travelling in
+    (kept setting journal is.net settled.causes i).on_way on (settled.done i on)
+
+pub found : (setting : Setting) (journal : List Item) → IsSetting setting → IsPlayed setting journal
+    → (i : ℕ) → (words_of journal i).found ≡ no_links
+found setting journal is played i = found_none journal i (played_alone setting journal is played)

@@ -1,0 +1,4 @@
+pub mod Calm
+pub mod Words
+pub mod OnWay
+pub mod PacketCauses
