@@ -32,23 +32,26 @@ fn hold_tables(alloc: Global, plan: &Plan, switches: u32) -> anyhow::Result<usiz
     Ok(all.len())
 }
 
-fn tell(alloc: Global, controller: &mut Controller, body: &Body, s: u32, version: u32) -> anyhow::Result<usize> {
+// What the switch tells of the version, where both are there.
+fn tell(alloc: Global, controller: &mut Controller, s: u32, version: u32, stamped: bool) -> anyhow::Result<usize> {
     if s >= controller.switches() || version < 1 || version > controller.marks().count() {
         return Ok(0);
     }
-    let sends = controller.hear(alloc, body)?;
+    let sends = if stamped {
+        controller.hear(alloc, &Body::Stamped { switch: s, boot: 1, version })?
+    } else {
+        controller.hear(alloc, &Body::Installed { switch: s, boot: 1, version })?
+    };
     Ok(sends.acts().len())
 }
 
 fn update(alloc: Global, controller: &mut Controller, version: u32) -> anyhow::Result<usize> {
     let mut acts = 0usize;
     for s in 0..controller.switches() {
-        let installed = Body::Installed { switch: s, boot: 1, version };
-        acts = acts.saturating_add(tell(alloc, controller, &installed, s, version)?);
+        acts = acts.saturating_add(tell(alloc, controller, s, version, false)?);
     }
     for s in 0..controller.switches() {
-        let stamped = Body::Stamped { switch: s, boot: 1, version };
-        acts = acts.saturating_add(tell(alloc, controller, &stamped, s, version)?);
+        acts = acts.saturating_add(tell(alloc, controller, s, version, true)?);
     }
     Ok(acts)
 }
