@@ -1,0 +1,140 @@
+-- The switch where a packet on its way stands, as it is asked what becomes of the packet.
+use Rattle.std.proofs.Common.{ℕ, ◌≡◌, ◌<◌, Some, None, List, refl, ap, sym, subst, ◌∙◌, length, get_or, arith}
+use Rattle.std.specs.Prelude.{slice_index, IsTrue}
+use Rattle.net_file.specs.Net.{IsNet}
+use Rattle.net_file.specs.declared.net.Net.{Net}
+use Rattle.journal.specs.declared.item.Item.{Item}
+use Rattle.switch_core.specs.Arriving.{IsAtAuthority}
+use Rattle.switch_core.specs.Entering.{CanLookUp}
+use Rattle.switch_core.specs.State.{SwitchValue, serves}
+use Rattle.switch_core.specs.Moving.{found_down}
+use Rattle.tunnel.specs.Moves.{here, next}
+use Rattle.update_machine.specs.Handled.{handled_count}
+use Rattle.update_machine.specs.Setting.{Setting}
+use Rattle.packet_laws.specs.Words.{words_of}
+use Rattle.world.specs.State.{AreNear, AreTied}
+use Rattle.world.specs.Travelling.{Travellers, traveller}
+use Rattle.world.specs.declared.travelling.Traveller.{Traveller}
+use Rattle.world.proofs.AtEnd.{IsAtEnd, at_authority, at_end}
+use Rattle.world.proofs.Calmness.{calm_switch, calm_switch_of}
+use Rattle.world.proofs.Legs.{near_of}
+use Rattle.world.proofs.Played.{played_calm}
+use Rattle.world.proofs.OnWay.{IsStanding, next_of_words, standing_of, stands_at, usable_here}
+
+within : (setting : Setting) (journal : List Item) (switches : List SwitchValue)
+    (before : Travellers) (count i : ℕ) (t : Traveller)
+    → AreTied setting journal switches before count → (standing : IsStanding setting journal i t)
+    → standing.way.under_way.place < length switches
+unfolding AreTied
+within setting journal switches before count i t tied standing =
+    omega (arith, tied.many, standing.way.under_way.now)
+
+near_here : (net : Net) (near : List ℕ) (setting : Setting) (s : ℕ) → setting.net ≡ net
+    → IsNet net → AreNear net near → s < length net.switches
+    → slice_index near s ≡ near_of setting s
+near_here net near setting s same sound masks there =
+    masks s (omega (arith, there, sound.few_switches))
+    ∙ ap (λ (net : Net). near_of (record setting { net = net }) s) (sym same)
+
+pub switch_here : (setting : Setting) (journal : List Item) (switches : List SwitchValue)
+    (before : Travellers) (count i : ℕ) (t : Traveller)
+    → AreTied setting journal switches before count → (standing : IsStanding setting journal i t)
+    → (d : SwitchValue) → get_or switches standing.way.under_way.place d
+    ≡ calm_switch setting (handled_count journal standing.way.under_way.place)
+    standing.way.under_way.place
+unfolding AreTied
+switch_here setting journal switches before count i t tied standing d =
+    tied.each standing.way.under_way.place d (omega (
+      arith,
+      tied.many,
+      standing.way.under_way.now,
+    ))
+    ∙ calm_switch_of setting journal (played_calm setting journal tied.sound tied.played)
+    standing.way.under_way.place standing.way.under_way.now
+
+serving_here : (setting : Setting) (s handled : ℕ) (switch : SwitchValue)
+    → switch ≡ calm_switch setting handled s → IsTrue (serves switch)
+serving_here setting s handled switch is = subst (λ w. IsTrue (serves w)) (sym is) refl
+
+stamped_here : (setting : Setting) (s handled : ℕ) (switch : SwitchValue)
+    → switch ≡ calm_switch setting handled s → CanLookUp switch
+stamped_here setting s handled switch is = subst CanLookUp (sym is) (λ serving. refl)
+
+pub ends_here : (setting : Setting) (journal : List Item) (switches : List SwitchValue)
+    (before : Travellers) (count i : ℕ) (t : Traveller)
+    → AreTied setting journal switches before count → (standing : IsStanding setting journal i t)
+    → next t.tunnel ≡ None
+    → IsAtEnd setting standing.way.under_way.place (words_of journal i)
+    standing.way.under_way.header standing.way.leg
+unfolding AreTied
+ends_here setting journal switches before count i t tied standing last =
+    at_end setting journal standing.way.under_way.place (words_of journal i)
+    standing.way.under_way.header standing.way.leg tied.sound
+    (played_calm setting journal tied.sound tied.played) standing.way.under_way.sound
+    standing.way.on_leg standing.way.stands
+    (sym (next_of_words setting journal i t standing) ∙ last)
+
+authority_here : (setting : Setting) (journal : List Item) (switches : List SwitchValue)
+    (before : Travellers) (count i : ℕ) (t : Traveller)
+    → AreTied setting journal switches before count → (standing : IsStanding setting journal i t)
+    → (handled : ℕ) (switch : SwitchValue)
+    → switch ≡ calm_switch setting handled standing.way.under_way.place
+    → next t.tunnel ≡ None → IsAtAuthority switch t.tunnel.header t.tunnel.leg
+authority_here setting journal switches before count i t tied standing handled switch is last =
+    subst (λ (u : Traveller). IsAtAuthority switch u.tunnel.header u.tunnel.leg)
+    (sym standing.is)
+    (subst (λ w. IsAtAuthority w standing.way.under_way.header standing.way.leg) (sym is)
+    (at_authority setting standing.way.under_way.place handled (words_of journal i)
+    standing.way.under_way.header standing.way.leg
+    (ends_here setting journal switches before count i t tied standing last)))
+
+pub within_here : (setting : Setting) (journal : List Item) (switches : List SwitchValue)
+    (before : Travellers) (count i : ℕ) (t : Traveller) (s : ℕ)
+    → AreTied setting journal switches before count → traveller before i ≡ Some t
+    → s ≡ here t.tunnel → s < length switches
+within_here setting journal switches before count i t s tied its at =
+    let standing : IsStanding setting journal i t =
+    standing_of setting journal switches before count i t tied its in
+    let in_range : standing.way.under_way.place < length switches =
+    within setting journal switches before count i t tied standing in
+    omega (arith, at ∙ stands_at setting journal i t standing, in_range)
+
+-- all that a switch must be to be asked
+pub record CanAsk (setting : Setting) (t : Traveller) (s near : ℕ) (switch : SwitchValue) : Type 0
+  where
+    pub told : near ≡ near_of setting s
+    pub usable : found_down near (next t.tunnel) ≡ None
+    pub serving : IsTrue (serves switch)
+    pub stamped : CanLookUp switch
+    pub authority : next t.tunnel ≡ None
+        → IsAtAuthority switch t.tunnel.header t.tunnel.leg
+
+pub can_ask : (net : Net) (near : List ℕ) (setting : Setting) (journal : List Item)
+    (switches : List SwitchValue) (before : Travellers) (count i : ℕ) (t : Traveller) (s : ℕ)
+    (switch : SwitchValue) → setting.net ≡ net → IsNet net → AreNear net near
+    → AreTied setting journal switches before count → traveller before i ≡ Some t
+    → s ≡ here t.tunnel → switch ≡ get_or switches s switch
+    → CanAsk setting t s (slice_index near s) switch
+can_ask net near setting journal switches before count i t s switch same sound masks tied its at
+    own =
+    let standing : IsStanding setting journal i t =
+    standing_of setting journal switches before count i t tied its in
+    let place : ℕ = standing.way.under_way.place in
+    let here_it : s ≡ place = at ∙ stands_at setting journal i t standing in
+    let handled : ℕ = handled_count journal place in
+    let there : place < length net.switches =
+    subst (λ (n : Net). place < length n.switches) same standing.way.under_way.now in
+    let told : slice_index near place ≡ near_of setting place =
+    near_here net near setting place same sound masks there in
+    let is : switch ≡ calm_switch setting handled place =
+    own ∙ ap (λ p. get_or switches p switch) here_it
+    ∙ switch_here setting journal switches before count i t tied standing switch in
+    record {
+      told = ap (slice_index near) here_it ∙ told ∙ ap (near_of setting) (sym here_it);
+      usable = usable_here setting journal i t (slice_index near s) standing
+          (ap (slice_index near) here_it ∙ told);
+      serving = serving_here setting place handled switch is;
+      stamped = stamped_here setting place handled switch is;
+      authority = λ last. authority_here setting journal switches before count i t tied standing
+          handled switch is last;
+    }

@@ -1,0 +1,92 @@
+-- A packet that comes in: what its step writes.
+use Rattle.std.proofs.Common.{ℕ, ◌≡◌, ◌<◌, ◌==◌, Bool, true, false, if◌then◌else◌, Option, Some, None, List, [], ◌∷◌, ◌++◌, refl, ap, sym, subst, ◌∙◌, length, eq-eqb}
+use Rattle.std.specs.Prelude.{unwrap_or}
+use Rattle.failover.specs.DownSet.{no_links}
+use Rattle.five_tuple.specs.Header.{header_of}
+use Rattle.five_tuple.specs.declared.header.Header.{Header}
+use Rattle.net_file.specs.Net.{IsNet}
+use Rattle.net_file.specs.Owners.{AreOwners}
+use Rattle.net_file.specs.declared.ports.Ports.{Ports}
+use Rattle.journal.specs.declared.item.Item.{Item}
+use Rattle.journal.specs.declared.item.Item.TheVariants as item
+use Rattle.steps.specs.declared.step.Step.{Step}
+use Rattle.steps.specs.declared.step.Step.TheVariants as step
+use Rattle.switch_core.specs.Entering.{entered, incoming}
+use Rattle.switch_core.specs.declared.packet.Packet.{Packet}
+use Rattle.switch_table.specs.Lookup.{table_lookup}
+use Rattle.switch_table.specs.Tables.{tables_of}
+use Rattle.switch_table.specs.declared.search.Found.{Found}
+use Rattle.update_machine.specs.Boots.{serves}
+use Rattle.update_machine.specs.Caches.{lookup_at}
+use Rattle.update_machine.specs.Moves.{found_items, header_at, lookup_items}
+use Rattle.update_machine.specs.Packets.{next_packet}
+use Rattle.update_machine.specs.Pieces.{packet_items, piece}
+use Rattle.update_machine.specs.Setting.{Setting}
+use Rattle.packet_laws.specs.Calm.{HasPacketsAlone, IsCalm, first_plan}
+use Rattle.packet_laws.specs.Words.{words_of}
+use Rattle.packet_laws.proofs.Calm.{calm}
+use Rattle.packet_laws.proofs.Words.{words_grow}
+use Rattle.world.specs.Packets.{coming_in, entry}
+use Rattle.world.specs.Writing.{entered_items}
+use Rattle.world.proofs.Calmness.{calm_switch}
+use Rattle.world.proofs.Deciding.{IsPacket, alone_more}
+use Rattle.world.proofs.Entering.{IsSaid, enter_law}
+use Rattle.world.proofs.Legs.{near_of}
+
+-- the journal as the packet's switch looks it up
+abbrev pub looked_up : List Item → ℕ → Step → ℕ → ℕ → Header → List Item
+looked_up journal row taken i s header =
+    journal ++ item.Row row taken ∷ [] ++ item.Entered i s header ∷ []
+
+-- the packet has its header there, and found no link down
+coming_packet : (setting : Setting) (journal : List Item) (row i s handled : ℕ) (taken : Step)
+    (header : Header) → (words_of journal i).found ≡ no_links
+    → IsPacket (looked_up journal row taken i s header)
+    (incoming (calm_switch setting handled s) i header)
+coming_packet setting journal row i s handled taken header unmarked =
+    let own : (i == i) ≡ true = eq-eqb i i refl in
+    let first = words_grow i journal (item.Row row taken) in
+    let grown = words_grow i (journal ++ item.Row row taken ∷ []) (item.Entered i s header) in
+    record {
+      entered = ap (λ words. words.header) grown ∙ rw own refl;
+      found = ap (λ words. words.found) grown
+          ∙ rw own (ap (λ words. words.found) first ∙ unmarked);
+    }
+
+pub come_law : (setting : Setting) (journal : List Item) (row i s handled : ℕ) (header : Header)
+    (ports : Ports) → IsNet setting.net → setting.caches ≡ false → HasPacketsAlone journal
+    → (words_of journal i).found ≡ no_links → s < length setting.net.switches
+    → AreOwners setting.net.switches ports
+    → IsSaid setting s (table_lookup (tables_of (first_plan setting) 1 s) header)
+    → packet_items setting i s header (journal ++ item.Row row (step.Packet s header) ∷ [])
+    ≡ entered_items (coming_in i header s)
+    (entry (calm_switch setting handled s) (near_of setting s) ports i header)
+unfolding packet_items lookup_items entered words_of
+come_law setting journal row i s handled header ports net off alone unmarked there owners said =
+    let taken : Step = step.Packet s header in
+    let begun : List Item = journal ++ item.Row row taken ∷ [] in
+    let full : List Item = looked_up journal row taken i s header in
+    let alone_begun : HasPacketsAlone begun = alone_more journal (item.Row row taken) alone tt in
+    let alone_full : HasPacketsAlone full =
+    alone_more begun (item.Entered i s header) alone_begun tt in
+    let quiet : IsCalm setting full = calm setting full net alone_full in
+    let what : Found = table_lookup (tables_of (first_plan setting) 1 s) header in
+    let packet : Packet = incoming (calm_switch setting handled s) i header in
+    let is : IsPacket full packet =
+    coming_packet setting journal row i s handled taken header unmarked in
+    let its : header_at full i ≡ header =
+    ap (λ h. unwrap_or h (header_of (record {
+      src = 0;
+      dst = 0;
+      sport = 0;
+      dport = 0;
+      proto = 0;
+    }))) is.entered in
+    ap (λ b. elim b [
+      | false ↦ item.Closed i s ∷ []
+      | true ↦ item.Entered i s header ∷ lookup_items setting i s full
+    ]) ((calm setting begun net alone_begun).serving s)
+    ∙ ap (λ found. item.Entered i s header ∷ found_items setting i s found full)
+    (ap (lookup_at setting full s) its ∙ quiet.lookup s header)
+    ∙ sym (enter_law setting full net off alone_full quiet s handled there ports owners packet is
+    what said)

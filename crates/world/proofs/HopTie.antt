@@ -1,0 +1,577 @@
+-- A hop of a packet on its way: what it writes, and how it keeps the tie of a world to its journal.
+use Rattle.std.proofs.Common.{ℕ, ◌≡◌, ◌≢◌, ◌+◌, ◌-◌, ◌^◌, ◌<◌, ◌==◌, Bool, true, false, ◌&&◌, if◌then◌else◌, Option, Some, None, List, [], ◌∷◌, ◌++◌, refl, ap, sym, subst, ◌∙◌, append_assoc, length, get_or, set, min, arith, eq-eqb, eqb-true}
+use Rattle.std.specs.Prelude.{is_some, unwrap_or, slice_get}
+use Rattle.std.proofs.lemmas.Bool.Decides.{nat_tests}
+use Rattle.std.proofs.lemmas.List.{get_or-set_same, get_or-set_other, length-set}
+use Rattle.failover.specs.Masks.{has}
+use Rattle.five_tuple.specs.declared.header.Header.{Header}
+use Rattle.net_file.specs.Net.{links_of}
+use Rattle.net_file.specs.Owners.{AreOwners}
+use Rattle.net_file.specs.declared.ports.Ports.{Ports}
+use Rattle.policy_rules.specs.declared.packet.Leg.{Leg}
+use Rattle.policy_rules.specs.declared.packet.Leg.TheVariants.{Seek, Exit}
+use Rattle.journal.specs.declared.item.Item.{Item}
+use Rattle.journal.specs.declared.item.Item.TheVariants as item
+use Rattle.steps.specs.declared.step.Step.TheVariants.{Hop}
+use Rattle.switch_core.specs.Ends.{around}
+use Rattle.switch_core.specs.Arriving.{arrived}
+use Rattle.switch_core.specs.State.{SwitchValue, counted}
+use Rattle.switch_core.specs.declared.answers.Arrived.{Arrived}
+use Rattle.switch_core.specs.declared.answers.Arrived.TheVariants as arrived
+use Rattle.switch_core.specs.declared.answers.Decision.{Decision}
+use Rattle.switch_core.specs.declared.answers.Next.{Next}
+use Rattle.switch_core.specs.declared.answers.Next.TheVariants as onward
+use Rattle.tunnel.specs.Moves.{advanced, here, next}
+use Rattle.update_machine.specs.Folds.{count_of}
+use Rattle.update_machine.specs.Handled.{handled_count, hop_calls, is_entry_at, most_handled, stays_on_way}
+use Rattle.update_machine.specs.Links.{near}
+use Rattle.update_machine.specs.Marks.{retired_mark}
+use Rattle.update_machine.specs.Moves.{arrive_items, move_items, put, reroute_items, takes_route}
+use Rattle.update_machine.specs.Packets.{is_at, is_packet, next_switch, travels, travels_at}
+use Rattle.update_machine.specs.Packets.{standing as place_of}
+use Rattle.update_machine.specs.Pieces.{nothing, piece}
+use Rattle.update_machine.specs.Pieces.{hop_items as hop_items_of}
+use Rattle.update_machine.specs.Played.{IsSetting, MayPlay}
+use Rattle.update_machine.specs.Setting.{Setting}
+use Rattle.packet_laws.specs.Calm.{HasPacketsAlone, IsCalm}
+use Rattle.packet_laws.specs.OnWay.{IsOnWay}
+use Rattle.packet_laws.specs.Words.{PacketWords, told_by, words_of}
+use Rattle.packet_laws.proofs.Blocks.{joined_on}
+use Rattle.packet_laws.proofs.Calm.{calm}
+use Rattle.packet_laws.proofs.Words.{words_grow}
+use Rattle.world.specs.Packets.{arrival, arrival_items, hop_items, hop_traveller, hopped_switch, standing_at}
+use Rattle.world.specs.State.{AreTied}
+use Rattle.world.specs.Travelling.{Travellers, WithOne, traveller}
+use Rattle.world.specs.Writing.{IsPart, arrived_items, decided_items}
+use Rattle.world.specs.declared.log.Standing.{Standing}
+use Rattle.world.specs.declared.travelling.Traveller.{Traveller}
+use Rattle.world.proofs.Arrivals.{arrival_goes, arrive_law}
+use Rattle.world.proofs.AtEnd.{IsAtEnd}
+use Rattle.world.proofs.Asking.{ends_here, switch_here}
+use Rattle.world.proofs.Calmness.{calm_switch, calm_switch_of}
+use Rattle.world.proofs.Deciding.{alone_more}
+use Rattle.world.proofs.Legs.{near_of}
+use Rattle.world.proofs.Losing.{travels_as}
+use Rattle.world.proofs.OnWay.{IsStanding, known, next_of_words, on_leg, standing_of, stands_at}
+use Rattle.world.proofs.Others.{NoneName, arrived_other, unnamed}
+use Rattle.world.proofs.Played.{played_alone, played_calm}
+use Rattle.world.proofs.Steps.{NoRows, calls_in}
+use Rattle.world.proofs.Tying.{Steps, idle, tied_more, with_calls}
+use Rattle.world.proofs.Words.{calm_traveller, traveller_by, words_along}
+
+-- ---- what it writes
+
+-- the journal as the hop is written
+abbrev begun : List Item → ℕ → ℕ → List Item
+begun journal row i = journal ++ item.Row row (Hop i) ∷ []
+
+same_words : (journal : List Item) (row i q : ℕ)
+    → words_of (begun journal row i) q ≡ words_of journal q
+same_words journal row i q = words_grow q journal (item.Row row (Hop i))
+
+-- where it stands, and what its switch is told
+pub record IsAsked (setting : Setting) (journal : List Item) (i : ℕ) (t : Traveller)
+    (switch : SwitchValue) (near : ℕ) (ports : Ports) : Type 0 where
+  pub sound : IsSetting setting
+  pub alone : HasPacketsAlone journal
+  pub standing : IsStanding setting journal i t
+  pub owners : AreOwners setting.net.switches ports
+  pub own : switch
+      ≡ calm_switch setting (handled_count journal standing.way.under_way.place)
+      standing.way.under_way.place
+  pub told : near ≡ near_of setting standing.way.under_way.place
+  pub ends : next t.tunnel ≡ None
+      → IsAtEnd setting standing.way.under_way.place (words_of journal i)
+      standing.way.under_way.header standing.way.leg
+
+-- switches send no cache rules yet
+caches_off : (setting : Setting) → IsSetting setting → setting.caches ≡ false
+caches_off setting is = ap (λ (s : Setting). s.caches) is.made
+
+-- it moves over the next link, which is usable
+moves_law : (setting : Setting) (journal : List Item) (row i : ℕ) (t : Traveller)
+    (switch : SwitchValue) (near_it : ℕ) (ports : Ports) (two : ℕ)
+    → (asked : IsAsked setting journal i t switch near_it ports)
+    → next t.tunnel ≡ Some two
+    → move_items setting i asked.standing.way.under_way.place (begun journal row i)
+    ≡ hop_items (counted switch) near_it ports t (Some two)
+unfolding move_items next_switch words_of
+moves_law setting journal row i t switch near_it ports two asked goes =
+    let new : List Item = begun journal row i in
+    let way : IsOnWay setting journal (words_of journal i) = asked.standing.way in
+    let place : ℕ = way.under_way.place in
+    let at : next_switch new i ≡ Some two =
+    ap (λ (words : PacketWords). slice_get words.route (words.hops + 1))
+    (same_words journal row i i)
+    ∙ sym (next_of_words setting journal i t asked.standing) ∙ goes in
+    let alone : HasPacketsAlone new = alone_more journal (item.Row row (Hop i)) asked.alone tt in
+    let joined : has (links_of setting.net.links place) two ≡ true =
+    joined_on setting journal (words_of journal i) way.under_way.header way.leg way.on_leg
+    (words_of journal i).hops place two way.stands
+    (sym (next_of_words setting journal i t asked.standing) ∙ goes) in
+    let usable : has (near setting new place) two ≡ true =
+    ap (λ links. has links two) ((calm setting new asked.sound.net alone).near place) ∙ joined in
+    ap (λ o. elim o [
+      | None ↦ arrive_items setting i place new
+      | Some next ↦ elim (has (near setting new place) next) [
+        | true ↦ item.Hopped i next ∷ []
+        | false ↦ put (item.FoundDown i place next ∷ []) (reroute_items setting i place) new
+      ]
+    ]) at
+    ∙ ap (λ b. elim b [
+      | true ↦ item.Hopped i two ∷ []
+      | false ↦ put (item.FoundDown i place two ∷ []) (reroute_items setting i place) new
+    ]) usable
+    ∙ ap (λ (u : Traveller). item.Hopped u.tunnel.packet two ∷ []) (sym asked.standing.is)
+
+-- it arrives at the end of its route
+arrives_law : (setting : Setting) (journal : List Item) (row i : ℕ) (t : Traveller)
+    (switch : SwitchValue) (near_it : ℕ) (ports : Ports)
+    → (asked : IsAsked setting journal i t switch near_it ports)
+    → next t.tunnel ≡ None
+    → move_items setting i asked.standing.way.under_way.place (begun journal row i)
+    ≡ hop_items (counted switch) near_it ports t None
+unfolding move_items next_switch words_of
+arrives_law setting journal row i t switch near_it ports asked last =
+    let new : List Item = begun journal row i in
+    let way : IsOnWay setting journal (words_of journal i) = asked.standing.way in
+    let place : ℕ = way.under_way.place in
+    let same : words_of new i ≡ words_of journal i = same_words journal row i i in
+    let at : next_switch new i ≡ None =
+    ap (λ (words : PacketWords). slice_get words.route (words.hops + 1)) same
+    ∙ sym (next_of_words setting journal i t asked.standing) ∙ last in
+    let alone : HasPacketsAlone new = alone_more journal (item.Row row (Hop i)) asked.alone tt in
+    let calm_new : IsCalm setting new = calm setting new asked.sound.net alone in
+    let as_calm : SwitchValue = counted (calm_switch setting (handled_count journal place) place) in
+    ap (λ o. elim o [
+      | None ↦ arrive_items setting i place new
+      | Some next ↦ elim (has (near setting new place) next) [
+        | true ↦ item.Hopped i next ∷ []
+        | false ↦ put (item.FoundDown i place next ∷ []) (reroute_items setting i place) new
+      ]
+    ]) at
+    ∙ arrive_law setting new asked.sound.net (caches_off setting asked.sound) alone calm_new
+    place as_calm.handled i way.under_way.ingress
+    way.under_way.now ports asked.owners way.under_way.header way.leg
+    (ap (λ (words : PacketWords). words.header) same ∙ way.under_way.entered)
+    (ap (λ (words : PacketWords). words.leg) same ∙ way.takes)
+    (subst (λ words. IsAtEnd setting place words way.under_way.header way.leg) (sym same)
+    (asked.ends last))
+    ∙ ap (λ words. arrival_items as_calm (near_of setting place) ports
+    (on_leg setting i words way.under_way.header way.under_way.ingress way.leg)) same
+    ∙ ap (arrival_items as_calm (near_of setting place) ports) (sym asked.standing.is)
+    ∙ ap (λ near. arrival_items as_calm near ports t) (sym asked.told)
+    ∙ ap (λ w. arrival_items (counted w) near_it ports t) (sym asked.own)
+
+move_law : (setting : Setting) (journal : List Item) (row i : ℕ) (t : Traveller)
+    (switch : SwitchValue) (near_it : ℕ) (ports : Ports)
+    → (asked : IsAsked setting journal i t switch near_it ports)
+    → (goes_on : Option ℕ) → next t.tunnel ≡ goes_on
+    → move_items setting i asked.standing.way.under_way.place (begun journal row i)
+    ≡ hop_items (counted switch) near_it ports t goes_on
+move_law setting journal row i t switch near_it ports asked None is =
+    arrives_law setting journal row i t switch near_it ports asked is
+move_law setting journal row i t switch near_it ports asked (Some two) is =
+    moves_law setting journal row i t switch near_it ports two asked is
+
+pub hop_piece : (setting : Setting) (journal : List Item) (row i : ℕ) (t : Traveller)
+    (switch : SwitchValue) (near_it : ℕ) (ports : Ports)
+    → (asked : IsAsked setting journal i t switch near_it ports)
+    → (goes_on : Option ℕ) → next t.tunnel ≡ goes_on
+    → piece setting journal row (Hop i)
+    ≡ item.Row row (Hop i) ∷ hop_items (counted switch) near_it ports t goes_on
+unfolding piece hop_items_of words_of
+hop_piece setting journal row i t switch near_it ports asked goes_on is =
+    let new : List Item = begun journal row i in
+    let same : words_of new i ≡ words_of journal i = same_words journal row i i in
+    ap (λ b. item.Row row (Hop i) ∷ elim b [
+      | false ↦ nothing
+      | true ↦ move_items setting i (unwrap_or (place_of new i) 0) new
+    ]) (ap (λ (words : PacketWords). words.travels) same ∙ asked.standing.on)
+    ∙ ap (λ o. item.Row row (Hop i) ∷ move_items setting i (unwrap_or o 0) new)
+    (ap (λ (words : PacketWords). words.place) same ∙ asked.standing.way.under_way.stands)
+    ∙ ap (λ items. item.Row row (Hop i) ∷ items)
+    (move_law setting journal row i t switch near_it ports asked goes_on is)
+
+-- ---- the calls that it counts
+
+-- items of a hop: none begins a step or is an entry, and whether one is a move
+pub record IsOfHop (row i : ℕ) (stays : Bool) (items : List Item) : Type 0 where
+  pub rows : NoRows items
+  pub entries : (k : ℕ) → count_of (is_entry_at k) (item.Row row (Hop i) ∷ items) ≡ 0
+  pub packets : count_of is_packet (item.Row row (Hop i) ∷ items) ≡ 0
+  pub moves : stays_on_way items ≡ stays
+
+route_of_hop : (row i packet : ℕ) (leg : Leg) (route : List ℕ)
+    → IsOfHop row i false (takes_route packet leg route ∷ [])
+route_of_hop row i packet (Seek version partition) route =
+    record { rows = (tt, tt); entries = λ k. refl; packets = refl; moves = refl }
+route_of_hop row i packet (Exit port) route =
+    record { rows = (tt, tt); entries = λ k. refl; packets = refl; moves = refl }
+
+exit_of_hop : (row i : ℕ) (at : Standing) (decision : Decision) (leg : Leg)
+    (route : List ℕ) → IsOfHop row i false
+    (item.Decided at.packet decision.version decision.rule decision.action decision.how
+    ∷ takes_route at.packet leg route ∷ [])
+exit_of_hop row i at decision (Seek version partition) route =
+    record { rows = (tt, (tt, tt)); entries = λ k. refl; packets = refl; moves = refl }
+exit_of_hop row i at decision (Exit port) route =
+    record { rows = (tt, (tt, tt)); entries = λ k. refl; packets = refl; moves = refl }
+
+decided_of_hop : (row i : ℕ) (at : Standing) (decision : Decision) (answer : Next)
+    → IsOfHop row i false (decided_items at decision answer)
+decided_of_hop row i at decision onward.Dropped =
+    record { rows = (tt, (tt, tt)); entries = λ k. refl; packets = refl; moves = refl }
+decided_of_hop row i at decision (onward.Out port) =
+    record { rows = (tt, (tt, tt)); entries = λ k. refl; packets = refl; moves = refl }
+decided_of_hop row i at decision (onward.Stuck cause) =
+    record { rows = (tt, (tt, tt)); entries = λ k. refl; packets = refl; moves = refl }
+decided_of_hop row i at decision (onward.Exit tunnel) =
+    exit_of_hop row i at decision tunnel.leg tunnel.route
+
+arrived_of_hop : (row i : ℕ) (at : Standing) (t : Traveller) (answer : Arrived)
+    → IsOfHop row i false (arrived_items at t answer)
+arrived_of_hop row i at t (arrived.Out port) =
+    record { rows = (tt, tt); entries = λ k. refl; packets = refl; moves = refl }
+arrived_of_hop row i at t (arrived.Decided decision cache answer) =
+    decided_of_hop row i at decision answer
+arrived_of_hop row i at t (arrived.Seek tunnel) =
+    route_of_hop row i at.packet tunnel.leg tunnel.route
+arrived_of_hop row i at t (arrived.Stuck cause leg) =
+    record { rows = (tt, tt); entries = λ k. refl; packets = refl; moves = refl }
+
+-- the packet moves on
+abbrev goes_further : Option ℕ → Bool
+goes_further None = false
+goes_further (Some two) = true
+
+items_of_hop : (row i : ℕ) (switch : SwitchValue) (near_it : ℕ) (ports : Ports) (t : Traveller)
+    (goes_on : Option ℕ)
+    → IsOfHop row i (goes_further goes_on) (hop_items switch near_it ports t goes_on)
+unfolding arrival_items
+items_of_hop row i switch near_it ports t None =
+    arrived_of_hop row i (standing_at switch.number t) t
+    (arrived switch (around near_it ports) t.tunnel)
+items_of_hop row i switch near_it ports t (Some two) =
+    record { rows = (tt, tt); entries = λ k. refl; packets = refl; moves = refl }
+
+calls_of_hop : (journal items : List Item) (row i place k : ℕ) (stays b : Bool)
+    → IsOfHop row i stays items → travels journal i ≡ true → place_of journal i ≡ Some place
+    → (place == k) ≡ b
+    → calls_in k journal (item.Row row (Hop i) ∷ items)
+    ≡ (if b then (if stays then 1 else 2) else 0)
+calls_of_hop journal items row i place k stays b of on stands is =
+    let at : travels_at journal k i ≡ b =
+    ap (λ x. x && is_at k (place_of journal i)) on
+    ∙ ap (is_at k) stands ∙ is in
+    let calls : hop_calls k (record { before = journal; items = item.Row row (Hop i) ∷ items })
+    (item.Row row (Hop i) ∷ items) ≡ (if b then (if stays then 1 else 2) else 0) =
+    ap (λ x. if x then (if stays_on_way items then 1 else 2) else 0) at
+    ∙ ap (λ x. if b then (if x then 1 else 2) else 0) of.moves in
+    omega (arith, of.entries k, calls)
+
+one_more : (h : ℕ) → min (h + 1) (2 ^ 64 - 1) ≡ min most_handled (h + 1)
+one_more h = omega arith
+
+two_more : (h : ℕ) → min (min (h + 1) (2 ^ 64 - 1) + 1) (2 ^ 64 - 1) ≡ min most_handled (h + 2)
+two_more h = omega arith
+
+hopped_is : (switch : SwitchValue) (goes_on : Option ℕ) → hopped_switch switch goes_on
+    ≡ with_calls (if goes_further goes_on then 1 else 2) switch
+hopped_is switch None = ap (λ (h : ℕ). record switch { handled = h }) (two_more switch.handled)
+hopped_is switch (Some two) =
+    ap (λ (h : ℕ). record switch { handled = h }) (one_more switch.handled)
+
+-- ---- what becomes of the packets
+
+moved_goes : (setting : Setting) (before : List Item) (i two ingress : ℕ) (words : PacketWords)
+    (header : Header) (leg : Leg) → words.travels ≡ true → words.header ≡ Some header
+    → words.ingress ≡ Some ingress → words.leg ≡ Some leg
+    → Some (record (on_leg setting i words header ingress leg) {
+      tunnel = advanced (on_leg setting i words header ingress leg).tunnel;
+    })
+    ≡ traveller_by setting i (words_along i before (item.Hopped i two ∷ []) words)
+moved_goes setting before i two ingress words header leg on its came takes =
+    let after : PacketWords = told_by (retired_mark before) (item.Hopped i two) words in
+    sym (ap (λ b. traveller_by setting i (if b then after else words)) (eq-eqb i i refl)
+    ∙ known setting i after header ingress leg on its came takes)
+
+hop_goes : (setting : Setting) (journal before : List Item) (i : ℕ) (t : Traveller)
+    (switch : SwitchValue) (near_it : ℕ) (ports : Ports)
+    → (asked : IsAsked setting journal i t switch near_it ports)
+    → (goes_on : Option ℕ) → next t.tunnel ≡ goes_on
+    → hop_traveller (counted switch) near_it ports t goes_on
+    ≡ traveller_by setting i (words_along i before
+    (hop_items (counted switch) near_it ports t goes_on) (words_of journal i))
+hop_goes setting journal before i t switch near_it ports asked None last =
+    let words : PacketWords = words_of journal i in
+    let way : IsOnWay setting journal words = asked.standing.way in
+    let place : ℕ = way.under_way.place in
+    let as_calm : SwitchValue =
+    counted (calm_switch setting (handled_count journal place) place) in
+    let Goes : SwitchValue → Traveller → Type 0 = λ w u. arrival w near_it ports u
+    ≡ traveller_by setting i (words_along i before (arrival_items w near_it ports u) words) in
+    subst (λ w. Goes (counted w) t) (sym asked.own)
+    (subst (Goes as_calm) (sym asked.standing.is)
+    (arrival_goes setting before place as_calm.handled i near_it
+    way.under_way.ingress ports words way.under_way.header way.leg asked.owners
+    asked.standing.on way.under_way.entered way.under_way.came (asked.ends last)))
+hop_goes setting journal before i t switch near_it ports asked (Some two) goes =
+    let words : PacketWords = words_of journal i in
+    let way : IsOnWay setting journal words = asked.standing.way in
+    subst (λ (u : Traveller). Some (record u { tunnel = advanced u.tunnel })
+    ≡ traveller_by setting i
+    (words_along i before (item.Hopped u.tunnel.packet two ∷ []) words))
+    (sym asked.standing.is)
+    (moved_goes setting before i two way.under_way.ingress words way.under_way.header way.leg
+    asked.standing.on way.under_way.entered way.under_way.came way.takes)
+
+hop_other : (q : ℕ) (switch : SwitchValue) (near_it : ℕ) (ports : Ports) (t : Traveller)
+    (goes_on : Option ℕ) → (t.tunnel.packet == q) ≡ false
+    → NoneName q (hop_items switch near_it ports t goes_on)
+unfolding arrival_items
+hop_other q switch near_it ports t None other =
+    arrived_other q (standing_at switch.number t) t
+    (arrived switch (around near_it ports) t.tunnel) other
+hop_other q switch near_it ports t (Some two) other = (other, tt)
+
+-- ---- the tie
+
+others_go : (setting : Setting) (journal new items : List Item) (i q : ℕ)
+    (this was : Option Traveller) → (b : Bool) → (q == i) ≡ b
+    → this ≡ traveller_by setting i (words_along i new items (words_of journal i))
+    → was ≡ traveller_by setting q (words_of journal q)
+    → ((i == q) ≡ false → NoneName q items)
+    → (if b then this else was)
+    ≡ traveller_by setting q (words_along q new items (words_of journal q))
+others_go setting journal new items i q this was true is own other none =
+    subst (λ p. this ≡ traveller_by setting p (words_along p new items (words_of journal p)))
+    (sym (eqb-true q i is)) own
+others_go setting journal new items i q this was false is own other none =
+    let apart : (i == q) ≡ false = grind (arith, nat_tests) in
+    other ∙ ap (traveller_by setting q)
+    (sym (unnamed q new items (words_of journal q) (none apart)))
+
+-- the switch where the packet stood answered these calls, all others none
+calls_go : (setting : Setting) (journal items : List Item) (switches : List SwitchValue)
+    (row i place k : ℕ) (d switch after : SwitchValue) (stays b : Bool)
+    → IsOfHop row i stays items → travels journal i ≡ true → place_of journal i ≡ Some place
+    → place < length switches → get_or switches place d ≡ switch
+    → after ≡ with_calls (if stays then 1 else 2) switch
+    → get_or switches k d ≡ with_calls 0 (get_or switches k d)
+    → (place == k) ≡ b
+    → get_or (set switches place after) k d
+    ≡ with_calls (calls_in k journal (item.Row row (Hop i) ∷ items)) (get_or switches k d)
+calls_go setting journal items switches row i place k d switch after stays true of on stands
+    there was answered idle_there is =
+    let same : place ≡ k = eqb-true place k is in
+    let count : calls_in k journal (item.Row row (Hop i) ∷ items) ≡ (if stays then 1 else 2) =
+    calls_of_hop journal items row i place k stays true of on stands is in
+    ap (λ p. get_or (set switches place after) p d) (sym same)
+    ∙ get_or-set_same switches place after d there
+    ∙ answered
+    ∙ ap (with_calls (if stays then 1 else 2)) (sym was)
+    ∙ ap (λ p. with_calls (if stays then 1 else 2) (get_or switches p d)) same
+    ∙ ap (λ calls. with_calls calls (get_or switches k d)) (sym count)
+calls_go setting journal items switches row i place k d switch after stays false of on stands
+    there was answered idle_there is =
+    let apart : k ≢ place = grind (arith, nat_tests) in
+    let count : calls_in k journal (item.Row row (Hop i) ∷ items) ≡ 0 =
+    calls_of_hop journal items row i place k stays false of on stands is in
+    get_or-set_other switches place k after d apart
+    ∙ idle_there
+    ∙ ap (λ calls. with_calls calls (get_or switches k d)) (sym count)
+
+hop_steps : (setting : Setting) (journal : List Item) (switches : List SwitchValue)
+    (before after : Travellers) (count row i : ℕ) (t : Traveller) (switch : SwitchValue)
+    (near_it : ℕ) (ports : Ports)
+    → AreTied setting journal switches before count → MayPlay setting (Hop i)
+    → (asked : IsAsked setting journal i t switch near_it ports)
+    → (goes_on : Option ℕ) → next t.tunnel ≡ goes_on
+    → WithOne before i (hop_traveller (counted switch) near_it ports t goes_on) after
+    → Steps setting journal row (Hop i) (hop_items (counted switch) near_it ports t goes_on)
+    switches (set switches asked.standing.way.under_way.place (hopped_switch switch goes_on))
+    after
+unfolding AreTied words_of
+hop_steps setting journal switches before after count row i t switch near_it ports tied may
+    asked goes_on is without =
+    let place : ℕ = asked.standing.way.under_way.place in
+    let items : List Item = hop_items (counted switch) near_it ports t goes_on in
+    let calm_now : IsCalm setting journal = played_calm setting journal tied.sound tied.played in
+    let of : IsOfHop row i (goes_further goes_on) items =
+    items_of_hop row i (counted switch) near_it ports t goes_on in
+    let there : place < length switches =
+    omega (arith, tied.many, asked.standing.way.under_way.now) in
+    record {
+      may = may;
+      piece_is = hop_piece setting journal row i t switch near_it ports asked
+          goes_on is;
+      one_row = of.rows;
+      as_many = length-set switches place (hopped_switch switch goes_on);
+      calls = λ k d within.
+          calls_go setting journal items switches row i place k d switch
+          (hopped_switch switch goes_on) (goes_further goes_on) (place == k) of
+          asked.standing.on asked.standing.way.under_way.stands there
+          (tied.each place d there
+          ∙ calm_switch_of setting journal calm_now place asked.standing.way.under_way.now
+          ∙ sym asked.own)
+          (hopped_is switch goes_on)
+          (idle setting journal switches k d (tied.each k d within)) refl;
+      travels = λ q. without q
+          ∙ others_go setting journal (begun journal row i) items i q
+          (hop_traveller (counted switch) near_it ports t goes_on) (traveller before q) (q == i)
+          refl
+          (hop_goes setting journal (begun journal row i) i t switch near_it ports asked
+          goes_on is)
+          (tied.packet q ∙ calm_traveller setting journal calm_now q)
+          (λ apart. hop_other q (counted switch) near_it ports t goes_on
+          (ap (λ (u : Traveller). u.tunnel.packet == q) asked.standing.is ∙ apart));
+    }
+
+-- ---- the step
+
+pub asked_of : (setting : Setting) (journal : List Item) (switches : List SwitchValue)
+    (before : Travellers) (count i : ℕ) (t : Traveller) (s : ℕ) (switch : SwitchValue)
+    (near_it : ℕ) (ports : Ports)
+    → (tied : AreTied setting journal switches before count) → traveller before i ≡ Some t
+    → AreOwners setting.net.switches ports → s ≡ here t.tunnel
+    → switch ≡ get_or switches s switch → near_it ≡ near_of setting s
+    → IsStanding setting journal i t → IsAsked setting journal i t switch near_it ports
+unfolding AreTied
+asked_of setting journal switches before count i t s switch near_it ports tied its owners at own
+    told standing_it =
+    let place : ℕ = standing_it.way.under_way.place in
+    let same : s ≡ place = at ∙ stands_at setting journal i t standing_it in
+    record {
+      sound = tied.sound;
+      alone = played_alone setting journal tied.sound tied.played;
+      standing = standing_it;
+      owners = owners;
+      own = own ∙ ap (λ p. get_or switches p switch) same
+          ∙ switch_here setting journal switches before count i t tied standing_it switch;
+      told = told ∙ ap (near_of setting) same;
+      ends = λ last. ends_here setting journal switches before count i t tied standing_it last;
+    }
+
+pub hop_written : (setting : Setting) (journal new : List Item) (switches : List SwitchValue)
+    (before after : Travellers) (count row i : ℕ) (t : Traveller) (s : ℕ)
+    (switch other : SwitchValue) (near_it : ℕ) (ports : Ports)
+    → AreTied setting journal switches before count → MayPlay setting (Hop i)
+    → traveller before i ≡ Some t → AreOwners setting.net.switches ports → s ≡ here t.tunnel
+    → switch ≡ get_or switches s switch → near_it ≡ near_of setting s
+    → other ≡ hopped_switch switch (next t.tunnel)
+    → WithOne before i (hop_traveller (counted switch) near_it ports t (next t.tunnel)) after
+    → new ≡ journal ++ item.Row row (Hop i) ∷ []
+    ++ hop_items (counted switch) near_it ports t (next t.tunnel)
+    → AreTied setting new (set switches s other) after count
+hop_written setting journal new switches before after count row i t s switch other near_it ports
+    tied may its owners at own told answered without is =
+    let standing_it : IsStanding setting journal i t =
+    standing_of setting journal switches before count i t tied its in
+    let asked : IsAsked setting journal i t switch near_it ports =
+    asked_of setting journal switches before count i t s switch near_it ports tied its owners at
+    own told standing_it in
+    let place : ℕ = asked.standing.way.under_way.place in
+    let same : s ≡ place = at ∙ stands_at setting journal i t asked.standing in
+    let items : List Item = hop_items (counted switch) near_it ports t (next t.tunnel) in
+    let all : new ≡ journal ++ item.Row row (Hop i) ∷ items =
+    is ∙ append_assoc journal (item.Row row (Hop i) ∷ []) items in
+    let of : IsOfHop row i (goes_further (next t.tunnel)) items =
+    items_of_hop row i (counted switch) near_it ports t (next t.tunnel) in
+    let kept : AreTied setting (journal ++ item.Row row (Hop i) ∷ items)
+    (set switches place (hopped_switch switch (next t.tunnel))) after count =
+    tied_more setting journal switches
+    (set switches place (hopped_switch switch (next t.tunnel))) before after count count row
+    (Hop i) items tied
+    (hop_steps setting journal switches before after count row i t switch near_it ports tied may
+    asked (next t.tunnel) refl without)
+    (omega (arith, of.packets)) in
+    subst (λ js. AreTied setting js (set switches s other) after count) (sym all)
+    (subst (λ w. AreTied setting (journal ++ item.Row row (Hop i) ∷ items) (set switches s w)
+    after count) (sym answered)
+    (subst (λ p. AreTied setting (journal ++ item.Row row (Hop i) ∷ items)
+    (set switches p (hopped_switch switch (next t.tunnel))) after count) (sym same) kept))
+
+pub hop_part : (setting : Setting) (journal new items : List Item) (row i : ℕ)
+    → piece setting journal row (Hop i) ≡ item.Row row (Hop i) ∷ items
+    → IsPart (journal ++ item.Row row (Hop i) ∷ []) items new
+    → IsPart journal (piece setting journal row (Hop i)) new
+hop_part setting journal new items row i is part = record {
+  written = item.Row row (Hop i) ∷ part.written;
+  rest = part.rest;
+  split = is ∙ ap (λ items. item.Row row (Hop i) ∷ items) part.split;
+  grown = part.grown ∙ append_assoc journal (item.Row row (Hop i) ∷ []) part.written;
+}
+
+-- the piece of a hop, by what its switch is told
+pub hop_piece_of : (setting : Setting) (journal : List Item) (switches : List SwitchValue)
+    (before : Travellers) (count row i : ℕ) (t : Traveller) (s : ℕ) (switch : SwitchValue)
+    (near_it : ℕ) (ports : Ports)
+    → (tied : AreTied setting journal switches before count) → traveller before i ≡ Some t
+    → AreOwners setting.net.switches ports → s ≡ here t.tunnel
+    → switch ≡ get_or switches s switch → near_it ≡ near_of setting s
+    → piece setting journal row (Hop i)
+    ≡ item.Row row (Hop i) ∷ hop_items (counted switch) near_it ports t (next t.tunnel)
+hop_piece_of setting journal switches before count row i t s switch near_it ports tied its owners
+    at own told =
+    let standing_it : IsStanding setting journal i t =
+    standing_of setting journal switches before count i t tied its in
+    hop_piece setting journal row i t switch near_it ports
+    (asked_of setting journal switches before count i t s switch near_it ports tied its owners at
+    own told standing_it) (next t.tunnel) refl
+
+-- ---- a packet that doesn't travel
+
+left_piece : (setting : Setting) (journal : List Item) (row i : ℕ) → travels journal i ≡ false
+    → piece setting journal row (Hop i) ≡ item.Row row (Hop i) ∷ item.Nothing ∷ []
+unfolding piece hop_items_of words_of
+left_piece setting journal row i off =
+    let new : List Item = begun journal row i in
+    ap (λ b. item.Row row (Hop i) ∷ elim b [
+      | false ↦ nothing
+      | true ↦ move_items setting i (unwrap_or (place_of new i) 0) new
+    ]) (ap (λ (words : PacketWords). words.travels) (same_words journal row i i) ∙ off)
+
+pub hop_left : (setting : Setting) (journal new : List Item) (switches : List SwitchValue)
+    (before : Travellers) (count row i : ℕ)
+    → AreTied setting journal switches before count → MayPlay setting (Hop i)
+    → is_some (traveller before i) ≡ false
+    → new ≡ journal ++ item.Row row (Hop i) ∷ [] ++ item.Nothing ∷ []
+    → (new ≡ journal ++ piece setting journal row (Hop i))
+    × AreTied setting new switches before count
+unfolding AreTied
+hop_left setting journal new switches before count row i tied may resting is =
+    let calm_now : IsCalm setting journal = played_calm setting journal tied.sound tied.played in
+    let off : travels journal i ≡ false =
+    sym (ap is_some (tied.packet i) ∙ travels_as setting journal i) ∙ resting in
+    let piece_is : piece setting journal row (Hop i) ≡ item.Row row (Hop i) ∷ item.Nothing ∷ [] =
+    left_piece setting journal row i off in
+    let all : new ≡ journal ++ item.Row row (Hop i) ∷ item.Nothing ∷ [] =
+    is ∙ append_assoc journal (item.Row row (Hop i) ∷ []) (item.Nothing ∷ []) in
+    let kept : AreTied setting (journal ++ item.Row row (Hop i) ∷ item.Nothing ∷ []) switches
+    before count =
+    tied_more setting journal switches switches before before count count row (Hop i)
+    (item.Nothing ∷ []) tied (record {
+      may = may;
+      piece_is = piece_is;
+      one_row = (tt, tt);
+      as_many = refl;
+      calls = λ s d there.
+          idle setting journal switches s d (tied.each s d there)
+          ∙ ap (λ calls. with_calls calls (get_or switches s d))
+          (sym (no_calls journal row i s off));
+      travels = λ q. tied.packet q ∙ calm_traveller setting journal calm_now q;
+    }) (omega arith) in (
+      all ∙ ap (λ items. journal ++ items) (sym piece_is),
+      subst (λ js. AreTied setting js switches before count) (sym all) kept,
+    )
+  where
+    no_calls : (journal : List Item) (row i s : ℕ) → travels journal i ≡ false
+        → calls_in s journal (item.Row row (Hop i) ∷ item.Nothing ∷ []) ≡ 0
+    no_calls journal row i s off =
+        let all : List Item = item.Row row (Hop i) ∷ item.Nothing ∷ [] in
+        let none : count_of (is_entry_at s) all ≡ 0 = refl in
+        let calls : hop_calls s (record { before = journal; items = all }) all ≡ 0 =
+        ap (λ x. if x && is_at s (place_of journal i)
+        then (if stays_on_way (item.Nothing ∷ []) then 1 else 2) else 0) off in
+        omega (arith, none, calls)

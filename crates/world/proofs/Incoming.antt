@@ -1,0 +1,421 @@
+-- A packet that comes in: its whole step keeps the tie.
+use Rattle.std.proofs.Common.{ℕ, ◌≡◌, ◌≢◌, ◌+◌, ◌-◌, ◌^◌, ◌<◌, ◌≤◌, ◌==◌, Bool, true, false, if◌then◌else◌, cond, Option, Some, None, List, [], ◌∷◌, ◌++◌, refl, ap, sym, subst, ◌∙◌, append_assoc, length, get_or, set, min, eqb-true, eq-eqb, arith}
+use Rattle.std.specs.Prelude.{OnErr, OnOk, Result, Ok, Err}
+use Rattle.std.proofs.lemmas.Result.{on_ok_weaker}
+use Rattle.std.proofs.lemmas.List.{get_or-set_other, get_or-set_same, get_or_default, length-set}
+use Rattle.std.proofs.lemmas.List.Sums.{sum_by-cons}
+use Rattle.failover.specs.DownSet.{no_links}
+use Rattle.five_tuple.specs.declared.header.Header.{Header}
+use Rattle.net_file.specs.Owners.{AreOwners}
+use Rattle.net_file.specs.declared.ports.Ports.{Ports}
+use Rattle.policy_rules.specs.declared.packet.Leg.{Leg}
+use Rattle.policy_rules.specs.declared.packet.Leg.TheVariants.{Seek, Exit}
+use Rattle.journal.specs.declared.item.Item.{Item}
+use Rattle.journal.specs.declared.item.Item.TheVariants as item
+use Rattle.steps.specs.declared.step.Step.{Step}
+use Rattle.steps.specs.declared.step.Step.TheVariants.{Packet as PacketStep}
+use Rattle.switch_core.specs.Entering.{CanLookUp, entered, incoming}
+use Rattle.switch_core.specs.State.{SwitchValue, counted}
+use Rattle.switch_core.specs.declared.answers.Decision.{Decision}
+use Rattle.switch_core.specs.declared.answers.Entered.{Entered}
+use Rattle.switch_core.specs.declared.answers.Entered.TheVariants as entered
+use Rattle.switch_core.specs.declared.answers.Next.{Next}
+use Rattle.switch_core.specs.declared.answers.Next.TheVariants as next
+use Rattle.switch_table.specs.Lookup.{table_lookup}
+use Rattle.switch_table.specs.Tables.{tables_of}
+use Rattle.switch_table.specs.declared.search.Found.{Found}
+use Rattle.update_machine.specs.Folds.{count_of}
+use Rattle.update_machine.specs.Handled.{handled_count, is_entry_at, most_handled}
+use Rattle.update_machine.specs.Moves.{takes_route}
+use Rattle.update_machine.specs.Packets.{is_packet, next_packet}
+use Rattle.update_machine.specs.Pieces.{packet_items, piece}
+use Rattle.update_machine.specs.Played.{MayPlay}
+use Rattle.update_machine.specs.Setting.{Setting}
+use Rattle.packet_laws.specs.Calm.{IsCalm, first_plan}
+use Rattle.packet_laws.specs.OnWay.{IsUnknown}
+use Rattle.packet_laws.specs.Words.{PacketWords, words_of}
+use Rattle.packet_laws.proofs.Plans.{begun}
+use Rattle.world.specs.Packets.{coming_in, entry}
+use Rattle.world.specs.State.{AreTied, Tied, switch_of}
+use Rattle.world.specs.Travelling.{Travellers, WithOne, traveller}
+use Rattle.world.specs.Writing.{IsPart, end_of, entered_items, entered_traveller}
+use Rattle.world.specs.declared.log.Standing.{Standing}
+use Rattle.world.proofs.Calmness.{calm_switch, calm_switch_of}
+use Rattle.world.proofs.Coming.{come_law}
+use Rattle.world.proofs.Goings.{IsComing, entered_goes, found_goes}
+use Rattle.world.proofs.Legs.{near_of}
+use Rattle.world.proofs.Others.{entered_other, unnamed}
+use Rattle.world.proofs.Played.{played_alone, played_calm, played_found, played_unknown}
+use Rattle.world.proofs.Owners.{said_law}
+use Rattle.world.proofs.Steps.{NoRow, NoRows, calls_in}
+use Rattle.world.proofs.Tying.{Steps, idle, tied_more, with_calls}
+use Rattle.world.proofs.Words.{calm_traveller, traveller_by, words_along}
+
+-- ---- the items behind the first
+
+-- an item that begins no step, and brings no packet in
+abbrev pub IsLater : Item → Type 0
+IsLater one = NoRow one × (is_packet one ≡ false) × ((q : ℕ) → is_entry_at q one ≡ false)
+
+abbrev pub AreLater : List Item → Type 0
+AreLater [] = Unit {0}
+AreLater (first ∷ items) = IsLater first × AreLater items
+
+pub later_rows : (items : List Item) → AreLater items → NoRows items
+later_rows [] later = tt
+later_rows (first ∷ items) later = (later.0.0, later_rows items later.1)
+
+pub later_packets : (items : List Item) → AreLater items → count_of is_packet items ≡ 0
+later_packets [] later = refl
+later_packets (first ∷ items) later =
+    let sum = sum_by-cons (λ x. cond (is_packet x) 1 0) first items in
+    let none : ◌≡◌ {A = ℕ} (cond (is_packet first) 1 0) 0 = ap (λ b. cond b 1 0) later.0.1 in
+    omega (arith, sum, none, later_packets items later.1)
+
+pub later_entries : (q : ℕ) (items : List Item) → AreLater items
+    → count_of (is_entry_at q) items ≡ 0
+later_entries q [] later = refl
+later_entries q (first ∷ items) later =
+    let sum = sum_by-cons (λ x. cond (is_entry_at q x) 1 0) first items in
+    let none : ◌≡◌ {A = ℕ} (cond (is_entry_at q first) 1 0) 0 = ap (λ b. cond b 1 0)
+    (later.0.2 q) in
+    omega (arith, sum, none, later_entries q items later.1)
+
+pub route_later : (i : ℕ) (leg : Leg) (route : List ℕ) → IsLater (takes_route i leg route)
+route_later i (Seek version partition) route = (tt, refl, λ q. refl)
+route_later i (Exit port) route = (tt, refl, λ q. refl)
+
+pub end_later : (at : Standing) (decision : Decision) (onward : Next)
+    → IsLater (end_of at decision onward)
+end_later at decision next.Dropped = (tt, refl, λ q. refl)
+end_later at decision (next.Out port) = (tt, refl, λ q. refl)
+end_later at decision (next.Exit tunnel) = route_later at.packet tunnel.leg tunnel.route
+end_later at decision (next.Stuck cause) = (tt, refl, λ q. refl)
+
+-- ---- one packet comes in, and then none
+
+pub record ComesOnce (s : ℕ) (items : List Item) : Type 0 where
+  pub rows : NoRows items
+  pub one : count_of is_packet items ≡ 1
+  pub entries : (q : ℕ) → count_of (is_entry_at q) items ≡ cond (s == q) 1 0
+
+once : (s : ℕ) (first : Item) (items : List Item) → NoRow first → is_packet first ≡ true
+    → ((q : ℕ) → is_entry_at q first ≡ (s == q)) → AreLater items → ComesOnce s (first ∷ items)
+once s first items row packet enters later = record {
+  rows = (row, later_rows items later);
+  one =
+      let sum = sum_by-cons (λ x. cond (is_packet x) 1 0) first items in
+      let one : ◌≡◌ {A = ℕ} (cond (is_packet first) 1 0) 1 = ap (λ b. cond b 1 0) packet in
+      omega (arith, sum, one, later_packets items later);
+  entries = λ q.
+      let sum = sum_by-cons (λ x. cond (is_entry_at q x) 1 0) first items in
+      let same : ◌≡◌ {A = ℕ} (cond (is_entry_at q first) 1 0) (cond (s == q) 1 0) =
+      ap (λ b. cond b 1 0) (enters q) in
+      omega (arith, sum, same, later_entries q items later);
+}
+
+pub entered_once : (at : Standing) (answer : Entered)
+    → ComesOnce at.switch (entered_items at answer)
+entered_once at entered.Closed =
+    once at.switch (item.Closed at.packet at.switch) [] tt refl (λ q. refl) tt
+entered_once at (entered.Decided decision onward) =
+    once at.switch (item.Entered at.packet at.switch at.header)
+    (item.Decided at.packet decision.version decision.rule decision.action decision.how
+    ∷ end_of at decision onward ∷ []) tt refl (λ q. refl)
+    ((tt, refl, λ q. refl), (end_later at decision onward, tt))
+entered_once at (entered.Seek tunnel) =
+    once at.switch (item.Entered at.packet at.switch at.header)
+    (takes_route at.packet tunnel.leg tunnel.route ∷ []) tt refl (λ q. refl)
+    (route_later at.packet tunnel.leg tunnel.route, tt)
+entered_once at (entered.Stuck cause leg) =
+    once at.switch (item.Entered at.packet at.switch at.header)
+    (item.Stuck at.packet at.switch cause leg at.down ∷ []) tt refl (λ q. refl)
+    ((tt, refl, λ q. refl), tt)
+
+-- ---- the switches
+
+called : (s q : ℕ) (journal : List Item) (row : ℕ) (header : Header) (items : List Item)
+    → ComesOnce s items
+    → calls_in q journal (item.Row row (PacketStep s header) ∷ items) ≡ cond (s == q) 1 0
+called s q journal row header items comes =
+    let sum = sum_by-cons (λ x. cond (is_entry_at q x) 1 0)
+    (item.Row row (PacketStep s header)) items in
+    omega (arith, sum, comes.entries q)
+
+counts : (s : SwitchValue) → counted s ≡ with_calls 1 s
+counts s =
+    let same : min (s.handled + 1) (2 ^ 64 - 1) ≡ min most_handled (s.handled + 1) =
+    omega arith in
+    ap (λ handled. record s { handled = handled }) same
+
+-- one switch answered a call
+answered : (setting : Setting) (journal : List Item) (switches : List SwitchValue) (s q : ℕ)
+    (own d : SwitchValue) (b : Bool) → (s == q) ≡ b → s < length switches
+    → get_or switches s own ≡ own → get_or switches q d ≡ switch_of setting journal q
+    → get_or (set switches s (counted own)) q d
+    ≡ with_calls (cond b 1 0) (get_or switches q d)
+answered setting journal switches s q own d true is there its each =
+    let same : s ≡ q = eqb-true s q is in
+    let P : ℕ → Type 0 = λ k. get_or (set switches s (counted own)) k d
+    ≡ with_calls 1 (get_or switches k d) in
+    subst P same
+    (get_or-set_same switches s (counted own) d there
+    ∙ counts own
+    ∙ ap (with_calls 1) (sym its ∙ get_or_default switches s own d there))
+answered setting journal switches s q own d false is there its each =
+    let other : q ≢ s = λ e. let yes : (s == q) ≡ true = eq-eqb s q (sym e) in cc in
+    get_or-set_other switches s q (counted own) d other ∙ idle setting journal switches q d each
+
+-- ---- the packets
+
+along : (setting : Setting) (journal : List Item) (row : ℕ) (header : Header) (at : Standing)
+    (answer : Entered) (before : Travellers) (q : ℕ) (b : Bool) → (q == at.packet) ≡ b
+    → IsUnknown (words_of journal at.packet) → (words_of journal at.packet).found ≡ at.down
+    → IsComing setting at answer
+    → traveller before q ≡ traveller_by setting q (words_of journal q)
+    → (if b then entered_traveller answer else traveller before q)
+    ≡ traveller_by setting q
+    (words_along q journal (item.Row row (PacketStep at.switch header) ∷ entered_items at answer)
+    (words_of journal q))
+along setting journal row header at answer before q true is unknown unmarked comes was =
+    let first : Item = item.Row row (PacketStep at.switch header) in
+    let same : at.packet ≡ q = sym (eqb-true q at.packet is) in
+    let P : ℕ → Type 0 = λ k. entered_traveller answer
+    ≡ traveller_by setting k
+    (words_along k journal (first ∷ entered_items at answer) (words_of journal k)) in
+    subst P same
+    (entered_goes setting (journal ++ first ∷ []) at answer (words_of journal at.packet) unknown
+    unmarked comes)
+along setting journal row header at answer before q false is unknown unmarked comes was =
+    let first : Item = item.Row row (PacketStep at.switch header) in
+    let other : (at.packet == q) ≡ false = not_same (at.packet == q) refl in
+    was
+    ∙ ap (traveller_by setting q) (sym (unnamed q journal (first ∷ entered_items at answer)
+    (words_of journal q) (refl, entered_other q at answer other)))
+  where
+    not_same : (c : Bool) → (at.packet == q) ≡ c → c ≡ false
+    not_same false e = refl
+    not_same true e =
+        let yes : (q == at.packet) ≡ true =
+        eq-eqb q at.packet (sym (eqb-true at.packet q e)) in absurd cc
+
+-- ---- the step
+
+-- what the step writes, and the tie behind it
+abbrev pub Comes : Setting → List Item → List SwitchValue → Travellers → ℕ → ℕ → ℕ → Header
+    → Ports → SwitchValue → ℕ → Type 0
+Comes setting journal switches after count row s header ports own near =
+    (piece setting journal row (PacketStep s header)
+    ≡ item.Row row (PacketStep s header) ∷ entered_items (coming_in (count + 1) header own.number)
+    (entry own near ports (count + 1) header))
+    × AreTied setting (journal ++ item.Row row (PacketStep s header)
+    ∷ entered_items (coming_in (count + 1) header own.number)
+    (entry own near ports (count + 1) header)) (set switches s (counted own)) after (count + 1)
+
+-- what the switch answers is what the journal's definitions say
+piece_calm : (setting : Setting) (journal : List Item) (switches : List SwitchValue)
+    (before : Travellers) (count row s handled : ℕ) (header : Header) (ports : Ports)
+    → AreTied setting journal switches before count → MayPlay setting (PacketStep s header)
+    → AreOwners setting.net.switches ports
+    → piece setting journal row (PacketStep s header)
+    ≡ item.Row row (PacketStep s header) ∷ entered_items (coming_in (count + 1) header s)
+    (entry (calm_switch setting handled s) (near_of setting s) ports (count + 1) header)
+unfolding AreTied piece
+piece_calm setting journal switches before count row s handled header ports tied may owners =
+    let i : ℕ = count + 1 in
+    let first : Item = item.Row row (PacketStep s header) in
+    ap (λ n. first ∷ packet_items setting n s header (journal ++ first ∷ [])) tied.counted
+    ∙ ap (λ more. first ∷ more) (come_law setting journal row i s handled header ports
+    tied.sound.net (begun setting tied.sound).no_caches
+    (played_alone setting journal tied.sound tied.played)
+    (played_found setting journal tied.sound tied.played i) may.own.0 owners
+    (said_law setting s header tied.sound may.own.1))
+
+come_calm : (setting : Setting) (journal : List Item) (switches : List SwitchValue)
+    (before after : Travellers) (count row s handled : ℕ) (header : Header) (ports : Ports)
+    → AreTied setting journal switches before count → MayPlay setting (PacketStep s header)
+    → AreOwners setting.net.switches ports → s < length switches
+    → get_or switches s (calm_switch setting handled s) ≡ calm_switch setting handled s
+    → WithOne before (count + 1) (entered_traveller
+    (entry (calm_switch setting handled s) (near_of setting s) ports (count + 1) header)) after
+    → Comes setting journal switches after count row s header ports
+    (calm_switch setting handled s) (near_of setting s)
+unfolding AreTied entered
+come_calm setting journal switches before after count row s handled header ports tied may owners
+    there its with =
+    let i : ℕ = count + 1 in
+    let own : SwitchValue = calm_switch setting handled s in
+    let at : Standing = coming_in i header s in
+    let answer : Entered = entry own (near_of setting s) ports i header in
+    let first : Item = item.Row row (PacketStep s header) in
+    let items : List Item = entered_items at answer in
+    let calm : IsCalm setting journal = played_calm setting journal tied.sound tied.played in
+    let unmarked : (words_of journal i).found ≡ no_links =
+    played_found setting journal tied.sound tied.played i in
+    let unknown : IsUnknown (words_of journal i) =
+    played_unknown setting journal tied.sound tied.played i (omega (arith, tied.counted)) in
+    let said = said_law setting s header tied.sound may.own.1 in
+    let comes : IsComing setting at answer =
+    found_goes setting handled ports (incoming own i header)
+    (table_lookup (tables_of (first_plan setting) 1 s) header) owners said in
+    let is : piece setting journal row (PacketStep s header) ≡ first ∷ items =
+    piece_calm setting journal switches before count row s handled header ports tied may owners in
+    let once : ComesOnce s items = entered_once at answer in
+    let sum = sum_by-cons (λ x. cond (is_packet x) 1 0) first items in (
+      is,
+      tied_more setting journal switches (set switches s (counted own)) before after count
+          (count + 1) row (PacketStep s header) items tied (record {
+            may = may;
+            piece_is = is;
+            one_row = once.rows;
+            as_many = length-set switches s (counted own);
+            calls = λ q d below.
+                answered setting journal switches s q own d (s == q) refl there its
+                (tied.each q d below)
+                ∙ ap (λ calls. with_calls calls (get_or switches q d))
+                (sym (called s q journal row header items once));
+            travels = λ q. with q
+                ∙ along setting journal row header at answer before q (q == i) refl unknown
+                unmarked comes (tied.packet q ∙ calm_traveller setting journal calm q);
+          }) (omega (arith, sum, once.one)),
+    )
+
+-- its switch is there, and can be asked
+pub come_ready : (setting : Setting) (journal : List Item) (switches : List SwitchValue)
+    (before : Travellers) (count s : ℕ) (header : Header)
+    → AreTied setting journal switches before count → MayPlay setting (PacketStep s header)
+    → s < length switches
+unfolding AreTied
+come_ready setting journal switches before count s header tied may =
+    omega (arith, may.own.0, tied.many)
+
+own_calm : (setting : Setting) (journal : List Item) (switches : List SwitchValue)
+    (before : Travellers) (count s : ℕ) (header : Header) (own : SwitchValue)
+    → AreTied setting journal switches before count → MayPlay setting (PacketStep s header)
+    → own ≡ get_or switches s own → own ≡ calm_switch setting (handled_count journal s) s
+unfolding AreTied
+own_calm setting journal switches before count s header own tied may its =
+    let there : s < length switches = omega (arith, may.own.0, tied.many) in
+    its ∙ tied.each s own there
+    ∙ calm_switch_of setting journal (played_calm setting journal tied.sound tied.played) s
+    may.own.0
+
+pub come_asked : (setting : Setting) (journal : List Item) (switches : List SwitchValue)
+    (before : Travellers) (count s : ℕ) (header : Header) (own : SwitchValue)
+    → AreTied setting journal switches before count → MayPlay setting (PacketStep s header)
+    → own ≡ get_or switches s own → CanLookUp own
+come_asked setting journal switches before count s header own tied may its =
+    subst CanLookUp (sym (own_calm setting journal switches before count s header own tied may its))
+    (λ serving. refl)
+
+-- its number has 32 bits
+pub come_fits : (setting : Setting) (journal : List Item) (switches : List SwitchValue)
+    (before : Travellers) (count : ℕ) → AreTied setting journal switches before count
+    → next_packet journal < 4000000000 → count + 1 < 4000000000
+unfolding AreTied
+come_fits setting journal switches before count tied few = omega (arith, tied.counted, few)
+
+pub come_piece : (setting : Setting) (journal : List Item) (switches : List SwitchValue)
+    (before : Travellers) (count row s : ℕ) (header : Header) (ports : Ports)
+    (own : SwitchValue) (near : ℕ)
+    → AreTied setting journal switches before count → MayPlay setting (PacketStep s header)
+    → AreOwners setting.net.switches ports → near ≡ near_of setting s
+    → own ≡ get_or switches s own
+    → piece setting journal row (PacketStep s header)
+    ≡ item.Row row (PacketStep s header) ∷ entered_items (coming_in (count + 1) header own.number)
+    (entry own near ports (count + 1) header)
+come_piece setting journal switches before count row s header ports own near tied may owners masks
+    its =
+    let handled : ℕ = handled_count journal s in
+    let P : SwitchValue → ℕ → Type 0 = λ own near. piece setting journal row (PacketStep s header)
+    ≡ item.Row row (PacketStep s header) ∷ entered_items (coming_in (count + 1) header own.number)
+    (entry own near ports (count + 1) header) in
+    subst (λ own. P own near)
+    (sym (own_calm setting journal switches before count s header own tied may its))
+    (subst (λ near. P (calm_switch setting handled s) near) (sym masks)
+    (piece_calm setting journal switches before count row s handled header ports tied may owners))
+
+pub come_tied : (setting : Setting) (journal : List Item) (switches : List SwitchValue)
+    (before after : Travellers) (count row s : ℕ) (header : Header) (ports : Ports)
+    (own : SwitchValue) (near : ℕ)
+    → AreTied setting journal switches before count → MayPlay setting (PacketStep s header)
+    → AreOwners setting.net.switches ports → near ≡ near_of setting s
+    → own ≡ get_or switches s own
+    → WithOne before (count + 1) (entered_traveller (entry own near ports (count + 1) header)) after
+    → Comes setting journal switches after count row s header ports own near
+come_tied setting journal switches before after count row s header ports own near tied may owners
+    masks its with =
+    let there : s < length switches =
+    come_ready setting journal switches before count s header tied may in
+    let handled : ℕ = handled_count journal s in
+    let is : own ≡ calm_switch setting handled s =
+    own_calm setting journal switches before count s header own tied may its in
+    let P : SwitchValue → ℕ → Type 0 = λ own near. get_or switches s own ≡ own
+    → WithOne before (count + 1) (entered_traveller (entry own near ports (count + 1) header)) after
+    → Comes setting journal switches after count row s header ports own near in
+    subst (λ own. P own near) (sym is)
+    (subst (λ near. P (calm_switch setting handled s) near) (sym masks)
+    (come_calm setting journal switches before after count row s handled header ports tied may
+    owners there))
+    (sym its) with
+
+-- ---- what is written
+
+both_ok : {T E P Q R : Type 0} (r : Result T E) → (P → Q → R) → OnOk r P → OnOk r Q → OnOk r R
+both_ok (Ok x) f p q = f p q
+both_ok (Err e) f p q = tt
+
+grown_more : (journal begun new items : List Item) (first : Item)
+    → begun ≡ journal ++ first ∷ [] → new ≡ begun ++ items → new ≡ journal ++ first ∷ items
+grown_more journal begun new items first row_is grown =
+    grown ∙ ap (λ js. js ++ items) row_is ∙ append_assoc journal (first ∷ []) items
+
+pub come_written : {T E : Type 0} (r : Result T E) (journal begun new items all : List Item)
+    (first : Item) → all ≡ first ∷ items → begun ≡ journal ++ first ∷ []
+    → OnOk r (new ≡ begun ++ items) → OnOk r (new ≡ journal ++ all)
+come_written r journal begun new items all first all_is row_is written =
+    on_ok_weaker r (λ grown. grown_more journal begun new items first row_is grown
+    ∙ ap (λ more. journal ++ more) (sym all_is)) written
+
+pub come_kept : {T E : Type 0} (r : Result T E) (setting : Setting) (journal begun new : List Item)
+    (switches : List SwitchValue) (before after : Travellers) (count row s : ℕ) (header : Header)
+    (ports : Ports) (own changed : SwitchValue) (near : ℕ)
+    → AreTied setting journal switches before count → MayPlay setting (PacketStep s header)
+    → AreOwners setting.net.switches ports → near ≡ near_of setting s
+    → own ≡ get_or switches s own → changed ≡ counted own
+    → begun ≡ journal ++ item.Row row (PacketStep s header) ∷ []
+    → OnOk r (new ≡ begun ++ entered_items (coming_in (count + 1) header own.number)
+    (entry own near ports (count + 1) header))
+    → OnOk r (WithOne before (count + 1)
+    (entered_traveller (entry own near ports (count + 1) header)) after)
+    → OnOk r (AreTied setting new (set switches s changed) after (count + 1))
+come_kept r setting journal begun new switches before after count row s header ports own changed
+    near tied may owners masks its changed_is row_is written travels =
+    let first : Item = item.Row row (PacketStep s header) in
+    let items : List Item = entered_items (coming_in (count + 1) header own.number)
+    (entry own near ports (count + 1) header) in
+    both_ok r (λ grown with.
+    subst (λ js. AreTied setting js (set switches s changed) after (count + 1))
+    (sym (grown_more journal begun new items first row_is grown))
+    (subst (λ one. AreTied setting (journal ++ first ∷ items) (set switches s one) after
+    (count + 1))
+    (sym changed_is)
+    (come_tied setting journal switches before after count row s header ports own near tied may
+    owners masks its with).1)) written travels
+
+pub part_more : (journal begun new items all : List Item) (first : Item) → all ≡ first ∷ items
+    → begun ≡ journal ++ first ∷ [] → IsPart begun items new → IsPart journal all new
+part_more journal begun new items all first all_is begun_is part = record {
+  written = first ∷ part.written;
+  rest = part.rest;
+  split = all_is ∙ ap (λ more. first ∷ more) part.split;
+  grown = part.grown ∙ ap (λ js. js ++ part.written) begun_is
+      ∙ append_assoc journal (first ∷ []) part.written;
+}
+
+pub come_part : {T E : Type 0} (r : Result T E) (journal begun new items all : List Item)
+    (first : Item) → all ≡ first ∷ items → begun ≡ journal ++ first ∷ []
+    → OnErr r (IsPart begun items new) → OnErr r (IsPart journal all new)
+come_part (Ok x) journal begun new items all first all_is row_is part = tt
+come_part (Err e) journal begun new items all first all_is row_is part =
+    part_more journal begun new items all first all_is row_is part

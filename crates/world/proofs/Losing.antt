@@ -1,0 +1,165 @@
+-- A packet is lost.
+use Rattle.std.proofs.Common.{ℕ, ◌≡◌, ◌+◌, ◌<◌, ◌==◌, Bool, true, false, if◌then◌else◌, Option, Some, None, List, [], ◌∷◌, ◌++◌, refl, ap, sym, subst, ◌∙◌, append_assoc, length, get_or, eqb-true, inl, inr, arith}
+use Rattle.std.specs.Prelude.{is_some}
+use Rattle.std.proofs.lemmas.Bool.Decides.{nat_tests}
+use Rattle.journal.specs.declared.item.Item.{Item}
+use Rattle.journal.specs.declared.item.Item.TheVariants as item
+use Rattle.steps.specs.declared.step.Step.{Step}
+use Rattle.steps.specs.declared.step.Step.TheVariants.{Lose}
+use Rattle.switch_core.specs.State.{SwitchValue}
+use Rattle.update_machine.specs.Packets.{travels}
+use Rattle.update_machine.specs.Pieces.{lose_items, nothing, piece}
+use Rattle.update_machine.specs.Played.{MayPlay}
+use Rattle.update_machine.specs.Setting.{Setting}
+use Rattle.packet_laws.specs.Calm.{IsCalm}
+use Rattle.packet_laws.specs.Words.{PacketWords, words_of}
+use Rattle.packet_laws.proofs.Words.{words_grow}
+use Rattle.world.specs.State.{AreTied, Tied, traveller_in}
+use Rattle.world.specs.Travelling.{Travellers, WithOne, traveller}
+use Rattle.world.specs.declared.travelling.Traveller.{Traveller}
+use Rattle.world.proofs.Played.{played_calm}
+use Rattle.world.proofs.Tying.{Steps, idle, tied_more}
+use Rattle.world.proofs.Words.{calm_traveller, traveller_by, words_along}
+
+-- a row tells nothing of a packet
+pub travels_on : (journal : List Item) (row i : ℕ) (step : Step)
+    → travels (journal ++ item.Row row step ∷ []) i ≡ travels journal i
+unfolding words_of
+travels_on journal row i step = ap (λ words. words.travels)
+    (words_grow i journal (item.Row row step))
+
+pub travels_as : (setting : Setting) (journal : List Item) (i : ℕ)
+    → is_some (traveller_in setting journal i) ≡ travels journal i
+unfolding traveller_in
+travels_as setting journal i = by_case (travels journal i) _
+  where
+    by_case : {X : Type 0} (b : Bool) (x : X) → is_some (if b then Some x else None) ≡ b
+    by_case true x = refl
+    by_case false x = refl
+
+-- what losing a packet writes
+pub lose_piece : (setting : Setting) (journal : List Item) (row i : ℕ)
+    → piece setting journal row (Lose i)
+    ≡ item.Row row (Lose i) ∷ (if travels journal i then item.Lost i ∷ [] else nothing)
+unfolding piece lose_items
+lose_piece setting journal row i =
+    ap (λ b. item.Row row (Lose i) ∷ elim b [ false ↦ nothing | true ↦ item.Lost i ∷ [] ])
+    (travels_on journal row i (Lose i))
+    ∙ by_case (travels journal i)
+  where
+    by_case : (b : Bool) → item.Row row (Lose i) ∷ elim b
+        [ false ↦ nothing | true ↦ item.Lost i ∷ [] ]
+        ≡ item.Row row (Lose i) ∷ (if b then item.Lost i ∷ [] else nothing)
+    by_case true = refl
+    by_case false = refl
+
+-- of the packets, it is gone
+gone : (setting : Setting) (journal : List Item) (row i : ℕ) (q : ℕ) (b : Bool)
+    → (q == i) ≡ b
+    → (if b then None else traveller_by setting q (words_of journal q))
+    ≡ traveller_by setting q
+    (words_along q journal (item.Row row (Lose i) ∷ item.Lost i ∷ []) (words_of journal q))
+gone setting journal row i q true is = let same : (i == q) ≡ true = grind (arith, nat_tests) in rw
+    same refl
+gone setting journal row i q false is = let other : (i == q) ≡ false = grind (arith, nat_tests) in
+    rw other refl
+
+pub lost : (setting : Setting) (journal : List Item) (switches : List SwitchValue)
+    (before after : Travellers) (count row i : ℕ)
+    → AreTied setting journal switches before count → MayPlay setting (Lose i)
+    → is_some (traveller before i) ≡ true → WithOne before i None after
+    → (piece setting journal row (Lose i) ≡ item.Row row (Lose i) ∷ item.Lost i ∷ [])
+    × AreTied setting (journal ++ item.Row row (Lose i) ∷ item.Lost i ∷ []) switches after count
+unfolding AreTied
+lost setting journal switches before after count row i tied may travelling without =
+    let calm : IsCalm setting journal = played_calm setting journal tied.sound tied.played in
+    let on : travels journal i ≡ true =
+    sym (ap is_some (tied.packet i) ∙ travels_as setting journal i) ∙ travelling in
+    let is : piece setting journal row (Lose i) ≡ item.Row row (Lose i) ∷ item.Lost i ∷ [] =
+    lose_piece setting journal row i
+    ∙ ap (λ b. item.Row row (Lose i) ∷ (if b then item.Lost i ∷ [] else nothing)) on in (
+      is,
+      tied_more setting journal switches switches before after count count row (Lose i)
+          (item.Lost i ∷ []) tied (record {
+            may = may;
+            piece_is = is;
+            one_row = (tt, tt);
+            as_many = refl;
+            calls = λ s d there. idle setting journal switches s d (tied.each s d there);
+            travels = λ q. without q
+                ∙ ap (λ x. if q == i then None else x)
+                (tied.packet q ∙ calm_traveller setting journal calm q)
+                ∙ gone setting journal row i q (q == i) refl;
+          }) (omega arith),
+    )
+
+-- of a packet that didn't travel, nothing changes
+stayed : (setting : Setting) (journal : List Item) (row i : ℕ) (q : ℕ) (b : Bool)
+    → (q == i) ≡ b → travels journal i ≡ false
+    → (if b then None else traveller_by setting q (words_of journal q))
+    ≡ traveller_by setting q
+    (words_along q journal (item.Row row (Lose i) ∷ item.Nothing ∷ []) (words_of journal q))
+unfolding words_of
+stayed setting journal row i q true is off = let same : travels journal q ≡ false =
+    ap (travels journal) (eqb-true _ _ is) ∙ off in rw same refl
+stayed setting journal row i q false is off = refl
+
+pub not_lost : (setting : Setting) (journal : List Item) (switches : List SwitchValue)
+    (before after : Travellers) (count row i : ℕ)
+    → AreTied setting journal switches before count → MayPlay setting (Lose i)
+    → is_some (traveller before i) ≡ false → WithOne before i None after
+    → (piece setting journal row (Lose i) ≡ item.Row row (Lose i) ∷ item.Nothing ∷ [])
+    × AreTied setting (journal ++ item.Row row (Lose i) ∷ item.Nothing ∷ []) switches after count
+unfolding AreTied
+not_lost setting journal switches before after count row i tied may resting without =
+    let calm : IsCalm setting journal = played_calm setting journal tied.sound tied.played in
+    let off : travels journal i ≡ false =
+    sym (ap is_some (tied.packet i) ∙ travels_as setting journal i) ∙ resting in
+    let is : piece setting journal row (Lose i) ≡ item.Row row (Lose i) ∷ item.Nothing ∷ [] =
+    lose_piece setting journal row i
+    ∙ ap (λ b. item.Row row (Lose i) ∷ (if b then item.Lost i ∷ [] else nothing)) off in (
+      is,
+      tied_more setting journal switches switches before after count count row (Lose i)
+          (item.Nothing ∷ []) tied (record {
+            may = may;
+            piece_is = is;
+            one_row = (tt, tt);
+            as_many = refl;
+            calls = λ s d there. idle setting journal switches s d (tied.each s d there);
+            travels = λ q. without q
+                ∙ ap (λ x. if q == i then None else x)
+                (tied.packet q ∙ calm_traveller setting journal calm q)
+                ∙ stayed setting journal row i q (q == i) refl off;
+          }) (omega arith),
+    )
+
+-- ---- the step
+
+pub lost_written : (setting : Setting) (journal new : List Item) (switches : List SwitchValue)
+    (before after : Travellers) (count row i : ℕ)
+    → AreTied setting journal switches before count → MayPlay setting (Lose i)
+    → is_some (traveller before i) ≡ true → WithOne before i None after
+    → new ≡ journal ++ item.Row row (Lose i) ∷ [] ++ item.Lost i ∷ []
+    → (new ≡ journal ++ piece setting journal row (Lose i))
+    × AreTied setting new switches after count
+lost_written setting journal new switches before after count row i tied may travelling without is =
+    let both = lost setting journal switches before after count row i tied may travelling without in
+    let all : new ≡ journal ++ item.Row row (Lose i) ∷ item.Lost i ∷ [] =
+    is ∙ append_assoc journal (item.Row row (Lose i) ∷ []) (item.Lost i ∷ []) in
+    let P : List Item → Type 0 = λ js. AreTied setting js switches after count in
+    (all ∙ ap (λ items. journal ++ items) (sym both.0), subst P (sym all) both.1)
+
+pub not_lost_written : (setting : Setting) (journal new : List Item)
+    (switches : List SwitchValue) (before after : Travellers) (count row i : ℕ)
+    → AreTied setting journal switches before count → MayPlay setting (Lose i)
+    → is_some (traveller before i) ≡ false → WithOne before i None after
+    → new ≡ journal ++ item.Row row (Lose i) ∷ [] ++ item.Nothing ∷ []
+    → (new ≡ journal ++ piece setting journal row (Lose i))
+    × AreTied setting new switches after count
+not_lost_written setting journal new switches before after count row i tied may resting without is =
+    let both = not_lost setting journal switches before after count row i tied may resting
+    without in
+    let all : new ≡ journal ++ item.Row row (Lose i) ∷ item.Nothing ∷ [] =
+    is ∙ append_assoc journal (item.Row row (Lose i) ∷ []) (item.Nothing ∷ []) in
+    let P : List Item → Type 0 = λ js. AreTied setting js switches after count in
+    (all ∙ ap (λ items. journal ++ items) (sym both.0), subst P (sym all) both.1)

@@ -1,0 +1,61 @@
+-- What a switch's answer to one packet says of all others: nothing.
+use Rattle.std.proofs.Common.{ℕ, ◌≡◌, ◌==◌, Bool, true, false, if◌then◌else◌, Option, Some, None, List, [], ◌∷◌, ◌++◌, refl, ap, sym, ◌∙◌}
+use Rattle.policy_rules.specs.declared.packet.Leg.{Leg}
+use Rattle.policy_rules.specs.declared.packet.Leg.TheVariants.{Seek, Exit}
+use Rattle.journal.specs.declared.item.Item.{Item}
+use Rattle.journal.specs.declared.item.Item.TheVariants as item
+use Rattle.switch_core.specs.declared.answers.Arrived.{Arrived}
+use Rattle.switch_core.specs.declared.answers.Arrived.TheVariants as arrived
+use Rattle.switch_core.specs.declared.answers.Decision.{Decision}
+use Rattle.switch_core.specs.declared.answers.Entered.{Entered}
+use Rattle.switch_core.specs.declared.answers.Entered.TheVariants as entered
+use Rattle.switch_core.specs.declared.answers.Next.{Next}
+use Rattle.switch_core.specs.declared.answers.Next.TheVariants as next
+use Rattle.update_machine.specs.Moves.{takes_route}
+use Rattle.packet_laws.specs.Words.{PacketWords, names}
+use Rattle.world.specs.Writing.{arrived_items, end_of, entered_items, exit_leg}
+use Rattle.world.specs.declared.log.Standing.{Standing}
+use Rattle.world.specs.declared.travelling.Traveller.{Traveller}
+use Rattle.world.proofs.Words.{words_along}
+
+-- none of the items names the packet
+abbrev pub NoneName : ℕ → List Item → Type 0
+NoneName i [] = Unit {0}
+NoneName i (first ∷ items) = (names i first ≡ false) × NoneName i items
+
+pub unnamed : (i : ℕ) (before items : List Item) (words : PacketWords) → NoneName i items
+    → words_along i before items words ≡ words
+unnamed i before [] words none = refl
+unnamed i before (first ∷ items) words none =
+    rw none.0 (unnamed i (before ++ first ∷ []) items words none.1)
+
+route_other : (q i : ℕ) (leg : Leg) (route : List ℕ) → (i == q) ≡ false
+    → names q (takes_route i leg route) ≡ false
+route_other q i (Seek version partition) route other = other
+route_other q i (Exit port) route other = other
+
+end_other : (q : ℕ) (at : Standing) (decision : Decision) (onward : Next)
+    → (at.packet == q) ≡ false → names q (end_of at decision onward) ≡ false
+end_other q at decision next.Dropped other = other
+end_other q at decision (next.Out port) other = other
+end_other q at decision (next.Exit tunnel) other =
+    route_other q at.packet tunnel.leg tunnel.route other
+end_other q at decision (next.Stuck cause) other = other
+
+pub entered_other : (q : ℕ) (at : Standing) (answer : Entered) → (at.packet == q) ≡ false
+    → NoneName q (entered_items at answer)
+entered_other q at entered.Closed other = (refl, tt)
+entered_other q at (entered.Decided decision onward) other =
+    (other, (other, (end_other q at decision onward other, tt)))
+entered_other q at (entered.Seek tunnel) other =
+    (other, (route_other q at.packet tunnel.leg tunnel.route other, tt))
+entered_other q at (entered.Stuck cause leg) other = (other, (other, tt))
+
+pub arrived_other : (q : ℕ) (at : Standing) (traveller : Traveller) (answer : Arrived)
+    → (at.packet == q) ≡ false → NoneName q (arrived_items at traveller answer)
+arrived_other q at traveller (arrived.Out port) other = (other, tt)
+arrived_other q at traveller (arrived.Decided decision cache onward) other =
+    (other, (end_other q at decision onward other, tt))
+arrived_other q at traveller (arrived.Seek tunnel) other =
+    (route_other q at.packet tunnel.leg tunnel.route other, tt)
+arrived_other q at traveller (arrived.Stuck cause leg) other = (other, tt)

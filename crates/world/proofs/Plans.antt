@@ -1,0 +1,72 @@
+-- The first plan of a setting: sound partitions, each at the place of its number.
+use Rattle.std.proofs.Common.{ℕ, ◌≡◌, ◌<◌, Bool, true, false, Option, Some, None, List, [], ◌∷◌, refl, ap, sym, subst, ◌∙◌, length, map, get_or, arith, All, Contains, find, slice_get}
+use Rattle.std.specs.Prelude.{Result, Ok, Err, IsOk}
+use Rattle.std.specs.Bool.{IsTrue}
+use Rattle.std.proofs.lemmas.List.Elements.{All-head}
+use Rattle.std.proofs.lemmas.List.{get_or-map, length-map}
+use Rattle.std.proofs.lemmas.Option.{slice_get-get_or}
+use Rattle.net_file.specs.Net.{IsNet}
+use Rattle.net_file.specs.declared.net.Net.{Net}
+use Rattle.partition.specs.Plan.{IsPlan, NoPlan, TooManyLeaves, Placed, plan_of}
+use Rattle.partition.proofs.CallerLemmas.{plan_holds}
+use Rattle.policy_rules.specs.Partitions.{AreNumbered, AreSoundPartitions}
+use Rattle.policy_rules.specs.Policy.{IsPolicy}
+use Rattle.policy_rules.specs.declared.policy.Row.{Row}
+use Rattle.policy_rules.specs.declared.rules.Partition.{Partition}
+use Rattle.switch_table.specs.Tables.{part_of}
+use Rattle.update_machine.specs.Played.{IsSetting}
+use Rattle.update_machine.specs.Setting.{Setting, placed_in, plan_of_file, policy_of_file}
+use Rattle.packet_laws.specs.Calm.{first_plan}
+
+holds_of : (net : Net) (rows : List Row) (plan : Result (List Placed) NoPlan) → IsNet net
+    → IsPolicy rows → IsOk plan → plan_of rows net ≡ plan → IsPlan rows net (placed_in plan)
+holds_of net rows (Ok plan) sound policy ok is = plan_holds rows net plan policy sound is
+holds_of net rows (Err why) sound policy ok is = absurd cc
+
+by_policies : (net : Net) (policies : List (List Row)) → IsNet net → All IsPolicy policies
+    → IsOk (get_or (map (λ rows. plan_of rows net) policies) 0 (Err TooManyLeaves))
+    → IsPlan (get_or policies 0 []) net
+    (placed_in (get_or (map (λ rows. plan_of rows net) policies) 0 (Err TooManyLeaves)))
+by_policies net [] sound all ok = absurd cc
+by_policies net (rows ∷ policies) sound all ok =
+    holds_of net rows (plan_of rows net) sound (all 0 [] (omega arith)) ok refl
+
+pub first_plan_holds : (setting : Setting) → IsSetting setting
+    → IsPlan (policy_of_file setting 1) setting.net (first_plan setting)
+first_plan_holds setting is =
+    let plans : setting.plans ≡ map (λ rows. plan_of rows setting.net) setting.policies =
+    ap (λ (s : Setting). s.plans) is.made in
+    let P : List (Result (List Placed) NoPlan)
+    → Type 0 = λ all. IsPlan (get_or setting.policies 0 [])
+    setting.net (placed_in (get_or all 0 (Err TooManyLeaves))) in
+    let Q : List (Result (List Placed) NoPlan)
+    → Type 0 = λ all. IsOk (get_or all 0 (Err TooManyLeaves)) in
+    subst P (sym plans)
+    (by_policies setting.net setting.policies is.net is.sound (subst Q plans is.planned))
+
+-- a member of the plan stands at the place of its number
+pub at_number : (plan : List Placed) (placed : Placed) → AreNumbered (map part_of plan)
+    → Contains plan placed → slice_get plan placed.0.number ≡ Some placed
+at_number plan placed numbers there =
+    let k : ℕ = there.0 in
+    let fits : k < length (map part_of plan) =
+    omega (arith, there.1, length-map plan part_of) in
+    let number : placed.0.number ≡ k =
+    sym (ap (λ (p : Partition). p.number)
+    (get_or-map part_of plan k placed (part_of placed) there.1 ∙ ap part_of there.2))
+    ∙ numbers k (part_of placed) fits in
+    ap (slice_get plan) number
+    ∙ slice_get-get_or plan k placed there.1
+    ∙ ap (λ p. Some p) there.2
+
+-- each partition of a plan has targets
+pub has_targets : (rows : List Row) (net : Net) (plan : List Placed) → IsPlan rows net plan
+    → All (λ placed. 0 < length placed.1) plan
+has_targets rows net plan holds k d within =
+    let targets_in : Placed → List ℕ = λ placed. placed.1 in
+    let many : length (map targets_in plan) ≡ length plan = length-map plan targets_in in
+    let number = (holds.placement.placed k
+    (omega (arith, within, many, holds.placement.number))).number in
+    let same : length (get_or (map targets_in plan) k []) ≡ length (get_or plan k d).1 =
+    ap length (get_or-map targets_in plan k d [] within) in
+    omega (arith, number, same)

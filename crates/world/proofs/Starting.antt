@@ -1,0 +1,79 @@
+-- A world in which nothing happened yet is as its journal says.
+use Rattle.std.proofs.Common.{ℕ, ◌≡◌, ◌<◌, ◌≤◌, List, [], ◌∷◌, ◌++◌, refl, ap, sym, subst, ◌∙◌, length, map, get_or, arith, All}
+use Rattle.std.specs.Prelude.{Result, Ok, Err, IsOk}
+use Rattle.std.specs.List.{range_with_len}
+use Rattle.std.proofs.lemmas.List.Elements.{All-nil}
+use Rattle.std.proofs.lemmas.List.FromFn.{get_or-map-range_with_len, length-map-range_with_len}
+use Rattle.net_file.specs.Net.{IsNet}
+use Rattle.net_file.specs.declared.net.Net.{Net}
+use Rattle.partition.specs.Plan.{NoPlan, TooManyLeaves, Placed, plan_of}
+use Rattle.policy_rules.specs.Policy.{IsPolicy}
+use Rattle.policy_rules.specs.declared.policy.Row.{Row}
+use Rattle.switch_core.specs.State.{SwitchValue}
+use Rattle.update_machine.specs.Folds.{folded}
+use Rattle.update_machine.specs.Handled.{handled_count}
+use Rattle.update_machine.specs.Packets.{next_packet, travels}
+use Rattle.update_machine.specs.Played.{IsSetting, MayPlay, NamesOwnPort}
+use Rattle.update_machine.specs.Setting.{Setting, plan_of_file, setting_of}
+use Rattle.update_machine.specs.Steps.{steps_in}
+use Rattle.packet_laws.specs.Calm.{IsCalm, first_plan}
+use Rattle.packet_laws.proofs.Calm.{calm}
+use Rattle.world.specs.State.{AreTied, Tied, switch_begun, switch_of, traveller_in}
+use Rattle.world.proofs.Calmness.{calm_switch_of}
+
+planned_first : (net : Net) (policies : List (List Row)) → 1 ≤ length policies
+    → plan_of_file (setting_of net policies) 1 ≡ plan_of (get_or policies 0 []) net
+planned_first net [] some = absurd (omega arith)
+planned_first net (rows ∷ policies) some = refl
+
+none_handled : (s : ℕ) → handled_count [] s ≡ 0
+unfolding handled_count steps_in
+none_handled s = refl
+
+pub setting_begun : (net : Net) (policies : List (List Row)) (plan : List Placed) → IsNet net
+    → 1 ≤ length policies → All IsPolicy policies
+    → All (All (λ row. NamesOwnPort (setting_of net policies) row.action)) policies
+    → plan_of (get_or policies 0 []) net ≡ Ok plan → IsSetting (setting_of net policies)
+setting_begun net policies plan sound some rows ports is =
+    let there : plan_of_file (setting_of net policies) 1 ≡ Ok plan =
+    planned_first net policies some ∙ is in
+    record {
+      net = sound;
+      made = refl;
+      sound = rows;
+      ports = ports;
+      planned = subst IsOk (sym there) refl;
+    }
+
+pub begun_tied : (net : Net) (policies : List (List Row)) (plan : List Placed)
+    (switches : List SwitchValue) → IsNet net
+    → 1 ≤ length policies → All IsPolicy policies
+    → All (All (λ row. NamesOwnPort (setting_of net policies) row.action)) policies
+    → plan_of (get_or policies 0 []) net ≡ Ok plan
+    → switches ≡ map (switch_begun net plan) (range_with_len 0 (length net.switches))
+    → AreTied (setting_of net policies) [] switches [] 0
+unfolding AreTied traveller_in travels next_packet
+begun_tied net policies plan switches sound some rows ports is made =
+    let setting : Setting = setting_of net policies in
+    let first : first_plan setting ≡ plan = rw (planned_first net policies some, is) refl in
+    let quiet : IsCalm setting [] = calm setting [] sound tt in
+    let many : length switches ≡ length net.switches =
+    ap length made ∙ length-map-range_with_len (switch_begun net plan) 0 (length net.switches) in
+    record {
+      sound = setting_begun net policies plan sound some rows ports is;
+      played = record {
+        steps = [];
+        may = All-nil (λ next. MayPlay setting next.step);
+        written =
+            refl;
+      };
+      many = many;
+      each = λ s d there.
+          let own : s < length net.switches = omega (arith, there, many) in
+          ap (λ all. get_or all s d) made
+          ∙ get_or-map-range_with_len (switch_begun net plan) 0 (length net.switches) s s d own
+          (omega arith)
+          ∙ sym (calm_switch_of setting [] quiet s own ∙ rw (none_handled s, first) refl);
+      packet = λ i. refl;
+      counted = refl;
+    }

@@ -1,0 +1,44 @@
+use Rattle.std.proofs.Common.{ℕ, ◌≡◌, ◌+◌, ◌<◌, ◌∷◌, [], ◌++◌, ap, sym, ◌∙◌, map, length, subst, List, arith}
+use Rattle.std.specs.List.{range_with_len}
+use Rattle.std.proofs.lemmas.List.FromFn.{map-range_with_len_more}
+use Rattle.failover.specs.Adverts.{first_adverts}
+use Rattle.failover.specs.declared.advert.Advert.{Advert}
+use Rattle.switch_core.specs.State.{HasOwnUpTo, SwitchValue, begun}
+use Rattle.net_file.specs.Net.{links_of}
+use Rattle.switch_table.specs.Tables.{tables_of}
+use Rattle.switch_table.specs.declared.tables.Tables.{Tables}
+use Rattle.world.specs.State.{switch_begun}
+use Rattle.world.proofs.Firsts.{first_near, first_own}
+use Rattle.world.proofs.beginning.switches_of.Goals as goal
+
+pub begin-requires-clause-own : goal.begin-requires-clause-own
+begin-requires-clause-own c =
+    let many : length c.rows-count.result.now ≡ length c.args.net.now.switches =
+    ap length c.rows-count.ensures in
+    let below : c.loop-number.number < 64 =
+    omega (arith, many, c.requires.net.few_switches) in
+    subst (λ base. HasOwnUpTo base c.loop-number.number 1 1) (sym c.begin-base.ensures)
+    (first_own c.args.near.now (length c.rows-count.result.now) c.loop-number.number below)
+
+pub loop-number-preserved : goal.loop-number-preserved
+loop-number-preserved c =
+    let number = c.loop-number.number in
+    let net = c.args.net.now in
+    let plan = c.args.plan.now.placed in
+    let each : ℕ → SwitchValue = switch_begun net plan in
+    let many : length c.rows-count.result.now ≡ length net.switches =
+    ap length c.rows-count.ensures in
+    let told : c.begin-base.result ≡ first_adverts (map (links_of net.links)
+    (range_with_len 0 (length net.switches))) (length net.switches) =
+    c.begin-base.ensures
+    ∙ ap (first_adverts c.args.near.now) many
+    ∙ first_near net c.args.near.now c.requires.net c.requires.near in
+    let is : c.in_ok-begin.field-0 ≡ each number =
+    c.in_ok-begin.ensures
+    ∙ ap (λ (tables : Tables). begun number net.cache tables c.begin-base.result)
+    (c.in_ok-tables-2.ensures ∙ c.in_ok-tables.ensures.tables)
+    ∙ ap (begun number net.cache (tables_of plan 1 number)) told in
+    c.in_ok-push.ensures.items
+    ∙ ap (λ all. all ++ c.in_ok-begin.field-0 ∷ []) c.loop-number.invariant
+    ∙ ap (λ s. map each (range_with_len 0 number) ++ s ∷ []) is
+    ∙ sym (map-range_with_len_more each 0 number number (omega arith))

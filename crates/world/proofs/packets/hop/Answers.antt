@@ -1,0 +1,126 @@
+-- Where a hop ends is said by the next switch of the route.
+use Rattle.std.proofs.Common.{ℕ, ◌≡◌, ◌++◌, Option, Some, None, ap, sym, subst, ◌∙◌}
+use Rattle.std.specs.Prelude.{[], ◌∷◌, OnOk, OnErr, Result, Ok, Err}
+use Rattle.std.specs.declared.alloc.AllocError.{AllocError}
+use Rattle.journal.specs.declared.item.Item.TheVariants.{Hopped}
+use Rattle.switch_core.specs.Arriving.{IsAtAuthority}
+use Rattle.switch_core.specs.State.{SwitchValue, counted}
+use Rattle.tunnel.specs.Moves.{advanced, next}
+use Rattle.tunnel.specs.Tunnel.{TunnelValue}
+use Rattle.world.specs.Packets.{hop_items, hop_traveller, hopped_switch}
+use Rattle.world.specs.Travelling.{WithOne}
+use Rattle.world.specs.Writing.{IsPart}
+use Rattle.world.specs.declared.travelling.Traveller.{Traveller}
+use Rattle.world.proofs.Hopping.{arrives, authority_counted, moved_on, moves, not_stuck}
+use Rattle.world.proofs.packets.hop.Goals as goal
+
+pub unreachable-requires : goal.unreachable-requires
+unreachable-requires c =
+    not_stuck _ _ _ _ c.requires.usable (sym c.hop-hop.ensures.end ∙ c.in-Stuck.is)
+
+pub arrive-requires-clause-authority : goal.arrive-requires-clause-authority
+arrive-requires-clause-authority c =
+    let none : next c.args.traveller.now.tunnel ≡ None =
+    arrives _ _ _ c.requires.usable (sym c.hop-hop.ensures.end ∙ c.in-Arrive.is) in
+    let P : SwitchValue → Type 0 = λ s. IsAtAuthority s c.args.traveller.now.tunnel.header
+    c.args.traveller.now.tunnel.leg in
+    subst P (sym c.hop-hop.ensures.after)
+    (authority_counted c.args.switch.now c.args.traveller.now.tunnel.header
+    c.args.traveller.now.tunnel.leg (c.requires.authority none))
+
+pub returns-in-Arrive-clause-written : goal.returns-in-Arrive-clause-written
+returns-in-Arrive-clause-written c =
+    let none : next c.args.traveller.now.tunnel ≡ None =
+    arrives _ _ _ c.requires.usable (sym c.hop-hop.ensures.end ∙ c.in-Arrive.is) in
+    let P : SwitchValue → Type 0 = λ s. OnOk c.arrive.result (c.arrive.new.log.journal
+    ≡ c.args.log.now.journal ++ hop_items s c.args.near c.args.ports.now
+    c.args.traveller.now None) in
+    let Q : Option ℕ → Type 0 = λ onward. OnOk c.arrive.result (c.arrive.new.log.journal
+    ≡ c.args.log.now.journal ++ hop_items (counted c.args.switch.now) c.args.near
+    c.args.ports.now c.args.traveller.now onward) in
+    subst Q (sym none) (subst P c.hop-hop.ensures.after c.arrive.ensures.written)
+
+pub returns-in-Arrive-clause-travels : goal.returns-in-Arrive-clause-travels
+returns-in-Arrive-clause-travels c =
+    let none : next c.args.traveller.now.tunnel ≡ None =
+    arrives _ _ _ c.requires.usable (sym c.hop-hop.ensures.end ∙ c.in-Arrive.is) in
+    let P : SwitchValue → Type 0 = λ s. OnOk c.arrive.result (WithOne
+    c.args.log.now.travelling c.args.traveller.now.tunnel.packet
+    (hop_traveller s c.args.near c.args.ports.now c.args.traveller.now None)
+    c.arrive.new.log.travelling) in
+    let Q : Option ℕ → Type 0 = λ onward. OnOk c.arrive.result (WithOne
+    c.args.log.now.travelling c.args.traveller.now.tunnel.packet
+    (hop_traveller (counted c.args.switch.now) c.args.near c.args.ports.now
+    c.args.traveller.now onward) c.arrive.new.log.travelling) in
+    subst Q (sym none) (subst P c.hop-hop.ensures.after c.arrive.ensures.travels)
+
+pub returns-in-Arrive-clause-part : goal.returns-in-Arrive-clause-part
+returns-in-Arrive-clause-part c =
+    let none : next c.args.traveller.now.tunnel ≡ None =
+    arrives _ _ _ c.requires.usable (sym c.hop-hop.ensures.end ∙ c.in-Arrive.is) in
+    let P : SwitchValue → Type 0 = λ s. OnErr c.arrive.result (IsPart c.args.log.now.journal
+    (hop_items s c.args.near c.args.ports.now c.args.traveller.now None)
+    c.arrive.new.log.journal) in
+    let Q : Option ℕ → Type 0 = λ onward. OnErr c.arrive.result (IsPart
+    c.args.log.now.journal
+    (hop_items (counted c.args.switch.now) c.args.near c.args.ports.now
+    c.args.traveller.now onward) c.arrive.new.log.journal) in
+    subst Q (sym none) (subst P c.hop-hop.ensures.after c.arrive.ensures.part)
+
+pub returns-in-Arrive-clause-counted : goal.returns-in-Arrive-clause-counted
+returns-in-Arrive-clause-counted c =
+    let none : next c.args.traveller.now.tunnel ≡ None =
+    arrives _ _ _ c.requires.usable (sym c.hop-hop.ensures.end ∙ c.in-Arrive.is) in
+    c.arrive.ensures.counted ∙ ap counted c.hop-hop.ensures.after
+    ∙ ap (hopped_switch c.args.switch.now) (sym none)
+
+pub returns-in_err-put-in-Move-clause-counted : goal.returns-in_err-put-in-Move-clause-counted
+returns-in_err-put-in-Move-clause-counted c =
+    let goes : next c.args.traveller.now.tunnel ≡ Some c.in-Move.next =
+    moves _ _ _ _ c.requires.usable (sym c.hop-hop.ensures.end ∙ c.in-Move.is) in
+    c.hop-hop.ensures.after ∙ ap (hopped_switch c.args.switch.now) (sym goes)
+
+pub returns-in_ok-put-in-Move-clause-counted : goal.returns-in_ok-put-in-Move-clause-counted
+returns-in_ok-put-in-Move-clause-counted c =
+    let goes : next c.args.traveller.now.tunnel ≡ Some c.in-Move.next =
+    moves _ _ _ _ c.requires.usable (sym c.hop-hop.ensures.end ∙ c.in-Move.is) in
+    c.hop-hop.ensures.after ∙ ap (hopped_switch c.args.switch.now) (sym goes)
+
+always : {P : Type 0} (r : Result (Unit {0}) AllocError) → P → OnOk r P
+always (Ok done) p = p
+always (Err error) p = tt
+
+pub returns-in_ok-put-in-Move-clause-written : goal.returns-in_ok-put-in-Move-clause-written
+returns-in_ok-put-in-Move-clause-written c =
+    let t : TunnelValue = c.args.traveller.now.tunnel in
+    let goes : next t ≡ Some c.in-Move.next =
+    moves _ _ _ _ c.requires.usable (sym c.hop-hop.ensures.end ∙ c.in-Move.is) in
+    let on : c.hop-hop.new.t ≡ advanced t =
+    c.hop-hop.ensures.tunnel ∙ moved_on _ _ _ _ c.requires.usable goes in
+    let P : ℕ → Type 0 = λ packet. OnOk c.push.result (c.push.new.self
+    ≡ c.args.log.now.journal ++ Hopped packet c.in-Move.next ∷ []) in
+    let Q : Option ℕ → Type 0 = λ onward. OnOk c.push.result (c.push.new.self
+    ≡ c.args.log.now.journal ++ hop_items (counted c.args.switch.now) c.args.near
+    c.args.ports.now c.args.traveller.now onward) in
+    subst Q (sym goes) (subst P (ap (λ (m : Traveller). m.tunnel.packet) c.moved.view_is
+    ∙ ap (λ (u : TunnelValue). u.packet) on)
+    c.push.ensures.pushed)
+
+pub returns-in_ok-put-in-Move-clause-travels : goal.returns-in_ok-put-in-Move-clause-travels
+returns-in_ok-put-in-Move-clause-travels c =
+    let t : TunnelValue = c.args.traveller.now.tunnel in
+    let goes : next t ≡ Some c.in-Move.next =
+    moves _ _ _ _ c.requires.usable (sym c.hop-hop.ensures.end ∙ c.in-Move.is) in
+    let on : c.hop-hop.new.t ≡ advanced t =
+    c.hop-hop.ensures.tunnel ∙ moved_on _ _ _ _ c.requires.usable goes in
+    let P : ℕ → TunnelValue → Type 0 = λ packet u. WithOne c.args.log.now.travelling packet
+    (Some (record c.args.traveller.now { tunnel = u })) c.put.new.self in
+    let Q : Option ℕ → Type 0 = λ onward. OnOk c.push.result (WithOne
+    c.args.log.now.travelling t.packet
+    (hop_traveller (counted c.args.switch.now) c.args.near c.args.ports.now
+    c.args.traveller.now onward) c.put.new.self) in
+    subst Q (sym goes) (always c.push.result (subst (P t.packet) on
+    (subst (λ packet. P packet c.hop-hop.new.t)
+    (ap (λ (m : Traveller). m.tunnel.packet) c.moved.view_is
+    ∙ ap (λ (u : TunnelValue). u.packet) on)
+    (c.in_ok-put-in-Move.ensures {u = tt}))))

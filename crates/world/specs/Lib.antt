@@ -1,0 +1,5 @@
+pub mod Travelling
+pub mod State
+pub mod Writing
+pub mod Packets
+pub mod Parts

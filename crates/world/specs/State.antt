@@ -1,0 +1,151 @@
+-- A world as contracts see it, and what its journal says of it: what each switch is, and where each
+-- packet that travels is on its way.
+use Rattle.std.specs.Prelude.{ℕ, ◌≡◌, ◌+◌, ◌<◌, Bool, false, map, slice_index, ◌==◌, if◌then◌else◌, Option, Some, None, option_map, unwrap_or, List, [], ◌∷◌, ◌++◌, filter, filter_map, fold, length, slice_index_or}
+use Rattle.std.specs.List.{list_any, range_with_len}
+use Rattle.ctrl_msg.specs.declared.message.Body.{Body}
+use Rattle.ctrl_msg.specs.declared.message.Body.TheVariants.{Install, Collect}
+use Rattle.policy_rules.specs.declared.packet.Leg.{Leg}
+use Rattle.policy_rules.specs.declared.packet.Leg.TheVariants.{Exit}
+use Rattle.journal.specs.declared.item.Item.{Item}
+use Rattle.failover.specs.Adverts.{first_adverts}
+use Rattle.net_file.specs.Net.{links_of}
+use Rattle.net_file.specs.declared.net.Net.{Net}
+use Rattle.switch_core.specs.State.{SwitchValue, begun}
+use Rattle.switch_table.specs.Tables.{Placed, tables_of}
+use Rattle.switch_table.specs.declared.tables.Tables.{Tables}
+use Rattle.tunnel.specs.Tunnel.{TunnelValue}
+use Rattle.update_machine.specs.Adverts.{adverts_known, own_seq}
+use Rattle.update_machine.specs.Boots.{boot_of, heard, is_in_first_boot, is_up, serves}
+use Rattle.update_machine.specs.Caches.{cache_of}
+use Rattle.update_machine.specs.Handled.{handled_count}
+use Rattle.update_machine.specs.Moves.{header_at}
+use Rattle.update_machine.specs.Packets.{decision_of, found_down, ingress_of, leg_of, next_packet, route_in, route_place, targets_of, travels}
+use Rattle.update_machine.specs.Played.{IsPlayed, IsSetting}
+use Rattle.update_machine.specs.Setting.{Setting}
+use Rattle.update_machine.specs.Versions.{greatest, holds_version, stamp_of, tables_at}
+use Rattle.world.specs.Travelling.{Travellers, traveller}
+use Rattle.world.specs.declared.travelling.Traveller.{Traveller}
+
+pub record WorldValue : Type 0 where
+  -- the network and the policies
+  pub setting : Setting
+  pub journal : List Item
+  pub switches : List SwitchValue
+  pub travelling : Travellers
+  -- how many packets came in or were refused
+  pub packets : ℕ
+  -- memory ran out within a step, so that no further one is taken
+  pub is_spent : Bool
+
+-- ---- what a switch is
+
+-- the greatest version up to which the switch was told to drop tables in its boot
+abbrev pub collect_in : Body → Option ℕ
+collect_in (Collect boot version) = Some version
+collect_in _ = None
+
+abbrev pub collected_of : List Item → ℕ → ℕ
+collected_of journal s = greatest (filter_map collect_in (heard journal s))
+
+-- tables that a body brings
+abbrev pub tables_in : Body → Option Tables
+tables_in (Install boot tables) = Some tables
+tables_in _ = None
+
+-- in boot 1 a switch begins with the tables of version 1, otherwise with none
+abbrev pub tables_begun : Setting → List Item → ℕ → List Tables
+tables_begun setting journal s =
+    if is_in_first_boot journal s then tables_at setting journal 1 s ∷ [] else []
+
+-- one more, where there is none of its version
+abbrev pub with_tables : List Tables → Tables → List Tables
+with_tables all tables =
+    if list_any (λ other. other.version == tables.version) all then all else all ++ tables ∷ []
+
+-- the tables of the versions that the switch holds, in the order in which they came
+abbrev pub held_tables : Setting → List Item → ℕ → List Tables
+held_tables setting journal s =
+    filter (λ tables. holds_version journal s tables.version)
+    (fold with_tables (tables_begun setting journal s) (filter_map tables_in (heard journal s)))
+
+-- what the journal says of the switch
+unfoldable pub switch_of : Setting → List Item → ℕ → SwitchValue
+switch_of setting journal s = record {
+  number = s;
+  boot = boot_of journal s;
+  is_up = is_up journal s;
+  is_open = serves journal s;
+  stamp = stamp_of journal s;
+  collected = collected_of journal s;
+  tables = held_tables setting journal s;
+  cache = cache_of setting journal s;
+  database = adverts_known setting journal s;
+  seq = own_seq setting journal s;
+  handled = handled_count journal s;
+}
+
+-- ---- where a packet is
+
+-- its leg; any where it has none
+abbrev pub own_leg : List Item → ℕ → Leg
+own_leg journal i = unwrap_or (leg_of journal i) (Exit 0)
+
+abbrev pub tunnel_of : Setting → List Item → ℕ → TunnelValue
+tunnel_of setting journal i = record {
+  packet = i;
+  header = header_at journal i;
+  ingress = unwrap_or (ingress_of journal i) 0;
+  leg = own_leg journal i;
+  targets = targets_of setting journal (own_leg journal i);
+  route = route_in journal i;
+  place = route_place journal i;
+  down = found_down journal i;
+}
+
+-- what the journal says of a packet on its way: its tunnel, and the version and the rule of its
+-- decision, 0 and none before it
+unfoldable pub traveller_of : Setting → List Item → ℕ → Traveller
+traveller_of setting journal i = record {
+  tunnel = tunnel_of setting journal i;
+  version = unwrap_or (option_map (λ decision. decision.version) (decision_of journal i)) 0;
+  rule = unwrap_or (option_map (λ decision. decision.rule) (decision_of journal i)) None;
+}
+
+unfoldable pub traveller_in : Setting → List Item → ℕ → Option Traveller
+traveller_in setting journal i =
+    if travels journal i then Some (traveller_of setting journal i) else None
+
+-- ---- the tie
+
+-- the journal is played, and the switches and the packets on their way are as it says
+pub record Tied (setting : Setting) (journal : List Item) (switches : List SwitchValue)
+    (travelling : Travellers) (count : ℕ) : Type 0 where
+  pub sound : IsSetting setting
+  pub played : IsPlayed setting journal
+  pub many : length switches ≡ length setting.net.switches
+  pub each : (s : ℕ) (d : SwitchValue) → s < length switches →
+      slice_index_or switches s d ≡ switch_of setting journal s
+  pub packet : (i : ℕ) → traveller travelling i ≡ traveller_in setting journal i
+  pub counted : next_packet journal ≡ count + 1
+
+unfoldable pub AreTied : Setting → List Item → List SwitchValue → Travellers → ℕ → Type 0
+AreTied setting journal switches travelling count =
+    Tied setting journal switches travelling count
+
+-- ---- a world
+
+-- the neighbours of each switch as masks, by its number
+abbrev pub AreNear : Net → List ℕ → Type 0
+AreNear net near = (s : ℕ) → s < 64 → slice_index near s ≡ links_of net.links s
+
+-- a switch as it begins its first boot with the tables of this plan
+abbrev pub switch_begun : Net → List Placed → ℕ → SwitchValue
+switch_begun net plan s = begun s net.cache (tables_of plan 1 s)
+    (first_adverts (map (links_of net.links) (range_with_len 0 (length net.switches)))
+    (length net.switches))
+
+-- nothing happened yet
+pub record IsBegun (setting : Setting) (world : WorldValue) : Type 0 where
+  pub own : world.setting ≡ setting
+  pub silent : world.journal ≡ []
+  pub able : world.is_spent ≡ false

@@ -1,0 +1,29 @@
+//! The world: switches, the packets on their way between them, and the journal of what happens.
+//!
+//! A `World` promises that each step writes exactly the items that the definitions over journals
+//! state, and that it stays tied to its journal: each switch is what the journal says of it, with
+//! as many calls as the journal counts, and the packets on their way are those that travel. Where
+//! memory runs out within a step, a part of the step's items is written, and no further step is
+//! taken.
+//!
+//! ```text
+//! let mut world = World::begin(alloc, &net, policies)?;   // why the first policy has no plan
+//! world.step(alloc, 1, &Step::Packet { switch, header })?;
+//! while let Some(packet) = world.next_travelling(1) {
+//!     world.step(alloc, 2, &Step::Hop { packet })?;
+//! }
+//! ```
+#![tactic(auto)]
+
+mod beginning;
+mod error;
+mod log;
+mod packets;
+mod parts;
+mod travelling;
+mod world;
+
+pub use controller::PlanError;
+pub use error::StepError;
+pub use travelling::Traveller;
+pub use world::World;

@@ -1,0 +1,154 @@
+ghost use Rattle.std.specs.Prelude.{◌≡◌, ◌++◌, ◌<◌, OnOk, OnErr};
+ghost use Rattle.update_machine.specs.Packets.{next_packet};
+ghost use Rattle.update_machine.specs.Pieces.{piece};
+ghost use Rattle.update_machine.specs.Played.{MayPlay};
+ghost use Rattle.steps.specs.declared.step.Step.TheVariants.{Hop as HopStep, Lose as LoseStep, Packet as PacketStep};
+ghost use Rattle.world.specs.Parts.{AreSound, AreTiedIn, KeepNet, setting_in};
+ghost use Rattle.world.specs.Writing.{IsPart};
+
+use crate::log::Log;
+use crate::packets::{enter, hop};
+use five_tuple::Header;
+use journal::Item;
+use net_file::{Net, Ports};
+use policy_rules::Policy;
+use std::alloc::{AllocError, Global};
+use steps::Step;
+use switch_core::Switch;
+
+/// What a world is made of.
+#[derive(Drop)]
+pub struct Parts {
+    pub net: Net,
+    pub policies: Vec<Policy>,
+    pub ports: Ports,
+    /// The neighbours of each switch, as masks.
+    pub near: [u64; 64],
+    pub switches: Vec<Switch>,
+    pub log: Log,
+    /// How many packets came in or were refused.
+    pub packets: u32,
+}
+
+impl Parts {
+    /// Takes the step of this row, and writes what happens.
+    ///
+    /// # Errors
+    /// Want of memory alone; a part of the items is written then.
+    pub fn play(&mut self, alloc: Global, row: u32, step: &Step) -> Result<(), AllocError>
+        requires sound { AreSound self.old }
+        requires tied { AreTiedIn self.old }
+        requires may { MayPlay (setting_in self.old) step.now }
+        requires few { next_packet self.old.log.journal < 4_000_000_000 }
+        ensures net { KeepNet self.old self.new }
+        ensures written { OnOk result (self.new.log.journal ≡ self.old.log.journal
+            ++ piece (setting_in self.old) self.old.log.journal row step.now) }
+        ensures tied { OnOk result (AreTiedIn self.new) }
+        ensures part { OnErr result (IsPart self.old.log.journal
+            (piece (setting_in self.old) self.old.log.journal row step.now)
+            self.new.log.journal) }
+    {
+        match step {
+            Step::Packet { switch, header } => self.packet(alloc, row, *switch, header),
+            Step::Hop { packet } => self.hop(alloc, row, *packet),
+            Step::Lose { packet } => self.lose(row, *packet),
+            _ => unreachable!(),
+        }
+    }
+
+    // A packet comes in.
+    fn packet(
+        &mut self,
+        alloc: Global,
+        row: u32,
+        switch: u32,
+        header: &Header,
+    ) -> Result<(), AllocError>
+        requires sound { AreSound self.old }
+        requires tied { AreTiedIn self.old }
+        requires may { MayPlay (setting_in self.old) (PacketStep switch header.now) }
+        requires few { next_packet self.old.log.journal < 4_000_000_000 }
+        ensures net { KeepNet self.old self.new }
+        ensures written { OnOk result (self.new.log.journal ≡ self.old.log.journal
+            ++ piece (setting_in self.old) self.old.log.journal row
+            (PacketStep switch header.now)) }
+        ensures tied { OnOk result (AreTiedIn self.new) }
+        ensures part { OnErr result (IsPart self.old.log.journal
+            (piece (setting_in self.old) self.old.log.journal row
+            (PacketStep switch header.now)) self.new.log.journal) }
+    {
+        self.packets += 1;
+        self.log.journal.push(Item::Row {
+            row,
+            step: Step::Packet {
+                switch,
+                header: *header,
+            },
+        })?;
+        enter(
+            alloc,
+            &mut self.log,
+            self.packets,
+            header,
+            &mut self.switches[switch as usize],
+            self.near[switch as usize],
+            &self.ports,
+        )
+    }
+
+    // A packet moves on, or is at the end of its route.
+    fn hop(&mut self, alloc: Global, row: u32, packet: u32) -> Result<(), AllocError>
+        requires sound { AreSound self.old }
+        requires tied { AreTiedIn self.old }
+        requires may { MayPlay (setting_in self.old) (HopStep packet) }
+        ensures net { KeepNet self.old self.new }
+        ensures written { OnOk result (self.new.log.journal ≡ self.old.log.journal
+            ++ piece (setting_in self.old) self.old.log.journal row (HopStep packet)) }
+        ensures tied { OnOk result (AreTiedIn self.new) }
+        ensures part { OnErr result (IsPart self.old.log.journal
+            (piece (setting_in self.old) self.old.log.journal row (HopStep packet))
+            self.new.log.journal) }
+    {
+        self.log.journal.push(Item::Row {
+            row,
+            step: Step::Hop { packet },
+        })?;
+        let traveller = match self.log.travelling.get(packet) {
+            None => return self.log.journal.push(Item::Nothing),
+            Some(traveller) => *traveller,
+        };
+        let here = traveller.tunnel.here() as usize;
+        hop(
+            alloc,
+            &mut self.log,
+            &traveller,
+            &mut self.switches[here],
+            self.near[here],
+            &self.ports,
+        )
+    }
+
+    // A packet is lost on its way.
+    #[tactic(auto, using(crate::proofs::Losing::lost_written, crate::proofs::Losing::not_lost_written, crate::proofs::Writing::part_none, crate::proofs::Writing::part_row))]
+    fn lose(&mut self, row: u32, packet: u32) -> Result<(), AllocError>
+        requires tied { AreTiedIn self.old }
+        requires may { MayPlay (setting_in self.old) (LoseStep packet) }
+        ensures net { KeepNet self.old self.new }
+        ensures written { OnOk result (self.new.log.journal ≡ self.old.log.journal
+            ++ piece (setting_in self.old) self.old.log.journal row (LoseStep packet)) }
+        ensures tied { OnOk result (AreTiedIn self.new) }
+        ensures part { OnErr result (IsPart self.old.log.journal
+            (piece (setting_in self.old) self.old.log.journal row (LoseStep packet))
+            self.new.log.journal) }
+    {
+        self.log.journal.push(Item::Row {
+            row,
+            step: Step::Lose { packet },
+        })?;
+        if self.log.travelling.remove(packet) {
+            self.log.journal.push(Item::Lost { packet })
+        } else {
+            self.log.journal.push(Item::Nothing)
+        }
+    }
+}

@@ -1,0 +1,161 @@
+ghost use Rattle.std.specs.Prelude.{◌≡◌, ◌+◌, ◌++◌, ◌<◌, ◌≤◌, ℕ, false, [], length, slice_index_or, All, OnOk, OnErr, IfOk, IfErr, is_some};
+ghost use Rattle.controller.specs.Plan.{RefusesPlan};
+ghost use Rattle.net_file.specs.Net.{IsNet};
+ghost use Rattle.policy_rules.specs.Policy.{IsPolicy};
+ghost use Rattle.update_machine.specs.Packets.{next_packet, travels};
+ghost use Rattle.update_machine.specs.Pieces.{piece};
+ghost use Rattle.update_machine.specs.Played.{MayPlay, NamesOwnPort};
+ghost use Rattle.update_machine.specs.Setting.{setting_of};
+ghost use Rattle.world.specs.State.{AreTied, IsBegun};
+ghost use Rattle.world.specs.Travelling.{IsNextFrom, traveller};
+ghost use Rattle.world.specs.Writing.{IsPart};
+
+use crate::beginning::{near_masks, switches_of};
+use crate::error::StepError;
+use crate::log::Log;
+use crate::parts::Parts;
+use crate::travelling::Travelling;
+use controller::{PlanError, compile};
+use journal::Journal;
+use net_file::Net;
+use policy_rules::Policy;
+use std::alloc::{AllocError, Global};
+use std::marker::Model;
+use steps::Step;
+use switch_core::Switch;
+
+/// A network of switches, the packets on their way in it, and the journal of what happened.
+///
+/// Contracts see the setting, the journal, the switches, the packets on their way, how many packets
+/// there were, and whether memory ran out within a step.
+#[derive(Drop)]
+pub struct World {
+    parts: Parts,
+    is_spent: bool,
+}
+
+impl Model for World {
+    ghost use Rattle.world.specs.State.{WorldValue};
+    ghost use Rattle.world.specs.Parts.{IsWorld, value_of};
+
+    ghost Value = { WorldValue };
+
+    ghost view = { λ w. value_of w.parts w.is_spent };
+
+    ghost invariant = { λ w. IsWorld w.parts w.is_spent };
+}
+
+impl World {
+    /// The network with the first policy in force as version 1: every switch is up and serves, and
+    /// no packet came in yet.
+    ///
+    /// # Errors
+    /// Why the first policy has no plan on the network.
+    #[tactic(auto, using(crate::proofs::Starting::begun_tied))]
+    pub fn begin(alloc: Global, net: &Net, policies: Vec<Policy>) -> Result<World, PlanError>
+        requires net { IsNet net.now }
+        requires some { 1 ≤ length policies.items }
+        requires sound { All IsPolicy policies.items }
+        requires ports { All (All (λ row. NamesOwnPort (setting_of net.now policies.items)
+            row.action)) policies.items }
+        ensures begun { IfOk result (IsBegun (setting_of net.now policies.items)) }
+        ensures refused { IfErr result
+            (RefusesPlan (slice_index_or policies.items 0 []) net.now) }
+    {
+        let plan = compile(alloc, &policies[0], net)?;
+        let near = near_masks(net);
+        let switches = switches_of(alloc, net, &plan, &near)?;
+        let parts = Parts {
+            net: net.clone()?,
+            policies,
+            ports: net.ports(),
+            near,
+            switches,
+            log: Log {
+                journal: Journal::new(alloc),
+                travelling: Travelling::new(alloc),
+            },
+            packets: 0,
+        };
+        Ok(World {
+            parts,
+            is_spent: false,
+        })
+    }
+
+    /// Takes the step of this row of a schedule, and writes what happens into the journal.
+    ///
+    /// # Errors
+    /// Want of memory alone. The journal has a part of the step's items then, and no further step
+    /// is taken.
+    pub fn step(&mut self, alloc: Global, row: u32, step: &Step) -> Result<(), StepError>
+        requires may { MayPlay self.old.setting step.now }
+        requires few { next_packet self.old.journal < 4_000_000_000 }
+        ensures setting { self.new.setting ≡ self.old.setting }
+        ensures written { OnOk result (self.new.journal ≡ self.old.journal
+            ++ piece self.old.setting self.old.journal row step.now) }
+        ensures goes_on { OnOk result (self.new.is_spent ≡ false) }
+        ensures part { OnErr result (IsPart self.old.journal
+            (piece self.old.setting self.old.journal row step.now) self.new.journal) }
+    {
+        if self.is_spent {
+            return Err(StepError::NoMemory);
+        }
+        self.is_spent = true;
+        self.parts.play(alloc, row, step)?;
+        self.is_spent = false;
+        Ok(())
+    }
+
+    /// The least number at or above `from` of a packet that travels; `None` exactly where there is
+    /// none.
+    pub fn next_travelling(&self, from: u32) -> Option<u32>
+        ensures { IsNextFrom self.now.travelling from result }
+    {
+        self.parts.log.travelling.next(from)
+    }
+
+    /// Whether the packet of this number travels.
+    pub fn travels(&self, packet: u32) -> bool
+        ensures { result ≡ is_some (traveller self.now.travelling packet) }
+    {
+        self.parts.log.travelling.get(packet).is_some()
+    }
+
+    /// What happened so far.
+    pub fn journal(&self) -> &Journal
+        ensures { result.now ≡ self.now.journal }
+    {
+        &self.parts.log.journal
+    }
+
+    /// The switches, by their numbers.
+    pub fn switches(&self) -> &[Switch]
+        ensures { result.now ≡ self.now.switches }
+    {
+        &self.parts.switches
+    }
+
+    /// How many packets came in or were refused.
+    pub fn packets(&self) -> u32
+        ensures { result ≡ self.now.packets }
+    {
+        self.parts.packets
+    }
+
+    /// Whether memory ran out within a step, so that no further one is taken.
+    pub fn is_spent(&self) -> bool
+        ensures { result ≡ self.now.is_spent }
+    {
+        self.is_spent
+    }
+
+    /// As long as memory didn't run out within a step, the switches and the packets on their way
+    /// are as the journal says.
+    pub fn tied(&self)
+        ensures { self.now.is_spent ≡ false → AreTied self.now.setting self.now.journal
+            self.now.switches self.now.travelling self.now.packets }
+    {
+        let _spent = self.is_spent;
+    }
+}
