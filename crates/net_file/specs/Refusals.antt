@@ -1,5 +1,5 @@
 -- Why a text states no network.
-use Rattle.std.specs.Prelude.{ℕ, ◌≡◌, Bool, if◌then◌else◌, Result, Ok, Err}
+use Rattle.std.specs.Prelude.{⊤, ℕ, ◌≡◌, Bool, if◌then◌else◌, Result, Ok, Err}
 use Rattle.net_file.specs.declared.error.NetRefusal.{NetRefusal}
 use Rattle.net_file.specs.declared.error.NetRefusal.TheVariants as refusal
 use Rattle.net_file.specs.declared.error.NetError.{NetError}
@@ -41,4 +41,4 @@ in_row row (Err refusal) = Err (record { refusal = refusal; row = row })
 -- the error is the refusal, or want of memory
 abbrev pub IsRefusal : {X : Type 0} → Result X Refusal → NetError → Type 0
 IsRefusal read (error.Refused refusal row) = read ≡ Err (record { refusal = refusal; row = row })
-IsRefusal read error.NoMemory = Unit {0}
+IsRefusal read error.NoMemory = ⊤

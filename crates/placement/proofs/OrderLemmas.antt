@@ -1,5 +1,6 @@
 -- Numbers in an order: what an insertion sort keeps, and that one list alone rises and has given
 -- numbers.
+use Rattle.std.specs.Prelude.{⊤}
 use Rattle.std.proofs.Common.{ℕ, zero, suc, ◌≡◌, ◌≢◌, ◌∙◌, ◌+◌, ◌<◌, ◌≤◌, Bool, true, false, cond, eqb, ltb, leb, ◌&&◌, ◌||◌, is_lt, nat_cmp, List, [], ◌∷◌, ◌++◌, length, length-take, filter, take, get_or, refl, ap, sym, subst, inl, inr, arith, AllPairs}
 use Rattle.std.specs.List.{AllByRecursion, sum_by, range_with_len, list_any}
 use Rattle.std.specs.Ordering.{ordering_then}
@@ -21,7 +22,7 @@ pub record IsOrder (before : ℕ → ℕ → Bool) : Type 0 where
 
 -- each number stands before all later ones
 abbrev pub Rises : (ℕ → ℕ → Bool) → List ℕ → Type 0
-Rises before [] = Unit {0}
+Rises before [] = ⊤
 Rises before (x ∷ xs) = AllByRecursion (λ y. before x y ≡ true) xs × Rises before xs
 
 -- 1 for this number

@@ -1,6 +1,6 @@
 -- The printed forms of fields need no quotes.
 use Rattle.std.proofs.Common.{ℕ, ◌≡◌, true, false, List, [], ◌∷◌, get_or, refl, arith}
-use Rattle.std.specs.Prelude.{decimal}
+use Rattle.std.specs.Prelude.{⊤, decimal}
 use Rattle.std.specs.List.{AllPass, list_any}
 use Rattle.std.proofs.lemmas.Bool.Decides.{nat_tests}
 use Rattle.std.proofs.lemmas.List.Folds.{list_any-append, list_any_none}
@@ -19,7 +19,7 @@ abbrev pub IsPlain : List ℕ → Type 0
 IsPlain text = list_any (needs_byte default_writer) text ≡ false
 
 abbrev pub ArePlain : List (List ℕ) → Type 0
-ArePlain [] = Unit {0}
+ArePlain [] = ⊤
 ArePlain (field ∷ fields) = IsPlain field × ArePlain fields
 
 plain_char : (c : ℕ) → is_plain_char c ≡ true → needs_byte default_writer c ≡ false

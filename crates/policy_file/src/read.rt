@@ -1,4 +1,5 @@
 ghost use Rattle.std.specs.Prelude.{◌≡◌, ◌≤◌, Ok, IfOk, IfErr, All, length};
+ghost use Rattle.policy_rules.specs.Policy.{IsPolicy};
 ghost use Rattle.policy_rules.specs.Read.{HasSmallPort};
 ghost use Rattle.policy_file.specs.Reading.{IsReadUpTo, IsRefusal, policy_of};
 
@@ -23,6 +24,7 @@ const MOST_ROWS: usize = 2000;
 #[tactic(auto, unfolding(crate::specs::Reading::policy_of))]
 pub fn read_policy(alloc: Global, bytes: &[u8]) -> Result<Policy, PolicyError>
     ensures policy { IfOk result (λ policy. policy_of bytes.now ≡ Ok policy) }
+    ensures sound { IfOk result IsPolicy }
     ensures few { IfOk result (λ policy. length policy ≤ 2000) }
     ensures small_ports { IfOk result (All (λ row. HasSmallPort row.action)) }
     ensures refused { IfErr result (IsRefusal (policy_of bytes.now)) }

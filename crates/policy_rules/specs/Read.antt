@@ -1,5 +1,5 @@
 -- The text of an action, as it is read.
-use Rattle.std.specs.Prelude.{ℕ, ◌<◌, if◌then◌else◌, List, take, drop, Option, Some, None, option_map, codes, bytes_eq}
+use Rattle.std.specs.Prelude.{⊤, ℕ, ◌<◌, if◌then◌else◌, List, take, drop, Option, Some, None, option_map, codes, bytes_eq}
 use Rattle.five_tuple.specs.Texts.{number_up_to}
 use Rattle.policy_rules.specs.declared.policy.Action.{Action}
 use Rattle.policy_rules.specs.declared.policy.Action.TheVariants.{Drop, Out}
@@ -13,5 +13,5 @@ action_of text =
 
 -- a port that an action may name has a number below 64
 abbrev pub HasSmallPort : Action → Type 0
-HasSmallPort Drop = Unit {0}
+HasSmallPort Drop = ⊤
 HasSmallPort (Out port) = port < 64

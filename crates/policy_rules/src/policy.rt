@@ -202,8 +202,9 @@ fn check_rows(alloc: Global, rows: &[Row]) -> Result<(), NewPolicyError>
     Ok(())
 }
 
-// Each field of a row is as its type has it: known where the field is read.
-pub(crate) fn row_is_sound(row: &Row)
+// Each field of a row is as its type has it, which is known where the field is read: here, once for
+// all rows of a policy.
+fn row_is_sound(row: &Row)
     ensures { IsSoundRow row.now }
 {
     let _priority = row.priority;

@@ -1,15 +1,15 @@
-ghost use Rattle.std.specs.Prelude.{◌≡◌, ◌+◌, ◌<◌, ◌≤◌, ◌^◌, ◌∷◌, [], IfOk, IfErr, OnOk, Some, map, option_map, length};
+ghost use Rattle.std.specs.Prelude.{◌≡◌, ◌+◌, ◌<◌, ◌≤◌, ◌^◌, ◌∷◌, [], All, IfOk, IfErr, OnOk, Some, map, option_map, length};
 ghost use Rattle.five_tuple.specs.Cover.{IsPortBlock, cover_of};
 ghost use Rattle.five_tuple.specs.Header.{IsHeader};
 ghost use Rattle.five_tuple.specs.declared.header.Header.{Header};
-ghost use Rattle.policy_rules.specs.Policy.{scan, IsPolicy};
+ghost use Rattle.policy_rules.specs.Policy.{scan, IsPolicy, IsSoundRow};
 ghost use Rattle.policy_rules.specs.Rules.{first_rule};
 ghost use Rattle.policy_rules.specs.Words.{word_of_row};
 ghost use Rattle.policy_rules.specs.RuleList.{Appends, by_falling_priority, entries_of, ranked_from, with_default, with_hit, rules_of, word_total, RefusesRules, hit_of_rule, IsRuleList};
 ghost use Rattle.policy_rules.specs.declared.rule_list.RulesError.TheVariants.{NoMemory};
 
 use crate::laws::rule_list_laws;
-use crate::policy::{Hit, Policy, Row, row_is_sound};
+use crate::policy::{Hit, Policy, Row};
 use crate::rules::Rule;
 use crate::words::word_of_row;
 use five_tuple::{PortBlock, count_blocks};
@@ -52,6 +52,7 @@ pub fn to_rules(alloc: Global, policy: &Policy) -> Result<Vec<Rule>, RulesError>
     ensures list { IfOk result (λ rules. IsRuleList rules.items) }
     ensures count { IfOk result (λ rules. length rules.items ≡ word_total policy.now + 1) }
     ensures few { OnOk result (word_total policy.now ≤ 4096) }
+    ensures policy { OnOk result (IsPolicy policy.now) }
     ensures refused { IfErr result (RefusesRules policy.now) }
 {
     rule_list_laws();
@@ -69,15 +70,8 @@ pub fn to_rules(alloc: Global, policy: &Policy) -> Result<Vec<Rule>, RulesError>
 pub fn count_words(policy: &Policy) -> u64
     ensures { result ≡ word_total policy.now }
 {
-    count_words_of(policy.rows())
-}
-
-fn count_words_of(rows: &[Row]) -> u64
-    requires { length rows.now < 2 ^ 32 }
-    ensures { result ≡ word_total rows.now }
-{
     let mut words = 0;
-    for row in rows {
+    for row in policy.rows() {
         words += u64::from(count_blocks(&row.sport) * count_blocks(&row.dport));
     }
     words
@@ -94,7 +88,8 @@ fn by_falling_priority(alloc: Global, rows: &[Row]) -> Result<Vec<Row>, AllocErr
 
 // The rules of rows that are given by falling priority, in a list with room for this many.
 fn list_rules(alloc: Global, rows: &[Row], room: usize) -> Result<Vec<Rule>, AllocError>
-    requires { word_total rows.now ≤ 4096 }
+    requires few { word_total rows.now ≤ 4096 }
+    requires sound { All IsSoundRow rows.now }
     ensures { IfOk result (λ rules. rules.items ≡ ranked_from 0 (with_default rows.now)) }
 {
     let mut rules = Vec::with_capacity(alloc, room)?;
@@ -106,10 +101,10 @@ fn list_rules(alloc: Global, rows: &[Row], room: usize) -> Result<Vec<Rule>, All
 }
 
 fn push_row(rules: &mut Vec<Rule>, row: &Row) -> Result<(), AllocError>
-    requires { length rules.old.items ≤ 4096 }
+    requires few { length rules.old.items ≤ 4096 }
+    requires row { IsSoundRow row.now }
     ensures { OnOk result (Appends rules.old.items rules.new.items (entries_of row.now)) }
 {
-    row_is_sound(row);
     for source in row.sport.blocks() {
         push_words(rules, row, source)?;
     }
@@ -119,6 +114,7 @@ fn push_row(rules: &mut Vec<Rule>, row: &Row) -> Result<(), AllocError>
 // The rules of the row's words for one block of its source ports.
 fn push_words(rules: &mut Vec<Rule>, row: &Row, source: PortBlock) -> Result<(), AllocError>
     requires few { length rules.old.items ≤ 4996 }
+    requires row { IsSoundRow row.now }
     requires source { IsPortBlock source }
     ensures { OnOk result (Appends rules.old.items rules.new.items
         (with_hit row.now (map (word_of_row row.now source) (cover_of row.now.dport)))) }

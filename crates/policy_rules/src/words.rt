@@ -1,20 +1,21 @@
 ghost use Rattle.std.specs.Prelude.{◌≡◌};
 ghost use Rattle.five_tuple.specs.Cover.{IsPortBlock};
 ghost use Rattle.five_tuple.specs.Header.{packed};
+ghost use Rattle.policy_rules.specs.Policy.{IsSoundRow};
 ghost use Rattle.policy_rules.specs.Words.{prefix_mask, proto_value, proto_mask, word_of_row};
 
-use crate::policy::{Row, row_is_sound};
+use crate::policy::Row;
 use five_tuple::{Fields, Header, PortBlock, Prefix, Proto};
 use ternary::Word;
 
 /// The word of the headers that this row matches by its addresses and protocol, and whose ports are
 /// in the two blocks.
 pub fn word_of_row(row: &Row, source: PortBlock, destination: PortBlock) -> Word
+    requires row { IsSoundRow row.now }
     requires source { IsPortBlock source }
     requires destination { IsPortBlock destination }
     ensures { result ≡ word_of_row row.now source destination }
 {
-    row_is_sound(row);
     let value = value_of_row(row, source.0, destination.0);
     let mask = mask_of_row(row, source.1, destination.1);
     Word::new(value, mask).unwrap()

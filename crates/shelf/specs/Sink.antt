@@ -1,5 +1,5 @@
 -- What a sink of bytes holds, and what a write to it may answer.
-use Rattle.std.specs.Prelude.{◌≡◌, ◌<◌, ◌≤◌, ℕ, Bool, IsTrue, true, false, ◌&&◌, ◌==◌, not, List, ◌++◌, length, take, Option, Some, None, Result, Ok, Err, OnOk, OnErr, IsErrOf}
+use Rattle.std.specs.Prelude.{⊤, ◌≡◌, ◌<◌, ◌≤◌, ℕ, Bool, IsTrue, true, false, ◌&&◌, ◌==◌, not, List, ◌++◌, length, take, Option, Some, None, Result, Ok, Err, OnOk, OnErr, IsErrOf}
 use Rattle.std.proofs.Common.{refl, ap, append_assoc}
 use Rattle.shelf.specs.Faults.{CallScript, Rose}
 use Rattle.shelf.specs.declared.output.SinkError.{SinkError}
@@ -28,7 +28,7 @@ GainedPart before bytes now = (n : ℕ) × (n < length bytes) × (now ≡ gained
 -- what a write of these bytes leaves of a sink: all of them where it succeeds, and else a part; and
 -- each error has its cause
 pub record IsAfterWrite (bytes : List ℕ) (takes_memory : Bool) (old new : SinkState)
-    (result : Result (Unit {0}) SinkError) : Type 0 where
+    (result : Result (⊤) SinkError) : Type 0 where
   pub whole : OnOk result (new.bytes ≡ gained old.bytes bytes)
   pub part : OnErr result (GainedPart old.bytes bytes new.bytes)
   pub faults : old.faults ≤ new.faults

@@ -10,8 +10,8 @@ pub loop-row-init : goal.loop-row-init
 unfolding ranked_from
 loop-row-init c = c.in_ok-rules.ensures.items
 
-pub push_row-requires : goal.push_row-requires
-push_row-requires c =
+pub push_row-requires-clause-few : goal.push_row-requires-clause-few
+push_row-requires-clause-few c =
     let done = take c.loop-row.row-index c.args.rows.now in
     omega (
       arith,

@@ -25,7 +25,7 @@ push_words-requires-clause-few c =
     c.next.new.self c.in-Some.source c.in-Some.is c.next.ensures.steps in
     let sources = (is_cover_of row.sport c.blocks-source-items.ensures.sound).few in
     let pairs = few_pairs row (cover_of row.dport) done
-    (is_cover_of row.dport c.row_is_sound.ensures.dport).few (omega (arith, turn.0, sources)) in
+    (is_cover_of row.dport c.requires.row.dport).few (omega (arith, turn.0, sources)) in
     omega (arith, pairs, length_ranked _ _ _ c.loop-source.invariant)
 
 pub push_words-requires-clause-source : goal.push_words-requires-clause-source

@@ -1,12 +1,13 @@
-use Rattle.std.proofs.Common.{◌∙◌, ap, option_map, arith}
-use Rattle.std.proofs.lemmas.List.Sorted.{sum_by-IsPermutation}
+use Rattle.std.proofs.Common.{◌∙◌, All, ap, option_map, subst, sym, arith}
+use Rattle.std.proofs.lemmas.List.Sorted.{All-permutation, sum_by-IsPermutation}
+use Rattle.policy_rules.specs.Policy.{IsSoundRow}
 use Rattle.policy_rules.specs.Rules.{first_rule}
 use Rattle.policy_rules.specs.RuleList.{by_falling_priority, hit_of_rule, ranked_from, rules_of, with_default, word_count, word_total}
 use Rattle.policy_rules.proofs.Sorting.{IsPermutation-by_falling_priority}
 use Rattle.policy_rules.proofs.rule_list.to_rules.Goals as goal
 
-pub list_rules-requires : goal.list_rules-requires
-list_rules-requires c =
+pub list_rules-requires-clause-few : goal.list_rules-requires-clause-few
+list_rules-requires-clause-few c =
     let rows = c.args.policy.now in
     let sorted = c.deref.ensures.value ∙ c.in_ok-sorted.ensures
     ∙ ap by_falling_priority c.rows.ensures.rows in
@@ -18,6 +19,16 @@ list_rules-requires c =
           (IsPermutation-by_falling_priority rows c.rows.ensures.policy.sound),
       c.count_words-words.ensures,
     )
+
+pub list_rules-requires-clause-sound : goal.list_rules-requires-clause-sound
+list_rules-requires-clause-sound c =
+    let rows = c.args.policy.now in
+    let sorted = c.deref.ensures.value ∙ c.in_ok-sorted.ensures
+    ∙ ap by_falling_priority c.rows.ensures.rows in
+    subst (All IsSoundRow) (sym sorted)
+    (All-permutation IsSoundRow rows (by_falling_priority rows)
+    (IsPermutation-by_falling_priority rows c.rows.ensures.policy.sound)
+    c.rows.ensures.policy.sound)
 
 pub returns-clause-rules : goal.returns-clause-rules
 unfolding rules_of

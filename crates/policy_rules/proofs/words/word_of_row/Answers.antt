@@ -21,7 +21,7 @@ unwrap-requires c =
           sym c.mask_of_row-mask.ensures i;
     } in
     c.new.ensures.taken.1 (subst IsWord same
-    (IsWord-word_of_row row c.args.source c.args.destination c.row_is_sound.ensures
+    (IsWord-word_of_row row c.args.source c.args.destination c.requires.row
     c.requires.source c.requires.destination))
 
 pub returns : goal.returns
