@@ -30,6 +30,7 @@ pub plan_sound : (rows : List Row) (net : Net) (plan : List Placed) → IsNet ne
     → IsPlan rows net plan → IsSoundPlan (record { policy = rows; placed = plan })
 plan_sound rows net plan network is = record {
   sound = is.sound;
+  covers = is.ended;
   few = omega (arith, is.few);
   few_rules = All-weaker (λ placed. length placed.0.rules ≤ net.leaf_rules)
       (λ placed. length placed.0.rules < 2 ^ 32)

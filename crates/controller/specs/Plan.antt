@@ -5,6 +5,7 @@ use Rattle.partition.specs.Plan.{Placed, plan_of}
 use Rattle.partition.specs.Plan as no_plan
 use Rattle.policy_rules.specs.Partitions.{AreSoundPartitions}
 use Rattle.policy_rules.specs.declared.policy.Row.{Row}
+use Rattle.switch_table.specs.Tables.{LastCovers, part_of}
 use Rattle.controller.specs.declared.plan_error.PlanError.{PlanError}
 use Rattle.controller.specs.declared.plan_error.PlanError.TheVariants.{TooManyWords, TooManyLeaves, NoRoom, NoMemory}
 
@@ -12,9 +13,11 @@ pub record PlanValue : Type 0 where
   pub policy : List Row
   pub placed : List Placed
 
--- the partitions are sound for the policy, and their numbers and places have 32 bits
+-- the partitions are sound for the policy, the last rule of each covers its region, and their
+-- numbers and places have 32 bits
 pub record IsSoundPlan (plan : PlanValue) : Type 0 where
   pub sound : AreSoundPartitions plan.policy (map (λ placed. placed.0) plan.placed)
+  pub covers : All LastCovers (map part_of plan.placed)
   pub few : length plan.placed < 2 ^ 32
   pub few_rules : All (λ placed. length placed.0.rules < 2 ^ 32) plan.placed
 

@@ -26,8 +26,6 @@ pub fn compile(alloc: Global, policy: &Policy, net: &Net) -> Result<Plan, PlanEr
     ensures refused { IfErr result (RefusesPlan policy.now net.now) }
 {
     plan_laws();
-    // The rows of a policy are sound.
-    let _ = policy.rows();
     let rules = to_rules(alloc, policy)?;
     let tree = build(alloc, &rules, net.leaf_rules)?;
     let parts = list(alloc, &tree)?;

@@ -1,3 +1,4 @@
 pub mod PartLemmas
+pub mod EndLemmas
 pub mod PlanLemmas
 pub mod CallerLemmas

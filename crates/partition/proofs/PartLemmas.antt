@@ -162,7 +162,7 @@ numbered_count number (leaf ∷ leaves) header =
     leaf leaves in
     omega (arith, more, part, front, numbered_count (number + 1) leaves header)
 
-numbered_all : (P : Partition → Type 0) (Q : WordValue × List Rule → Type 0)
+pub numbered_all : (P : Partition → Type 0) (Q : WordValue × List Rule → Type 0)
     → ((number : ℕ) (leaf : WordValue × List Rule) → Q leaf → P (numbered (number, leaf)))
     → (number : ℕ) (leaves : List (WordValue × List Rule)) → All Q leaves
     → All P (numbered_from number leaves)

@@ -23,6 +23,7 @@ use Rattle.policy_rules.specs.declared.rules.Rule.{Rule}
 use Rattle.policy_rules.proofs.CallerLemmas.{IsRuleList-rules_of}
 use Rattle.partition.specs.Parts.{numbered_from, parts_of}
 use Rattle.partition.specs.Plan.{IsPlan, TooManyWords, TooManyLeaves, NoRoom, Placed, placed_on, plan_of, plan_of_tree, rooms_of, sizes_of}
+use Rattle.partition.proofs.EndLemmas.{parts_ended}
 use Rattle.partition.proofs.PartLemmas.{numbered_length, numbered_more, numbered_none, parts_sound}
 
 -- ---- leaves are small
@@ -132,6 +133,7 @@ zip_holds rows net tree targets policy defined few placement =
     let there = targets_there net (sizes_of parts) targets placement in
     record {
       sound = rw firsts (parts_sound rows net.leaf_rules tree policy defined);
+      ended = rw firsts (parts_ended rows net.leaf_rules tree policy defined);
       few = omega (arith, pairs, number, few);
       leaves = λ k d within.
           let here : k < length parts = omega (arith, within, pairs) in

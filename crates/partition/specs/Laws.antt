@@ -6,7 +6,7 @@ use Rattle.policy_rules.specs.RuleList.{rules_of}
 use Rattle.policy_rules.specs.declared.policy.Row.{Row}
 use Rattle.policy_rules.specs.declared.rules.Rule.{Rule}
 use Rattle.cut_tree.specs.Nodes.{AreWords}
-use Rattle.partition.specs.Parts.{DecideAs, partitions_of}
+use Rattle.partition.specs.Parts.{AllEndInCover, DecideAs, partitions_of}
 
 pub record PartitionLaws : Type 0 where
   -- the partitions of a list decide each header as the list does
@@ -15,3 +15,6 @@ pub record PartitionLaws : Type 0 where
   -- those of a policy's rules are sound for the policy
   pub sound : (rows : List Row) (cap : ℕ) → 0 < cap → IsPolicy rows →
       AreSoundPartitions rows (partitions_of (rules_of rows) cap)
+  -- .. and the last rule of each covers its region
+  pub ended : (rows : List Row) (cap : ℕ) → 0 < cap → IsPolicy rows →
+      AllEndInCover (partitions_of (rules_of rows) cap)

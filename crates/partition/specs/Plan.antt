@@ -15,7 +15,7 @@ use Rattle.policy_rules.specs.Policy.{IsPolicy}
 use Rattle.policy_rules.specs.RuleList.{rules_of, word_total}
 use Rattle.policy_rules.specs.declared.policy.Row.{Row}
 use Rattle.policy_rules.specs.declared.rules.Partition.{Partition}
-use Rattle.partition.specs.Parts.{parts_of}
+use Rattle.partition.specs.Parts.{AllEndInCover, parts_of}
 
 -- why a policy has no plan on a network
 pub data NoPlan : Type 0 where
@@ -52,6 +52,7 @@ plan_of rows net = if nat_lt 4096 (word_total rows)
 -- what holds of each plan
 pub record IsPlan (rows : List Row) (net : Net) (plan : List Placed) : Type 0 where
   pub sound : AreSoundPartitions rows (map (λ placed. placed.0) plan)
+  pub ended : AllEndInCover (map (λ placed. placed.0) plan)
   pub few : length plan ≤ 512
   pub leaves : All (λ placed. length placed.0.rules ≤ net.leaf_rules) plan
   pub placement : IsPlacement (sizes_of (map (λ placed. placed.0) plan)) (rooms_of net) net.backups
@@ -59,6 +60,7 @@ pub record IsPlan (rows : List Row) (net : Net) (plan : List Placed) : Type 0 wh
   pub targets : All (λ placed. All (λ s. s < length net.switches) placed.1) plan
 
 pub record PlanLaws : Type 0 where
-  -- its partitions are sound for the policy and small, and each is placed where there is room
+  -- its partitions are sound for the policy and small, the last rule of each covers its region, and
+  -- each is placed where there is room
   pub holds : (rows : List Row) (net : Net) (plan : List Placed)
       → IsPolicy rows → IsNet net → plan_of rows net ≡ Ok plan → IsPlan rows net plan

@@ -6,7 +6,7 @@ ghost use Rattle.policy_rules.specs.declared.policy.Row.{Row};
 ghost use Rattle.policy_rules.specs.declared.rules.Rule.{Rule};
 ghost use Rattle.cut_tree.specs.DefinedTree.{IsDefinedTree};
 ghost use Rattle.cut_tree.specs.Shape.{leaf_count, leaves_of, shape_of};
-ghost use Rattle.partition.specs.Parts.{DecideAs, numbered_from, parts_of};
+ghost use Rattle.partition.specs.Parts.{AllEndInCover, DecideAs, numbered_from, parts_of};
 
 use cut_tree::Tree;
 use five_tuple::Header;
@@ -16,7 +16,7 @@ use std::alloc::{AllocError, Global};
 /// The partitions of a tree: its leaves, low side before high side, numbered from 0.
 ///
 /// Those of the tree of a list of rules decide each header as the list does, and those of a
-/// policy's rules as its first match does.
+/// policy's rules as its first match does; the last rule of each of these covers its region.
 ///
 /// # Errors
 /// Want of memory alone.
@@ -29,6 +29,9 @@ pub fn list(alloc: Global, tree: &Tree) -> Result<Vec<Partition>, AllocError>
     ensures sound { IfOk result (λ parts. (rows : List Row) (cap : ℕ) →
         IsPolicy rows → IsDefinedTree (rules_of rows) cap (shape_of tree.now) →
         AreSoundPartitions rows parts.items) }
+    ensures ended { IfOk result (λ parts. (rows : List Row) (cap : ℕ) →
+        IsPolicy rows → IsDefinedTree (rules_of rows) cap (shape_of tree.now) →
+        AllEndInCover parts.items) }
 {
     let mut parts = Vec::new(alloc);
     push_leaves(tree, &mut parts)?;

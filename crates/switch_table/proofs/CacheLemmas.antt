@@ -1,17 +1,14 @@
 -- What each call keeps of a cache.
-use Rattle.std.proofs.Common.{ℕ, zero, suc, ◌≡◌, ◌+◌, ◌≤◌, Bool, true, false, cond, leb, ◌||◌, nat_lt, List, [], ◌∷◌, ◌++◌, length, remove, drop, get_or, length-append, refl, ap, sym, subst, inl, inr, arith}
+use Rattle.std.proofs.Common.{ℕ, zero, suc, ◌≡◌, ◌+◌, ◌≤◌, Bool, true, false, cond, leb, ◌||◌, nat_lt, List, [], ◌∷◌, ◌++◌, length, remove, drop, length-append, refl, ap, sym, subst, inl, inr, arith}
 use Rattle.std.specs.List.{list_any}
 use Rattle.std.proofs.lemmas.Bool.{cases_lt, lt-ltb, le-ltb}
 use Rattle.std.proofs.lemmas.List.Edits.{length-remove}
 use Rattle.std.proofs.lemmas.List.Kept.{AllPairs-filter}
-use Rattle.std.proofs.lemmas.List.Quantifiers.{all_pairs_push, all_pairs_remove}
+use Rattle.std.proofs.lemmas.List.Quantifiers.{all_pairs_remove}
 use Rattle.std.proofs.lemmas.List.Sums.{length-filter, count_by-le-length}
 use Rattle.switch_table.specs.Cache.{CacheValue, HaveDistinctKeys, IsCache, same_key, newest, accepted, expired, raised, cleared}
 use Rattle.switch_table.specs.declared.cache.CacheEntry.{CacheEntry}
-use Rattle.switch_table.proofs.QueueLemmas.{apart-sym, none_at}
-
-none_distinct : HaveDistinctKeys []
-none_distinct = λ i j d less within. absurd (omega arith)
+use Rattle.switch_table.proofs.QueueLemmas.{none_distinct, push_distinct, rest_distinct}
 
 pub cache_begun : (capacity : ℕ) → IsCache (record { entries = []; capacity = capacity })
 cache_begun capacity = record { distinct = none_distinct; few = omega arith }
@@ -45,12 +42,6 @@ cache_expired place cache is = elim (cases_lt place (length cache.entries)) [
   | inr past ↦ subst (λ entries. IsCache (record { entries = entries; capacity = cache.capacity }))
       (sym (remove_past cache.entries place past)) is
 ]
-
-rest_distinct : (entries : List CacheEntry) → HaveDistinctKeys entries →
-    HaveDistinctKeys (drop 1 entries)
-rest_distinct [] pairs = none_distinct
-rest_distinct (x ∷ xs) pairs = λ i j d less within. pairs (suc i) (suc j) d (omega arith)
-    (omega arith)
 
 length-rest : (entries : List CacheEntry) (most : ℕ) → length entries ≤ most + 1 →
     length (drop 1 entries) ≤ most
@@ -86,7 +77,5 @@ cache_accepted stamp entry cache is =
     by_case true there _ = is
     by_case false true _ = is
     by_case false false absent = newest_is cache.capacity with_it
-        (all_pairs_push (λ a b. same_key a b ≡ false) cache.entries entry is.distinct
-        (λ k d within. apart-sym entry (get_or cache.entries k d)
-        (none_at (same_key entry) cache.entries k d absent within)))
+        (push_distinct cache.entries entry is.distinct absent)
         (omega (arith, length-append cache.entries (entry ∷ []), is.few))

@@ -1,17 +1,23 @@
--- A queue of entries with the set of their keys: what a push, a removal and a filter keep.
-use Rattle.std.proofs.Common.{ℕ, ◌≡◌, ◌∙◌, ◌+◌, ◌<◌, Bool, true, false, cond, leb, ◌||◌, ◌&&◌, eqb, List, [], ◌∷◌, ◌++◌, length, filter, remove, get_or, refl, ap, sym, subst, inl, inr, arith}
-use Rattle.std.specs.List.{list_any}
-use Rattle.std.proofs.lemmas.Bool.{cases_lt, and_parts, and_from, eqb-true, eq-eqb, false≢true, false_from_ne_true}
-use Rattle.std.proofs.lemmas.List.{get_or_default}
-use Rattle.std.proofs.lemmas.List.Edits.{get_or-remove_below, get_or-remove_above, length-remove}
-use Rattle.std.proofs.lemmas.List.Folds.{list_any-append, list_any_none, list_any-from_Any}
+-- Cache entries in a ring: where they stand after a push, a replacement, a removal and a filter,
+-- and that no two have one key.
+use Rattle.std.proofs.Common.{ℕ, suc, ◌≡◌, ◌∙◌, ◌+◌, ◌-◌, ◌<◌, ◌≤◌, Bool, true, false, cond, Option, Some, None, leb, ◌||◌, eqb, is_some, List, [], ◌∷◌, ◌++◌, length, length-append, length-drop, length-set, append-nil, append_assoc, map, filter, remove, take, drop, set, slice_get, get_or, get_or-drop, get_or-take, option_map, take-append-drop, take_all, refl, ap, sym, subst, arith, All}
+use Rattle.std.specs.List.{insert, list_any, swap_remove}
+use Rattle.std.specs.Map.{lookup}
+use Rattle.std.specs.Option.{IfSome, option_map_or}
+use Rattle.std.proofs.lemmas.Option.{get_or_from_slice_get, slice_get-get_or, slice_get-map}
+use Rattle.indexmap.specs.IndexMap.{insert_entry, move_index}
+use Rattle.indexmap.proofs.MapLemmas.{absent_from_lookup, insert_entry-absent}
+use Rattle.std.proofs.Math.Seq.{drop-append_seam, get_or-append_right, get_or-append_seam, take-append_seam, take-suc-set}
+use Rattle.std.proofs.lemmas.Bool.{and_parts, and_from, eqb-true, eq-eqb, false≢true, false_from_ne_true}
+use Rattle.std.proofs.lemmas.List.{length-map, at_drop_more, drop-map, drop-set-lt, drop_all, get_or_append_left, get_or_default, length-take-le, map-append, set-append_left, take-map}
+use Rattle.std.proofs.lemmas.List.Edits.{length-remove, remove-append_left, remove-append_right}
+use Rattle.std.proofs.lemmas.List.Elements.{All-append, All-cons, All-drop, All-filter, All-head, All-set, All-tail, All-take, filter-append}
+use Rattle.std.proofs.lemmas.List.Folds.{list_any-append, list_any-from_Any}
 use Rattle.std.proofs.lemmas.List.Kept.{AllPairs-filter}
 use Rattle.std.proofs.lemmas.List.Quantifiers.{all_pairs_push, all_pairs_remove}
-use Rattle.std.proofs.lemmas.List.Sorted.{IsPermutation-remove, list_any-IsPermutation}
-use Rattle.std.proofs.lemmas.Map.Views.{any-filter_same}
 use Rattle.ternary.specs.Word.{word_eq}
-use Rattle.switch_table.specs.Cache.{same_key}
-use Rattle.switch_table.specs.Queue.{key_of, equal_keys, IsKeyed}
+use Rattle.switch_table.specs.Cache.{HaveDistinctKeys, same_key}
+use Rattle.switch_table.specs.Queue.{IsRing, Pair, equal_keys, key_of, pairs_from, ring_entries, turned}
 use Rattle.switch_table.specs.declared.cache.CacheEntry.{CacheEntry}
 use Rattle.switch_table.specs.declared.queue.CacheKey.{CacheKey}
 
@@ -48,21 +54,6 @@ apart-sym a b apart =
     false≢true (sym apart ∙ same_key-is a b ∙ subst (λ k. equal_keys (key_of a) k ≡ true)
     (sym equal) (key_equals_itself (key_of a))))
 
-pub keys_apart-sym : (a b : CacheKey) → equal_keys a b ≡ false → equal_keys b a ≡ false
-keys_apart-sym a b apart = false_from_ne_true (equal_keys b a)
-    (λ equal. false≢true (sym apart ∙ subst (λ k. equal_keys a k ≡ true)
-    (sym (keys_equal b a equal)) (key_equals_itself a)))
-
-or-false : (b : Bool) → (b || false) ≡ b
-or-false true = refl
-or-false false = refl
-
-or-true : (b : Bool) → (b || true) ≡ true
-or-true true = refl
-or-true false = refl
-
--- ---- one more entry
-
 pub none_at : (test : CacheEntry → Bool) (entries : List CacheEntry) (k : ℕ) (d : CacheEntry)
     → list_any test entries ≡ false → k < length entries → test (get_or entries k d) ≡ false
 none_at test entries k d none within =
@@ -75,88 +66,455 @@ none_at test entries k d none within =
       passes,
     )))
 
-pub keyed_push : (entries : List CacheEntry) (entry : CacheEntry) (keys more : List CacheKey)
-    → IsKeyed entries keys → list_any (same_key entry) entries ≡ false
-    → ((q : CacheKey) → list_any (equal_keys q) more ≡ cond (equal_keys (key_of entry) q) true
-    (list_any (equal_keys q) keys)) → IsKeyed (entries ++ entry ∷ []) more
-keyed_push entries entry keys more is absent added = record {
-  distinct = all_pairs_push (λ a b. same_key a b ≡ false) entries entry is.distinct
-      (λ k d within. apart-sym entry (get_or entries k d)
-      (none_at (same_key entry) entries k d absent within));
-  same = λ q. by_case q (equal_keys (key_of entry) q) refl (added q)
-      ∙ sym (list_any-append (keyed q) entries (entry ∷ []));
-}
+pub none_distinct : HaveDistinctKeys []
+none_distinct = λ i j d less within. absurd (omega arith)
+
+pub rest_distinct : (entries : List CacheEntry) → HaveDistinctKeys entries →
+    HaveDistinctKeys (drop 1 entries)
+rest_distinct [] pairs = none_distinct
+rest_distinct (x ∷ xs) pairs = λ i j d less within. pairs (suc i) (suc j) d (omega arith)
+    (omega arith)
+
+pub push_distinct : (entries : List CacheEntry) (entry : CacheEntry) → HaveDistinctKeys entries →
+    list_any (same_key entry) entries ≡ false → HaveDistinctKeys (entries ++ entry ∷ [])
+push_distinct entries entry distinct absent =
+    all_pairs_push (λ a b. same_key a b ≡ false) entries entry distinct
+    (λ k d within. apart-sym entry (get_or entries k d)
+    (none_at (same_key entry) entries k d absent within))
+
+-- ---- a list that is turned
+
+turned_parts : {X : Type 0} (front back : List X) →
+    turned (length front) (front ++ back) ≡ back ++ front
+turned_parts front back =
+    ap (λ xs. xs ++ take (length front) (front ++ back)) (drop-append_seam front back)
+    ∙ ap (λ xs. back ++ xs) (take-append_seam front back)
+
+-- the list, cut before a place
+parts_at : {X : Type 0} (place : ℕ) (front back : List X) → length front ≡ place →
+    turned place (front ++ back) ≡ back ++ front
+parts_at place front back len =
+    sym (ap (λ n. turned n (front ++ back)) len) ∙ turned_parts front back
+
+turned_home : {X : Type 0} (xs : List X) → turned (length xs) xs ≡ turned 0 xs
+turned_home xs =
+    ap (λ ys. ys ++ take (length xs) xs) (drop_all (length xs) xs (omega arith))
+    ∙ take_all (length xs) xs (omega arith) ∙ sym (append-nil xs)
+
+turned_insert : {X : Type 0} (place : ℕ) (xs : List X) (x : X) → place ≤ length xs →
+    turned (place + 1) (insert xs place x) ≡ turned place xs ++ x ∷ []
+turned_insert place xs x within =
+    let front = take place xs in
+    let back = drop place xs in
+    let len : length (front ++ x ∷ []) ≡ place + 1 =
+    length-append front (x ∷ []) ∙ ap (λ n. n + 1) (length-take-le place xs within) in
+    ap (turned (place + 1)) (sym (append_assoc front (x ∷ []) back))
+    ∙ parts_at (place + 1) (front ++ x ∷ []) back len ∙ sym (append_assoc back front (x ∷ []))
+
+turned_set : {X : Type 0} (place : ℕ) (xs : List X) (x : X) → place < length xs →
+    turned (place + 1) (set xs place x) ≡ drop 1 (turned place xs) ++ x ∷ []
+turned_set place xs x within =
+    let later = drop (place + 1) xs in
+    let front = take place xs in
+    let next : place + 1 ≡ suc place = omega arith in
+    let back : drop 1 (turned place xs) ≡ later ++ front =
+    at_drop_more (λ ys. drop 1 (ys ++ front)) xs place x within in
+    ap (λ ys. ys ++ take (place + 1) (set xs place x))
+    (drop-set-lt (place + 1) xs place x (omega arith))
+    ∙ ap (λ n. later ++ take n (set xs place x)) next
+    ∙ ap (λ ys. later ++ ys) (take-suc-set xs place x within)
+    ∙ sym (append_assoc later front (x ∷ [])) ∙ ap (λ ys. ys ++ x ∷ []) (sym back)
+
+turned_remove_later : {X : Type 0} (first place : ℕ) (xs : List X) → first ≤ length xs →
+    place < length xs - first →
+    turned first (remove xs (first + place)) ≡ remove (turned first xs) place
+turned_remove_later first place xs within here =
+    let front = take first xs in
+    let back = drop first xs in
+    let len : length front ≡ first = length-take-le first xs within in
+    let there : first + place - first ≡ place = omega arith in
+    ap (λ ys. turned first (remove ys (first + place))) (sym (take-append-drop first xs))
+    ∙ ap (turned first) (remove-append_right front back first (first + place) len (omega arith)
+    ∙ ap (λ n. front ++ remove back n) there)
+    ∙ parts_at first front (remove back place) len
+    ∙ sym (remove-append_left back front place (omega (arith, length-drop first xs)))
+
+turned_remove_earlier : {X : Type 0} (first place : ℕ) (xs : List X) → first ≤ length xs →
+    place < length xs → length xs - first ≤ place →
+    turned (first - 1) (remove xs (place - (length xs - first))) ≡ remove (turned first xs) place
+turned_remove_earlier first place xs within here past =
+    let front = take first xs in
+    let back = drop first xs in
+    let len : length front ≡ first = length-take-le first xs within in
+    let at = place - (length xs - first) in
+    let fewer : length (remove front at) ≡ first - 1 =
+    omega (arith, length-remove front at (omega (arith, len)), len) in
+    ap (λ ys. turned (first - 1) (remove ys at)) (sym (take-append-drop first xs))
+    ∙ ap (turned (first - 1)) (remove-append_left front back at (omega (arith, len)))
+    ∙ parts_at (first - 1) (remove front at) back fewer
+    ∙ sym (remove-append_right back front (length xs - first) place (length-drop first xs) past)
+
+turned_filter : {X : Type 0} (test : X → Bool) (place : ℕ) (xs : List X) →
+    turned (length (filter test (take place xs))) (filter test xs)
+    ≡ filter test (turned place xs)
+turned_filter test place xs =
+    let front = take place xs in
+    let back = drop place xs in
+    ap (λ ys. turned (length (filter test front)) (filter test ys))
+    (sym (take-append-drop place xs))
+    ∙ ap (turned (length (filter test front))) (filter-append test front back)
+    ∙ turned_parts (filter test front) (filter test back) ∙ sym (filter-append test back front)
+
+-- the last item in the place of another
+pub swapped : {X : Type 0} (xs : List X) (place : ℕ) (x d : X) → place < length xs →
+    swap_remove (xs ++ x ∷ []) place d ≡ set xs place x
+swapped xs place x d within =
+    let last : length (xs ++ x ∷ []) - 1 ≡ length xs =
+    omega (arith, length-append xs (x ∷ [])) in
+    let item : get_or (xs ++ x ∷ []) (length (xs ++ x ∷ []) - 1) d ≡ x =
+    ap (λ n. get_or (xs ++ x ∷ []) n d) last ∙ get_or-append_seam xs x [] d in
+    ap (λ y. take (length (xs ++ x ∷ []) - 1) (set (xs ++ x ∷ []) place y)) item
+    ∙ ap (λ ys. take (length (xs ++ x ∷ []) - 1) ys) (set-append_left xs (x ∷ []) place x within)
+    ∙ ap (λ n. take n (set xs place x ++ x ∷ [])) (last ∙ sym (length-set xs place x))
+    ∙ take-append_seam (set xs place x) (x ∷ [])
+
+-- the last item moved to a place
+pub moved : {X : Type 0} (xs : List X) (place : ℕ) (x : X) →
+    move_index (xs ++ x ∷ []) (length xs) place ≡ insert xs place x
+moved xs place x =
+    let there : slice_get (xs ++ x ∷ []) (length xs) ≡ Some x =
+    slice_get-get_or (xs ++ x ∷ []) (length xs) x
+    (omega (arith, length-append xs (x ∷ []))) ∙ ap Some (get_or-append_seam xs x [] x) in
+    let none : length xs - length xs ≡ 0 = omega arith in
+    let rest : remove (xs ++ x ∷ []) (length xs) ≡ xs =
+    remove-append_right xs (x ∷ []) (length xs) (length xs) refl (omega arith)
+    ∙ ap (λ n. xs ++ remove (x ∷ []) n) none ∙ append-nil xs in
+    ap (λ o. option_map_or (λ y. insert (remove (xs ++ x ∷ []) (length xs)) place y) o
+    (xs ++ x ∷ [])) there ∙ ap (λ ys. insert ys place x) rest
+
+-- ---- the entries of a ring
+
+abbrev pub entry_of : Pair → CacheEntry
+entry_of pair = pair.1
+
+map-remove : {X Y : Type 0} (f : X → Y) (xs : List X) (k : ℕ) →
+    map f (remove xs k) ≡ remove (map f xs) k
+map-remove f xs k =
+    map-append f (take k xs) (drop (suc k) xs)
+    ∙ ap (λ ys. ys ++ map f (drop (suc k) xs)) (sym (take-map f k xs))
+    ∙ ap (λ ys. take k (map f xs) ++ ys) (sym (drop-map f (suc k) xs))
+
+filter-map : {X Y : Type 0} (test : Y → Bool) (f : X → Y) (xs : List X) →
+    map f (filter (λ x. test (f x)) xs) ≡ filter test (map f xs)
+filter-map test f [] = refl
+filter-map {X} {Y} test f (x ∷ xs) = by_case (test (f x)) (filter-map test f xs)
   where
-    by_case : (q : CacheKey) (b : Bool) → equal_keys (key_of entry) q ≡ b
-        → list_any (equal_keys q) more ≡ cond b true (list_any (equal_keys q) keys)
-        → list_any (equal_keys q) more ≡ (list_any (keyed q) entries || (keyed q entry || false))
-    by_case q true equal here =
-        let there : keyed q entry ≡ true = subst (λ k. equal_keys k (key_of entry) ≡ true)
-        (keys_equal (key_of entry) q equal) (key_equals_itself (key_of entry)) in
-        rw there (here ∙ sym (or-true (list_any (keyed q) entries)))
-    by_case q false other here =
-        let absent_here : keyed q entry ≡ false = keys_apart-sym (key_of entry) q other in
-        rw absent_here (here ∙ is.same q ∙ sym (or-false (list_any (keyed q) entries)))
+    by_case : (b : Bool) → map f (filter (λ x. test (f x)) xs) ≡ filter test (map f xs) →
+        map f (cond b (x ∷ filter (λ x. test (f x)) xs) (filter (λ x. test (f x)) xs))
+        ≡ cond b (f x ∷ filter test (map f xs)) (filter test (map f xs))
+    by_case true rest = ap (λ ys. f x ∷ ys) rest
+    by_case false rest = rest
 
--- ---- one entry less
+pub length-ring : (first : ℕ) (pairs : List Pair) → first ≤ length pairs →
+    length (ring_entries first pairs) ≡ length pairs
+length-ring first pairs within = length-map (turned first pairs) entry_of
+    ∙ length-append (drop first pairs) (take first pairs)
+    ∙ omega (arith, length-drop first pairs, length-take-le first pairs within, within)
 
-pub keyed_remove : (entries : List CacheEntry) (place : ℕ) (entry : CacheEntry)
-    (keys fewer : List CacheKey) → IsKeyed entries keys → place < length entries
-    → entry ≡ get_or entries place entry
-    → ((q : CacheKey) → list_any (equal_keys q) fewer ≡ cond (equal_keys (key_of entry) q) false
-    (list_any (equal_keys q) keys)) → IsKeyed (remove entries place) fewer
-keyed_remove entries place entry keys fewer is within at taken = record {
-  distinct = all_pairs_remove (λ a b. same_key a b ≡ false) entries place within is.distinct;
-  same = λ q. by_case q (equal_keys (key_of entry) q) refl (taken q);
-}
+rest_push : (entries : List CacheEntry) (entry : CacheEntry) → 0 < length entries →
+    drop 1 (entries ++ entry ∷ []) ≡ drop 1 entries ++ entry ∷ []
+rest_push [] entry some = absurd (omega arith)
+rest_push (x ∷ xs) entry some = refl
+
+abbrev pub IsOwn : Pair → Type 0
+IsOwn pair = pair.0 ≡ key_of pair.1
+
+ring_at : (first place : ℕ) (pairs : List Pair) (pair : Pair) → first ≤ length pairs →
+    place < length pairs → get_or (turned first pairs) place pair ≡ pair →
+    Some pair.1 ≡ slice_get (ring_entries first pairs) place
+ring_at first place pairs pair within here is =
+    let len = length-map (turned first pairs) entry_of in
+    sym (slice_get-map entry_of (turned first pairs) place
+    ∙ ap (option_map entry_of) (slice_get-get_or (turned first pairs) place pair
+    (omega (arith, len, length-ring first pairs within)) ∙ ap Some is))
+
+-- ---- an entry is there
+
+lookup_any : (test : CacheKey → Bool) (pairs : List Pair) →
+    is_some (lookup test pairs) ≡ list_any (λ pair. test pair.0) pairs
+lookup_any test [] = refl
+lookup_any test (pair ∷ pairs) = by_case (test pair.0) (lookup_any test pairs)
   where
-    other_at : (k : ℕ) (d : CacheEntry) → k < length (remove entries place)
-        → keyed (key_of entry) (get_or (remove entries place) k d) ≡ false
-    other_at k d there =
-        let here : get_or entries place d ≡ entry = get_or_default entries place d entry within
-        ∙ sym at in
-        elim (cases_lt k place) [
-          | inl before ↦
-              let apart = subst (λ e. same_key (get_or entries k d) e ≡ false) here
-              (is.distinct k place d before within) in
-              rw (get_or-remove_below entries place d k before within)
-              (sym (same_key-is entry (get_or entries k d))
-              ∙ apart-sym (get_or entries k d) entry apart)
-          | inr after ↦
-              let apart = subst (λ e. same_key e (get_or entries (k + 1) d) ≡ false) here
-              (is.distinct place (k + 1) d (omega arith)
-              (omega (arith, length-remove entries place within))) in
-              rw (get_or-remove_above entries place d k after within)
-              (sym (same_key-is entry (get_or entries (k + 1) d)) ∙ apart)
-        ]
+    by_case : (b : Bool) → is_some (lookup test pairs) ≡ list_any (λ p. test p.0) pairs →
+        is_some (cond b (Some pair.1) (lookup test pairs)) ≡ (b || list_any (λ p. test p.0) pairs)
+    by_case true rest = refl
+    by_case false rest = rest
 
-    by_case : (q : CacheKey) (b : Bool) → equal_keys (key_of entry) q ≡ b
-        → list_any (equal_keys q) fewer ≡ cond b false (list_any (equal_keys q) keys)
-        → list_any (equal_keys q) fewer ≡ list_any (keyed q) (remove entries place)
-    by_case q true equal here = here
-        ∙ sym (list_any_none (keyed q) (remove entries place)
-        (λ k d there. subst (λ z. keyed z (get_or (remove entries place) k d) ≡ false)
-        (keys_equal (key_of entry) q equal) (other_at k d there)))
-    by_case q false other here =
-        let moved = list_any-IsPermutation (keyed q) entries (entry ∷ remove entries place)
-        (IsPermutation-remove entries place entry within at) in
-        let not_here : keyed q entry ≡ false = keys_apart-sym (key_of entry) q other in
-        here ∙ is.same q ∙ moved ∙ ap (λ b. b || list_any (keyed q) (remove entries place)) not_here
+own_any : (key : CacheKey) (pairs : List Pair) → All IsOwn pairs →
+    list_any (λ pair. equal_keys key pair.0) pairs ≡ list_any (keyed key) (map entry_of pairs)
+own_any key [] own = refl
+own_any key (pair ∷ pairs) own =
+    ap (λ k. equal_keys key k || list_any (λ p. equal_keys key p.0) pairs)
+    (All-head IsOwn pair pairs own)
+    ∙ ap (λ b. keyed key pair.1 || b) (own_any key pairs (All-tail IsOwn pair pairs own))
 
--- ---- the entries from a version on
+or-comm : (a b : Bool) → (a || b) ≡ (b || a)
+or-comm true true = refl
+or-comm true false = refl
+or-comm false true = refl
+or-comm false false = refl
 
-pub keyed_filter : (version : ℕ) (entries : List CacheEntry) (keys : List CacheKey)
-    → IsKeyed entries keys → IsKeyed (filter (λ entry. leb version entry.version) entries)
-    (filter (λ key. leb version key.version) keys)
-keyed_filter version entries keys is = record {
-  distinct = AllPairs-filter (λ a b. same_key a b ≡ false) (λ entry. leb version entry.version)
-      entries is.distinct;
-  same = λ q.
-      any-filter_same (equal_keys q) (λ key. leb version key.version) (leb version q.version)
-      (λ k equal. ap (λ (z : CacheKey). leb version z.version) (sym (keys_equal q k equal)))
-      keys
-      ∙ ap (λ b. leb version q.version && b) (is.same q)
-      ∙ sym (any-filter_same (keyed q) (λ entry. leb version entry.version) (leb version q.version)
-      (λ e equal. ap (λ (z : CacheKey). leb version z.version)
-      (sym (keys_equal q (key_of e) equal))) entries);
+turned_any : {X : Type 0} (test : X → Bool) (place : ℕ) (xs : List X) →
+    list_any test xs ≡ list_any test (turned place xs)
+turned_any test place xs =
+    let front = take place xs in
+    let back = drop place xs in
+    ap (list_any test) (sym (take-append-drop place xs)) ∙ list_any-append test front back
+    ∙ or-comm (list_any test front) (list_any test back) ∙ sym (list_any-append test back front)
+
+-- whether the map has the key of an entry
+pub ring_has : (first : ℕ) (pairs : List Pair) (entry : CacheEntry) → IsRing first pairs →
+    is_some (lookup (equal_keys (key_of entry)) pairs)
+    ≡ list_any (same_key entry) (ring_entries first pairs)
+unfolding same_key equal_keys
+ring_has first pairs entry is =
+    lookup_any (equal_keys (key_of entry)) pairs
+    ∙ turned_any (λ pair. equal_keys (key_of entry) pair.0) first pairs
+    ∙ own_any (key_of entry) (turned first pairs) (All-append IsOwn (drop first pairs)
+    (take first pairs) (All-drop IsOwn first pairs is.own) (All-take IsOwn first pairs is.own))
+
+pub no_value : {X : Type 0} (o : Option X) → is_some o ≡ false → o ≡ None
+no_value None none = refl
+no_value (Some x) none = absurd (false≢true (sym none))
+
+-- a new key goes last into the map
+pub ring_inserted : (first : ℕ) (pairs new : List Pair) (key : CacheKey) (entry : CacheEntry)
+    (entries : List CacheEntry) → IsRing first pairs → ring_entries first pairs ≡ entries →
+    list_any (same_key entry) entries ≡ false → key ≡ key_of entry →
+    new ≡ insert_entry equal_keys pairs key entry → new ≡ pairs ++ (key_of entry, entry) ∷ []
+ring_inserted first pairs new key entry entries is are absent own made =
+    let none : is_some (lookup (equal_keys (key_of entry)) pairs) ≡ false =
+    ring_has first pairs entry is ∙ ap (list_any (same_key entry)) are ∙ absent in
+    made ∙ ap (λ k. insert_entry equal_keys pairs k entry) own
+    ∙ insert_entry-absent equal_keys (key_of entry) entry pairs
+    (absent_from_lookup (equal_keys (key_of entry)) pairs
+    (no_value (lookup (equal_keys (key_of entry)) pairs) none))
+
+-- the entry at a place, by where it stands in the map
+pub ring_later : (first place : ℕ) (pairs : List Pair) (pair : Pair) → first ≤ length pairs →
+    place < length pairs - first → Some pair ≡ slice_get pairs (first + place) →
+    Some pair.1 ≡ slice_get (ring_entries first pairs) place
+ring_later first place pairs pair within here is =
+    let front = take first pairs in
+    let back = drop first pairs in
+    let there : get_or pairs (first + place) pair ≡ pair =
+    get_or_from_slice_get pairs (first + place) pair pair (sym is) in
+    let at : get_or (turned first pairs) place pair ≡ pair =
+    get_or_append_left back front pair place (omega (arith, length-drop first pairs))
+    ∙ get_or-drop first pairs place pair ∙ there in
+    ring_at first place pairs pair within (omega arith) at
+
+pub ring_earlier : (first place : ℕ) (pairs : List Pair) (pair : Pair) → first ≤ length pairs →
+    place < length pairs → length pairs - first ≤ place →
+    Some pair ≡ slice_get pairs (place - (length pairs - first)) →
+    Some pair.1 ≡ slice_get (ring_entries first pairs) place
+ring_earlier first place pairs pair within here past is =
+    let front = take first pairs in
+    let back = drop first pairs in
+    let at = place - (length pairs - first) in
+    let there : get_or pairs at pair ≡ pair = get_or_from_slice_get pairs at pair pair (sym is) in
+    let shift : place - length back ≡ at = omega (arith, length-drop first pairs) in
+    ring_at first place pairs pair within here
+    (get_or-append_right back front place pair (omega (arith, length-drop first pairs))
+    ∙ ap (λ n. get_or front n pair) shift
+    ∙ get_or-take first pairs at pair (omega arith) ∙ there)
+
+-- ---- what each call makes of a ring
+
+-- a ring with these entries
+pub record IsRingOf (first : ℕ) (pairs : List Pair) (entries : List CacheEntry) : Type 0 where
+  pub ring : IsRing first pairs
+  pub entries_are : ring_entries first pairs ≡ entries
+
+ring_of : (first : ℕ) (pairs : List Pair) (entries : List CacheEntry) → first ≤ length pairs →
+    All IsOwn pairs → ring_entries first pairs ≡ entries → HaveDistinctKeys entries →
+    IsRingOf first pairs entries
+ring_of first pairs entries within own are distinct = record {
+  ring = record { within = within; own = own; distinct = rw are distinct };
+  entries_are = are;
 }
+
+-- an entry comes last
+pub ring_push : (first : ℕ) (pairs : List Pair) (entry : CacheEntry) → IsRing first pairs →
+    list_any (same_key entry) (ring_entries first pairs) ≡ false →
+    IsRingOf (first + 1) (insert pairs first (key_of entry, entry))
+    (ring_entries first pairs ++ entry ∷ [])
+ring_push first pairs entry is absent =
+    let pair : Pair = (key_of entry, entry) in
+    let front = take first pairs in
+    let back = drop first pairs in
+    let len : length (insert pairs first pair) ≡ length pairs + 1 =
+    length-append front (pair ∷ back)
+    ∙ omega (arith, length-take-le first pairs is.within, length-drop first pairs, is.within) in
+    ring_of (first + 1) (insert pairs first pair) _ (omega (arith, len, is.within))
+    (All-append IsOwn front (pair ∷ back) (All-take IsOwn first pairs is.own)
+    (All-cons IsOwn pair back refl (All-drop IsOwn first pairs is.own)))
+    (ap (map entry_of) (turned_insert first pairs pair is.within)
+    ∙ map-append entry_of (turned first pairs) (pair ∷ []))
+    (push_distinct (ring_entries first pairs) entry is.distinct absent)
+
+-- an entry that was inserted last, and moved to its place in the ring
+pub ring_pushed : (first last : ℕ) (pairs more new : List Pair) (entry : CacheEntry)
+    (entries : List CacheEntry) → IsRing first pairs → ring_entries first pairs ≡ entries →
+    list_any (same_key entry) entries ≡ false → more ≡ pairs ++ (key_of entry, entry) ∷ [] →
+    last ≡ length pairs → new ≡ move_index more last first →
+    IsRingOf (first + 1) new (entries ++ entry ∷ [])
+ring_pushed first last pairs more new entry entries is are absent added len made =
+    let pair : Pair = (key_of entry, entry) in
+    let put : new ≡ insert pairs first pair =
+    made ∙ ap (λ ps. move_index ps last first) added
+    ∙ ap (λ n. move_index (pairs ++ pair ∷ []) n first) len ∙ moved pairs first pair in
+    rw (put, ← are) (ring_push first pairs entry is
+    (ap (list_any (same_key entry)) are ∙ absent))
+
+map-rest : {X Y : Type 0} (f : X → Y) (xs : List X) → map f (drop 1 xs) ≡ drop 1 (map f xs)
+map-rest f [] = refl
+map-rest f (x ∷ xs) = refl
+
+-- the place of the first entry, where there is one
+abbrev pub IsFirstPlace : ℕ → ℕ → List Pair → Type 0
+IsFirstPlace place first pairs =
+    (place < length pairs) × (ring_entries place pairs ≡ ring_entries first pairs)
+
+pub first_place : (first : ℕ) (pairs : List Pair) → first < length pairs →
+    IsFirstPlace first first pairs
+first_place first pairs within = (within, refl)
+
+pub home_place : (first : ℕ) (pairs : List Pair) → first ≤ length pairs → length pairs ≤ first →
+    0 < length pairs → IsFirstPlace 0 first pairs
+home_place first pairs within past some =
+    let home : first ≡ length pairs = omega arith in
+    (some, ap (map entry_of) (sym (turned_home pairs) ∙ ap (λ n. turned n pairs) (sym home)))
+
+-- an entry comes last in the place of the first one
+pub ring_replace : (first place : ℕ) (pairs : List Pair) (entry : CacheEntry) →
+    IsRing first pairs → IsFirstPlace place first pairs →
+    list_any (same_key entry) (ring_entries first pairs) ≡ false →
+    IsRingOf (place + 1) (set pairs place (key_of entry, entry))
+    (drop 1 (ring_entries first pairs) ++ entry ∷ [])
+ring_replace first place pairs entry is at absent =
+    let pair : Pair = (key_of entry, entry) in
+    let old = ring_entries first pairs in
+    let some : 0 < length old = omega (arith, at.0, length-ring first pairs is.within) in
+    ring_of (place + 1) (set pairs place pair) (drop 1 old ++ entry ∷ [])
+    (omega (arith, at.0, length-set pairs place pair))
+    (All-set IsOwn pairs place pair refl is.own)
+    (ap (map entry_of) (turned_set place pairs pair at.0)
+    ∙ map-append entry_of (drop 1 (turned place pairs)) (pair ∷ [])
+    ∙ ap (λ es. es ++ entry ∷ []) (map-rest entry_of (turned place pairs)
+    ∙ ap (drop 1) at.1))
+    (subst HaveDistinctKeys (rest_push old entry some)
+    (rest_distinct (old ++ entry ∷ []) (push_distinct old entry is.distinct absent)))
+
+pub taken_at : (result : Option Pair) (more new : List Pair) (place : ℕ) →
+    result ≡ slice_get more place → place < length more →
+    IfSome result (λ d. new ≡ swap_remove more place d) →
+    (d : Pair) × (new ≡ swap_remove more place d)
+taken_at (Some d) more new place is within made = (d, made)
+taken_at None more new place is within made = absurd (absent more place is within)
+  where
+    absent : (more : List Pair) (place : ℕ) → None ≡ slice_get more place →
+        place < length more → ⊥
+    absent [] place is within = omega (arith, within)
+    absent (x ∷ xs) place is within =
+        let there : None ≡ Some (get_or (x ∷ xs) place x) =
+        is ∙ slice_get-get_or (x ∷ xs) place x within in
+        cc
+
+-- an entry that was inserted last, and taken to the place of the first one
+pub ring_replaced : (first place : ℕ) (pairs more new : List Pair) (d : Pair) (entry : CacheEntry)
+    (entries : List CacheEntry) → IsRing first pairs → IsFirstPlace place first pairs →
+    ring_entries first pairs ≡ entries → list_any (same_key entry) entries ≡ false →
+    more ≡ pairs ++ (key_of entry, entry) ∷ [] → new ≡ swap_remove more place d →
+    IsRingOf (place + 1) new (drop 1 entries ++ entry ∷ [])
+ring_replaced first place pairs more new d entry entries is at are absent added made =
+    let pair : Pair = (key_of entry, entry) in
+    let put : new ≡ set pairs place pair =
+    made ∙ ap (λ ps. swap_remove ps place d) added ∙ swapped pairs place pair d at.0 in
+    rw (put, ← are) (ring_replace first place pairs entry is at
+    (ap (list_any (same_key entry)) are ∙ absent))
+
+All-remove : (pairs : List Pair) (k : ℕ) → All IsOwn pairs → All IsOwn (remove pairs k)
+All-remove pairs k own = All-append IsOwn (take k pairs) (drop (suc k) pairs)
+    (All-take IsOwn k pairs own) (All-drop IsOwn (suc k) pairs own)
+
+-- the entry at a place goes, which stands behind the first in the map or before it
+pub ring_remove_later : (first place : ℕ) (pairs : List Pair) → IsRing first pairs →
+    place < length pairs - first → IsRingOf first (remove pairs (first + place))
+    (remove (ring_entries first pairs) place)
+ring_remove_later first place pairs is here =
+    let within = is.within in
+    ring_of first (remove pairs (first + place)) _
+    (omega (arith, length-remove pairs (first + place) (omega arith)))
+    (All-remove pairs (first + place) is.own)
+    (ap (map entry_of) (turned_remove_later first place pairs within here)
+    ∙ map-remove entry_of (turned first pairs) place)
+    (all_pairs_remove (λ a b. same_key a b ≡ false) (ring_entries first pairs) place
+    (omega (arith, length-ring first pairs within)) is.distinct)
+
+pub ring_remove_earlier : (first place : ℕ) (pairs : List Pair) → IsRing first pairs →
+    place < length pairs → length pairs - first ≤ place →
+    IsRingOf (first - 1) (remove pairs (place - (length pairs - first)))
+    (remove (ring_entries first pairs) place)
+ring_remove_earlier first place pairs is here past =
+    let within = is.within in
+    let at = place - (length pairs - first) in
+    ring_of (first - 1) (remove pairs at) _
+    (omega (arith, length-remove pairs at (omega arith)))
+    (All-remove pairs at is.own)
+    (ap (map entry_of) (turned_remove_earlier first place pairs within here past)
+    ∙ map-remove entry_of (turned first pairs) place)
+    (all_pairs_remove (λ a b. same_key a b ≡ false) (ring_entries first pairs) place
+    (omega (arith, length-ring first pairs within)) is.distinct)
+
+-- the entries from a version on stay
+pub ring_keep : (version first : ℕ) (pairs : List Pair) → IsRing first pairs →
+    IsRingOf (length (pairs_from version (take first pairs))) (pairs_from version pairs)
+    (filter (λ entry. leb version entry.version) (ring_entries first pairs))
+ring_keep version first pairs is =
+    let kept = λ (entry : CacheEntry). leb version entry.version in
+    let own_kept = λ (pair : Pair). kept pair.1 in
+    let front = take first pairs in
+    let back = drop first pairs in
+    let parts : length (pairs_from version pairs)
+    ≡ length (pairs_from version front) + length (pairs_from version back) =
+    ap (λ ps. length (pairs_from version ps)) (sym (take-append-drop first pairs))
+    ∙ ap length (filter-append own_kept front back)
+    ∙ length-append (pairs_from version front) (pairs_from version back) in
+    ring_of (length (pairs_from version front)) (pairs_from version pairs) _
+    (omega (arith, parts)) (All-filter own_kept IsOwn pairs is.own)
+    (ap (map entry_of) (turned_filter own_kept first pairs)
+    ∙ filter-map kept entry_of (turned first pairs))
+    (AllPairs-filter (λ a b. same_key a b ≡ false) kept (ring_entries first pairs) is.distinct)
+
+-- how many of the values are from a version on
+length-kept : (version : ℕ) (pairs : List Pair) →
+    length (filter (λ (entry : CacheEntry). leb version entry.version) (map entry_of pairs))
+    ≡ length (pairs_from version pairs)
+length-kept version pairs =
+    ap length (sym (filter-map (λ (entry : CacheEntry). leb version entry.version) entry_of pairs))
+    ∙ length-map (pairs_from version pairs) entry_of
+
+-- what stays, as the calls say it
+pub ring_kept : (version first next : ℕ) (pairs new : List Pair)
+    (front entries : List CacheEntry) → IsRing first pairs → ring_entries first pairs ≡ entries →
+    front ≡ map entry_of (take first pairs) →
+    next ≡ length (filter (λ (entry : CacheEntry). leb version entry.version) front) →
+    new ≡ pairs_from version pairs →
+    IsRingOf next new (filter (λ entry. leb version entry.version) entries)
+ring_kept version first next pairs new front entries is are values counted kept =
+    let number : next ≡ length (pairs_from version (take first pairs)) =
+    counted
+    ∙ ap (λ es. length (filter (λ (entry : CacheEntry). leb version entry.version) es)) values
+    ∙ length-kept version (take first pairs) in
+    rw (number, kept, ← are) (ring_keep version first pairs is)

@@ -1,5 +1,5 @@
 -- Plans and their tables: where a header lies, and where its rules stand.
-use Rattle.std.proofs.Common.{ℕ, suc, ◌≡◌, ◌≢◌, ◌∙◌, ◌+◌, ◌^◌, ◌<◌, ◌≤◌, Bool, true, false, cond, eqb, nat_lt, not, Option, Some, None, IsSome, List, [], ◌∷◌, ◌++◌, length, map, filter, find, position, unwrap_or, slice_get, get_or, option_map, refl, ap, sym, subst, inl, inr, arith, All, AllPairs, Contains, count_by}
+use Rattle.std.proofs.Common.{ℕ, suc, ◌≡◌, ◌≢◌, ◌∙◌, ◌+◌, ◌^◌, ◌<◌, ◌≤◌, Bool, true, false, cond, eqb, nat_lt, not, Option, Some, None, IsSome, List, [], ◌∷◌, ◌++◌, length, map, filter, find, position, unwrap_or, slice_get, get_or, option_map, refl, ap, sym, subst, arith, All, AllPairs, Contains, count_by}
 use Rattle.std.specs.List.{list_any, position_or_len}
 use Rattle.std.specs.Option.{IfSome, option_map_or, option_and_then}
 use Rattle.std.proofs.lemmas.Bool.{eq-eqb}
@@ -12,6 +12,7 @@ use Rattle.std.proofs.lemmas.List.Sums.{sum_by-cons}
 use Rattle.std.proofs.lemmas.Option.{slice_get-get_or, slice_get-map}
 use Rattle.five_tuple.specs.Header.{IsHeader, number_of}
 use Rattle.five_tuple.specs.declared.header.Header.{Header}
+use Rattle.ternary.proofs.CallerLemmas.{covers_held}
 use Rattle.policy_rules.proofs.CallerLemmas.{find-position}
 use Rattle.policy_rules.specs.Partitions.{AreNumbered, AreSoundPartitions, is_in}
 use Rattle.policy_rules.specs.Policy.{scan}
@@ -19,11 +20,13 @@ use Rattle.policy_rules.specs.RuleList.{hit_of_rule}
 use Rattle.policy_rules.specs.Rules.{first_rule, is_held}
 use Rattle.policy_rules.specs.declared.policy.Row.{Row}
 use Rattle.policy_rules.specs.declared.rules.Partition.{Partition}
-use Rattle.switch_table.specs.Tables.{AreSoundTables, DecidesAll, Placed, part_of, row_of, row_has, has_target, tables_of}
-use Rattle.switch_table.specs.Lookup.{AllDecide, Decides, Leads, authority_of, redirect_of, rule_at, lookup_in, plan_lookup, table_lookup, TablesLaws}
+use Rattle.policy_rules.specs.declared.rules.Rule.{Rule}
+use Rattle.switch_table.specs.Tables.{AreSoundTables, DecidesAll, LastCovers, Placed, part_of, row_of, row_has, has_target, tables_of}
+use Rattle.switch_table.specs.Lookup.{AllDecide, Decides, Leads, authority_of, redirect_of, lookup_in, plan_lookup, table_lookup}
 use Rattle.switch_table.specs.declared.tables.PartRow.{PartRow}
+use Rattle.switch_table.specs.declared.tables.Tables.{Tables}
 use Rattle.switch_table.specs.declared.search.Found.{Found}
-use Rattle.switch_table.specs.declared.search.Found.TheVariants.{Cached, Authority, Redirect}
+use Rattle.switch_table.specs.declared.search.Found.TheVariants.{Redirect}
 
 -- ---- the one that passes
 
@@ -351,15 +354,32 @@ numbers_differ plan numbers = λ i j d less within same.
     ∙ numbers k (part_of d) (omega arith) in
     omega (arith, number i (omega arith), number j within, same)
 
-some_hit : {X Y : Type 0} (f : X → Y) (o : Option X) (y : Y) → option_map f o ≡ Some y → IsSome o
-some_hit f None y is = absurd (cc)
-some_hit f (Some x) y is = refl
+find_ends : {X : Type 0} (test : X → Bool) (earlier : List X) (last : X) → test last ≡ true
+    → IsSome (find test (earlier ++ last ∷ []))
+find_ends test [] last passes = rw passes refl
+find_ends {X} test (x ∷ earlier) last passes = by_case (test x) (find_ends test earlier last passes)
+  where
+    by_case : (b : Bool) → IsSome (find test (earlier ++ last ∷ []))
+        → IsSome (cond b (Some x) (find test (earlier ++ last ∷ [])))
+    by_case true rest = refl
+    by_case false rest = rest
+
+-- where the last rule covers the region, some rule decides each header of it
+pub decides_all : (part : Partition) → LastCovers part → DecidesAll part
+decides_all part ends header is inside =
+    let last : Rule = ends.1 in
+    let number = number_of header in
+    rw ends.2 (find_ends (is_held number) ends.0 last
+    (covers_held last.word part.region number ends.3 inside))
+
+pub auth_decides : (tables : Tables) → AreSoundTables tables → All DecidesAll tables.auth
+auth_decides tables sound = All-weaker LastCovers DecidesAll decides_all tables.auth sound.covers
 
 pub tables_are_sound : (rows : List Row) (plan : List Placed) (version switch : ℕ)
-    → AreSoundPartitions rows (map part_of plan) → length plan < 2 ^ 32
-    → All (λ placed. length placed.0.rules < 2 ^ 32) plan
+    → AreSoundPartitions rows (map part_of plan) → All LastCovers (map part_of plan)
+    → length plan < 2 ^ 32 → All (λ placed. length placed.0.rules < 2 ^ 32) plan
     → AreSoundTables (tables_of plan version switch)
-tables_are_sound rows plan version switch sound few small = record {
+tables_are_sound rows plan version switch sound covers few small = record {
   one = λ header is. count_by-map (row_has header) row_of plan
       ∙ sym (count_by-map (is_in header) part_of plan) ∙ sound.one header is;
   numbers = own_all (λ part. slice_get (map (λ (row : PartRow). row.region) (map row_of plan))
@@ -371,12 +391,9 @@ tables_are_sound rows plan version switch sound few small = record {
   distinct = pairs-map (λ a b. a.number ≢ b.number) part_of (filter (has_target switch) plan)
       (AllPairs-filter (λ a b. a.0.number ≢ b.0.number) (has_target switch) plan
       (numbers_differ plan sound.numbers));
-  decides = own_all DecidesAll plan (has_target switch) (λ placed there header is inside.
-      some_hit hit_of_rule (first_rule placed.0.rules header) (scan rows header)
-      (All-contains (λ part. is_in header part ≡ true
-      → option_map hit_of_rule (first_rule part.rules header) ≡ Some (scan rows header))
-      (map part_of plan) (part_of placed) (sound.decides header is)
-      (contains-map part_of plan placed there) inside));
+  covers = own_all LastCovers plan (has_target switch) (λ placed there.
+      All-contains LastCovers (map part_of plan) (part_of placed) covers
+      (contains-map part_of plan placed there));
   few_rows = (let len : length (map row_of plan) ≡ length plan = length-map _ _ in omega arith);
   few_rules = own_all (λ part. length part.rules < 2 ^ 32) plan (has_target switch)
       (λ placed there. All-contains (λ p. length p.0.rules < 2 ^ 32) plan placed small there);

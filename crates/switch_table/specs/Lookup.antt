@@ -13,7 +13,7 @@ use Rattle.policy_rules.specs.declared.policy.Row.{Row}
 use Rattle.policy_rules.specs.declared.rules.Partition.{Partition}
 use Rattle.policy_rules.specs.declared.rules.Rule.{Rule}
 use Rattle.switch_table.specs.Cache.{first_entry}
-use Rattle.switch_table.specs.Tables.{AreSoundTables, Placed, has_target, part_of, row_has, tables_of}
+use Rattle.switch_table.specs.Tables.{AreSoundTables, DecidesAll, LastCovers, Placed, has_target, part_of, row_has, tables_of}
 use Rattle.switch_table.specs.declared.cache.CacheEntry.{CacheEntry}
 use Rattle.switch_table.specs.declared.tables.PartRow.{PartRow}
 use Rattle.switch_table.specs.declared.tables.Tables.{Tables}
@@ -82,9 +82,12 @@ Leads rows plan version header (Redirect partition targets) =
 Leads rows plan version header found = Decides rows (map part_of plan) header found
 
 pub record TablesLaws : Type 0 where
-  -- tables of a plan of sound partitions are sound ..
+  -- the authority rules of sound tables decide each header of their regions
+  pub decided : (tables : Tables) → AreSoundTables tables → All DecidesAll tables.auth
+  -- tables of a plan of sound partitions, whose last rules cover their regions, are sound ..
   pub sound : (rows : List Row) (plan : List Placed) (version switch : ℕ)
-      → AreSoundPartitions rows (map part_of plan) → length plan < 2 ^ 32
+      → AreSoundPartitions rows (map part_of plan) → All LastCovers (map part_of plan)
+      → length plan < 2 ^ 32
       → All (λ placed. length placed.0.rules < 2 ^ 32) plan
       → AreSoundTables (tables_of plan version switch)
   -- .. and lead each header to the policy's first match, at each switch and at each target

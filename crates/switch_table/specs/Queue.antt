@@ -1,6 +1,5 @@
--- A queue of cache entries beside the set of their keys.
-use Rattle.std.specs.Prelude.{◌≡◌, Bool, ◌&&◌, ◌==◌, List}
-use Rattle.std.specs.List.{list_any}
+-- Cache entries as a map holds them: each under its key, in a ring.
+use Rattle.std.specs.Prelude.{ℕ, ◌≡◌, ◌≤◌, Bool, ◌&&◌, ◌==◌, List, ◌++◌, length, map, filter, take, drop, nat_le, All}
 use Rattle.ternary.specs.Word.{word_eq}
 use Rattle.switch_table.specs.Cache.{HaveDistinctKeys}
 use Rattle.switch_table.specs.declared.cache.CacheEntry.{CacheEntry}
@@ -12,8 +11,23 @@ key_of entry = record { version = entry.version; word = entry.word }
 unfoldable pub equal_keys : CacheKey → CacheKey → Bool
 equal_keys a b = (a.version == b.version) && word_eq a.word b.word
 
--- no two entries have one key, and the set has just their keys
-pub record IsKeyed (entries : List CacheEntry) (keys : List CacheKey) : Type 0 where
-  pub distinct : HaveDistinctKeys entries
-  pub same : (key : CacheKey) → list_any (equal_keys key) keys
-      ≡ list_any (λ entry. equal_keys key (key_of entry)) entries
+abbrev pub Pair : Type 0
+Pair = CacheKey × CacheEntry
+
+-- the list as it is read from a place to the end, and then from the front to that place
+abbrev pub turned : {X : Type 0} → ℕ → List X → List X
+turned place xs = drop place xs ++ take place xs
+
+-- the entries of a ring that begins at this place
+abbrev pub ring_entries : ℕ → List Pair → List CacheEntry
+ring_entries first pairs = map (λ pair. pair.1) (turned first pairs)
+
+-- those of this version or a later one
+abbrev pub pairs_from : ℕ → List Pair → List Pair
+pairs_from version pairs = filter (λ pair. nat_le version pair.1.version) pairs
+
+-- the ring begins within the list, each entry has its own key, and no two have one key
+pub record IsRing (first : ℕ) (pairs : List Pair) : Type 0 where
+  pub within : first ≤ length pairs
+  pub own : All (λ pair. pair.0 ≡ key_of pair.1) pairs
+  pub distinct : HaveDistinctKeys (ring_entries first pairs)

@@ -1,21 +1,27 @@
 -- The tables of a switch for one version of a policy: partition rules for all headers, authority
 -- rules for its own partitions (Yu, Rexford, Freedman and Wang, "Scalable Flow-Based Networking
 -- with DIFANE", SIGCOMM 2010).
-use Rattle.std.specs.Prelude.{ℕ, ◌≡◌, ◌≢◌, ◌^◌, ◌<◌, Bool, Some, List, length, map, filter, All, AllPairs, IsSome, IsTrue, nat_eq, count_by, slice_get}
+use Rattle.std.specs.Prelude.{ℕ, ◌≡◌, ◌≢◌, ◌^◌, ◌<◌, Bool, Some, List, [], ◌∷◌, ◌++◌, length, map, filter, All, AllPairs, IsSome, IsTrue, nat_eq, count_by, slice_get}
 use Rattle.std.specs.List.{list_any}
 use Rattle.five_tuple.specs.Header.{IsHeader, number_of}
 use Rattle.five_tuple.specs.declared.header.Header.{Header}
-use Rattle.ternary.specs.Word.{holds}
+use Rattle.ternary.specs.Word.{covers_of, holds}
 pub use Rattle.policy_rules.specs.Partitions.{Placed}
 use Rattle.policy_rules.specs.Partitions.{is_in}
 use Rattle.policy_rules.specs.Rules.{first_rule}
 use Rattle.policy_rules.specs.declared.rules.Partition.{Partition}
+use Rattle.policy_rules.specs.declared.rules.Rule.{Rule}
 use Rattle.switch_table.specs.declared.tables.PartRow.{PartRow}
 use Rattle.switch_table.specs.declared.tables.Tables.{Tables}
 
 -- the row's region holds this header
 abbrev pub row_has : Header → PartRow → Bool
 row_has header row = holds row.region (number_of header)
+
+-- the last rule of the partition covers its region
+abbrev pub LastCovers : Partition → Type 0
+LastCovers part = (earlier : List Rule) × (last : Rule)
+    × (part.rules ≡ earlier ++ last ∷ []) × IsTrue (covers_of last.word part.region)
 
 -- some rule of the partition holds each header of its region, as where the last one covers it
 abbrev pub DecidesAll : Partition → Type 0
@@ -24,13 +30,13 @@ DecidesAll part =
     → IsSome (first_rule part.rules header)
 
 -- each header lies in one region; an authority partition has the place of its region as its number,
--- and decides all headers there; a place has 32 bits
+-- which no other one has, and its last rule covers the region; a place has 32 bits
 pub record AreSoundTables (tables : Tables) : Type 0 where
   pub one : (header : Header) → IsHeader header → count_by (row_has header) tables.parts ≡ 1
   pub numbers : (let regions = map (λ row. row.region) tables.parts in
       All (λ part. slice_get regions part.number ≡ Some part.region) tables.auth)
   pub distinct : AllPairs (λ a b. a.number ≢ b.number) tables.auth
-  pub decides : All DecidesAll tables.auth
+  pub covers : All LastCovers tables.auth
   pub few_rows : length tables.parts < 2 ^ 32
   pub few_rules : All (λ part. length part.rules < 2 ^ 32) tables.auth
 

@@ -74,11 +74,13 @@ impl Cache {
         if entry.version < stamp || self.queue.has_key_of(&entry) {
             return Ok(());
         }
-        self.queue.push(&entry)?;
-        if self.queue.len() > self.capacity as usize {
-            self.queue.remove(0);
+        if self.queue.len() < self.capacity as usize {
+            self.queue.push(&entry)
+        } else if self.capacity > 0 {
+            self.queue.replace_first(&entry)
+        } else {
+            Ok(())
         }
-        Ok(())
     }
 
     /// Takes the entry at this place, from 0, out and answers the number of its message; `None`

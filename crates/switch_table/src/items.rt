@@ -1,31 +1,35 @@
-ghost use Rattle.std.specs.Prelude.{◌≡◌};
-ghost use Rattle.std.specs.VecDeque.Iter.{deque_iter_rest};
+ghost use Rattle.std.specs.Prelude.{◌≡◌, ◌++◌};
 
 use crate::cache::CacheEntry;
-use std::collections::vec_deque;
+use crate::queue::CacheKey;
+use indexmap::map::Values;
 use std::marker::Model;
 
 /// The entries of a cache, in order, a copy of each. Contracts see those that are left.
 #[derive(Drop)]
 pub struct CacheItems<'a> {
-    items: vec_deque::Iter<'a, CacheEntry>,
+    back: Values<'a, CacheKey, CacheEntry>,
+    front: Values<'a, CacheKey, CacheEntry>,
 }
 
 impl<'a> Model for CacheItems<'a> {
-    ghost use Rattle.std.specs.Prelude.{List};
-    ghost use Rattle.std.specs.VecDeque.Iter.{deque_iter_rest};
+    ghost use Rattle.std.specs.Prelude.{List, ◌++◌};
     ghost use Rattle.switch_table.specs.declared.cache.CacheEntry.{CacheEntry};
 
     ghost Value = { List CacheEntry };
 
-    ghost view = { λ i. deque_iter_rest i.items };
+    ghost view = { λ i. i.back ++ i.front };
 }
 
 impl<'a> CacheItems<'a> {
-    pub(crate) fn new(items: vec_deque::Iter<'a, CacheEntry>) -> CacheItems<'a>
-        ensures { result ≡ deque_iter_rest items.entry }
+    /// The entries at the back of a ring, and then those at its front.
+    pub(crate) fn new(
+        back: Values<'a, CacheKey, CacheEntry>,
+        front: Values<'a, CacheKey, CacheEntry>,
+    ) -> CacheItems<'a>
+        ensures { result ≡ back.entry ++ front.entry }
     {
-        CacheItems { items }
+        CacheItems { back, front }
     }
 }
 
@@ -39,6 +43,9 @@ impl Iterator for CacheItems<'_> {
     ghost remaining = { item_count (λ s. s) };
 
     fn next(&mut self) -> Option<CacheEntry> {
-        self.items.next().copied()
+        match self.back.next() {
+            Some(entry) => Some(*entry),
+            None => self.front.next().copied(),
+        }
     }
 }

@@ -1,12 +1,12 @@
-ghost use Rattle.std.specs.Prelude.{◌≡◌, ◌≤◌, [], ◌∷◌, ◌++◌, ◌<◌, length, drop, remove, filter, nat_le, slice_get, option_map, IsFalse, OnOk, OnErr};
+ghost use Rattle.std.specs.Prelude.{◌≡◌, ◌<◌, [], ◌∷◌, ◌++◌, length, drop, remove, filter, nat_le, slice_get, IsFalse, OnOk, OnErr};
 ghost use Rattle.std.specs.List.{list_any};
 ghost use Rattle.switch_table.specs.Cache.{same_key, HaveDistinctKeys};
 ghost use Rattle.switch_table.specs.Queue.{key_of};
 
 use crate::cache::CacheEntry;
 use crate::items::CacheItems;
+use indexmap::IndexMap;
 use std::alloc::{AllocError, Global};
-use std::collections::{HashSet, VecDeque};
 use std::marker::Model;
 use ternary::Word;
 
@@ -30,24 +30,25 @@ impl CacheKey {
 
 /// Entries in the order in which they came, no two of one key. Contracts see the list.
 ///
-/// The keys stand in a set beside the queue, so that neither a search for a key nor the first
-/// entry's leaving walks over the entries.
+/// The map holds them as a ring: the first entry stands at the place `first`, the later ones behind
+/// it and then from the map's front on, where all of them stand if `first` is the length. So an
+/// entry that comes for the first one takes its place, and no other entry moves.
 #[derive(Drop)]
 pub struct EntryQueue {
-    queue: VecDeque<CacheEntry>,
-    keys: HashSet<CacheKey>,
+    ring: IndexMap<CacheKey, CacheEntry>,
+    first: usize,
 }
 
 impl Model for EntryQueue {
     ghost use Rattle.std.specs.Prelude.{List};
     ghost use Rattle.switch_table.specs.declared.cache.CacheEntry.{CacheEntry};
-    ghost use Rattle.switch_table.specs.Queue.{IsKeyed};
+    ghost use Rattle.switch_table.specs.Queue.{IsRing, ring_entries};
 
     ghost Value = { List CacheEntry };
 
-    ghost view = { λ q. q.queue.items };
+    ghost view = { λ q. ring_entries q.first q.ring.entries };
 
-    ghost invariant = { λ q. IsKeyed q.queue.items q.keys.keys };
+    ghost invariant = { λ q. IsRing q.first q.ring.entries };
 }
 
 impl EntryQueue {
@@ -55,8 +56,8 @@ impl EntryQueue {
         ensures { result ≡ [] }
     {
         EntryQueue {
-            queue: VecDeque::new(alloc),
-            keys: HashSet::new(alloc),
+            ring: IndexMap::new(alloc),
+            first: 0,
         }
     }
 
@@ -64,18 +65,38 @@ impl EntryQueue {
     pub fn has_key_of(&self, entry: &CacheEntry) -> bool
         ensures { result ≡ list_any (same_key entry.now) self.now }
     {
-        self.keys.contains(&CacheKey::of(entry))
+        self.ring.contains_key(&CacheKey::of(entry))
     }
 
-    /// Puts an entry last, whose key is not there.
+    /// Puts an entry last, whose key is not there: at the map's end, or before the first entry of a
+    /// ring that has gone round.
     pub fn push(&mut self, entry: &CacheEntry) -> Result<(), AllocError>
         requires { IsFalse (list_any (same_key entry.now) self.old) }
         ensures ok { OnOk result (self.new ≡ self.old ++ entry.now ∷ []) }
         ensures err { OnErr result (self.new ≡ self.old) }
     {
-        self.queue.reserve(1)?;
-        self.keys.insert(CacheKey::of(entry))?;
-        self.queue.push_back(*entry)?;
+        let last = self.ring.len();
+        self.ring.insert(CacheKey::of(entry), *entry)?;
+        self.ring.move_index(last, self.first);
+        self.first += 1;
+        Ok(())
+    }
+
+    /// Puts an entry last, whose key is not there, and takes the first one out.
+    pub fn replace_first(&mut self, entry: &CacheEntry) -> Result<(), AllocError>
+        requires some { 0 < length self.old }
+        requires absent { IsFalse (list_any (same_key entry.now) self.old) }
+        ensures ok { OnOk result (self.new ≡ drop 1 self.old ++ entry.now ∷ []) }
+        ensures err { OnErr result (self.new ≡ self.old) }
+    {
+        let first = if self.first < self.ring.len() {
+            self.first
+        } else {
+            0
+        };
+        self.ring.insert(CacheKey::of(entry), *entry)?;
+        self.first = first + 1;
+        self.ring.swap_remove_index(first);
         Ok(())
     }
 
@@ -84,24 +105,35 @@ impl EntryQueue {
         ensures entry { result ≡ slice_get self.old place }
         ensures rest { self.new ≡ remove self.old place }
     {
-        let entry = self.queue.remove(place)?;
-        self.keys.remove(&CacheKey::of(&entry));
-        Some(entry)
+        let len = self.ring.len();
+        if place >= len {
+            return None;
+        }
+        let later = len - self.first;
+        if place < later {
+            let (_, entry) = self.ring.shift_remove_index(self.first + place)?;
+            Some(entry)
+        } else {
+            let (_, entry) = self.ring.shift_remove_index(place - later)?;
+            self.first -= 1;
+            Some(entry)
+        }
     }
 
     /// Keeps the entries from this version on.
     pub fn keep_from(&mut self, version: u32)
         ensures { self.new ≡ filter (λ entry. nat_le version entry.version) self.old }
     {
-        self.queue.retain(|entry| version <= entry.version);
-        self.keys.retain(|key| version <= key.version);
+        let (front, _) = self.ring.as_slice().split_at(self.first);
+        self.first = count_from(front.values().as_slice(), version);
+        self.ring.retain(|_, entry| version <= entry.version);
     }
 
     pub fn clear(&mut self)
         ensures { self.new ≡ [] }
     {
-        self.queue.clear();
-        self.keys.clear();
+        self.ring.clear();
+        self.first = 0;
     }
 
     /// A copy of each entry, in order.
@@ -109,13 +141,27 @@ impl EntryQueue {
         ensures entries { result ≡ self.now }
         ensures distinct { HaveDistinctKeys self.now }
     {
-        CacheItems::new(self.queue.iter())
+        let (front, back) = self.ring.as_slice().split_at(self.first);
+        CacheItems::new(back.values(), front.values())
     }
 
     pub fn len(&self) -> usize
         ensures len { result ≡ length self.now }
         ensures distinct { HaveDistinctKeys self.now }
     {
-        self.queue.len()
+        self.ring.len()
     }
+}
+
+// How many of the entries are of this version or a later one.
+fn count_from(entries: &[CacheEntry], version: u32) -> usize
+    ensures { result ≡ length (filter (λ entry. nat_le version entry.version) entries.now) }
+{
+    let mut count = 0;
+    for entry in entries {
+        if version <= entry.version {
+            count += 1;
+        }
+    }
+    count
 }

@@ -60,7 +60,7 @@ new-requires-clause-sound c =
     (zip (parts_of (shape_of c.in_ok-tree.tree)) c.in_ok-targets.targets.items) c.requires
     (c.plan_laws.ensures.holds c.args.policy.now c.args.net.now
     (zip (parts_of (shape_of c.in_ok-tree.tree)) c.in_ok-targets.targets.items)
-    c.rows.ensures.policy c.requires planned) in
+    c.in_ok-rules.ensures.policy c.requires planned) in
     rw (
       c.in_ok-policy.ensures.cases,
       c.deref-5.ensures.value,

@@ -11,5 +11,5 @@ returns-clause-sound c =
       c.in_ok-own.ensures,
       c.placed.ensures.placed,
     )
-    (c.tables_laws.ensures.sound plan.policy plan.placed c.args.version c.args.s is.sound is.few
-    is.few_rules)
+    (c.tables_laws.ensures.sound plan.policy plan.placed c.args.version c.args.s is.sound is.covers
+    is.few is.few_rules)

@@ -1,3 +1,4 @@
+use Rattle.partition.proofs.EndLemmas.{parts_ended}
 use Rattle.partition.proofs.PartLemmas.{numbered_length, parts_decide, parts_sound}
 use Rattle.partition.proofs.parts.list.Goals as goal
 
@@ -15,3 +16,8 @@ pub returns-clause-sound : goal.returns-clause-sound
 returns-clause-sound c = λ rows most policy defined.
     let is = rw c.new-parts.ensures.items at c.in_ok-push_leaves.ensures in
     rw is (parts_sound rows most _ policy defined)
+
+pub returns-clause-ended : goal.returns-clause-ended
+returns-clause-ended c = λ rows most policy defined.
+    let is = rw c.new-parts.ensures.items at c.in_ok-push_leaves.ensures in
+    rw is (parts_ended rows most _ policy defined)

@@ -1,14 +1,18 @@
-use Rattle.std.proofs.Common.{◌≡◌, ◌∙◌, ap}
+use Rattle.std.proofs.Common.{◌≡◌, ◌∙◌, ap, is_some}
 use Rattle.std.specs.List.{list_any}
+use Rattle.std.specs.Map.{lookup}
 use Rattle.switch_table.specs.Cache.{same_key}
-use Rattle.switch_table.specs.Queue.{equal_keys, key_of}
+use Rattle.switch_table.specs.Queue.{equal_keys}
+use Rattle.switch_table.proofs.QueueLemmas.{ring_has}
 use Rattle.switch_table.proofs.queue.EntryQueue.has_key_of.Goals as goal
 
 pub returns : goal.returns
-unfolding same_key equal_keys
+unfolding equal_keys
 returns c =
-    let key = key_of c.args.entry.now in
-    let there : c.contains.result ≡ list_any (equal_keys c.of.result) c.self.inside.keys.keys =
-    c.contains.ensures in
-    there ∙ ap (λ k. list_any (equal_keys k) c.self.inside.keys.keys) c.of.ensures
-    ∙ c.self.invariant.same key ∙ ap (list_any (same_key c.args.entry.now)) c.self.view_is
+    let entry = c.args.entry.now in
+    let pairs = c.self.inside.ring.entries in
+    let there : c.contains_key.result ≡ is_some (lookup (equal_keys c.of.result) pairs) =
+    c.contains_key.ensures in
+    there ∙ ap (λ k. is_some (lookup (equal_keys k) pairs)) c.of.ensures
+    ∙ ring_has c.self.inside.first pairs entry c.self.invariant
+    ∙ ap (list_any (same_key entry)) c.self.view_is

@@ -1,25 +1,30 @@
-use Rattle.std.proofs.Common.{◌≡◌, ◌∙◌, leb, filter, ap, rules}
-use Rattle.std.proofs.lemmas.Fn.{filter_same}
+use Rattle.std.proofs.Common.{◌≡◌, ◌∙◌, leb, filter, map, take, ap, rules}
+use Rattle.indexmap.proofs.CallerLemmas.{filter-RetainsPairs}
+use Rattle.switch_table.specs.Queue.{Pair, pairs_from}
 use Rattle.switch_table.specs.declared.cache.CacheEntry.{CacheEntry}
-use Rattle.switch_table.specs.declared.queue.CacheKey.{CacheKey}
-use Rattle.switch_table.proofs.QueueLemmas.{keyed_filter}
+use Rattle.switch_table.proofs.QueueLemmas.{IsRingOf, entry_of, ring_kept}
 use Rattle.switch_table.proofs.queue.EntryQueue.keep_from.Goals as goal
-use Rattle.switch_table.proofs.queue.EntryQueue.keep_from.Goals.{After-retain-2}
+use Rattle.switch_table.proofs.queue.EntryQueue.keep_from.Goals.{After-retain}
 
-kept : (c : After-retain-2) → c.retain.new.self.items ≡ filter
-    (λ (entry : CacheEntry). leb c.args.version entry.version) c.self.inside.queue.items
-kept c = filter_same _ (λ (entry : CacheEntry). leb c.args.version entry.version) _
-    (λ e b f called. (search rules, search rules)) _ _ c.retain.ensures.filtered
+stays : (c : After-retain) → IsRingOf c.count_from-self-inside.result c.retain.new.self.entries
+    (filter (λ (entry : CacheEntry). leb c.args.version entry.version) c.args.self.now)
+stays c =
+    let version = c.args.version in
+    let first = c.self.inside.first in
+    let pairs = c.self.inside.ring.entries in
+    let front : c.as_slice-2.result.now ≡ map entry_of (take first pairs) =
+    c.as_slice-2.ensures ∙ c.values.ensures.rest ∙ ap (map entry_of)
+    (c.split_at-front.ensures.front ∙ ap (take first) c.as_slice.ensures.entries) in
+    let kept : c.retain.new.self.entries ≡ pairs_from version pairs =
+    filter-RetainsPairs _ (λ (pair : Pair). leb version pair.1.version) _
+    (λ k v b w g called. (search rules, search rules, search rules)) _ _
+    c.retain.ensures.filtered in
+    ring_kept version first c.count_from-self-inside.result pairs c.retain.new.self.entries
+    c.as_slice-2.result.now c.args.self.now c.self.invariant c.self.view_is front
+    c.count_from-self-inside.ensures kept
 
 pub invariant_of-self : goal.invariant_of-self
-invariant_of-self c =
-    let keys : c.retain-2.new.self.keys ≡ filter
-    (λ (key : CacheKey). leb c.args.version key.version) c.self.inside.keys.keys =
-    filter_same _ (λ (key : CacheKey). leb c.args.version key.version) _
-    (λ e b f called. (search rules, search rules)) _ _ c.retain-2.ensures.filtered in
-    rw (kept c, keys) (keyed_filter c.args.version c.self.inside.queue.items c.self.inside.keys.keys
-    c.self.invariant)
+invariant_of-self c = (stays c).ring
 
 pub returns : goal.returns
-returns c = kept c ∙ ap (filter (λ (entry : CacheEntry). leb c.args.version entry.version))
-    c.self.view_is
+returns c = (stays c).entries_are

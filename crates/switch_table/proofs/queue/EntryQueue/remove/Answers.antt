@@ -1,32 +1,60 @@
-use Rattle.std.proofs.Common.{◌≡◌, ◌∙◌, ◌<◌, length, false, cond, ap, sym, Some, refl, arith}
-use Rattle.std.specs.List.{list_any}
-use Rattle.std.proofs.lemmas.Option.{slice_get-get_or}
-use Rattle.switch_table.specs.Queue.{equal_keys}
-use Rattle.switch_table.specs.declared.queue.CacheKey.{CacheKey}
-use Rattle.switch_table.proofs.QueueLemmas.{keyed_remove}
+use Rattle.std.proofs.Common.{◌≡◌, ◌<◌, ◌≤◌, ◌-◌, length, arith}
+use Rattle.switch_table.proofs.QueueLemmas.{ring_earlier, ring_later, ring_remove_earlier, ring_remove_later}
 use Rattle.switch_table.proofs.queue.EntryQueue.remove.Goals as goal
-use Rattle.switch_table.proofs.queue.EntryQueue.remove.Goals.{After-remove-2}
 
-there : (c : After-remove-2) → c.args.place < length c.self.inside.queue.items
-there c = omega (arith, c.in_ok-entry.ensures.variant.0 refl, c.self.inside.queue.ok.0)
+pub invariant_of-self-then-place-later : goal.invariant_of-self-then-place-later
+invariant_of-self-then-place-later c =
+    let first = c.self.inside.first in
+    let pairs = c.self.inside.ring.entries in
+    let here : c.args.place < length pairs - first =
+    omega (arith, c.if-place-later.true, c.len-len.ensures.len) in
+    rw c.in_ok-entry.ensures.entries
+    (ring_remove_later first c.args.place pairs c.self.invariant here).ring
 
-pub invariant_of-self-2 : goal.invariant_of-self-2
-unfolding equal_keys
-invariant_of-self-2 c =
-    let entry = c.in_ok-entry.entry in
-    let entries = c.self.inside.queue.items in
-    let keys = c.self.inside.keys.keys in
-    let fewer = c.remove-2.new.self.keys in
-    let updates : (q : CacheKey) → list_any (equal_keys q) fewer ≡ cond (equal_keys c.of.result q)
-    false (list_any (equal_keys q) keys) = c.remove-2.ensures.updates.0 in
-    let taken = λ (q : CacheKey). updates q
-    ∙ ap (λ k. cond (equal_keys k q) false (list_any (equal_keys q) keys)) c.of.ensures in
-    rw c.in_ok-entry.ensures.items
-    (keyed_remove entries c.args.place entry keys fewer c.self.invariant (there c)
-    c.in_ok-entry.ensures.value taken)
+pub invariant_of-self-else-place-later : goal.invariant_of-self-else-place-later
+invariant_of-self-else-place-later c =
+    let first = c.self.inside.first in
+    let pairs = c.self.inside.ring.entries in
+    let len : c.len-len.result ≡ length pairs = c.len-len.ensures.len in
+    let within : c.args.place < length pairs = omega (arith, c.if-place-len.false, len) in
+    let past : length pairs - first ≤ c.args.place = omega (arith, c.if-place-later.false, len) in
+    rw (c.in_ok-entry-2.ensures.entries, len)
+    (ring_remove_earlier first c.args.place pairs c.self.invariant within past).ring
 
-pub returns-clause-entry : goal.returns-clause-entry
-returns-clause-entry c =
-    rw (← c.self.view_is) (ap Some c.in_ok-entry.ensures.value
-    ∙ sym (slice_get-get_or c.self.inside.queue.items c.args.place c.in_ok-entry.entry
-    (there c)))
+pub returns-in_ok-entry-clause-entry : goal.returns-in_ok-entry-clause-entry
+returns-in_ok-entry-clause-entry c =
+    let first = c.self.inside.first in
+    let pairs = c.self.inside.ring.entries in
+    let here : c.args.place < length pairs - first =
+    omega (arith, c.if-place-later.true, c.len-len.ensures.len) in
+    rw (← c.self.view_is) (ring_later first c.args.place pairs _ c.self.invariant.within here
+    c.in_ok-entry.ensures.entry)
+
+pub returns-in_ok-entry-clause-rest : goal.returns-in_ok-entry-clause-rest
+returns-in_ok-entry-clause-rest c =
+    let first = c.self.inside.first in
+    let pairs = c.self.inside.ring.entries in
+    let here : c.args.place < length pairs - first =
+    omega (arith, c.if-place-later.true, c.len-len.ensures.len) in
+    rw (← c.self.view_is, c.in_ok-entry.ensures.entries)
+    (ring_remove_later first c.args.place pairs c.self.invariant here).entries_are
+
+pub returns-in_ok-entry-2-clause-entry : goal.returns-in_ok-entry-2-clause-entry
+returns-in_ok-entry-2-clause-entry c =
+    let first = c.self.inside.first in
+    let pairs = c.self.inside.ring.entries in
+    let len : c.len-len.result ≡ length pairs = c.len-len.ensures.len in
+    let within : c.args.place < length pairs = omega (arith, c.if-place-len.false, len) in
+    let past : length pairs - first ≤ c.args.place = omega (arith, c.if-place-later.false, len) in
+    rw (← c.self.view_is) (ring_earlier first c.args.place pairs _ c.self.invariant.within within
+    past (rw len at c.in_ok-entry-2.ensures.entry))
+
+pub returns-in_ok-entry-2-clause-rest : goal.returns-in_ok-entry-2-clause-rest
+returns-in_ok-entry-2-clause-rest c =
+    let first = c.self.inside.first in
+    let pairs = c.self.inside.ring.entries in
+    let len : c.len-len.result ≡ length pairs = c.len-len.ensures.len in
+    let within : c.args.place < length pairs = omega (arith, c.if-place-len.false, len) in
+    let past : length pairs - first ≤ c.args.place = omega (arith, c.if-place-later.false, len) in
+    rw (← c.self.view_is, c.in_ok-entry-2.ensures.entries, len)
+    (ring_remove_earlier first c.args.place pairs c.self.invariant within past).entries_are

@@ -1,0 +1,113 @@
+-- The last rule of each partition of a policy covers its region: narrowing keeps the default last,
+-- or ends with an earlier rule that covers the region.
+use Rattle.std.proofs.Common.{◌≡◌, ◌∙◌, ℕ, ◌<◌, true, false, refl, sym, ap, inl, inr, arith, List, [], ◌∷◌, ◌++◌, ◌&&◌}
+use Rattle.std.specs.Bool.{IsTrue}
+use Rattle.std.specs.List.{All}
+use Rattle.std.proofs.lemmas.Bool.{cases_Bool, and_from}
+use Rattle.std.proofs.lemmas.List.Elements.{All-nil, All-cons, All-append}
+use Rattle.ternary.specs.Word.{WordValue, any_word, covers_of, fix_of, meets}
+use Rattle.ternary.proofs.CallerLemmas.{covers_reflexive, covers_transitive, fix_within, meet_greatest, meets_comm, meets_cover}
+use Rattle.policy_rules.specs.Policy.{IsPolicy}
+use Rattle.policy_rules.specs.RuleList.{default_rule, rules_of}
+use Rattle.policy_rules.specs.declared.policy.Row.{Row}
+use Rattle.policy_rules.specs.declared.rules.Rule.{Rule}
+use Rattle.policy_rules.proofs.CallerLemmas.{IsRuleList-rules_of}
+use Rattle.cut_tree.specs.Cuts.{side_of}
+use Rattle.cut_tree.specs.DefinedTree.{IsDefinedTree, IsTreeOf, tree_of}
+use Rattle.cut_tree.specs.Narrow.{narrow, narrowed}
+use Rattle.cut_tree.specs.Shape.{Shape, End, Node, leaves_of}
+use Rattle.cut_tree.proofs.CallerLemmas.{tree_defined}
+use Rattle.cut_tree.proofs.NarrowLemmas.{met_joined, narrow_apart, narrow_covered, narrow_more}
+use Rattle.partition.specs.Parts.{AllEndInCover, EndInCover, parts_of, partitions_of}
+use Rattle.partition.proofs.PartLemmas.{numbered_all}
+
+-- ---- a list that is narrowed
+
+-- a rule that covers the region still does when it is narrowed to it
+narrowed_covers : (region : WordValue) (rule : Rule) → IsTrue (meets rule.word region)
+    → IsTrue (covers_of rule.word region) → IsTrue (covers_of (narrowed region rule).word region)
+unfolding narrowed
+narrowed_covers region rule meet covers =
+    meet_greatest rule.word region _ region (met_joined rule.word region meet)
+    ∙ and_from _ _ covers (covers_reflexive region)
+
+-- a list whose first rule covers the region ends with it
+ends_at_once : (region : WordValue) (rule : Rule) (rules : List Rule)
+    → IsTrue (meets rule.word region) → IsTrue (covers_of rule.word region)
+    → EndInCover region (narrow (rule ∷ rules) region)
+ends_at_once region rule rules meet covers = (
+  [],
+  narrowed region rule,
+  narrow_covered region rule rules meet covers,
+  narrowed_covers region rule meet covers,
+)
+
+narrow_ends : (earlier : List Rule) (last : Rule) (region : WordValue)
+    → IsTrue (covers_of last.word region)
+    → EndInCover region (narrow (earlier ++ last ∷ []) region)
+narrow_ends [] last region covers = ends_at_once region last []
+    (meets_comm last.word region ∙ meets_cover last.word region covers) covers
+narrow_ends (rule ∷ earlier) last region covers =
+    let rules : List Rule = earlier ++ last ∷ [] in
+    let rest = narrow_ends earlier last region covers in
+    elim (cases_Bool (meets rule.word region)) [
+      | inl meet ↦ elim (cases_Bool (covers_of rule.word region)) [
+        | inl whole ↦ ends_at_once region rule rules meet whole
+        | inr past ↦ (
+          narrowed region rule ∷ rest.0,
+          rest.1,
+          narrow_more region rule rules meet past ∙ ap (λ rs. narrowed region rule ∷ rs) rest.2,
+          rest.3,
+        )
+      ]
+      | inr apart ↦ (rest.0, rest.1, narrow_apart region rule rules apart ∙ rest.2, rest.3)
+    ]
+
+-- so do the rules of a half
+half_ends : (rules : List Rule) (region half : WordValue) → IsTrue (covers_of region half)
+    → EndInCover region rules → EndInCover half (narrow rules half)
+half_ends rules region half within ends =
+    let narrowed_rules = narrow_ends ends.0 ends.1 half
+    (covers_transitive ends.1.word region half ends.3 within) in (
+      narrowed_rules.0,
+      narrowed_rules.1,
+      ap (λ rs. narrow rs half) ends.2 ∙ narrowed_rules.2,
+      narrowed_rules.3,
+    )
+
+-- ---- the leaves of a tree
+
+abbrev IsEndedLeaf : WordValue × List Rule → Type 0
+IsEndedLeaf leaf = EndInCover leaf.0 leaf.1
+
+ended_leaves : (tree : Shape) (rules : List Rule) (region : WordValue) (most : ℕ)
+    → IsTreeOf rules region most tree → EndInCover region rules → All IsEndedLeaf (leaves_of tree)
+ended_leaves (End r rs) rules region most is ends =
+    All-cons IsEndedLeaf (r, rs) []
+    (ends.0, ends.1, is.same_rules ∙ ends.2, rw is.same_region ends.3) (All-nil IsEndedLeaf)
+ended_leaves (Node bit low high) rules region most is ends =
+    let free = is.0.least.cuts.free in
+    All-append IsEndedLeaf (leaves_of low) (leaves_of high)
+    (ended_leaves low (side_of rules region bit false) (fix_of region bit false) most is.1
+    (half_ends rules region (fix_of region bit false) (fix_within region bit false free) ends))
+    (ended_leaves high (side_of rules region bit true) (fix_of region bit true) most is.2
+    (half_ends rules region (fix_of region bit true) (fix_within region bit true free) ends))
+
+-- ---- the partitions of a policy
+
+rules_end : (rows : List Row) → IsPolicy rows → EndInCover any_word (rules_of rows)
+rules_end rows policy =
+    let ends = (IsRuleList-rules_of rows policy).ends in
+    (ends.0, default_rule _, ends.1, covers_reflexive any_word)
+
+pub parts_ended : (rows : List Row) (most : ℕ) (tree : Shape) → IsPolicy rows
+    → IsDefinedTree (rules_of rows) most tree → AllEndInCover (parts_of tree)
+parts_ended rows most tree policy is =
+    numbered_all (λ part. EndInCover part.region part.rules) IsEndedLeaf
+    (λ number leaf ended. ended) 0 (leaves_of tree)
+    (ended_leaves tree (rules_of rows) any_word most is (rules_end rows policy))
+
+pub partitions_ended : (rows : List Row) (most : ℕ) → 0 < most → IsPolicy rows
+    → AllEndInCover (partitions_of (rules_of rows) most)
+partitions_ended rows most some policy = parts_ended rows most (tree_of (rules_of rows) most) policy
+    (tree_defined (rules_of rows) most some (IsRuleList-rules_of rows policy).words)

@@ -1,0 +1,46 @@
+use Rattle.std.proofs.Common.{◌≡◌, ◌+◌, ◌∷◌, [], ◌++◌, drop, length, length-append, ap, arith}
+use Rattle.switch_table.specs.Queue.{equal_keys}
+use Rattle.switch_table.proofs.QueueLemmas.{IsFirstPlace, IsRingOf, first_place, home_place, length-ring, ring_inserted, ring_replaced, taken_at}
+use Rattle.switch_table.proofs.queue.EntryQueue.replace_first.Goals as goal
+use Rattle.switch_table.proofs.queue.EntryQueue.replace_first.Goals.{After-swap_remove_index, then-self-len, else-self-len}
+
+place_is : (c : After-swap_remove_index)
+    → IsFirstPlace c.if-self-len.first c.self.inside.first c.self.inside.ring.entries
+place_is c =
+    let first = c.self.inside.first in
+    let pairs = c.self.inside.ring.entries in
+    let within = c.self.invariant.within in
+    let len : c.len.result ≡ length pairs = c.len.ensures.len in
+    elim c.if-self-len.branch [
+      | then-self-len w ↦ rw w.first-is
+          (first_place first pairs (omega (arith, w.if-self-len.true, len)))
+      | else-self-len w ↦ rw w.first-is (home_place first pairs within
+          (omega (arith, w.if-self-len.false, len))
+          (omega
+          (arith, c.requires.some, ap length c.self.view_is, length-ring first pairs within)))
+    ]
+
+replaced : (c : After-swap_remove_index)
+    → IsRingOf (c.if-self-len.first + 1) c.swap_remove_index.new.self.entries
+    (drop 1 c.args.self.now ++ c.args.entry.now ∷ [])
+unfolding equal_keys
+replaced c =
+    let pairs = c.self.inside.ring.entries in
+    let more = c.insert.new.self.entries in
+    let at = place_is c in
+    let added = ring_inserted c.self.inside.first pairs more c.of.result c.args.entry.now
+    c.args.self.now c.self.invariant c.self.view_is c.requires.absent c.of.ensures
+    c.in_ok-insert.ensures.entries in
+    let taken = taken_at c.swap_remove_index.result more c.swap_remove_index.new.self.entries
+    c.if-self-len.first c.swap_remove_index.ensures.entry
+    (omega (arith, ap length added, length-append pairs, at.0))
+    c.swap_remove_index.ensures.entries in
+    ring_replaced c.self.inside.first c.if-self-len.first pairs more
+    c.swap_remove_index.new.self.entries taken.0 c.args.entry.now c.args.self.now c.self.invariant
+    at c.self.view_is c.requires.absent added taken.1
+
+pub invariant_of-self-2 : goal.invariant_of-self-2
+invariant_of-self-2 c = (replaced c).ring
+
+pub returns-clause-ok : goal.returns-clause-ok
+returns-clause-ok c = (replaced c).entries_are
