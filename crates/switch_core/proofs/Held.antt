@@ -12,10 +12,10 @@ use Rattle.policy_rules.specs.Partitions.{is_in}
 use Rattle.policy_rules.specs.Rules.{first_rule, is_held}
 use Rattle.policy_rules.specs.declared.rules.Partition.{Partition}
 use Rattle.policy_rules.specs.declared.rules.Rule.{Rule}
-use Rattle.switch_table.proofs.TableLemmas.{find-there}
+use Rattle.switch_table.proofs.TableLemmas.{decides_all, find-there}
 use Rattle.switch_table.specs.Cache.{first_entry}
 use Rattle.switch_table.specs.Lookup.{authority_of, redirect_of, lookup_of, table_lookup}
-use Rattle.switch_table.specs.Tables.{AreSoundTables, DecidesAll}
+use Rattle.switch_table.specs.Tables.{AreSoundTables, LastCovers}
 use Rattle.switch_table.specs.declared.cache.CacheEntry.{CacheEntry}
 use Rattle.switch_table.specs.declared.tables.Tables.{Tables}
 use Rattle.switch_table.specs.declared.search.Found.TheVariants.{Cached}
@@ -92,7 +92,7 @@ pub own_hit : (tables : Tables) (number : ℕ) (part : Partition) (header : Head
 own_hit tables number part header sound is found held =
     let there = (find-there (λ (p : Partition). p.number == number) tables.auth part found).0 in
     first_hit header part held
-    (All-contains DecidesAll tables.auth part sound.decides there header is held)
+    (decides_all part (All-contains LastCovers tables.auth part sound.covers there) header is held)
 
 -- what a lookup in sound tables finds
 pub lookup_is_found : (entries : List CacheEntry) (tables : Tables) (header : Header) →

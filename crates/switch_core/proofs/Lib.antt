@@ -4,3 +4,9 @@ pub mod Flooding
 pub mod SwitchLaws
 pub mod Holding
 pub mod TestTables
+pub mod Answering
+pub mod Leaving
+pub mod Arrivals
+pub mod Decisions
+pub mod OnWay
+pub mod Only

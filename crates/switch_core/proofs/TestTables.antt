@@ -5,13 +5,14 @@ use Rattle.std.specs.Option.{IfSome, IsSomeAnd}
 use Rattle.five_tuple.specs.Header.{number_of}
 use Rattle.five_tuple.specs.declared.header.Header.{Header}
 use Rattle.ternary.specs.Word.{any_word, holds}
-use Rattle.ternary.proofs.CallerLemmas.{any_holds}
+use Rattle.ternary.proofs.CallerLemmas.{any_holds, covers_reflexive}
 use Rattle.policy_rules.specs.Partitions.{is_in}
 use Rattle.policy_rules.specs.declared.packet.Leg.TheVariants.{Seek}
 use Rattle.policy_rules.specs.declared.policy.Action.TheVariants.{Out}
 use Rattle.policy_rules.specs.declared.rules.Partition.{Partition}
+use Rattle.policy_rules.specs.declared.rules.Rule.{Rule}
 use Rattle.failover.specs.declared.advert.Advert.{Advert}
-use Rattle.switch_table.specs.Tables.{AreSoundTables, DecidesAll}
+use Rattle.switch_table.specs.Tables.{AreSoundTables, LastCovers}
 use Rattle.switch_table.specs.declared.tables.PartRow.{PartRow}
 use Rattle.switch_table.specs.declared.tables.Tables.{Tables}
 use Rattle.switch_core.specs.Arriving.{IsAtAuthority}
@@ -22,12 +23,11 @@ use Rattle.switch_core.specs.State.{SwitchValue, begun, held_tables, holds_versi
 abbrev pub whole_row : PartRow
 whole_row = record { region = any_word; targets = 1 ∷ [] }
 
+abbrev whole_rule : Rule
+whole_rule = record { word = any_word; rank = 0; rule = Some 100; action = Out 2 }
+
 abbrev pub whole_part : Partition
-whole_part = record {
-  number = 0;
-  region = any_word;
-  rules = record { word = any_word; rank = 0; rule = Some 100; action = Out 2 } ∷ [];
-}
+whole_part = record { number = 0; region = any_word; rules = whole_rule ∷ [] }
 
 all_one : {X : Type 0} (P : X → Type 0) (x : X) → P x → All P (x ∷ [])
 all_one P x is k d within =
@@ -39,7 +39,7 @@ sound_ingress t parts auth = record {
   one = λ header is. rw (parts, any_holds (number_of header)) refl;
   numbers = rw auth (λ k d within. absurd (omega arith));
   distinct = rw auth (λ i j d less within. absurd (omega arith));
-  decides = rw auth (λ k d within. absurd (omega arith));
+  covers = rw auth (λ k d within. absurd (omega arith));
   few_rows = rw parts (lit< tt);
   few_rules = rw auth (λ k d within. absurd (omega arith));
 }
@@ -52,8 +52,8 @@ sound_authority t parts auth = record {
       slice_get (map (λ (row : PartRow). row.region) (whole_row ∷ [])) part.number
       ≡ Some part.region) whole_part refl);
   distinct = rw auth (λ i j d less within. absurd (omega arith));
-  decides = rw auth (all_one DecidesAll whole_part
-      (λ header is held. rw (any_holds (number_of header)) refl));
+  covers = rw auth (all_one LastCovers whole_part
+      ([], whole_rule, refl, covers_reflexive any_word));
   few_rows = rw parts (lit< tt);
   few_rules = rw auth (all_one (λ (part : Partition). length part.rules < 2 ^ 32) whole_part
       (lit< tt));

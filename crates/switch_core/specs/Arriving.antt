@@ -1,5 +1,6 @@
--- What a switch answers to a packet at the end of its route.
-use Rattle.std.specs.Prelude.{ℕ, None, List, IsSomeAnd, IsTrue, IfSome, Result, Ok, Err}
+-- What a switch answers to a packet at the end of its route, as a function. What it says is the
+-- relation `IsArrivalAnswer`, which allows no other answer.
+use Rattle.std.specs.Prelude.{⊤, ℕ, None, List, IsSomeAnd, IsTrue, IfSome, Result, Ok, Err}
 use Rattle.std.specs.Option.{option_map_or}
 use Rattle.five_tuple.specs.declared.header.Header.{Header}
 use Rattle.policy_rules.specs.Partitions.{is_in}
@@ -34,7 +35,7 @@ abbrev pub IsAtAuthority : SwitchValue → Header → Leg → Type 0
 IsAtAuthority s header (SeekLeg version partition) =
     IfSome (held_tables s version)
     (λ tables. IsSomeAnd (own_part tables partition) (λ part. IsTrue (is_in header part)))
-IsAtAuthority s header (ExitLeg port) = Unit {0}
+IsAtAuthority s header (ExitLeg port) = ⊤
 
 abbrev pub seek_by : Leg → Result TunnelValue Cause → Arrived
 seek_by leg (Ok tunnel) = Seek tunnel

@@ -1,4 +1,5 @@
--- What a switch answers to a packet that comes into the network there.
+-- What a switch answers to a packet that comes into the network there, as a function. What it says
+-- is the relation `IsEntryAnswer`, which allows no other answer.
 use Rattle.std.specs.Prelude.{ℕ, IsTrue, if◌then◌else◌, List, Result, Ok, Err}
 use Rattle.five_tuple.specs.declared.header.Header.{Header}
 use Rattle.policy_rules.specs.declared.packet.Leg.{Leg}

@@ -1,7 +1,7 @@
 -- What a message does at a switch, and what the switch sends upon it. Policies change in two phases
 -- (Reitblatt, Foster, Rexford, Schlesinger and Walker, "Abstractions for Network Update", SIGCOMM
 -- 2012); adverts are flooded as in OSPF (RFC 2328, section 13).
-use Rattle.std.specs.Prelude.{ℕ, Bool, true, not, ◌&&◌, ◌||◌, ◌==◌, max, nat_le, nat_lt, if◌then◌else◌, Option, Some, None, List, [], ◌∷◌, ◌++◌, filter, map}
+use Rattle.std.specs.Prelude.{⊤, ℕ, Bool, true, not, ◌&&◌, ◌||◌, ◌==◌, max, nat_le, nat_lt, if◌then◌else◌, Option, Some, None, List, [], ◌∷◌, ◌++◌, filter, map}
 use Rattle.std.specs.Option.{option_map_or}
 use Rattle.failover.specs.Adverts.{after_hearing, is_news}
 use Rattle.failover.specs.Masks.{has, switches}
@@ -20,7 +20,7 @@ use Rattle.switch_core.specs.State.{SwitchValue, holds_version}
 -- tables that come in are sound
 abbrev pub IsSoundBody : Body → Type 0
 IsSoundBody (Install boot tables) = AreSoundTables tables
-IsSoundBody _ = Unit {0}
+IsSoundBody _ = ⊤
 
 -- the switch is up, and the body is for a switch, of this boot if it carries one
 unfoldable pub obeys : SwitchValue → Body → Bool

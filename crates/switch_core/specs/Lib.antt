@@ -7,3 +7,4 @@ pub mod Arriving
 pub mod Hearing
 pub mod Life
 pub mod Laws
+pub mod AnswerLaws

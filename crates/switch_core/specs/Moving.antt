@@ -1,4 +1,5 @@
--- What becomes of a packet that is on its way at a switch.
+-- What becomes of a packet that is on its way at a switch, as a function. What it says is the
+-- relation `IsHop`, which allows nothing else.
 use Rattle.std.specs.Prelude.{ℕ, Option, Some, None, if◌then◌else◌, List}
 use Rattle.failover.specs.Masks.{has}
 use Rattle.tunnel.specs.Tunnel.{TunnelValue}

@@ -19,7 +19,7 @@ use tunnel::Tunnel;
 impl Switch {
     /// A packet is at the end of its route here. On its way to a port it leaves. On its way to an
     /// authority switch it is decided by the tables of its version. Where these aren't there, it is
-    /// looked up anew under the switch's stamp.
+    /// looked up anew under the switch's stamp. `arrive_laws` says how.
     ///
     /// `near` has a bit for each switch to which there is a usable link.
     #[tactic(auto, unfolding(crate::specs::Arriving::arrived))]

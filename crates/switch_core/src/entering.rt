@@ -17,7 +17,7 @@ use switch_table::{Found, Tables};
 impl Switch {
     /// A packet of this number comes into the network here: closed exactly where the switch doesn't
     /// serve. Otherwise it is looked up under the switch's stamp, and is decided by a cached or an
-    /// authority rule, or sets out to its partition's targets.
+    /// authority rule, or sets out to its partition's targets. `enter_laws` says how.
     ///
     /// `near` has a bit for each switch to which there is a usable link.
     #[tactic(auto, unfolding(crate::specs::Entering::entered))]

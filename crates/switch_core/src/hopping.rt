@@ -11,7 +11,7 @@ use tunnel::Tunnel;
 impl Switch {
     /// A packet that stands here goes on: at the end of its route it arrives. Where the link to the
     /// next switch is usable it moves there. Otherwise that link is found down and the packet takes
-    /// a new route, on which it moves or arrives, or is stuck.
+    /// a new route, on which it moves or arrives, or is stuck. `hop_laws` says how.
     ///
     /// `near` has a bit for each switch to which there is a usable link.
     #[tactic(auto, unfolding(crate::specs::Moving::hopped))]

@@ -1,7 +1,38 @@
+ghost use Rattle.switch_core.specs.AnswerLaws.{ArriveLaws, DecisionLaws, EnterLaws, ExitLaws, HopLaws};
 ghost use Rattle.switch_core.specs.Laws.{SwitchLaws};
 
 /// What the steps of a switch have in common, and when a packet is stuck: a law on the definitions
 /// alone.
 pub fn switch_laws()
     ensures { SwitchLaws }
+{}
+
+/// What `Switch::enter` answers, by what the cache and the tables of the stamp say of the header: a
+/// relation that allows one answer. A law on the definition alone.
+pub fn enter_laws()
+    ensures { EnterLaws }
+{}
+
+/// Where a packet goes that was decided, by the owner of its action's port: a relation that allows
+/// one way. A law on the definition alone.
+pub fn exit_laws()
+    ensures { ExitLaws }
+{}
+
+/// What `Switch::arrive` answers, and when and which rule it sends to a cache: a relation that
+/// allows one answer. A law on the definition alone.
+pub fn arrive_laws()
+    ensures { ArriveLaws }
+{}
+
+/// By which rules a switch decides packets that come in or arrive, and that by the tables of a plan
+/// its own rules decide as the plan's policy does: a law on the definitions alone.
+pub fn decision_laws()
+    ensures { DecisionLaws }
+{}
+
+/// What `Switch::hop` does to a packet, by the next link of its route: a relation that allows one
+/// outcome. A law on the definition alone.
+pub fn hop_laws()
+    ensures { HopLaws }
 {}

@@ -2,8 +2,8 @@
 //!
 //! A `Switch` promises that each of its calls is a step that `specs/` states on the record that
 //! contracts see: its number, boot, stamp, tables by version, cache, database of adverts, and how
-//! many packet calls it answered.
-//! Only `begin` and `hear` take memory.
+//! many packet calls it answered. The laws say what those steps are in the words of lookups, rules,
+//! routes and tunnels. Only `begin` and `hear` take memory.
 //!
 //! ```text
 //! let mut switch = Switch::begin(alloc, 0, 256, tables, base)?;
@@ -30,7 +30,7 @@ mod packet;
 mod switch;
 
 pub use answers::{Arrived, Decision, Entered, Heard, Hop, HopEnd, Next, Replies};
-pub use laws::switch_laws;
+pub use laws::{arrive_laws, decision_laws, enter_laws, exit_laws, hop_laws, switch_laws};
 pub use switch::Switch;
 
 #[cfg(test)]

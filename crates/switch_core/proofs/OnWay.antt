@@ -1,0 +1,293 @@
+-- What becomes of a packet on its way, by the next link of its route.
+use Rattle.std.proofs.Common.{ℕ, ◌≡◌, ◌∙◌, ◌+◌, ◌<◌, ◌↔◌, ◌&&◌, Bool, true, false, cond, Option, Some, None, List, [], ◌∷◌, length, map, set, slice_get, refl, ap, sym, subst, inl, inr, arith, get_or-set_same, length-set}
+use Rattle.std.specs.List.{slice_index}
+use Rattle.std.proofs.lemmas.Bool.{cases_lt}
+use Rattle.std.proofs.lemmas.List.{get_or_past}
+use Rattle.std.specs.Bool.{IsTrue, IsFalse}
+use Rattle.std.specs.Option.{MatchOption}
+use Rattle.std.proofs.lemmas.Option.{get_or_from_slice_get}
+use Rattle.policy_rules.specs.declared.packet.Cause.{Cause}
+use Rattle.failover.proofs.MaskLemmas.{has-zero}
+use Rattle.failover.proofs.Rows.{has_known}
+use Rattle.failover.proofs.Searching.{known_route_is_route}
+use Rattle.failover.specs.Links.{is_link, known_links, neighbours_told, told_links}
+use Rattle.failover.specs.Masks.{has}
+use Rattle.failover.specs.Paths.{IsPath, IsRoute}
+use Rattle.failover.specs.Routes.{route_of}
+use Rattle.failover.specs.declared.advert.Advert.{Advert}
+use Rattle.tunnel.specs.Moves.{here, marked_down, next, on_route, route_from_here}
+use Rattle.tunnel.specs.Tunnel.{TunnelValue}
+use Rattle.switch_core.specs.AnswerLaws.{IsSamePacket, down_with, way_around}
+use Rattle.switch_core.specs.Ends.{cause_of}
+use Rattle.switch_core.specs.Moving.{Moved, found_down, hopped, hopped_to, moved, moved_along, rerouted}
+use Rattle.switch_core.specs.State.{SwitchValue}
+use Rattle.switch_core.specs.declared.answers.HopEnd.TheVariants.{Arrive, Move, Stuck}
+
+-- ---- a link that is found down
+
+pub down_is : (near : ℕ) (t : TunnelValue) (other : ℕ) →
+    (found_down near (next t) ≡ Some other) ↔ ((next t ≡ Some other) × IsFalse (has near other))
+down_is near t other = by_next (next t)
+  where
+    by_test : (after : ℕ) (test : Bool) → has near after ≡ test →
+        (cond test None (Some after) ≡ Some other)
+        ↔ ((Some after ≡ Some other) × IsFalse (has near other))
+    by_test after true is = (
+      λ found. absurd (cc),
+      λ both. absurd (let same : after ≡ other = cc (both.0) in
+          let no_test : false ≡ true = sym both.1 ∙ ap (has near) (sym same) ∙ is in cc),
+    )
+    by_test after false is = (
+      λ found. (found, (let same : after ≡ other = cc in ap (has near) (sym same) ∙ is)),
+      λ both. both.0,
+    )
+
+    by_next : (after : Option ℕ) → (found_down near after ≡ Some other)
+        ↔ ((after ≡ Some other) × IsFalse (has near other))
+    by_next None = (λ found. absurd (cc), λ both. absurd (cc (both.0)))
+    by_next (Some after) = by_test after (has near after) refl
+
+-- ---- the next link
+
+pub hop_arrives : (s : SwitchValue) (near : ℕ) (t : TunnelValue) → next t ≡ None →
+    hopped s near t ≡ record { end = Arrive; tunnel = t }
+unfolding hopped
+hop_arrives s near t none =
+    ap (λ (after : Option ℕ). hopped_to s near t (found_down near after)) none
+    ∙ ap (moved t) none
+
+pub hop_moves : (s : SwitchValue) (near : ℕ) (t : TunnelValue) (other : ℕ) →
+    next t ≡ Some other → IsTrue (has near other) →
+    hopped s near t ≡ record { end = Move other; tunnel = record t { place = t.place + 1 } }
+unfolding hopped
+hop_moves s near t other is usable =
+    ap (λ (after : Option ℕ). hopped_to s near t (found_down near after)) is
+    ∙ ap (λ (test : Bool). hopped_to s near t (cond test None (Some other))) usable
+    ∙ ap (moved t) is
+
+-- along the way around a link
+hop_around : (s : SwitchValue) (near : ℕ) (t : TunnelValue) (other : ℕ)
+    (way : Option (List ℕ)) → found_down near (next t) ≡ Some other →
+    way_around s near t other ≡ way →
+    hopped s near t ≡ moved_along s near (marked_down t other) way
+unfolding hopped rerouted
+hop_around s near t other way found is =
+    ap (hopped_to s near t) found ∙ ap (moved_along s near (marked_down t other)) is
+
+pub hop_stuck : (s : SwitchValue) (near : ℕ) (t : TunnelValue) (other : ℕ) →
+    found_down near (next t) ≡ Some other → way_around s near t other ≡ None →
+    hopped s near t ≡ record {
+      end = Stuck (cause_of s near (down_with t other) t.leg t.targets);
+      tunnel = record t { down = down_with t other };
+    }
+hop_stuck s near t other found none = hop_around s near t other None found none
+
+pub hop_turns : (s : SwitchValue) (near : ℕ) (t : TunnelValue) (other : ℕ) (way : List ℕ) →
+    found_down near (next t) ≡ Some other → way_around s near t other ≡ Some way →
+    MatchOption (slice_get way 1)
+    (hopped s near t ≡ record {
+      end = Arrive;
+      tunnel = record t { route = way; place = 0; down = down_with t other };
+    })
+    (λ second. hopped s near t ≡ record {
+      end = Move second;
+      tunnel = record t { route = way; place = 1; down = down_with t other };
+    })
+hop_turns s near t other way found some =
+    by_second (slice_get way 1) (hop_around s near t other (Some way) found some)
+  where
+    by_second : (second : Option ℕ) →
+        hopped s near t ≡ moved (on_route (marked_down t other) way) second →
+        MatchOption second
+        (hopped s near t ≡ record {
+          end = Arrive;
+          tunnel = record t { route = way; place = 0; down = down_with t other };
+        })
+        (λ second. hopped s near t ≡ record {
+          end = Move second;
+          tunnel = record t { route = way; place = 1; down = down_with t other };
+        })
+    by_second None is = is
+    by_second (Some second) is = is
+
+-- ---- where it is then
+
+-- what holds of each move, and where a packet is stuck, holds of a hop
+each_hop : (s : SwitchValue) (near : ℕ) (t : TunnelValue) (P : Moved → Type 0) →
+    ((on : TunnelValue) → IsSamePacket t on → P (moved on (next on))) →
+    ((other : ℕ) (cause : Cause) → P (record { end = Stuck cause; tunnel = marked_down t other })) →
+    P (hopped s near t)
+unfolding hopped rerouted
+each_hop s near t P moves stuck = by_found (found_down near (next t))
+  where
+    by_way : (other : ℕ) (way : Option (List ℕ)) →
+        P (moved_along s near (marked_down t other) way)
+    by_way other None = stuck other _
+    by_way other (Some way) = moves (on_route (marked_down t other) way) (record {
+      packet = refl;
+      header = refl;
+      ingress = refl;
+      leg = refl;
+      targets = refl;
+    })
+
+    by_found : (found : Option ℕ) → P (hopped_to s near t found)
+    by_found None = moves t (record {
+      packet = refl;
+      header = refl;
+      ingress = refl;
+      leg = refl;
+      targets = refl;
+    })
+    by_found (Some other) =
+        by_way other (route_from_here (marked_down t other) s.database near)
+
+pub hop_stands : (s : SwitchValue) (near : ℕ) (t : TunnelValue) (other : ℕ) →
+    (hopped s near t).end ≡ Move other → here (hopped s near t).tunnel ≡ other
+hop_stands s near t other is =
+    each_hop s near t (λ m. m.end ≡ Move other → here m.tunnel ≡ other)
+    (λ on same. by_next on (next on) refl) (λ from cause is. absurd (cc)) is
+  where
+    by_next : (on : TunnelValue) (after : Option ℕ) → next on ≡ after →
+        (moved on after).end ≡ Move other → here (moved on after).tunnel ≡ other
+    by_next on None is end = absurd (cc)
+    by_next on (Some after) is end =
+        let same : after ≡ other = cc in
+        get_or_from_slice_get on.route (on.place + 1) after 0 is ∙ same
+
+pub hop_ends : (s : SwitchValue) (near : ℕ) (t : TunnelValue) →
+    (hopped s near t).end ≡ Arrive → next (hopped s near t).tunnel ≡ None
+hop_ends s near t is =
+    each_hop s near t (λ m. m.end ≡ Arrive → next m.tunnel ≡ None)
+    (λ on same. by_next on (next on) refl) (λ from cause is. absurd (cc)) is
+  where
+    by_next : (on : TunnelValue) (after : Option ℕ) → next on ≡ after →
+        (moved on after).end ≡ Arrive → next (moved on after).tunnel ≡ None
+    by_next on None is end = is
+    by_next on (Some after) is end = absurd (cc)
+
+pub hop_same : (s : SwitchValue) (near : ℕ) (t : TunnelValue) →
+    IsSamePacket t (hopped s near t).tunnel
+hop_same s near t =
+    each_hop s near t (λ m. IsSamePacket t m.tunnel)
+    (λ on same. by_next on (next on) same) (λ other cause. record {
+      packet = refl;
+      header = refl;
+      ingress = refl;
+      leg = refl;
+      targets = refl;
+    })
+  where
+    by_next : (on : TunnelValue) (after : Option ℕ) → IsSamePacket t on →
+        IsSamePacket t (moved on after).tunnel
+    by_next on None same = same
+    by_next on (Some after) same = record {
+      packet = same.packet;
+      header = same.header;
+      ingress = same.ingress;
+      leg = same.leg;
+      targets = same.targets;
+    }
+
+-- ---- over usable links alone
+
+-- the first link of a path
+first_link : (links : List ℕ) (from target : ℕ) (way : List ℕ) (second : ℕ) →
+    IsPath links from target way → slice_get way 1 ≡ Some second →
+    (from < 64) × (second < 64) × IsTrue (has (slice_index links from) second)
+unfolding IsPath
+first_link links from target [] second path is = absurd path
+first_link links from target (first ∷ []) second path is = absurd (cc)
+first_link links from target (first ∷ other ∷ rest) second path is =
+    let same : other ≡ second = cc in
+    let leads = path.2 in (
+      subst (λ (n : ℕ). n < 64) path.0 path.1,
+      subst (λ (n : ℕ). n < 64) same leads.0,
+      ap (λ (n : ℕ). has (slice_index links n) second) (sym path.0)
+          ∙ ap (λ (n : ℕ). has (slice_index links first) n) (sym same) ∙ leads.1,
+    )
+
+-- a route is a path to some target
+path_of : (links : List ℕ) (from : ℕ) (targets way : List ℕ) →
+    IsRoute links from targets (Some way) → (target : ℕ) × IsPath links from target way
+unfolding IsRoute
+path_of links from [] way route = absurd (cc)
+path_of links from (target ∷ targets) way route = elim route [
+  | inl least ↦ (target, least.path)
+  | inr later ↦ path_of links from targets way later.1
+]
+
+-- a switch that knows a link of its own sees it as usable
+seen : (adverts : List (Option Advert)) (at near other : ℕ) →
+    has (slice_index (told_links adverts at near) at) other ≡ true → IsTrue (has near other)
+unfolding told_links
+seen adverts at near other is =
+    let told = map neighbours_told adverts in
+    elim (cases_lt at (length told)) [
+      | inl below ↦ ap (λ (row : ℕ). has row other)
+          (sym (get_or-set_same told at near 0 below)) ∙ is
+      | inr past ↦ (let len = length-set told at near in
+          let none = get_or_past (set told at near) at 0 (omega (arith, len)) in
+          let no_link : false ≡ true =
+          sym (has-zero other) ∙ ap (λ (row : ℕ). has row other) (sym none) ∙ is in
+          absurd (cc))
+    ]
+
+second_of_four : (a b c d : Bool) → (a && b && c && d) ≡ true → b ≡ true
+second_of_four true true c d is = refl
+second_of_four true false c d is = is
+second_of_four false b c d is = absurd (cc)
+
+way_is_usable : (adverts : List (Option Advert)) (from near : ℕ) (down targets way : List ℕ)
+    (second : ℕ) → route_of adverts from targets near down ≡ Some way →
+    slice_get way 1 ≡ Some second → IsTrue (has near second)
+unfolding is_link
+way_is_usable adverts from near down targets way second is next =
+    let links = known_links adverts from near down in
+    let route : IsRoute links from targets (Some way) =
+    subst (λ (r : Option (List ℕ)). IsRoute links from targets r) is
+    (known_route_is_route adverts from targets near down) in
+    let path = path_of links from targets way route in
+    let link = first_link links from path.0 way second path.1 next in
+    seen adverts from near second
+    (second_of_four _ _ _ _
+    (sym (has_known adverts from near down from second link.0 link.1) ∙ link.2))
+
+pub hop_usable : (s : SwitchValue) (near : ℕ) (t : TunnelValue) (other : ℕ) →
+    (hopped s near t).end ≡ Move other → IsTrue (has near other)
+unfolding hopped rerouted
+hop_usable s near t other = by_found (found_down near (next t)) refl
+  where
+    no_switch : Option ℕ
+    no_switch = None
+
+    by_usable : (after : ℕ) → (test : Bool) → has near after ≡ test →
+        cond test None (Some after) ≡ no_switch → after ≡ other → IsTrue (has near other)
+    by_usable after true usable none same = ap (has near) (sym same) ∙ usable
+    by_usable after false usable none same = absurd (cc)
+
+    by_next : (after : Option ℕ) → found_down near after ≡ no_switch →
+        (moved t after).end ≡ Move other → IsTrue (has near other)
+    by_next None none end = absurd (cc)
+    by_next (Some after) none end =
+        by_usable after (has near after) refl none (let same : after ≡ other = cc in same)
+
+    by_second : (on : TunnelValue) (second : Option ℕ) →
+        ((other : ℕ) → second ≡ Some other → IsTrue (has near other)) →
+        (moved on second).end ≡ Move other → IsTrue (has near other)
+    by_second on None usable end = absurd (cc)
+    by_second on (Some second) usable end =
+        let same : second ≡ other = cc in usable other (ap Some same)
+
+    by_way : (from : ℕ) (way : Option (List ℕ)) → way_around s near t from ≡ way →
+        (moved_along s near (marked_down t from) way).end ≡ Move other → IsTrue (has near other)
+    by_way from None is end = absurd (cc)
+    by_way from (Some way) is end =
+        by_second (on_route (marked_down t from) way) (slice_get way 1) (λ second next.
+        way_is_usable s.database (here t) near (down_with t from) t.targets way second is next)
+        end
+
+    by_found : (found : Option ℕ) → found_down near (next t) ≡ found →
+        (hopped_to s near t found).end ≡ Move other → IsTrue (has near other)
+    by_found None none end = by_next (next t) none end
+    by_found (Some from) found end = by_way from (way_around s near t from) refl end

@@ -1,0 +1,312 @@
+-- What a switch answers to packets, as relations in the words of lookups, rules, routes and
+-- tunnels: `x_laws` of the crate ensures that each call's answer is one, and the only one.
+use Rattle.std.specs.Prelude.{ℕ, ◌≡◌, ◌≢◌, ◌+◌, ◌↔◌, ◌⊎◌, Bool, true, false, Option, Some, None, List, [], ◌∷◌, map, slice_get, IsTrue, IsFalse, IsSome, MatchOption}
+use Rattle.five_tuple.specs.Header.{IsHeader, number_of}
+use Rattle.five_tuple.specs.declared.header.Header.{Header}
+use Rattle.policy_rules.specs.Partitions.{AreSoundPartitions, Placed}
+use Rattle.policy_rules.specs.Policy.{scan}
+use Rattle.policy_rules.specs.Rules.{first_rule}
+use Rattle.policy_rules.specs.declared.packet.Cause.TheVariants.{NoRoute}
+use Rattle.policy_rules.specs.declared.packet.How.{How}
+use Rattle.policy_rules.specs.declared.packet.How.TheVariants.{Authority as ByAuthority}
+use Rattle.policy_rules.specs.declared.packet.Leg.{Leg}
+use Rattle.policy_rules.specs.declared.packet.Leg.TheVariants.{Seek as SeekLeg, Exit as ExitLeg}
+use Rattle.policy_rules.specs.declared.policy.Action.{Action}
+use Rattle.policy_rules.specs.declared.policy.Action.TheVariants.{Drop, Out as OutBy}
+use Rattle.policy_rules.specs.declared.policy.Row.{Row}
+use Rattle.policy_rules.specs.declared.rules.Partition.{Partition}
+use Rattle.policy_rules.specs.declared.rules.Rule.{Rule}
+use Rattle.net_file.specs.Owners.{port_owner}
+use Rattle.failover.specs.DownSet.{with_link}
+use Rattle.failover.specs.Masks.{has}
+use Rattle.failover.specs.Routes.{route_of}
+use Rattle.tunnel.specs.Moves.{here, next}
+use Rattle.tunnel.specs.Tunnel.{TunnelValue}
+use Rattle.cache_maker.specs.Independent.{widen}
+use Rattle.switch_table.specs.Cache.{first_entry}
+use Rattle.switch_table.specs.Lookup.{lookup_of}
+use Rattle.switch_table.specs.Tables.{part_of, tables_of}
+use Rattle.switch_table.specs.declared.cache.CacheEntry.{CacheEntry}
+use Rattle.switch_table.specs.declared.search.Found.{Found}
+use Rattle.switch_table.specs.declared.search.Found.TheVariants.{Cached, Authority, Redirect}
+use Rattle.switch_table.specs.declared.tables.Tables.{Tables}
+use Rattle.ctrl_msg.specs.declared.message.Body.{Body}
+use Rattle.ctrl_msg.specs.declared.message.Body.TheVariants.{CacheRule}
+use Rattle.switch_core.specs.Arriving.{IsAtAuthority, arrived, packet_of}
+use Rattle.switch_core.specs.Deciding.{IsFirstHit, by_entry, by_rule, own_part}
+use Rattle.switch_core.specs.Ends.{Surroundings, cause_of, next_of}
+use Rattle.switch_core.specs.Entering.{entered}
+use Rattle.switch_core.specs.Moving.{Moved, found_down, hopped}
+use Rattle.switch_core.specs.State.{IsSwitch, SwitchValue, held_tables, holds_version, serves, stamp_tables}
+use Rattle.switch_core.specs.declared.answers.Arrived.{Arrived}
+use Rattle.switch_core.specs.declared.answers.Arrived.TheVariants as arrival
+use Rattle.switch_core.specs.declared.answers.Decision.{Decision}
+use Rattle.switch_core.specs.declared.answers.Entered.{Entered}
+use Rattle.switch_core.specs.declared.answers.Entered.TheVariants.{Closed, Decided, Seek, Stuck}
+use Rattle.switch_core.specs.declared.answers.HopEnd.TheVariants as hop
+use Rattle.switch_core.specs.declared.answers.Next.{Next}
+use Rattle.switch_core.specs.declared.answers.Next.TheVariants as goes
+use Rattle.switch_core.specs.declared.packet.Packet.{Packet}
+
+-- ---- words
+
+-- a switch that serves, with the tables of its stamp, and a header
+pub record IsReady (s : SwitchValue) (header : Header) : Type 0 where
+  pub switch : IsSwitch s
+  pub serving : IsTrue (serves s)
+  pub stamped : IsTrue (holds_version s s.stamp)
+  pub is_header : IsHeader header
+
+-- such a switch, and a packet at the end of its route there: on a leg of a version that the switch
+-- holds, the leg's partition is one of its own, and has the header
+pub record IsArriving (s : SwitchValue) (t : TunnelValue) : Type 0 where
+  pub ready : IsReady s t.header
+  pub authority : IsAtAuthority s t.header t.leg
+
+-- what the cache and the tables of the stamp say of a header
+abbrev pub lookup_at : SwitchValue → Header → Found
+lookup_at s header = lookup_of s.cache.entries (stamp_tables s) header
+
+-- a rule of one of the tables' own partitions: the first there to hold a header of its region
+pub record OwnRule (tables : Tables) (header : Header) : Type 0 where
+  pub part : Partition
+  pub place : ℕ
+  pub rule : Rule
+  pub own : own_part tables part.number ≡ Some part
+  pub hit : IsFirstHit header part place
+  pub at_place : slice_get part.rules place ≡ Some rule
+  pub first : first_rule part.rules header ≡ Some rule
+
+-- the route to the first of these targets that the switch reaches, by the links that it knows, less
+-- those that the packet found down
+abbrev pub route_from : SwitchValue → ℕ → Packet → List ℕ → Option (List ℕ)
+route_from s near packet targets = route_of s.database s.number targets near packet.down
+
+-- the packet at the beginning of a route, on its leg to these targets, with the links that it found
+-- down
+abbrev pub setting_out : Packet → Leg → List ℕ → List ℕ → TunnelValue
+setting_out packet leg targets route = record {
+  packet = packet.number;
+  header = packet.header;
+  ingress = packet.ingress;
+  leg = leg;
+  targets = targets;
+  route = route;
+  place = 0;
+  down = packet.down;
+}
+
+-- the first entry of the cache to hold the header, among those of the stamp's version, decides
+pub record IsByCache (s : SwitchValue) (header : Header) (decision : Decision) : Type 0 where
+  pub entry : CacheEntry
+  pub first : first_entry s.stamp (number_of header) s.cache.entries ≡ Some entry
+  pub decided : decision ≡ by_entry entry
+
+-- a rule of the switch's own decides, by the tables of the decision's version
+pub record IsByOwnRule (s : SwitchValue) (header : Header) (decision : Decision) : Type 0 where
+  pub tables : Tables
+  pub held : held_tables s decision.version ≡ Some tables
+  pub own : OwnRule tables header
+  pub decided : decision ≡ by_rule s.number decision.version own.part.number own.rule
+
+-- ---- a packet comes in
+
+pub record IsEntryAnswer (s : SwitchValue) (told : Surroundings) (packet : Packet)
+    (answer : Entered) : Type 0 where
+  -- closed exactly where the switch doesn't serve
+  pub closed : (answer ≡ Closed) ↔ IsFalse (serves s)
+  -- a cached rule decides with its version, its rule and its action
+  pub cached : (entry : CacheEntry) →
+      IsReady s packet.header → lookup_at s packet.header ≡ Cached entry →
+      answer ≡ Decided (by_entry entry) (next_of s told packet entry.action)
+  -- an authority rule decides with the stamp's version: the first of its partition to hold the
+  -- header
+  pub authority : (partition place : ℕ) →
+      IsReady s packet.header → lookup_at s packet.header ≡ Authority partition place →
+      (own : OwnRule (stamp_tables s) packet.header)
+      × (own.part.number ≡ partition) × (own.place ≡ place)
+      × (answer ≡ Decided (by_rule s.number s.stamp partition own.rule)
+      (next_of s told packet own.rule.action))
+  -- a partition rule sends it to exactly its targets, and it is stuck on that leg exactly where no
+  -- route leads to them
+  pub redirect : (partition : ℕ) (targets : List ℕ) →
+      IsReady s packet.header → lookup_at s packet.header ≡ Redirect partition targets →
+      (let leg = SeekLeg s.stamp partition in
+      MatchOption (route_from s told.near packet targets)
+      (answer ≡ Stuck (cause_of s told.near packet.down leg targets) leg)
+      (λ route. answer ≡ Seek (setting_out packet leg targets route)))
+
+-- the answer of `enter` is one, and the only one
+pub record EnterLaws : Type 0 where
+  pub is : (s : SwitchValue) (told : Surroundings) (packet : Packet) →
+      IsEntryAnswer s told packet (entered s told packet)
+  pub only : (s : SwitchValue) (told : Surroundings) (packet : Packet) (answer : Entered) →
+      (IsTrue (serves s) → IsReady s packet.header) → IsEntryAnswer s told packet answer →
+      answer ≡ entered s told packet
+
+-- ---- a packet was decided
+
+pub record IsWayOn (s : SwitchValue) (told : Surroundings) (packet : Packet) (action : Action)
+    (way : Next) : Type 0 where
+  -- dropped exactly where the action is to drop it
+  pub dropped : (way ≡ goes.Dropped) ↔ (action ≡ Drop)
+  -- out here exactly where the action's port is one of this switch
+  pub out : (port : ℕ) → (way ≡ goes.Out port)
+      ↔ ((action ≡ OutBy port) × (port_owner told.ports port ≡ Some s.number))
+  -- to another switch's port by the route to that switch alone, and stuck exactly where none leads
+  -- there
+  pub exit : (port owner : ℕ) → action ≡ OutBy port →
+      port_owner told.ports port ≡ Some owner → owner ≢ s.number →
+      MatchOption (route_from s told.near packet (owner ∷ [])) (way ≡ goes.Stuck NoRoute)
+      (λ route. way ≡ goes.Exit (setting_out packet (ExitLeg port) (owner ∷ []) route))
+  -- no route leads to a port that no switch has
+  pub no_owner : (port : ℕ) → action ≡ OutBy port → port_owner told.ports port ≡ None →
+      way ≡ goes.Stuck NoRoute
+
+-- the way on of a packet that was decided is one, and the only one
+pub record ExitLaws : Type 0 where
+  pub is : (s : SwitchValue) (told : Surroundings) (packet : Packet) (action : Action) →
+      IsWayOn s told packet action (next_of s told packet action)
+  pub only : (s : SwitchValue) (told : Surroundings) (packet : Packet) (action : Action)
+      (way : Next) → IsWayOn s told packet action way → way ≡ next_of s told packet action
+
+-- ---- a packet arrives
+
+-- the answers are the same, but for a rule for a cache
+abbrev pub AreAlike : Entered → Arrived → Type 0
+AreAlike (Decided decision way) (arrival.Decided other cache onward) =
+    (decision ≡ other) × (way ≡ onward)
+AreAlike (Seek tunnel) (arrival.Seek other) = tunnel ≡ other
+AreAlike (Stuck cause leg) (arrival.Stuck other way) = (cause ≡ other) × (leg ≡ way)
+AreAlike _ _ = ⊥
+
+abbrev pub is_by_authority : How → Bool
+is_by_authority (ByAuthority switch partition) = true
+is_by_authority _ = false
+
+-- the rule that a decision by a switch's own rule sends to a cache: its word is the widened one
+abbrev pub rule_to_cache : {s : SwitchValue} {header : Header} {decision : Decision} →
+    IsByOwnRule s header decision → Body
+rule_to_cache {s} {header} {decision} by =
+    let word = widen (number_of header) by.own.part.region by.own.part.rules by.own.place in
+    CacheRule decision.version word decision.rule decision.action
+
+pub record IsArrivalAnswer (s : SwitchValue) (told : Surroundings) (t : TunnelValue)
+    (answer : Arrived) : Type 0 where
+  -- at the end of its way to a port it leaves by that port
+  pub out : (port : ℕ) → t.leg ≡ ExitLeg port → answer ≡ arrival.Out port
+  -- on a leg of a version that the switch holds it is decided by that version: by the first rule of
+  -- the leg's partition to hold the header
+  pub decided : (version partition : ℕ) (tables : Tables) →
+      IsArriving s t → t.leg ≡ SeekLeg version partition → held_tables s version ≡ Some tables →
+      (own : OwnRule tables t.header) × (own.part.number ≡ partition)
+      × (cache : Option Body)
+      × (answer ≡ arrival.Decided (by_rule s.number version partition own.rule) cache
+      (next_of s told (packet_of t) own.rule.action))
+  -- where the leg's version isn't held it is looked up anew under the stamp, as if it came in here
+  -- with the links that it found down
+  pub anew : (version partition : ℕ) →
+      IsArriving s t → t.leg ≡ SeekLeg version partition → IsFalse (holds_version s version) →
+      AreAlike (entered s told (packet_of t)) answer
+  -- a rule is sent to a cache exactly where an authority rule decided, and the packet entered
+  -- elsewhere ..
+  pub sent : (decision : Decision) (cache : Option Body) (way : Next) →
+      IsArriving s t → answer ≡ arrival.Decided decision cache way →
+      IsSome cache ↔ (IsTrue (is_by_authority decision.how) × (t.ingress ≢ s.number))
+  -- .. and it is the rule that decided
+  pub carried : (decision : Decision) (body : Body) (way : Next) →
+      IsArriving s t → answer ≡ arrival.Decided decision (Some body) way →
+      (by : IsByOwnRule s t.header decision) × (body ≡ rule_to_cache by)
+
+-- the answer of `arrive` is one, and the only one
+pub record ArriveLaws : Type 0 where
+  pub is : (s : SwitchValue) (told : Surroundings) (t : TunnelValue) →
+      IsArrivalAnswer s told t (arrived s told t)
+  pub only : (s : SwitchValue) (told : Surroundings) (t : TunnelValue) (answer : Arrived) →
+      IsArriving s t → IsArrivalAnswer s told t answer → answer ≡ arrived s told t
+
+-- ---- where decisions come from
+
+-- by a cached rule of the stamp's version, or by a rule of the switch's own by the tables of the
+-- decision's version; and the packet goes on as the decision's action says
+pub record IsDecision (s : SwitchValue) (told : Surroundings) (packet : Packet)
+    (decision : Decision) (way : Next) : Type 0 where
+  pub source : IsByCache s packet.header decision ⊎ IsByOwnRule s packet.header decision
+  pub onward : way ≡ next_of s told packet decision.action
+
+pub record DecisionLaws : Type 0 where
+  -- so is every decision of a packet that comes in or arrives
+  pub on_entry : (s : SwitchValue) (told : Surroundings) (packet : Packet) (decision : Decision)
+      (way : Next) → IsReady s packet.header → entered s told packet ≡ Decided decision way →
+      IsDecision s told packet decision way
+  pub on_arrival : (s : SwitchValue) (told : Surroundings) (t : TunnelValue)
+      (decision : Decision) (cache : Option Body) (way : Next) →
+      IsArriving s t → arrived s told t ≡ arrival.Decided decision cache way →
+      IsDecision s told (packet_of t) decision way
+  -- by the tables of a plan, rules of the switch's own decide as the plan's policy does
+  pub as_policy : (s : SwitchValue) (header : Header) (decision : Decision) (rows : List Row)
+      (plan : List Placed) → AreSoundPartitions rows (map part_of plan) → IsHeader header →
+      held_tables s decision.version ≡ Some (tables_of plan decision.version s.number) →
+      IsByOwnRule s header decision →
+      scan rows header ≡ record { rule = decision.rule; action = decision.action }
+
+-- ---- a packet on its way
+
+-- what stays of a packet on its leg
+pub record IsSamePacket (before after : TunnelValue) : Type 0 where
+  pub packet : after.packet ≡ before.packet
+  pub header : after.header ≡ before.header
+  pub ingress : after.ingress ≡ before.ingress
+  pub leg : after.leg ≡ before.leg
+  pub targets : after.targets ≡ before.targets
+
+-- the links that a packet found down, once it found the one to another switch down
+abbrev pub down_with : TunnelValue → ℕ → List ℕ
+down_with t other = with_link t.down (here t) other
+
+-- its new route then
+abbrev pub way_around : SwitchValue → ℕ → TunnelValue → ℕ → Option (List ℕ)
+way_around s near t other = route_of s.database (here t) t.targets near (down_with t other)
+
+pub record IsHop (s : SwitchValue) (near : ℕ) (t : TunnelValue) (after : Moved) : Type 0 where
+  -- a link is found down exactly where it leads to the next switch of the route, and isn't usable
+  pub found : (other : ℕ) → (found_down near (next t) ≡ Some other)
+      ↔ ((next t ≡ Some other) × IsFalse (has near other))
+  -- at the end of its route the packet arrives
+  pub arrives : next t ≡ None → after ≡ record { end = hop.Arrive; tunnel = t }
+  -- over a usable link it moves one place on
+  pub moves : (other : ℕ) → next t ≡ Some other → IsTrue (has near other) →
+      after ≡ record { end = hop.Move other; tunnel = record t { place = t.place + 1 } }
+  -- a link that is found down joins the others, and where no way leads around them the packet is
+  -- stuck
+  pub stuck : (other : ℕ) → found_down near (next t) ≡ Some other →
+      way_around s near t other ≡ None →
+      after ≡ record {
+        end = hop.Stuck (cause_of s near (down_with t other) t.leg t.targets);
+        tunnel = record t { down = down_with t other };
+      }
+  -- otherwise it takes that way: it has arrived where the way ends here, and moves to its second
+  -- switch where it doesn't
+  pub turns : (other : ℕ) (way : List ℕ) → found_down near (next t) ≡ Some other →
+      way_around s near t other ≡ Some way →
+      MatchOption (slice_get way 1)
+      (after ≡ record {
+        end = hop.Arrive;
+        tunnel = record t { route = way; place = 0; down = down_with t other };
+      })
+      (λ second. after ≡ record {
+        end = hop.Move second;
+        tunnel = record t { route = way; place = 1; down = down_with t other };
+      })
+  -- so a packet that moved stands at that switch, to which a usable link leads, and one that
+  -- arrived is at the end of its route
+  pub stands : (other : ℕ) → after.end ≡ hop.Move other → here after.tunnel ≡ other
+  pub usable : (other : ℕ) → after.end ≡ hop.Move other → IsTrue (has near other)
+  pub ends : after.end ≡ hop.Arrive → next after.tunnel ≡ None
+  pub same_packet : IsSamePacket t after.tunnel
+
+-- what becomes of a packet by `hop` is one, and the only one
+pub record HopLaws : Type 0 where
+  pub is : (s : SwitchValue) (near : ℕ) (t : TunnelValue) → IsHop s near t (hopped s near t)
+  pub only : (s : SwitchValue) (near : ℕ) (t : TunnelValue) (after : Moved) →
+      IsHop s near t after → after ≡ hopped s near t
