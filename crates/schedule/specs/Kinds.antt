@@ -1,5 +1,8 @@
 -- The kinds of a schedule's rows, each named by a word.
-use Rattle.std.specs.Prelude.{ℕ, ◌≡◌, Bool, true, false, Option, Some, List, find, codes, bytes_eq}
+use Rattle.std.specs.Prelude.{ℕ, ◌≡◌, Bool, true, false, IsTrue, Option, Some, List, find, codes, bytes_eq}
+use Rattle.steps.specs.declared.step.Event.{Event}
+use Rattle.steps.specs.declared.step.Event.TheVariants.{One, Flush, Drain}
+use Rattle.steps.specs.declared.step.Step.TheVariants as step
 use Rattle.schedule.specs.declared.kind.Kind.{Kind}
 use Rattle.schedule.specs.declared.kind.Kind.TheVariants as kind
 use Rattle.schedule.specs.declared.kind.TheConstants.{KINDS}
@@ -33,6 +36,28 @@ is_built kind.Hop = true
 is_built kind.Lose = true
 is_built kind.Drain = true
 is_built _ = false
+
+-- the kind of an event
+abbrev pub kind_of_event : Event → Kind
+kind_of_event (One (step.Packet switch header)) = kind.Packet
+kind_of_event (One (step.Hop packet)) = kind.Hop
+kind_of_event (One (step.Lose packet)) = kind.Lose
+kind_of_event (One (step.Deliver message)) = kind.Deliver
+kind_of_event (One (step.Forget message)) = kind.Forget
+kind_of_event (One (step.Expire switch place)) = kind.Expire
+kind_of_event (One (step.Update file)) = kind.Update
+kind_of_event (One (step.LinkDown one two)) = kind.LinkDown
+kind_of_event (One (step.LinkUp one two)) = kind.LinkUp
+kind_of_event (One (step.Crash switch)) = kind.Crash
+kind_of_event (One (step.Restart switch)) = kind.Restart
+kind_of_event (One (step.Confirm switch)) = kind.Confirm
+kind_of_event (One (step.Resend switch)) = kind.Resend
+kind_of_event Flush = kind.Flush
+kind_of_event Drain = kind.Drain
+
+-- an event that can be played so far
+abbrev pub IsBuiltEvent : Event → Type 0
+IsBuiltEvent event = IsTrue (is_built (kind_of_event event))
 
 -- kinds and their words stand for each other
 pub record KindLaws : Type 0 where

@@ -8,6 +8,7 @@ use Rattle.net_file.specs.declared.net.Net.{Net}
 use Rattle.steps.specs.Steps.{IsEvent}
 use Rattle.steps.specs.declared.step.Event.{Event}
 use Rattle.steps.specs.declared.step.TheConstants.{MAX_EVENTS}
+use Rattle.schedule.specs.Kinds.{IsBuiltEvent}
 use Rattle.schedule.specs.Refusals.{Refusal}
 use Rattle.schedule.specs.Rows.{event_of, is_heading}
 use Rattle.schedule.specs.declared.error.ScheduleError.{ScheduleError}
@@ -66,6 +67,7 @@ IsRefusal events error.NoMemory = ⊤
 -- what is true of the events of any text
 pub record AreSound (net : Net) (files : ℕ) (events : List Event) : Type 0 where
   pub steps : All (IsEvent net files) events
+  pub built : All IsBuiltEvent events
   pub few : length events ≤ MAX_EVENTS
 
 pub record ScheduleLaws : Type 0 where

@@ -1,6 +1,7 @@
 ghost use Rattle.std.specs.Prelude.{◌≡◌, ◌≤◌, Ok, IfOk, IfErr, All, vec_len};
 ghost use Rattle.net_file.specs.Net.{IsNet};
 ghost use Rattle.steps.specs.Steps.{IsEvent};
+ghost use Rattle.schedule.specs.Kinds.{IsBuiltEvent};
 ghost use Rattle.schedule.specs.Reading.{IsRefusal, schedule_of};
 
 use crate::error::{ScheduleError, ScheduleRefusal};
@@ -32,6 +33,7 @@ pub fn read_schedule(
     ensures events { IfOk result (λ events.
         schedule_of net.now files bytes.now ≡ Ok events.items) }
     ensures steps { IfOk result (λ events. All (IsEvent net.now files) events.items) }
+    ensures built { IfOk result (λ events. All IsBuiltEvent events.items) }
     ensures few { IfOk result (λ events. vec_len events ≤ MAX_EVENTS) }
     ensures refused { IfErr result (IsRefusal (schedule_of net.now files bytes.now)) }
 {
