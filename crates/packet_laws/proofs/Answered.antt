@@ -1,6 +1,6 @@
 -- An answer, and each beginning of one, is made of items that have their causes.
 use Rattle.std.proofs.Common.{ℕ, suc, ◌≡◌, ◌+◌, Option, Some, None, List, [], ◌∷◌, ◌++◌, sym, subst, arith, inl, inr}
-use Rattle.std.specs.Prelude.{All, option_map}
+use Rattle.std.specs.Prelude.{All, IsTrue, option_map}
 use Rattle.journal.specs.declared.item.Item.{Item}
 use Rattle.steps.specs.declared.step.Event.{Event}
 use Rattle.steps.specs.declared.step.Event.TheVariants.{One, Flush, Drain}
@@ -9,14 +9,16 @@ use Rattle.steps.specs.declared.step.Step.TheVariants.{Hop}
 use Rattle.update_machine.specs.Answers.{Answers, AreAll, AreFirstSteps, AreFirstStepsOf, AreSome, AreSteps, AreStepsOf, BeginsAnswer, StepOfRow, after_steps, next_hop}
 use Rattle.update_machine.specs.Causes.{EndsHaveCauses, HasCause, HaveCauses}
 use Rattle.update_machine.specs.Machine.{IsRun}
-use Rattle.update_machine.specs.Packets.{next_travelling}
+use Rattle.update_machine.specs.Packets.{next_travelling, travels}
 use Rattle.update_machine.specs.Pieces.{piece}
 use Rattle.update_machine.specs.Played.{IsSetting, MayHappen}
 use Rattle.update_machine.specs.Setting.{Setting}
 use Rattle.update_machine.proofs.CallerLemmas.{have_take}
+use Rattle.packet_laws.specs.OnWay.{IsOnWay}
 use Rattle.packet_laws.specs.PacketCauses.{IsPlayedItem}
+use Rattle.packet_laws.specs.Words.{words_of}
 use Rattle.packet_laws.proofs.Calm.{have_map}
-use Rattle.packet_laws.proofs.Played.{ArePlayable, IsPlayable, IsSettled, may_play, settled_at_first, steps_settled}
+use Rattle.packet_laws.proofs.Played.{ArePlayable, IsPlayable, IsSettled, may_play, settled_at_first, settled_on_way, steps_settled}
 use Rattle.packet_laws.proofs.Runs.{caused_is_run}
 
 hop_of : (setting : Setting) (o : Option ℕ) (step : Step) → option_map Hop o ≡ Some step
@@ -143,3 +145,9 @@ pub begun_ends : (setting : Setting) (events : List Event) (journal : List Item)
     → EndsHaveCauses setting journal
 begun_ends setting events journal is may begins = caused_ends setting journal
     (begun_causes setting events journal is may begins)
+
+pub answer_on_way : (setting : Setting) (events : List Event) (journal : List Item)
+    → IsSetting setting → All (MayHappen setting) events → Answers setting events journal
+    → (i : ℕ) → IsTrue (travels journal i) → IsOnWay setting journal (words_of journal i)
+answer_on_way setting events journal is may answers = settled_on_way setting journal is
+    (answer_settled setting events journal is may answers)

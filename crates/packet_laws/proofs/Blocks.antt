@@ -1,6 +1,6 @@
 -- The blocks of a packet's items have their causes, and leave it on its way or at its end.
 use Rattle.std.proofs.Common.{ℕ, ◌≡◌, ◌≢◌, ◌+◌, ◌-◌, ◌<◌, ◌≤◌, ◌==◌, Bool, true, false, if◌then◌else◌, Option, Some, None, List, [], ◌∷◌, ◌++◌, length, refl, ap, sym, subst, ◌∙◌, append-nil, append_assoc, arith, get_or, inl, inr, ◌⊎◌}
-use Rattle.std.specs.Prelude.{IsFalse, IsTrue, find, is_some, nat_eq, option_and_then, option_map, position, slice_get, unwrap_or}
+use Rattle.std.specs.Prelude.{⊤, IsFalse, IsTrue, find, is_some, nat_eq, option_and_then, option_map, position, slice_get, unwrap_or}
 use Rattle.std.specs.List.{list_any}
 use Rattle.std.proofs.lemmas.Bool.{cases_lt, eqb-true}
 use Rattle.std.proofs.lemmas.Bool.Decides.{nat_tests}
@@ -28,7 +28,7 @@ use Rattle.update_machine.specs.Causes.{HaveCauses}
 use Rattle.update_machine.specs.Links.{near}
 use Rattle.update_machine.specs.Marks.{retired_mark}
 use Rattle.update_machine.specs.Moves.{AuthorityRule, arrive_by, arrive_items, authority_items, authority_rule, cache_items, end_items, first_place, found_items, header_at, in_turn, leaves, leg_items, lookup_items, move_items, put, reroute_items, route_for, stuck_on, takes_route}
-use Rattle.update_machine.specs.Packets.{Decision, decision_of, found_down, header_in, leg_of, next_switch, owner, standing, targets_of, travels}
+use Rattle.update_machine.specs.Packets.{Decision, decision_of, found_down, header_in, leg_of, next_switch, no_switch, owner, standing, targets_of, travels}
 use Rattle.update_machine.specs.Played.{IsSetting, NamesOwnPort}
 use Rattle.update_machine.specs.Setting.{Setting}
 use Rattle.update_machine.specs.Versions.{holds_version, plan_at, stamp_of}
@@ -57,13 +57,13 @@ pub record Writes (setting : Setting) (i : ℕ) (journal items : List Item) : Ty
 
 -- an item with which a switch is done with a packet
 abbrev IsFinal : Item → Type 0
-IsFinal (item.Seeking packet version partition route) = Unit {0}
-IsFinal (item.Exiting packet route) = Unit {0}
-IsFinal (item.Hopped packet switch) = Unit {0}
-IsFinal (item.Left packet port leaving) = Unit {0}
-IsFinal (item.Dropped packet) = Unit {0}
-IsFinal (item.Lost packet) = Unit {0}
-IsFinal (item.Stuck packet switch cause leg down) = Unit {0}
+IsFinal (item.Seeking packet version partition route) = ⊤
+IsFinal (item.Exiting packet route) = ⊤
+IsFinal (item.Hopped packet switch) = ⊤
+IsFinal (item.Left packet port leaving) = ⊤
+IsFinal (item.Dropped packet) = ⊤
+IsFinal (item.Lost packet) = ⊤
+IsFinal (item.Stuck packet switch cause leg down) = ⊤
 IsFinal _ = ⊥
 
 pub ended : (words : PacketWords) → words.travels ≡ false → IsDone words
@@ -262,7 +262,7 @@ exit_writes setting journal i s header decision port home is here decided act ha
         })
     by_route (Some route) e =
         let targets : targets_of setting journal (Exit port) ≡ home ∷ [] =
-        ap (λ o. unwrap_or o 0 ∷ []) has_port in
+        ap (λ o. unwrap_or o no_switch ∷ []) has_port in
         let leads : LeadsTo setting (home ∷ []) route × IsFirst s route =
         route_leads setting journal s (home ∷ []) (found_down journal i) route is.net here.alone
         here.there (rw (← targets) e) in
@@ -328,7 +328,7 @@ leave_writes setting journal i s header decision port here decided act has_port 
       };
     })
 
-is_home : (o : Option ℕ) → IsTrue (is_some o) → o ≡ Some (unwrap_or o 0)
+is_home : (o : Option ℕ) → IsTrue (is_some o) → o ≡ Some (unwrap_or o no_switch)
 is_home None e = absurd cc
 is_home (Some x) e = refl
 
@@ -367,26 +367,30 @@ end_writes setting journal i s header decision (action.Out port) is here decided
 
 -- ---- decisions
 
-in_turn_none : (first second : List Item → List Item) (journal : List Item) → first journal ≡ []
+pub in_turn_none : (first second : List Item → List Item) (journal : List Item) → first journal ≡ []
     → in_turn (first ∷ second ∷ []) journal ≡ second journal
 in_turn_none first second journal none =
     ap (λ js. put js (in_turn (second ∷ [])) journal) none ∙ append-nil (second (journal ++ []))
     ∙ ap second (append-nil journal)
 
-no_cache_items : (setting : Setting) (i s : ℕ) (found : AuthorityRule) (journal : List Item)
+pub no_cache_items : (setting : Setting) (i s : ℕ) (found : AuthorityRule) (journal : List Item)
     → setting.caches ≡ false → cache_items setting i s found journal ≡ []
 unfolding cache_items
 no_cache_items setting i s found journal none = rw none refl
 
-rule_is : (setting : Setting) (journal : List Item) (header : Header) (placed : Placed)
-    (finds : Finds setting header placed) → IsCalm setting journal →
-    authority_rule setting journal 1 placed.0.number finds.place ≡ Some
-    (record { version = 1; part = part_of placed; place = finds.place; rule = finds.rule })
-rule_is setting journal header placed finds calm_here =
-    let at : slice_get (plan_at setting journal 1) placed.0.number ≡ Some placed =
-    ap (λ plan. slice_get plan placed.0.number) (calm_here.plan 1) ∙ finds.at in
+-- the rule by which a version's partition decides the header
+pub rule_is : (setting : Setting) (journal : List Item) (header : Header) (placed : Placed)
+    (version partition : ℕ) (finds : Finds setting header placed)
+    → slice_get (plan_at setting journal version) partition ≡ Some placed
+    → authority_rule setting journal version partition finds.place ≡ Some (record {
+      version = version;
+      part = part_of placed;
+      place = finds.place;
+      rule = finds.rule;
+    })
+rule_is setting journal header placed version partition finds at =
     let rule_of : Placed → Rule → AuthorityRule = λ p rule.
-    record { version = 1; part = part_of p; place = finds.place; rule = rule } in
+    record { version = version; part = part_of p; place = finds.place; rule = rule } in
     ap (λ (o : Option Placed). elim o as (λ _. Option AuthorityRule) [
       | None ↦ None
       | Some p ↦ option_map (rule_of p) (slice_get p.0.rules finds.place)
@@ -405,7 +409,8 @@ authority_writes setting journal i s header placed finds is ready =
     let rule : AuthorityRule =
     record { version = 1; part = part_of placed; place = finds.place; rule = finds.rule } in
     let found_rule : authority_rule setting journal 1 placed.0.number finds.place ≡ Some rule =
-    rule_is setting journal header placed finds calm_here in
+    rule_is setting journal header placed 1 placed.0.number finds
+    (ap (λ plan. slice_get plan placed.0.number) (calm_here.plan 1) ∙ finds.at) in
     let decided : Item = item.Decided i 1 finds.rule.rule finds.rule.action
     (how.Authority s placed.0.number) in
     let decision : Decision =

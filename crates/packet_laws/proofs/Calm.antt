@@ -1,27 +1,21 @@
 -- A journal of packets alone leaves switches, links and the controller as they began.
-use Rattle.std.proofs.Common.{ℕ, ◌≡◌, ◌<◌, ◌==◌, Bool, true, false, not, ◌&&◌, Some, None, List, [], ◌∷◌, ◌++◌, length, refl, ap, sym, ◌∙◌, append_assoc, arith}
-use Rattle.std.specs.Prelude.{IsFalse, nat_lt, slice_index, slice_index_or, slice_set, unwrap_or, count_by}
+use Rattle.std.proofs.Common.{ℕ, ◌≡◌, ◌<◌, true, Some, None, List, [], ◌∷◌, ◌++◌, length, refl, ap, ◌∙◌, arith}
+use Rattle.std.specs.Prelude.{IsFalse, nat_lt, slice_index, unwrap_or}
 use Rattle.std.proofs.lemmas.Bool.Decides.{nat_tests}
-use Rattle.std.proofs.lemmas.List.{set-get_or}
 use Rattle.std.proofs.lemmas.List.FromFn.{get_or-map-range_with_len}
-use Rattle.std.proofs.lemmas.List.Sums.{sum_by-cons}
 use Rattle.failover.specs.Adverts.{first_advert, first_of}
-use Rattle.failover.proofs.Adverts.{held-first}
 use Rattle.net_file.specs.Net.{IsNet, links_of}
 use Rattle.journal.specs.declared.item.Item.{Item}
 use Rattle.journal.specs.declared.item.Item.TheVariants as item
-use Rattle.update_machine.specs.Adverts.{adverts_known, has_change, own_advert, own_seq, route_from}
-use Rattle.update_machine.specs.Boots.{boot_of, heard, is_up}
+use Rattle.update_machine.specs.Adverts.{adverts_known, own_seq, route_from}
 use Rattle.update_machine.specs.Caches.{cache_of, lookup_at}
 use Rattle.update_machine.specs.Causes.{HaveCauses}
-use Rattle.update_machine.specs.Concerns.{concerns_controller, concerns_links, concerns_switch}
-use Rattle.update_machine.specs.Folds.{folded_from}
+use Rattle.update_machine.specs.Concerns.{NoneConcern, concerns_controller, concerns_known, concerns_links, concerns_switch}
 use Rattle.update_machine.specs.Laws.{ControllerKeeps, SwitchKeeps}
 use Rattle.update_machine.specs.Links.{near}
 use Rattle.update_machine.specs.Setting.{Setting}
-use Rattle.update_machine.specs.Steps.{StepItems, changes_steps, steps_in, with_item}
 use Rattle.update_machine.specs.Versions.{file_of, plan_at, stamp_of, tells_file}
-use Rattle.update_machine.proofs.CallerLemmas.{controller_keeps, have_append, last_stays, near_stays, start_laws, switch_keeps}
+use Rattle.update_machine.proofs.CallerLemmas.{controller_keeps, known_keeps, last_stays, links_keep, start_laws, switch_keeps}
 use Rattle.packet_laws.specs.Calm.{HasPacketsAlone, IsCalm, IsOfPackets, adverts_at_first, first_plan, neighbours}
 
 -- one cause from another, for each item
@@ -49,6 +43,11 @@ apart_links before (item.Opened switch version) of = absurd of
 apart_links before (item.LinkIs one two up) of = absurd of
 apart_links before _ of = refl
 
+apart_known : (s : ℕ) (before : List Item) (item : Item) → IsOfPackets item
+    → IsFalse (concerns_known s before item)
+apart_known s before item of =
+    rw (apart_switch s before item of, apart_links before item of) refl
+
 pub apart_controller : (before : List Item) (item : Item) → IsOfPackets item
     → IsFalse (concerns_controller before item)
 apart_controller before (item.Delivered number) of = absurd of
@@ -75,13 +74,15 @@ of_controller journal alone =
     (have_map Alone (λ before item. IsFalse (concerns_controller before item)) apart_controller
     [] journal alone)
 
+no_links : (journal : List Item) → HasPacketsAlone journal → NoneConcern concerns_links [] journal
+no_links journal alone =
+    have_map Alone (λ before item. IsFalse (concerns_links before item)) apart_links [] journal
+    alone
+
 pub near_calm : (setting : Setting) (journal : List Item) → HasPacketsAlone journal → (s : ℕ)
     → near setting journal s ≡ links_of setting.net.links s
 near_calm setting journal alone s =
-    near_stays setting s [] journal
-    (have_map Alone (λ before item. IsFalse (concerns_links before item)) apart_links [] journal
-    alone)
-    ∙ start_laws.near setting s
+    (links_keep setting [] journal (no_links journal alone)).near s ∙ start_laws.near setting s
 
 silent_file : (v : ℕ) (before : List Item) (item : Item) → IsFalse (concerns_controller before item)
     → tells_file v item ≡ None
@@ -104,89 +105,12 @@ file_calm journal alone v =
     (have_map Alone (λ before item. IsFalse (concerns_controller before item)) apart_controller []
     journal alone))
 
--- ---- the steps of a journal
-
--- as each of these steps began, and behind it, the switch has these links
-abbrev Steady : Setting → ℕ → ℕ → List StepItems → Type 0
-Steady setting s links [] = Unit {0}
-Steady setting s links (step ∷ steps) =
-    (near setting step.before s ≡ links) × (near setting (step.before ++ step.items) s ≡ links)
-    × Steady setting s links steps
-
--- the newest step ends where the journal does
-abbrev Ends : List Item → List StepItems → Type 0
-Ends journal [] = Unit {0}
-Ends journal (step ∷ steps) = step.before ++ step.items ≡ journal
-
-with_item_steady : (setting : Setting) (s links : ℕ) (journal : List Item) (item : Item)
-    (steps : List StepItems) → near setting (journal ++ item ∷ []) s ≡ links →
-    Ends journal steps → Steady setting s links steps
-    → Steady setting s links (with_item steps item)
-    × Ends (journal ++ item ∷ []) (with_item steps item)
-with_item_steady setting s links journal item [] here ends steady = (tt, tt)
-with_item_steady setting s links journal item (step ∷ steps) here ends steady =
-    let whole : step.before ++ (step.items ++ item ∷ []) ≡ journal ++ item ∷ [] =
-    sym (append_assoc step.before step.items (item ∷ [])) ∙ ap (λ js. js ++ item ∷ []) ends in
-    ((steady.0, ap (λ js. near setting js s) whole ∙ here, steady.2), whole)
-
-step_steady : (setting : Setting) (s links : ℕ) (journal : List Item) (item : Item)
-    (steps : List StepItems) → near setting journal s ≡ links → near setting (journal ++ item ∷ [])
-    s ≡ links →
-    Ends journal steps → Steady setting s links steps
-    → Steady setting s links (changes_steps journal steps item)
-    × Ends (journal ++ item ∷ []) (changes_steps journal steps item)
-step_steady setting s links journal (item.Row row step) steps was here ends steady =
-    ((was, here, steady), refl)
-step_steady setting s links journal other steps was here ends steady = with_item_steady setting s
-    links journal other steps here ends steady
-
-steps_steady : (setting : Setting) (s : ℕ) (before items : List Item) (steps : List StepItems)
-    → HasPacketsAlone before → HaveCauses Alone before items →
-    Ends before steps → Steady setting s (links_of setting.net.links s) steps →
-    Steady setting s (links_of setting.net.links s) (folded_from changes_steps before steps items)
-steps_steady setting s before [] steps alone causes ends steady = steady
-steps_steady setting s before (item ∷ items) steps alone causes ends steady =
-    let more : HasPacketsAlone (before ++ item ∷ []) = have_append Alone [] before (item ∷ []) alone
-    (causes.0, tt) in
-    let next : Steady setting s (links_of setting.net.links s) (changes_steps before steps item)
-    × Ends (before ++ item ∷ []) (changes_steps before steps item) =
-    step_steady setting s (links_of setting.net.links s) before item steps
-    (near_calm setting before alone s) (near_calm setting (before ++ item ∷ []) more s) ends
-    steady in
-    steps_steady setting s (before ++ item ∷ []) items (changes_steps before steps item) more
-    causes.1 next.1 next.0
-
-same_number : (n m : ℕ) → n ≡ m → (n == m) ≡ true
-same_number n m e = grind (arith, nat_tests)
-
-and_not : (b c : Bool) → c ≡ true → (b && not c) ≡ false
-and_not true c e = rw e refl
-and_not false c e = refl
-
-no_change : (setting : Setting) (s links : ℕ) (steps : List StepItems)
-    → Steady setting s links steps → count_by (has_change setting s 1) steps ≡ 0
-no_change setting s links [] steady = refl
-no_change setting s links (step ∷ steps) steady =
-    let same : (near setting step.before s == near setting (step.before ++ step.items) s) ≡ true =
-    same_number _ _ (steady.0 ∙ sym steady.1) in
-    let none : has_change setting s 1 step ≡ false = and_not (boot_of step.before s == 1) _ same in
-    let rest : count_by (has_change setting s 1) steps ≡ 0 = no_change setting s links steps
-    steady.2 in
-    sum_by-cons _ step steps ∙ rw (none, rest) refl
+-- ---- adverts
 
 seq_calm : (setting : Setting) (journal : List Item) → HasPacketsAlone journal → (s : ℕ)
     → own_seq setting journal s ≡ 1
-unfolding own_seq steps_in
 seq_calm setting journal alone s =
-    let up : is_up journal s ≡ true = (of_switch setting s journal alone).up ∙ start_laws.up s in
-    let boot : boot_of journal s ≡ 1 = (of_switch setting s journal alone).boot
-    ∙ start_laws.boot s in
-    let none : count_by (has_change setting s 1) (folded_from changes_steps [] [] journal) ≡ 0 =
-    no_change setting s (links_of setting.net.links s) _
-    (steps_steady setting s [] journal [] tt alone tt tt) in
-    rw (up, boot, none, own_seq) refl
-
--- ---- adverts
+    (links_keep setting [] journal (no_links journal alone)).seq s ∙ start_laws.seq setting s
 
 pub advert_same : (setting : Setting) (s : ℕ) → IsNet setting.net → s < length setting.net.switches
     →
@@ -202,22 +126,10 @@ advert_same setting s net there =
 adverts_calm : (setting : Setting) (journal : List Item) → IsNet setting.net
     → HasPacketsAlone journal → (s : ℕ) → s < length setting.net.switches →
     adverts_known setting journal s ≡ adverts_at_first setting
-unfolding adverts_known own_advert
 adverts_calm setting journal net alone s there =
-    let up : is_up journal s ≡ true = (of_switch setting s journal alone).up ∙ start_laws.up s in
-    let boot : boot_of journal s ≡ 1 = (of_switch setting s journal alone).boot
-    ∙ start_laws.boot s in
-    let bodies : heard journal s ≡ [] = (of_switch setting s journal alone).heard
-    ∙ start_laws.heard s in
-    let seq : own_seq setting journal s ≡ 1 = seq_calm setting journal alone s in
-    let links : near setting journal s ≡ links_of setting.net.links s = near_calm setting journal
-    alone s in
-    let told : slice_index_or (adverts_at_first setting) s None ≡ Some
-    (first_advert s (links_of setting.net.links s)) =
-    held-first (neighbours setting) (length setting.net.switches) s
-    (omega (arith, net.few_switches, there)) ∙ advert_same setting s net there in
-    rw (up, boot, bodies, seq, links) (ap (slice_set (adverts_at_first setting) s) (sym told)
-    ∙ set-get_or (adverts_at_first setting) s None)
+    (known_keeps setting s [] journal (have_map Alone
+    (λ before item. IsFalse (concerns_known s before item)) (apart_known s) [] journal alone)).known
+    ∙ start_laws.adverts setting s there net.few_switches
 
 pub calm : (setting : Setting) (journal : List Item) → IsNet setting.net → HasPacketsAlone journal
     → IsCalm setting journal

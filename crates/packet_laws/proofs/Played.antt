@@ -1,7 +1,7 @@
 -- Each item of a played journal has its cause, and each piece leaves its packets on their way or at
 -- their end.
 use Rattle.std.proofs.Common.{ℕ, suc, ◌≡◌, ◌<◌, Bool, true, false, Some, List, [], ◌∷◌, ◌++◌, length, refl, ap, sym, subst, ◌∙◌, append_assoc, arith, inl, inr}
-use Rattle.std.specs.Prelude.{All, IsFalse, IsTrue, unwrap_or}
+use Rattle.std.specs.Prelude.{⊤, ◌==◌, All, IsFalse, IsTrue, unwrap_or}
 use Rattle.std.proofs.lemmas.Bool.{cases_eq}
 use Rattle.failover.specs.DownSet.{no_links}
 use Rattle.five_tuple.specs.Header.{IsHeader}
@@ -22,7 +22,9 @@ use Rattle.update_machine.specs.Setting.{Setting}
 use Rattle.update_machine.specs.Steps.{present_step, tells_step}
 use Rattle.update_machine.proofs.CallerLemmas.{folded_stays, have_append, last_told_append}
 use Rattle.packet_laws.specs.Calm.{HasPacketsAlone, IsOfPackets}
-use Rattle.packet_laws.specs.OnWay.{IsOnWay, IsUnknown}
+use Rattle.policy_rules.specs.declared.packet.Leg.{Leg}
+use Rattle.policy_rules.specs.declared.packet.Leg.TheVariants.{Seek}
+use Rattle.packet_laws.specs.OnWay.{IsOnLeg, IsOnWay, IsSeeking, IsServed, IsUnknown}
 use Rattle.packet_laws.specs.PacketCauses.{IsPlayedItem, Stands}
 use Rattle.packet_laws.specs.Words.{PacketWords, names, told_by, words_of}
 use Rattle.packet_laws.proofs.Blocks.{IsDone, IsReady, Writes, ended, first_writes, lookup_writes, move_writes, one_writes, other_number, own_number, words_named, words_other}
@@ -170,8 +172,8 @@ lose_settled setting journal i settled lost = by_travel (travels journal i) refl
 -- a step that is played, whatever number it names
 abbrev pub IsPlayable : Setting → Step → Type 0
 IsPlayable setting (Packet s header) = (s < length setting.net.switches) × IsHeader header
-IsPlayable setting (Hop i) = Unit {0}
-IsPlayable setting (Lose i) = Unit {0}
+IsPlayable setting (Hop i) = ⊤
+IsPlayable setting (Lose i) = ⊤
 IsPlayable setting _ = ⊥
 
 pub may_play : (setting : Setting) (step : Step) → MayPlay setting step → IsPlayable setting step
@@ -181,7 +183,7 @@ may_play setting (Lose i) may = tt
 may_play setting _ may = absurd may.kind
 
 abbrev pub ArePlayable : Setting → List StepOfRow → Type 0
-ArePlayable setting [] = Unit {0}
+ArePlayable setting [] = ⊤
 ArePlayable setting (next ∷ steps) = IsPlayable setting next.step × ArePlayable setting steps
 
 all_playable : (setting : Setting) (steps : List StepOfRow)
@@ -273,13 +275,55 @@ pub played_alone : (setting : Setting) (journal : List Item) → IsSetting setti
 played_alone setting journal is played = alone_of setting journal
     (played_causes setting journal is played)
 
+pub settled_on_way : (setting : Setting) (journal : List Item) → IsSetting setting
+    → IsSettled setting journal → (i : ℕ) → IsTrue (travels journal i)
+    → IsOnWay setting journal (words_of journal i)
+settled_on_way setting journal is settled i travelling =
+    let on : IsTrue (words_of journal i).travels = travels_is journal i true travelling in
+    (kept setting journal is.net settled.causes i).on_way on (settled.done i on)
+
 pub on_way : (setting : Setting) (journal : List Item) → IsSetting setting
     → IsPlayed setting journal → (i : ℕ) → IsTrue (travels journal i)
     → IsOnWay setting journal (words_of journal i)
-on_way setting journal is played i travelling =
-    let settled : IsSettled setting journal = played_settled setting journal is played in
-    let on : IsTrue (words_of journal i).travels = travels_is journal i true travelling in
-    (kept setting journal is.net settled.causes i).on_way on (settled.done i on)
+on_way setting journal is played =
+    settled_on_way setting journal is (played_settled setting journal is played)
+
+-- the version of a leg to an authority is the one that there is
+sought_version : (setting : Setting) (journal : List Item) (words : PacketWords) (header : Header)
+    (leg : Leg) (version partition : ℕ) → IsOnLeg setting journal words header leg
+    → leg ≡ Seek version partition → IsSeeking setting journal words header version partition
+sought_version setting journal words header leg version partition on same =
+    subst (IsOnLeg setting journal words header) same on
+
+some_leg : (one two : Leg) → Some one ≡ Some two → one ≡ two
+some_leg one two same = cc
+
+pub settled_served : (setting : Setting) (journal : List Item) → IsSetting setting
+    → IsSettled setting journal → (i : ℕ) → IsTrue (travels journal i)
+    → IsServed journal (words_of journal i)
+settled_served setting journal is settled i travelling =
+    let calm_here = calm setting journal is.net (alone_of setting journal settled.causes) in
+    let on = settled_on_way setting journal is settled i travelling in
+    let words = words_of journal i in
+    record {
+      serving = λ s at. calm_here.serving s;
+      held = λ s version partition leg serving.
+          let seeking = sought_version setting journal words on.under_way.header on.leg version
+          partition on.on_leg (some_leg on.leg (Seek version partition) (sym on.takes ∙ leg)) in
+          let only : version ≡ 1 = omega (
+            arith,
+            seeking.not_retired,
+            seeking.current,
+            calm_here.current,
+          ) in
+          calm_here.versions s version ∙ ap (λ v. v == 1) only;
+    }
+
+pub served : (setting : Setting) (journal : List Item) → IsSetting setting
+    → IsPlayed setting journal → (i : ℕ) → IsTrue (travels journal i)
+    → IsServed journal (words_of journal i)
+served setting journal is played =
+    settled_served setting journal is (played_settled setting journal is played)
 
 pub found : (setting : Setting) (journal : List Item) → IsSetting setting → IsPlayed setting journal
     → (i : ℕ) → (words_of journal i).found ≡ no_links

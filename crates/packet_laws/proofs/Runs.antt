@@ -1,6 +1,6 @@
 -- A journal whose items have their causes is a run of the machine.
 use Rattle.std.proofs.Common.{ℕ, ◌≡◌, ◌≢◌, Bool, true, false, if◌then◌else◌, Option, Some, None, List, [], ◌∷◌, ◌++◌, refl, ap, sym, subst, ◌∙◌, arith, inl, inr}
-use Rattle.std.specs.Prelude.{IsTrue, option_map, slice_get}
+use Rattle.std.specs.Prelude.{⊤, IsTrue, option_map, slice_get}
 use Rattle.std.proofs.lemmas.Bool.{cases_eq, eq-eqb, ne_eqb}
 use Rattle.five_tuple.specs.declared.header.Header.{Header}
 use Rattle.net_file.specs.Net.{IsNet}
@@ -72,11 +72,11 @@ seen_same (Some packet) one other h m d t seen = record {
 
 -- an item that leaves its packet's header, decision and travelling as they were
 abbrev IsUnseen : Item → Type 0
-IsUnseen (item.Row row step) = Unit {0}
-IsUnseen (item.Seeking packet version partition route) = Unit {0}
-IsUnseen (item.Exiting packet route) = Unit {0}
-IsUnseen (item.Hopped packet switch) = Unit {0}
-IsUnseen item.Nothing = Unit {0}
+IsUnseen (item.Row row step) = ⊤
+IsUnseen (item.Seeking packet version partition route) = ⊤
+IsUnseen (item.Exiting packet route) = ⊤
+IsUnseen (item.Hopped packet switch) = ⊤
+IsUnseen item.Nothing = ⊤
 IsUnseen _ = ⊥
 
 unseen_words : (mark : ℕ) (item : Item) (words : PacketWords) (o : Option Packet) → IsUnseen item

@@ -1,5 +1,5 @@
 -- A packet on its way: it stands at a place of a route that ends at a target of its leg.
-use Rattle.std.specs.Prelude.{ℕ, ◌≡◌, ◌+◌, ◌-◌, ◌<◌, ◌≤◌, false, nat_eq, Some, None, find, List, [], ◌∷◌, length, slice_get, IsTrue, IsFalse}
+use Rattle.std.specs.Prelude.{ℕ, ◌≡◌, ◌+◌, ◌-◌, ◌<◌, ◌≤◌, true, false, nat_eq, Some, None, find, List, [], ◌∷◌, length, slice_get, IsTrue, IsFalse}
 use Rattle.std.specs.List.{list_any}
 use Rattle.failover.specs.DownSet.{no_links}
 use Rattle.failover.specs.Masks.{has}
@@ -13,10 +13,11 @@ use Rattle.policy_rules.specs.declared.packet.Leg.TheVariants.{Seek, Exit}
 use Rattle.policy_rules.specs.declared.policy.Action.TheVariants.{Out}
 use Rattle.switch_table.specs.Tables.{Placed, part_of}
 use Rattle.journal.specs.declared.item.Item.{Item}
+use Rattle.update_machine.specs.Boots.{serves}
 use Rattle.update_machine.specs.Marks.{current_mark, retired_mark}
 use Rattle.update_machine.specs.Packets.{Decision}
 use Rattle.update_machine.specs.Setting.{Setting}
-use Rattle.update_machine.specs.Versions.{plan_at}
+use Rattle.update_machine.specs.Versions.{holds_version, plan_at}
 use Rattle.packet_laws.specs.Words.{PacketWords}
 
 -- ---- routes
@@ -105,6 +106,13 @@ pub record IsOnWay (setting : Setting) (journal : List Item) (words : PacketWord
   pub takes : words.leg ≡ Some leg
   pub on_leg : IsOnLeg setting journal words under_way.header leg
   pub stands : slice_get words.route words.hops ≡ Some under_way.place
+
+-- the switch at which it stands serves; and where it seeks an authority, each switch that serves
+-- has the tables of its version
+pub record IsServed (journal : List Item) (words : PacketWords) : Type 0 where
+  pub serving : (s : ℕ) → words.place ≡ Some s → serves journal s ≡ true
+  pub held : (s version partition : ℕ) → words.leg ≡ Some (Seek version partition)
+      → serves journal s ≡ true → holds_version journal s version ≡ true
 
 -- what each item keeps, of each packet
 pub record IsKept (setting : Setting) (journal : List Item) (words : PacketWords) : Type 0 where

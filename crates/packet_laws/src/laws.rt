@@ -12,7 +12,7 @@ ghost use Rattle.update_machine.specs.Packets.{next_packet, travels};
 ghost use Rattle.update_machine.specs.Played.{IsPlayed, IsSetting, MayHappen};
 ghost use Rattle.update_machine.specs.Setting.{Setting};
 ghost use Rattle.packet_laws.specs.Calm.{HasPacketsAlone, IsCalm};
-ghost use Rattle.packet_laws.specs.OnWay.{IsKept, IsOnWay, IsUnknown};
+ghost use Rattle.packet_laws.specs.OnWay.{IsKept, IsOnWay, IsServed, IsUnknown};
 ghost use Rattle.packet_laws.specs.PacketCauses.{IsPlayedItem};
 ghost use Rattle.packet_laws.specs.Words.{names, told_by, words_of};
 
@@ -50,11 +50,18 @@ pub fn played_journals_have_causes()
         → IsSetting setting → IsPlayed setting journal → HasPacketsAlone journal }
 {}
 
-/// Behind each whole piece, a travelling packet is on its way, and found no link down.
+/// Behind each whole piece, and so in each answer, a travelling packet is on its way at a switch
+/// that serves, and found no link down.
 pub fn packets_travel()
     ensures on_way { (setting : Setting) (journal : List Item)
         → IsSetting setting → IsPlayed setting journal
         → (i : ℕ) → IsTrue (travels journal i) → IsOnWay setting journal (words_of journal i) }
+    ensures answered { (setting : Setting) (events : List Event) (journal : List Item)
+        → IsSetting setting → All (MayHappen setting) events → Answers setting events journal
+        → (i : ℕ) → IsTrue (travels journal i) → IsOnWay setting journal (words_of journal i) }
+    ensures served { (setting : Setting) (journal : List Item)
+        → IsSetting setting → IsPlayed setting journal
+        → (i : ℕ) → IsTrue (travels journal i) → IsServed journal (words_of journal i) }
     ensures found { (setting : Setting) (journal : List Item)
         → IsSetting setting → IsPlayed setting journal
         → (i : ℕ) → (words_of journal i).found ≡ no_links }

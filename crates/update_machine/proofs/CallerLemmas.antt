@@ -1,13 +1,17 @@
 -- What proofs above cite.
 pub use Rattle.update_machine.proofs.FoldLemmas.{all_given_append, count_of_append, folded_append, folded_from_append, last_told_append}
-pub use Rattle.update_machine.proofs.Silent.{count_stays, folded_stays, given_stays, last_stays}
+pub use Rattle.update_machine.proofs.Silent.{count_stays, fewer, folded_stays, given_stays, last_stays, stays}
 pub use Rattle.update_machine.proofs.SilentSwitches.{near_stays, switch_keeps}
+pub use Rattle.update_machine.proofs.SilentSteps.{calls_stay}
+pub use Rattle.update_machine.proofs.SilentLinks.{known_keeps, links_keep, lookup_stays, policies_keep, waited_stays}
+pub use Rattle.update_machine.proofs.SilentMessages.{message_keeps, messages_keep, packets_keep, step_stays}
 pub use Rattle.update_machine.proofs.SilentPackets.{packet_keeps}
 pub use Rattle.update_machine.proofs.SilentController.{controller_keeps}
 pub use Rattle.update_machine.proofs.Start.{start_laws}
 pub use Rattle.update_machine.proofs.CauseLemmas.{BlocksHave, have_append, have_first, have_in_turn, have_put}
 pub use Rattle.update_machine.proofs.AnswerCauses.{PiecesHave, begun_has, have_take}
 pub use Rattle.update_machine.proofs.OneAnswer.{one_answer, one_list_of_steps}
+pub use Rattle.update_machine.proofs.Existence.{HasEnd, Nears, after_append, answer_exists, answer_goes_on, answered_where, loop_ends, none_answered}
 pub use Rattle.update_machine.proofs.NumberPieces.{piece_next}
 pub use Rattle.update_machine.proofs.Numbering.{begun_is_numbered}
 pub use Rattle.update_machine.proofs.KnownLinks.{known_link_laws}

@@ -1,4 +1,5 @@
 -- Causes of items, for any table of causes.
+use Rattle.std.specs.Prelude.{⊤}
 use Rattle.std.proofs.Common.{List, [], ◌∷◌, ◌++◌, sym, subst, append_assoc, append-nil}
 use Rattle.journal.specs.declared.item.Item.{Item}
 use Rattle.update_machine.specs.Causes.{HaveCauses}
@@ -34,7 +35,7 @@ have_first cause item rest journal first then = have_put cause (item ∷ []) res
 
 -- each of the blocks has its causes behind any journal
 abbrev pub BlocksHave : (List Item → Item → Type 0) → List (List Item → List Item) → Type 0
-BlocksHave cause [] = Unit {0}
+BlocksHave cause [] = ⊤
 BlocksHave cause (block ∷ blocks) = ((now : List Item) → HaveCauses cause now (block now))
     × BlocksHave cause blocks
 

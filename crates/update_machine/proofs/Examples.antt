@@ -143,6 +143,17 @@ ring = record {
       true;
 }
 
+-- a-b, b-c; c is the authority, and b its backup
+abbrev pub row_of_three : Setting
+row_of_three = record {
+  net = network
+      (switch (codes "a") 0 0 ∷ switch (codes "b") 0 10 ∷ switch (codes "c") 4 10 ∷ [])
+      (link 0 1 ∷ link 1 2 ∷ []);
+  policies = [];
+  plans = Ok (on (2 ∷ 1 ∷ []) all_dropped) ∷ [];
+  caches = true;
+}
+
 -- one switch with all ports
 abbrev pub solo : Setting
 solo = record {

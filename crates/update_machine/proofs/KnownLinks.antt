@@ -1,19 +1,24 @@
 -- What a switch knows of the network's links, by the laws of adverts and routes.
-use Rattle.std.proofs.Common.{ℕ, ◌≡◌, ◌≢◌, ◌<◌, Bool, true, false, Option, None, List, [], ◌∷◌, ◌++◌, sym, subst, ◌∙◌, length, get_or-set_other, get_or-set_same, length-set}
-use Rattle.std.specs.Prelude.{◌↔◌, IsTrue, if◌then◌else◌, map, option_to_list}
+use Rattle.std.proofs.Common.{ℕ, ◌≡◌, ◌≢◌, ◌<◌, ◌≤◌, Bool, true, false, Option, Some, None, List, [], ◌∷◌, ◌++◌, inl, inr, refl, ap, sym, subst, ◌∙◌, arith, length, get_or-set_other, get_or-set_same, length-set}
+use Rattle.std.specs.Prelude.{◌↔◌, ◌==◌, IsTrue, if◌then◌else◌, map, option_to_list, unwrap_or}
+use Rattle.std.proofs.lemmas.Bool.Decides.{nat_tests}
 use Rattle.failover.specs.Adverts.{AreByOrigin, IsNewest, after_hearing, after_hearing_all, first_adverts, held, no_adverts}
-use Rattle.failover.specs.Paths.{IsIsolated, IsRoute}
+use Rattle.failover.specs.Paths.{IsIsolated, IsPath, IsRoute, Leads}
 use Rattle.failover.specs.declared.advert.Advert.{Advert}
 use Rattle.failover.proofs.Adverts.{by_origin-first, by_origin-hearing, by_origin-none}
 use Rattle.failover.proofs.Newest.{held_newest}
 use Rattle.failover.proofs.Rows.{isolated_tells}
 use Rattle.failover.proofs.Searching.{known_route_is_route}
-use Rattle.net_file.specs.Net.{links_of}
+use Rattle.net_file.specs.Net.{links_of, owner_of}
+use Rattle.policy_rules.specs.declared.packet.Leg.TheVariants.{Exit}
+use Rattle.policy_rules.specs.declared.policy.Action.TheVariants.{Out}
 use Rattle.journal.specs.declared.item.Item.{Item}
 use Rattle.update_machine.specs.Adverts.{advert_known, adverts_begun, adverts_heard, adverts_known, is_cut_off, links_known, own_advert, own_if_told, route_from}
 use Rattle.update_machine.specs.Boots.{is_in_first_boot}
 use Rattle.update_machine.specs.Laws.{KnownLinkLaws}
 use Rattle.update_machine.specs.Links.{near}
+use Rattle.update_machine.specs.Moves.{end_items, leaves, leg_items, stuck_on, takes_route}
+use Rattle.update_machine.specs.Packets.{found_down, no_switch, owner}
 use Rattle.update_machine.specs.Setting.{Setting, switches_of}
 
 begun_by_origin : (setting : Setting) (journal : List Item) (s : ℕ)
@@ -83,10 +88,57 @@ unfolding is_cut_off
 cut_off_known setting journal s target down = isolated_tells (adverts_known setting journal s) s
     target (near setting journal s) down (known_places setting journal s)
 
+-- ---- ports that no switch has
+
+-- each path ends at a switch
+ends_below : (links : List ℕ) (at target : ℕ) (path : List ℕ) → at < 64 → 64 ≤ target
+    → Leads links target at path → ⊥
+ends_below links at target [] here past leads = omega (arith, leads, here, past)
+ends_below links at target (next ∷ path) here past leads =
+    ends_below links next target path leads.0 past leads.2
+
+no_path : (links : List ℕ) (from target : ℕ) (path : List ℕ) → 64 ≤ target
+    → IsPath links from target path → ⊥
+unfolding IsPath
+no_path links from target [] past path = path
+no_path links from target (first ∷ path) past is =
+    ends_below links first target path is.1 past is.2
+
+no_route : (links : List ℕ) (from : ℕ) (route : Option (List ℕ))
+    → IsRoute links from (no_switch ∷ []) route → route ≡ None
+unfolding IsRoute
+no_route links from None is = refl
+no_route links from (Some path) (inl is) =
+    absurd (no_path links from no_switch path (omega arith) is.path)
+no_route links from (Some path) (inr is) = is.1
+
+portless_stuck : (setting : Setting) (journal : List Item) (i s port : ℕ) → s < 64
+    → owner_of setting.net.switches port ≡ None
+    → end_items setting i s (Out port) journal ≡ stuck_on setting journal i s (Exit port) ∷ []
+unfolding end_items leg_items
+portless_stuck setting journal i s port small none =
+    let apart : (no_switch == s) ≡ false = grind (arith, nat_tests) in
+    let elsewhere : (owner setting port == s) ≡ false =
+    ap (λ o. unwrap_or o no_switch == s) none ∙ apart in
+    let stuck : route_from setting journal s (owner setting port ∷ []) (found_down journal i)
+    ≡ None =
+    ap (λ o. route_from setting journal s (unwrap_or o no_switch ∷ []) (found_down journal i)) none
+    ∙ no_route (links_known setting journal s (found_down journal i)) s _
+    (route_known setting journal s (no_switch ∷ []) (found_down journal i)) in
+    ap (λ b. elim b [
+      | true ↦ leaves journal i port ∷ []
+      | false ↦ leg_items setting journal i s (Exit port)
+    ]) elsewhere
+    ∙ ap (λ route. elim route [
+      | None ↦ stuck_on setting journal i s (Exit port) ∷ []
+      | Some way ↦ takes_route i (Exit port) way ∷ []
+    ]) stuck
+
 pub known_link_laws : KnownLinkLaws
 known_link_laws = record {
   newest = newest_known;
   own = own_known;
   route = route_known;
   cut_off = cut_off_known;
+  portless = portless_stuck;
 }

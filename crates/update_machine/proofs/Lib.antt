@@ -7,8 +7,17 @@ mod LinkRows
 mod OtherRows
 mod CampusRows
 mod AnswerRows
+mod QuietRows
+mod HandledRows
+mod CauseRows
+mod MachineRows
+mod MarkRows
+mod MarkWords
+mod SwitchWords
+mod CacheWords
 mod FoldLemmas
 mod OneAnswer
+mod Existence
 mod CauseLemmas
 mod NumberBlocks
 mod NumberPieces
@@ -16,6 +25,9 @@ mod AnswerCauses
 mod Numbering
 mod Silent
 mod SilentSwitches
+mod SilentSteps
+mod SilentLinks
+mod SilentMessages
 mod SilentPackets
 mod SilentController
 mod Start

@@ -1,8 +1,9 @@
 -- Failing links, computed.
-use Rattle.std.proofs.Common.{◌≡◌, [], ◌∷◌, refl, false}
+use Rattle.std.proofs.Common.{◌≡◌, List, [], ◌∷◌, refl, false}
 use Rattle.policy_rules.specs.declared.packet.Cause.TheVariants as cause
 use Rattle.policy_rules.specs.declared.packet.Leg.TheVariants as leg
 use Rattle.steps.specs.declared.step.Step.TheVariants as step
+use Rattle.journal.specs.declared.item.Item.{Item}
 use Rattle.journal.specs.declared.item.Item.TheVariants as item
 use Rattle.update_machine.specs.Answers.{after_steps}
 use Rattle.update_machine.proofs.Examples.{advert, at, one, open_net, ring, to}
@@ -33,13 +34,9 @@ use Rattle.cache_maker.specs.Independent.{is_apart, is_independent, widen, widen
 use Rattle.switch_table.specs.Cache.{same_key}
 use Rattle.net_file.specs.Net.{mask_of as net_mask_of}
 
--- a ring a-b-d-c of switches whose authority is d: the packet goes round the link that it finds
--- down, and is stuck at the next one
-pub link_rows :
-    after_steps ring []
-    (at 1 (step.Packet 0 one) ∷ at 2 (step.LinkDown 1 3) ∷ at 3 (step.Hop 1) ∷ at 4 (step.Hop 1)
-    ∷ at 5 (step.LinkDown 2 0) ∷ at 6 (step.Hop 1) ∷ [])
-    ≡
+-- what becomes of a packet in a ring whose links fail
+abbrev pub round : List Item
+round =
     item.Row 1 (step.Packet 0 one) ∷ item.Entered 1 0 one ∷ item.Seeking 1 1 0 (0 ∷ 1 ∷ 3 ∷ [])
     ∷ item.Row 2 (step.LinkDown 1 3) ∷ item.LinkIs 1 3 false
     ∷ item.Sent 1 (to 0 (advert 1 1 2 1)) ∷ item.Sent 2 (to 2 (advert 3 1 2 4))
@@ -49,6 +46,15 @@ pub link_rows :
     ∷ item.Sent 3 (to 1 (advert 0 1 2 2)) ∷ item.Sent 4 (to 3 (advert 2 1 2 8))
     ∷ item.Row 6 (step.Hop 1) ∷ item.FoundDown 1 0 2
     ∷ item.Stuck 1 0 cause.NoRoute (leg.Seek 1 0) (with_link (with_link no_links 1 3) 0 2) ∷ []
+
+-- a ring a-b-d-c of switches whose authority is d: the packet goes round the link that it finds
+-- down, and is stuck at the next one
+pub link_rows :
+    after_steps ring []
+    (at 1 (step.Packet 0 one) ∷ at 2 (step.LinkDown 1 3) ∷ at 3 (step.Hop 1) ∷ at 4 (step.Hop 1)
+    ∷ at 5 (step.LinkDown 2 0) ∷ at 6 (step.Hop 1) ∷ [])
+    ≡
+    round
 unfolding own_seq own_advert adverts_known held_adverts route_from is_cut_off boot_of is_up
     serves heard cache_of lookup_at link_changes switch_items controller_items delivery_items
     handled_count is_link_up near controller_heard known_boot is_over opened_at is_member

@@ -1,14 +1,30 @@
 -- Items that don't concern a word leave it as it is: for each of the folds.
-use Rattle.std.proofs.Common.{◌≡◌, ◌+◌, Bool, false, Option, None, List, [], ◌∷◌, ◌++◌, refl, ap, sym, ◌∙◌, append_assoc, append-nil, add-zero}
-use Rattle.std.specs.Prelude.{IsFalse}
+use Rattle.std.proofs.Common.{◌≡◌, ◌+◌, Bool, true, false, Option, None, List, [], ◌∷◌, ◌++◌, refl, ap, sym, ◌∙◌, append_assoc, append-nil, add-zero}
+use Rattle.std.specs.Prelude.{◌||◌, IsFalse}
 use Rattle.std.specs.Option.{option_or}
 use Rattle.journal.specs.declared.item.Item.{Item}
 use Rattle.update_machine.specs.Concerns.{NoneConcern}
 use Rattle.update_machine.specs.Folds.{all_given, count_of, folded, last_told}
 use Rattle.update_machine.proofs.FoldLemmas.{all_given_append, count_of_append, folded_append, last_told_append}
 
+-- items that don't concern more than it don't concern it either
+pub fewer : (less more : List Item → Item → Bool) →
+    ((before : List Item) (item : Item) → IsFalse (more before item) → IsFalse (less before item)) →
+    (before items : List Item) → NoneConcern more before items → NoneConcern less before items
+fewer less more implies before [] none = tt
+fewer less more implies before (item ∷ items) none =
+    (implies before item none.0, fewer less more implies (before ++ item ∷ []) items none.1)
+
+pub neither_left : (b c : Bool) → IsFalse (b || c) → IsFalse b
+neither_left true c none = none
+neither_left false c none = refl
+
+pub neither_right : (b c : Bool) → IsFalse (b || c) → IsFalse c
+neither_right true c none = cc
+neither_right false c none = none
+
 -- a word that one item that doesn't concern it leaves as it is, is left as it is by many
-stays : {X : Type 0} (word : List Item → X) (concerns : List Item → Item → Bool) →
+pub stays : {X : Type 0} (word : List Item → X) (concerns : List Item → Item → Bool) →
     ((before : List Item) (item : Item) → IsFalse (concerns before item)
     → word (before ++ item ∷ []) ≡ word before) →
     (before items : List Item) → NoneConcern concerns before items

@@ -138,8 +138,8 @@ unfolding serves
 served_stays before items none s = ap (λ o. unwrap_or o true)
     (last_stays (tells_serving s) concerns_links (served_silent s) before items none)
 
-link_stays : (before items : List Item) → NoneConcern concerns_links before items → (one other : ℕ)
-    → is_link_up (before ++ items) one other ≡ is_link_up before one other
+pub link_stays : (before items : List Item) → NoneConcern concerns_links before items
+    → (one other : ℕ) → is_link_up (before ++ items) one other ≡ is_link_up before one other
 unfolding is_link_up
 link_stays before items none one other = ap (λ o. unwrap_or o true)
     (last_stays _ concerns_links (link_silent _ _) before items none)

@@ -1,9 +1,10 @@
 -- An update, computed.
-use Rattle.std.proofs.Common.{◌≡◌, Some, [], ◌∷◌, refl}
+use Rattle.std.proofs.Common.{◌≡◌, Some, List, [], ◌∷◌, refl}
 use Rattle.policy_rules.specs.declared.policy.Action.TheVariants.{Drop}
 use Rattle.policy_rules.specs.declared.packet.How.TheVariants as how
 use Rattle.ctrl_msg.specs.declared.message.Body.TheVariants as body
 use Rattle.steps.specs.declared.step.Step.TheVariants as step
+use Rattle.journal.specs.declared.item.Item.{Item}
 use Rattle.journal.specs.declared.item.Item.TheVariants as item
 use Rattle.update_machine.specs.Answers.{after_steps}
 use Rattle.update_machine.proofs.Examples.{any_word, at, one, open_net, plan_q, tables_of, to, to_controller}
@@ -33,16 +34,9 @@ use Rattle.cache_maker.specs.Independent.{is_apart, is_independent, widen, widen
 use Rattle.switch_table.specs.Cache.{same_key}
 use Rattle.net_file.specs.Net.{mask_of as net_mask_of}
 
--- while a packet is on its way its version is retired, and the authority looks it up anew under the
--- next one
-pub update_rows :
-    after_steps open_net []
-    (at 1 (step.Packet 0 one) ∷ at 2 (step.Update 2) ∷ at 3 (step.Deliver 1)
-    ∷ at 3 (step.Deliver 2) ∷ at 3 (step.Deliver 3) ∷ at 3 (step.Deliver 4)
-    ∷ at 3 (step.Deliver 5) ∷ at 3 (step.Deliver 6) ∷ at 3 (step.Deliver 7)
-    ∷ at 3 (step.Deliver 8) ∷ at 3 (step.Deliver 9) ∷ at 3 (step.Deliver 10)
-    ∷ at 4 (step.Hop 1) ∷ at 4 (step.Hop 1) ∷ [])
-    ≡
+-- what becomes of a packet and of an update
+abbrev pub updated : List Item
+updated =
     item.Row 1 (step.Packet 0 one) ∷ item.Entered 1 0 one ∷ item.Seeking 1 1 0 (0 ∷ 1 ∷ [])
     ∷ item.Row 2 (step.Update 2) ∷ item.Submitted 2 2
     ∷ item.Sent 1 (to 0 (body.Install 1 (tables_of plan_q 2 0)))
@@ -62,6 +56,18 @@ pub update_rows :
     ∷ item.Hopped 1 1 ∷ item.Row 4 (step.Hop 1)
     ∷ item.Decided 1 2 (Some 100) Drop (how.Authority 1 0)
     ∷ item.Sent 11 (to 0 (body.CacheRule 2 any_word (Some 100) Drop)) ∷ item.Dropped 1 ∷ []
+
+-- while a packet is on its way its version is retired, and the authority looks it up anew under the
+-- next one
+pub update_rows :
+    after_steps open_net []
+    (at 1 (step.Packet 0 one) ∷ at 2 (step.Update 2) ∷ at 3 (step.Deliver 1)
+    ∷ at 3 (step.Deliver 2) ∷ at 3 (step.Deliver 3) ∷ at 3 (step.Deliver 4)
+    ∷ at 3 (step.Deliver 5) ∷ at 3 (step.Deliver 6) ∷ at 3 (step.Deliver 7)
+    ∷ at 3 (step.Deliver 8) ∷ at 3 (step.Deliver 9) ∷ at 3 (step.Deliver 10)
+    ∷ at 4 (step.Hop 1) ∷ at 4 (step.Hop 1) ∷ [])
+    ≡
+    updated
 unfolding own_seq own_advert adverts_known held_adverts route_from is_cut_off boot_of is_up
     serves heard cache_of lookup_at link_changes switch_items controller_items delivery_items
     handled_count is_link_up near controller_heard known_boot is_over opened_at is_member

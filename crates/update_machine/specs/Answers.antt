@@ -1,5 +1,6 @@
--- The answer to a schedule: the pieces of the steps that its events take, one after another.
-use Rattle.std.specs.Prelude.{⊤, ℕ, ◌≡◌, ◌+◌, ◌⊎◌, Option, Some, None, option_map, List, [], ◌∷◌, ◌++◌, take}
+-- The answer to a schedule: the pieces of the steps that its events take, one after another. The
+-- notion is our own.
+use Rattle.std.specs.Prelude.{⊤, ℕ, ◌≡◌, ◌+◌, ◌⊎◌, Option, Some, None, option_map, List, [], ◌∷◌, ◌++◌, length, take}
 use Rattle.journal.specs.declared.item.Item.{Item}
 use Rattle.steps.specs.declared.step.Event.{Event}
 use Rattle.steps.specs.declared.step.Event.TheVariants.{One, Flush, Drain}
@@ -104,3 +105,21 @@ pub record BeginsAnswer (setting : Setting) (events : List Event) (journal : Lis
   pub answers : AnswersSoFar setting events whole
   pub length : ℕ
   pub written : journal ≡ take length whole
+
+-- ---- whether there is an answer
+
+-- some journal answers the events
+abbrev pub AreAnswered : Setting → List Event → Type 0
+AreAnswered setting events = (journal : List Item) × Answers setting events journal
+
+-- behind this journal the event has all its steps: if it is a flush or a drain, it comes to an end
+abbrev pub HasSteps : Setting → ℕ → Event → List Item → Type 0
+HasSteps setting row event before =
+    (steps : List StepOfRow) × AreStepsOf setting row event before steps
+
+-- each of the events has all its steps, behind an answer to those before it
+abbrev pub HaveSteps : Setting → List Event → Type 0
+HaveSteps setting events =
+    (first : List Event) (event : Event) (others : List Event) (journal : List Item)
+    → events ≡ first ++ event ∷ others → Answers setting first journal
+    → HasSteps setting (length first + 1) event journal

@@ -1,4 +1,6 @@
--- The life of a switch: its boots, whether it is up and serves, and what it heard in its boot.
+-- The life of a switch: its boots, whether it is up and serves, and what it heard in its boot. A
+-- switch that restarts has forgotten everything; that is our own, as the papers on DIFANE and on
+-- updates in two phases tell of no restart.
 use Rattle.std.specs.Prelude.{ℕ, Bool, true, false, ◌&&◌, ◌==◌, if◌then◌else◌, Option, Some, None, unwrap_or, List, [], ◌∷◌, ◌++◌}
 use Rattle.std.specs.Option.{option_map_or}
 use Rattle.ctrl_msg.specs.Bodies.{body_boot}

@@ -1,5 +1,5 @@
 -- The causes of packets' ends: what stood in the journal before each item that ends a packet, or
--- finds a link of its way down.
+-- finds a link of its way down. The notion is our own; the routes are those of `Adverts`.
 use Rattle.std.specs.Prelude.{⊤, ℕ, ◌≡◌, ◌⊎◌, Some, None, List, [], ◌∷◌, ◌++◌, find, option_map, IsFalse}
 use Rattle.failover.specs.Masks.{has}
 use Rattle.net_file.specs.Net.{owner_of}

@@ -1,11 +1,14 @@
--- Which items concern a switch, a packet, the links or the controller: other items change none of
--- their words.
-use Rattle.std.specs.Prelude.{ℕ, Bool, true, false, ◌==◌, List, IsFalse}
+-- Which items concern a switch, a packet, a message, the links, the policies or the controller:
+-- other items change none of their words.
+use Rattle.std.specs.Prelude.{ℕ, Bool, true, false, ◌||◌, ◌==◌, List, IsFalse}
 use Rattle.std.specs.Option.{option_map_or}
 use Rattle.journal.specs.declared.item.Item.{Item}
 use Rattle.journal.specs.declared.item.Item.TheVariants as item
+use Rattle.steps.specs.declared.step.Step.TheVariants.{Hop}
 use Rattle.update_machine.specs.Causes.{HaveCauses}
 use Rattle.update_machine.specs.Messages.{is_to_controller, is_to_switch, message_of}
+use Rattle.update_machine.specs.Packets.{travels_at}
+use Rattle.update_machine.specs.Versions.{is_submission}
 
 -- none of these items, behind this journal, is one that concerns it
 abbrev pub NoneConcern : (List Item → Item → Bool) → List Item → List Item → Type 0
@@ -63,3 +66,64 @@ concerns_controller before (item.Submitted file version) = true
 concerns_controller before (item.Current version) = true
 concerns_controller before (item.Retired version) = true
 concerns_controller before _ = false
+
+-- ---- words that stand on several
+
+-- whether the switch hears of links or sees its own: what it knows of the network
+abbrev pub concerns_known : ℕ → List Item → Item → Bool
+concerns_known s before item = concerns_switch s before item || concerns_links before item
+
+-- a policy becomes a version
+abbrev pub concerns_policies : List Item → Item → Bool
+concerns_policies before item = is_submission item
+
+-- what the switch holds, and by which policy: what it says of a header
+abbrev pub concerns_lookups : ℕ → List Item → Item → Bool
+concerns_lookups s before item = concerns_switch s before item || concerns_policies before item
+
+-- it went down, or is no longer waited for
+abbrev pub concerns_waiting : ℕ → List Item → Item → Bool
+concerns_waiting s before (item.Down switch) = switch == s
+concerns_waiting s before (item.OverNow switch) = switch == s
+concerns_waiting s before _ = false
+
+-- the calls of a switch: packets that come in there, hops of those that stand there, and how a hop
+-- ends
+abbrev pub concerns_calls : ℕ → List Item → Item → Bool
+concerns_calls s before (item.Entered packet switch header) = switch == s
+concerns_calls s before (item.Closed packet switch) = switch == s
+concerns_calls s before (item.Row row (Hop packet)) = travels_at before s packet
+concerns_calls s before (item.Hopped packet switch) = true
+concerns_calls s before (item.Stuck packet switch cause leg down) = true
+concerns_calls s before _ = false
+
+-- ---- packets, messages and steps as wholes
+
+-- a packet comes in, is refused or ends
+abbrev pub concerns_packets : List Item → Item → Bool
+concerns_packets before (item.Entered packet switch header) = true
+concerns_packets before (item.Closed packet switch) = true
+concerns_packets before (item.Left packet port leaving) = true
+concerns_packets before (item.Dropped packet) = true
+concerns_packets before (item.Lost packet) = true
+concerns_packets before (item.Stuck packet switch cause leg down) = true
+concerns_packets before _ = false
+
+-- the message of this number is sent, delivered or forgotten
+abbrev pub concerns_message : ℕ → List Item → Item → Bool
+concerns_message n before (item.Sent number message) = number == n
+concerns_message n before (item.Delivered number) = number == n
+concerns_message n before (item.Forgotten number) = number == n
+concerns_message n before _ = false
+
+-- some message is
+abbrev pub concerns_messages : List Item → Item → Bool
+concerns_messages before (item.Sent number message) = true
+concerns_messages before (item.Delivered number) = true
+concerns_messages before (item.Forgotten number) = true
+concerns_messages before _ = false
+
+-- a step begins
+abbrev pub concerns_steps : List Item → Item → Bool
+concerns_steps before (item.Row row step) = true
+concerns_steps before _ = false

@@ -1,5 +1,5 @@
 -- How often a switch was called for a packet: to take it in, to move it on, and to receive it at
--- the end of its route.
+-- the end of its route. The count is our own: by it a journal shows that its switches were asked.
 use Rattle.std.specs.Prelude.{ℕ, ◌+◌, ◌-◌, ◌^◌, Bool, true, false, ◌||◌, ◌==◌, min, if◌then◌else◌, List, [], ◌∷◌, sum_by}
 use Rattle.std.specs.List.{list_any}
 use Rattle.journal.specs.declared.item.Item.{Item}

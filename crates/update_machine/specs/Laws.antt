@@ -1,20 +1,48 @@
 -- The laws of words over journals: each is ensured by a function of the crate that has no body.
-use Rattle.std.specs.Prelude.{ℕ, ◌≡◌, ◌≢◌, ◌<◌, ◌↔◌, true, false, ◌==◌, None, option_to_list, IsTrue, List, [], ◌++◌}
-use Rattle.failover.specs.Adverts.{IsNewest, first_advert, held}
+use Rattle.std.specs.Prelude.{ℕ, ◌≡◌, ◌≢◌, ◌<◌, ◌≤◌, ◌↔◌, true, false, ◌==◌, None, option_to_list, IsTrue, List, [], ◌∷◌, ◌++◌, length, map}
+use Rattle.failover.specs.Adverts.{IsNewest, first_advert, first_adverts, held}
+use Rattle.failover.specs.DownSet.{no_links}
 use Rattle.failover.specs.Paths.{IsIsolated, IsRoute}
-use Rattle.net_file.specs.Net.{links_of}
+use Rattle.five_tuple.specs.declared.header.Header.{Header}
+use Rattle.net_file.specs.Net.{links_of, owner_of}
+use Rattle.policy_rules.specs.declared.packet.Leg.TheVariants.{Exit}
+use Rattle.policy_rules.specs.declared.policy.Action.TheVariants.{Out}
+use Rattle.switch_table.specs.Lookup.{table_lookup}
 use Rattle.journal.specs.declared.item.Item.{Item}
-use Rattle.update_machine.specs.Adverts.{advert_known, adverts_begun, adverts_heard, is_cut_off, links_known, own_advert, own_if_told, route_from}
+use Rattle.update_machine.specs.Adverts.{advert_known, adverts_begun, adverts_heard, adverts_known, held_adverts, is_cut_off, links_known, own_advert, own_if_told, own_seq, route_from}
 use Rattle.update_machine.specs.Boots.{boot_of, heard, is_up, serves}
-use Rattle.update_machine.specs.Caches.{cache_of}
-use Rattle.update_machine.specs.Concerns.{NoneConcern, concerns_controller, concerns_links, concerns_packet, concerns_switch}
+use Rattle.update_machine.specs.Caches.{cache_of, lookup_at}
+use Rattle.update_machine.specs.Concerns.{NoneConcern, concerns_calls, concerns_controller, concerns_known, concerns_links, concerns_lookups, concerns_message, concerns_messages, concerns_packet, concerns_packets, concerns_policies, concerns_steps, concerns_switch, concerns_waiting}
 use Rattle.update_machine.specs.Handled.{handled_count}
 use Rattle.update_machine.specs.Links.{is_link_up, near}
 use Rattle.update_machine.specs.Marks.{acked_stamp, controller_heard, current_mark, has_acked, is_member, is_over, known_boot, opened_at, retired_mark}
-use Rattle.update_machine.specs.Messages.{next_message, next_waiting}
+use Rattle.update_machine.specs.Messages.{is_deliverable, is_forgotten, message_of, next_message, next_waiting, was_delivered}
+use Rattle.update_machine.specs.Moves.{end_items, stuck_on}
 use Rattle.update_machine.specs.Packets.{decision_of, found_down, header_in, ingress_of, leg_of, next_packet, next_switch, next_travelling, route_in, route_place, standing, travels}
-use Rattle.update_machine.specs.Setting.{Setting}
-use Rattle.update_machine.specs.Versions.{file_of, holds_version, stamp_of, version_count}
+use Rattle.update_machine.specs.Quiet.{is_waited_for, sendings}
+use Rattle.update_machine.specs.Setting.{Setting, switches_of}
+use Rattle.update_machine.specs.Steps.{present_step}
+use Rattle.update_machine.specs.Versions.{file_of, holds_version, stamp_of, tables_at, version_count}
+
+-- nothing is said of a packet that didn't come in
+pub record PacketStarts (i : ℕ) : Type 0 where
+  pub header : header_in [] i ≡ None
+  pub ingress : ingress_of [] i ≡ None
+  pub place : standing [] i ≡ None
+  pub travels : travels [] i ≡ false
+  pub decision : decision_of [] i ≡ None
+  pub leg : leg_of [] i ≡ None
+  pub route : route_in [] i ≡ []
+  pub route_place : route_place [] i ≡ 0
+  pub next : next_switch [] i ≡ None
+  pub found : found_down [] i ≡ no_links
+
+-- nor of a message that wasn't sent
+pub record MessageStarts (n : ℕ) : Type 0 where
+  pub message : message_of [] n ≡ None
+  pub delivered : was_delivered [] n ≡ false
+  pub forgotten : is_forgotten [] n ≡ false
+  pub deliverable : is_deliverable [] n ≡ false
 
 -- the words of a journal without items
 pub record StartLaws : Type 0 where
@@ -35,6 +63,7 @@ pub record StartLaws : Type 0 where
   pub retired : retired_mark [] ≡ 0
   pub links : (one other : ℕ) → is_link_up [] one other ≡ true
   pub near : (setting : Setting) (s : ℕ) → near setting [] s ≡ links_of setting.net.links s
+  pub seq : (setting : Setting) (s : ℕ) → own_seq setting [] s ≡ 1
   pub advert : (setting : Setting) (s : ℕ) →
       own_advert setting [] s ≡ first_advert s (links_of setting.net.links s)
   pub cache : (setting : Setting) (s : ℕ) →
@@ -44,6 +73,19 @@ pub record StartLaws : Type 0 where
   pub travelling : next_travelling [] ≡ None
   pub messages : next_message [] ≡ 1
   pub waiting : next_waiting [] ≡ None
+  pub sent : sendings [] ≡ []
+  pub waited_for : (s : ℕ) → is_waited_for [] s ≡ false
+  pub step : present_step [] ≡ None
+  pub packet : (i : ℕ) → PacketStarts i
+  pub message : (n : ℕ) → MessageStarts n
+  -- each switch knows the first advert of each one, its own among them
+  pub adverts : (setting : Setting) (s : ℕ) → s < length setting.net.switches →
+      length setting.net.switches ≤ 64 → adverts_known setting [] s
+      ≡ first_adverts (map (links_of setting.net.links) (switches_of setting))
+      (length setting.net.switches)
+  -- of a header it says what the tables of the first version say
+  pub lookup : (setting : Setting) (s : ℕ) (header : Header) →
+      lookup_at setting [] s header ≡ table_lookup (tables_at setting [] 1 s) header
 
 -- items that don't concern a switch leave its words as they are
 pub record SwitchKeeps (setting : Setting) (s : ℕ) (before after : List Item) : Type 0 where
@@ -81,16 +123,76 @@ pub record ControllerKeeps (before after : List Item) : Type 0 where
   pub retired : retired_mark after ≡ retired_mark before
   pub count : version_count after ≡ version_count before
 
+-- those that don't concern the links, which of them can be used, and what switches tell of them
+pub record LinksKeep (setting : Setting) (before after : List Item) : Type 0 where
+  pub up : (one other : ℕ) → is_link_up after one other ≡ is_link_up before one other
+  pub near : (s : ℕ) → near setting after s ≡ near setting before s
+  pub seq : (s : ℕ) → own_seq setting after s ≡ own_seq setting before s
+  pub advert : (s : ℕ) → own_advert setting after s ≡ own_advert setting before s
+
+-- those that concern neither the links nor a switch, what it knows of the network
+pub record KnownKeeps (setting : Setting) (s : ℕ) (before after : List Item) : Type 0 where
+  pub known : adverts_known setting after s ≡ adverts_known setting before s
+  pub held : held_adverts setting after s ≡ held_adverts setting before s
+  pub links : (down : List ℕ) →
+      links_known setting after s down ≡ links_known setting before s down
+  pub route : (targets down : List ℕ) →
+      route_from setting after s targets down ≡ route_from setting before s targets down
+  pub cut_off : (down : List ℕ) (target : ℕ) →
+      is_cut_off setting after s down target ≡ is_cut_off setting before s down target
+
+-- those that don't concern a message, its words
+pub record MessageKeeps (n : ℕ) (before after : List Item) : Type 0 where
+  pub message : message_of after n ≡ message_of before n
+  pub delivered : was_delivered after n ≡ was_delivered before n
+  pub forgotten : is_forgotten after n ≡ is_forgotten before n
+  pub deliverable : is_deliverable after n ≡ is_deliverable before n
+
+-- those that concern no message, what is said of all
+pub record MessagesKeep (before after : List Item) : Type 0 where
+  pub next : next_message after ≡ next_message before
+  pub waiting : next_waiting after ≡ next_waiting before
+  pub sent : sendings after ≡ sendings before
+
+-- those that bring in or end no packet, what is said of all
+pub record PacketsKeep (before after : List Item) : Type 0 where
+  pub next : next_packet after ≡ next_packet before
+  pub travelling : next_travelling after ≡ next_travelling before
+
+-- those that submit no policy, the versions
+pub record PoliciesKeep (before after : List Item) : Type 0 where
+  pub count : version_count after ≡ version_count before
+  pub file : (v : ℕ) → file_of after v ≡ file_of before v
+
 pub record ConcernLaws : Type 0 where
   pub switch : (setting : Setting) (s : ℕ) (before items : List Item) →
       NoneConcern (concerns_switch s) before items → SwitchKeeps setting s before (before ++ items)
+  pub lookup : (setting : Setting) (s : ℕ) (header : Header) (before items : List Item) →
+      NoneConcern (concerns_lookups s) before items →
+      lookup_at setting (before ++ items) s header ≡ lookup_at setting before s header
+  pub calls : (s : ℕ) (before items : List Item) → NoneConcern (concerns_calls s) before items →
+      handled_count (before ++ items) s ≡ handled_count before s
+  pub waiting : (s : ℕ) (before items : List Item) →
+      NoneConcern (concerns_waiting s) before items →
+      is_waited_for (before ++ items) s ≡ is_waited_for before s
+  pub links : (setting : Setting) (before items : List Item) →
+      NoneConcern concerns_links before items → LinksKeep setting before (before ++ items)
+  pub known : (setting : Setting) (s : ℕ) (before items : List Item) →
+      NoneConcern (concerns_known s) before items → KnownKeeps setting s before (before ++ items)
   pub packet : (i : ℕ) (before items : List Item) →
       NoneConcern (concerns_packet i) before items → PacketKeeps i before (before ++ items)
-  pub links : (setting : Setting) (s : ℕ) (before items : List Item) →
-      NoneConcern concerns_links before items → near setting (before ++ items) s ≡ near setting
-      before s
+  pub packets : (before items : List Item) →
+      NoneConcern concerns_packets before items → PacketsKeep before (before ++ items)
+  pub message : (n : ℕ) (before items : List Item) →
+      NoneConcern (concerns_message n) before items → MessageKeeps n before (before ++ items)
+  pub messages : (before items : List Item) →
+      NoneConcern concerns_messages before items → MessagesKeep before (before ++ items)
+  pub policies : (before items : List Item) →
+      NoneConcern concerns_policies before items → PoliciesKeep before (before ++ items)
   pub controller : (before items : List Item) →
       NoneConcern concerns_controller before items → ControllerKeeps before (before ++ items)
+  pub step : (before items : List Item) → NoneConcern concerns_steps before items →
+      present_step (before ++ items) ≡ present_step before
 
 -- what a switch knows of the network's links
 pub record KnownLinkLaws : Type 0 where
@@ -111,3 +213,7 @@ pub record KnownLinkLaws : Type 0 where
   pub cut_off : (setting : Setting) (journal : List Item) (s target : ℕ) (down : List ℕ) →
       IsTrue (is_cut_off setting journal s down target) ↔
       IsIsolated (links_known setting journal s down) s target
+  -- a packet that is to leave by a port that no switch has is stuck where it was decided
+  pub portless : (setting : Setting) (journal : List Item) (i s port : ℕ) → s < 64 →
+      owner_of setting.net.switches port ≡ None →
+      end_items setting i s (Out port) journal ≡ stuck_on setting journal i s (Exit port) ∷ []

@@ -1,4 +1,5 @@
--- The messages of a journal. They are numbered from 1 in the order in which they were sent.
+-- The messages of a journal. They are numbered from 1 in the order in which they were sent, may be
+-- delivered in any order and more than once, and may be forgotten: the notion is our own.
 use Rattle.std.specs.Prelude.{ℕ, ◌+◌, Bool, true, false, not, ◌&&◌, ◌==◌, nat_lt, if◌then◌else◌, Option, Some, None, is_some, List, [], ◌∷◌, find}
 use Rattle.std.specs.List.{range_with_len}
 use Rattle.ctrl_msg.specs.declared.message.Message.{Message}

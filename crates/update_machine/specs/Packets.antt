@@ -1,5 +1,7 @@
 -- The packets of a journal: where each stands, whereto it is on its way, and by which route. They
--- are numbered from 1 in the order of their rows.
+-- come in at an ingress switch, seek an authority switch and exit by a switch of their port, as in
+-- Yu, Rexford, Freedman and Wang, "Scalable Flow-Based Networking with DIFANE", SIGCOMM 2010; legs
+-- and their numbers, from 1 in the order of their rows, are our own.
 use Rattle.std.specs.Prelude.{ℕ, ◌+◌, Bool, true, false, ◌&&◌, ◌==◌, if◌then◌else◌, Option, Some, None, option_and_then, option_map, unwrap_or, List, [], ◌∷◌, filter, find, slice_get}
 use Rattle.std.specs.List.{range_with_len}
 use Rattle.failover.specs.DownSet.{no_links, with_link}
@@ -171,9 +173,13 @@ abbrev pub targets_in : List Placed → ℕ → List ℕ
 targets_in plan partition =
     unwrap_or (option_map (λ placed. placed.1) (slice_get plan partition)) []
 
--- the switch that has the port; 0 where none has
+-- a number that no switch has: they are below 64
+abbrev pub no_switch : ℕ
+no_switch = 64
+
+-- the switch that has the port; where none has, no switch, to which no route leads
 abbrev pub owner : Setting → ℕ → ℕ
-owner setting port = unwrap_or (owner_of setting.net.switches port) 0
+owner setting port = unwrap_or (owner_of setting.net.switches port) no_switch
 
 -- those of the partition, or the one switch of the port
 abbrev pub targets_of : Setting → List Item → Leg → List ℕ

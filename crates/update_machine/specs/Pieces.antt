@@ -1,4 +1,5 @@
--- What each step writes into the journal.
+-- What each step writes into the journal. The blocks that it puts together name their sources where
+-- they stand: `Moves` for packets, `Deliveries` for adverts, `Settling` for updates.
 use Rattle.std.specs.Bool.{beq}
 use Rattle.std.specs.Prelude.{ℕ, ◌+◌, ◌-◌, Bool, true, false, ◌==◌, min, max, if◌then◌else◌, Ok, Err, Option, Some, None, unwrap_or, List, [], ◌∷◌, ◌++◌, map, slice_get}
 use Rattle.std.specs.List.{flat_map}

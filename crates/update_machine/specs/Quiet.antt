@@ -1,5 +1,6 @@
 -- A quiet network: no switch is down that the controller waits for, and each message that still
--- matters was received.
+-- matters was received. The notion is our own; that of a newer advert is OSPF's (RFC 2328, section
+-- 13.1).
 use Rattle.std.specs.Prelude.{ℕ, ◌≡◌, ◌<◌, ◌⊎◌, Bool, true, false, not, ◌&&◌, ◌||◌, ◌==◌, nat_lt, if◌then◌else◌, Option, Some, None, unwrap_or, List, [], ◌∷◌, ◌++◌, All, Any, IsTrue}
 use Rattle.std.specs.Option.{option_map_or}
 use Rattle.ctrl_msg.specs.Bodies.{body_boot}

@@ -1,9 +1,11 @@
 //! Laws on journals: functions without a body, whose contracts are facts of the definitions alone.
-ghost use Rattle.std.specs.Prelude.{◌≡◌, ◌+◌, ◌++◌, ℕ, Bool, Option, List, [], length};
+ghost use Rattle.std.specs.Prelude.{◌≡◌, ◌+◌, ◌++◌, ◌↔◌, ℕ, Bool, Option, List, [], ◌∷◌, length, map};
 ghost use Rattle.std.specs.Option.{option_or};
 ghost use Rattle.journal.specs.declared.item.Item.{Item};
 ghost use Rattle.steps.specs.declared.step.Event.{Event};
-ghost use Rattle.update_machine.specs.Answers.{Answers, AnswersSoFar, BeginsAnswer};
+ghost use Rattle.steps.specs.declared.step.Event.TheVariants.{One};
+ghost use Rattle.steps.specs.declared.step.Step.{Step};
+ghost use Rattle.update_machine.specs.Answers.{Answers, AnswersSoFar, AreAnswered, AreStepsOf, BeginsAnswer, HaveSteps, StepOfRow, after_steps};
 ghost use Rattle.update_machine.specs.Laws.{ConcernLaws, KnownLinkLaws, StartLaws};
 ghost use Rattle.update_machine.specs.Numbers.{AreNumbered};
 ghost use Rattle.update_machine.specs.Setting.{Setting};
@@ -39,6 +41,19 @@ pub fn answers_are_one()
         → AnswersSoFar setting events journal → BeginsAnswer setting events journal }
 {}
 
+/// A schedule has an answer exactly where each of its events has all its steps, so where each flush
+/// and each drain comes to an end; a schedule of single steps always has one. An answer goes on by
+/// the steps of one more event.
+pub fn answers_exist()
+    ensures exactly { (setting : Setting) (events : List Event)
+        → AreAnswered setting events ↔ HaveSteps setting events }
+    ensures single { (setting : Setting) (steps : List Step) → AreAnswered setting (map One steps) }
+    ensures goes_on { (setting : Setting) (events : List Event) (event : Event)
+        (journal : List Item) (steps : List StepOfRow) → Answers setting events journal
+        → AreStepsOf setting (length events + 1) event journal steps
+        → Answers setting (events ++ event ∷ []) (after_steps setting journal steps) }
+{}
+
 /// In an answer, and in each beginning of one, packets and messages are numbered from 1 without a
 /// gap.
 pub fn answers_are_numbered()
@@ -51,14 +66,15 @@ pub fn journals_start()
     ensures { StartLaws }
 {}
 
-/// Items that don't concern a switch, a packet, the links or the controller change none of its
-/// words.
+/// Items that don't concern a switch, a packet, a message, the links, the policies or the
+/// controller change none of its words.
 pub fn other_items_change_nothing()
     ensures { ConcernLaws }
 {}
 
 /// A switch knows of each other one its newest advert, routes by the least shortest path over the
-/// links that it knows, and a target is cut off exactly where none of them ends at it.
+/// links that it knows, and a target is cut off exactly where none of them ends at it. To a port
+/// that no switch has there is no route.
 pub fn switches_know_links()
     ensures { KnownLinkLaws }
 {}

@@ -1,7 +1,8 @@
 //! What journals say: the definitions over the list of their items, and the laws of these.
 //!
 //! A journal says things in four ways, each with one law (`journals_grow`). A schedule has at most
-//! one answer (`answers_are_one`), in which packets and messages are numbered without a gap
+//! one answer (`answers_are_one`), and has one where its flushes and drains come to an end
+//! (`answers_exist`); in it packets and messages are numbered without a gap
 //! (`answers_are_numbered`). What a switch, a packet or the controller is said to be changes only
 //! by items that concern it (`other_items_change_nothing`). The laws hold of the definitions alone,
 //! whatever code wrote the journal.
@@ -10,6 +11,6 @@
 mod laws;
 
 pub use laws::{
-    answers_are_numbered, answers_are_one, journals_grow, journals_start,
+    answers_are_numbered, answers_are_one, answers_exist, journals_grow, journals_start,
     other_items_change_nothing, switches_know_links,
 };

@@ -1,12 +1,24 @@
 use Rattle.update_machine.proofs.SilentController.{controller_keeps}
+use Rattle.update_machine.proofs.SilentLinks.{known_keeps, links_keep, lookup_stays, policies_keep, waited_stays}
+use Rattle.update_machine.proofs.SilentMessages.{message_keeps, messages_keep, packets_keep, step_stays}
 use Rattle.update_machine.proofs.SilentPackets.{packet_keeps}
-use Rattle.update_machine.proofs.SilentSwitches.{near_stays, switch_keeps}
+use Rattle.update_machine.proofs.SilentSteps.{calls_stay}
+use Rattle.update_machine.proofs.SilentSwitches.{switch_keeps}
 use Rattle.update_machine.proofs.laws.other_items_change_nothing.Goals as goal
 
 pub returns : goal.returns
 returns c = record {
   switch = switch_keeps;
+  lookup = lookup_stays;
+  calls = calls_stay;
+  waiting = waited_stays;
+  links = links_keep;
+  known = known_keeps;
   packet = packet_keeps;
-  links = near_stays;
+  packets = packets_keep;
+  message = message_keeps;
+  messages = messages_keep;
+  policies = policies_keep;
   controller = controller_keeps;
+  step = step_stays;
 }

@@ -1,0 +1,123 @@
+-- What caches and lookups are said to be, on journals of few items.
+use Rattle.std.proofs.Common.{ℕ, ◌≡◌, Some, List, [], ◌∷◌, ◌++◌, refl, true}
+use Rattle.std.specs.Prelude.{Ok}
+use Rattle.ctrl_msg.specs.declared.message.Body.TheVariants.{CacheRule, Stamp}
+use Rattle.policy_rules.specs.declared.policy.Action.TheVariants.{Drop}
+use Rattle.switch_table.specs.Cache.{same_key}
+use Rattle.switch_table.specs.declared.cache.CacheEntry.{CacheEntry}
+use Rattle.switch_table.specs.declared.search.Found.TheVariants.{Authority, Cached, Redirect}
+use Rattle.ternary.specs.Word.{WordValue, holds}
+use Rattle.journal.specs.declared.item.Item.{Item}
+use Rattle.journal.specs.declared.item.Item.TheVariants as item
+use Rattle.update_machine.specs.Boots.{boot_of, heard, is_up}
+use Rattle.update_machine.specs.Caches.{cache_of, lookup_at}
+use Rattle.update_machine.specs.Messages.{message_of}
+use Rattle.update_machine.specs.Setting.{Setting}
+use Rattle.update_machine.specs.Versions.{file_of, stamp_of}
+use Rattle.update_machine.proofs.Examples.{all_dropped, any_word, denied, on, one, plan_p, to, two_switches, web}
+
+-- a and b; the plan of the first policy is on b, that of the second on a
+abbrev moved : Setting
+moved = record {
+  net = two_switches;
+  policies = [];
+  plans = Ok plan_p ∷ Ok (on (0 ∷ []) all_dropped) ∷ [];
+  caches = true;
+}
+
+-- a hears a cache rule of this version and word, or a stamp
+abbrev cached : ℕ → ℕ → WordValue → List Item
+cached number version word =
+    item.Sent number (to 0 (CacheRule version word (Some 100) Drop)) ∷ item.Delivered number ∷ []
+
+abbrev stamped : ℕ → ℕ → List Item
+stamped number version =
+    item.Sent number (to 0 (Stamp 1 version)) ∷ item.Delivered number ∷ []
+
+abbrev entry : ℕ → ℕ → WordValue → CacheEntry
+entry number version word = record {
+  version = version;
+  word = word;
+  rule = Some 100;
+  action = Drop;
+  message = number;
+}
+
+-- ---- the cache of a
+
+-- two versions of one word stand beside each other; the same version of it once more changes
+-- nothing
+pub by_version_and_word :
+    (cache_of moved (cached 1 1 web ++ cached 2 2 web ++ cached 3 1 web) 0).entries
+    ≡ entry 1 1 web ∷ entry 2 2 web ∷ []
+unfolding cache_of stamp_of heard is_up boot_of message_of same_key
+by_version_and_word = refl
+
+-- a stamp removes what is of a lower version, and no more of it is taken in
+pub below_the_stamp :
+    (cache_of moved (cached 1 1 web ++ cached 2 2 web ++ stamped 3 2 ++ cached 4 1 any_word)
+    0).entries
+    ≡ entry 2 2 web ∷ []
+unfolding cache_of stamp_of heard is_up boot_of message_of same_key
+below_the_stamp = refl
+
+-- of two entries the one at the place goes
+pub second_expires :
+    (cache_of moved (cached 1 1 web ++ cached 2 1 any_word ++ item.Expired 0 1 2 ∷ [])
+    0).entries
+    ≡ entry 1 1 web ∷ []
+unfolding cache_of stamp_of heard is_up boot_of message_of same_key
+second_expires = refl
+
+-- it has room for four
+pub first_goes :
+    (cache_of moved (cached 1 1 web ++ cached 2 1 any_word ++ cached 3 2 web ++ cached 4 2 any_word
+    ++ cached 5 3 web) 0).entries
+    ≡ entry 2 1 any_word ∷ entry 3 2 web ∷ entry 4 2 any_word ∷ entry 5 3 web ∷ []
+unfolding cache_of stamp_of heard is_up boot_of message_of same_key
+first_goes = refl
+
+-- a crash empties it
+pub empty_after_crash :
+    (cache_of moved (cached 1 1 web ++ item.Down 0 ∷ item.Booted 0 2 ∷ []) 0).entries ≡ []
+unfolding cache_of stamp_of heard is_up boot_of message_of same_key
+empty_after_crash = refl
+
+-- another switch's cache is its own
+pub empty_at_b : (cache_of moved (cached 1 1 web) 1).entries ≡ []
+unfolding cache_of stamp_of heard is_up boot_of message_of same_key
+empty_at_b = refl
+
+-- ---- what a says of a header
+
+-- a version that was submitted says nothing before its stamp
+pub by_the_stamp : lookup_at moved (item.Submitted 2 2 ∷ []) 0 one ≡ Redirect 0 (1 ∷ [])
+unfolding lookup_at cache_of stamp_of heard is_up boot_of message_of file_of holds
+by_the_stamp = refl
+
+pub by_the_next_stamp :
+    lookup_at moved (item.Submitted 2 2 ∷ stamped 1 2) 0 one ≡ Authority 0 0
+unfolding lookup_at cache_of stamp_of heard is_up boot_of message_of file_of holds
+by_the_next_stamp = refl
+
+-- nor do entries of another version than the stamp
+pub no_entry_of_the_stamp :
+    lookup_at moved (item.Submitted 2 2 ∷ cached 1 2 any_word) 0 one ≡ Redirect 0 (1 ∷ [])
+unfolding lookup_at cache_of stamp_of heard is_up boot_of message_of file_of holds same_key
+no_entry_of_the_stamp = refl
+
+pub entry_of_the_stamp :
+    lookup_at moved (item.Submitted 2 2 ∷ cached 1 2 any_word ++ stamped 2 2) 0 one
+    ≡ Cached (entry 1 2 any_word)
+unfolding lookup_at cache_of stamp_of heard is_up boot_of message_of file_of holds same_key
+entry_of_the_stamp = refl
+
+-- of two entries that hold a header the first one, and none where none holds it
+pub first_entry_first :
+    lookup_at moved (cached 1 1 web ++ cached 2 1 any_word) 0 denied ≡ Cached (entry 1 1 web)
+unfolding lookup_at cache_of stamp_of heard is_up boot_of message_of file_of holds same_key
+first_entry_first = refl
+
+pub entry_without_it : lookup_at moved (cached 1 1 web) 0 one ≡ Redirect 0 (1 ∷ [])
+unfolding lookup_at cache_of stamp_of heard is_up boot_of message_of file_of holds same_key
+entry_without_it = refl

@@ -1,0 +1,152 @@
+-- A run of the abstract machine, computed.
+use Rattle.std.proofs.Common.{◌≡◌, ap, sym, ◌∙◌, Some, None, [], ◌∷◌, refl, arith, true}
+use Rattle.std.specs.Prelude.{Ok, ◌≤◌}
+use Rattle.std.proofs.lemmas.List.Elements.{All-from_recursion}
+use Rattle.five_tuple.specs.declared.matching.Proto.TheVariants.{Any}
+use Rattle.policy_rules.specs.Policy.{IsFirstMatch}
+use Rattle.policy_rules.specs.declared.policy.Action.{Action}
+use Rattle.policy_rules.specs.declared.policy.Action.TheVariants.{Drop, Out}
+use Rattle.policy_rules.specs.declared.policy.Row.{Row}
+use Rattle.steps.specs.declared.step.Step.TheVariants as step
+use Rattle.policy_rules.specs.declared.packet.How.TheVariants as how
+use Rattle.journal.specs.declared.item.Item.TheVariants as item
+use Rattle.update_machine.specs.Machine.{Decides, IsRun, Machine, Packet}
+use Rattle.update_machine.specs.Setting.{Setting}
+use Rattle.update_machine.proofs.Examples.{leaving, one, plan_p, plan_q, two_switches}
+use Rattle.update_machine.proofs.OneAnswer.{some_injective}
+
+-- `100,any,any,any,any,any,ACTION`
+abbrev all_to : Action → Row
+all_to action = record {
+  priority = 100;
+  src = record { address = 0; len = 0 };
+  dst = record { address = 0; len = 0 };
+  sport = record { low = 0; high = 65535 };
+  dport = record { low = 0; high = 65535 };
+  proto = Any;
+  action = action;
+}
+
+abbrev two_policies : Setting
+two_policies = record {
+  net = two_switches;
+  policies = (all_to (Out 2) ∷ []) ∷ (all_to Drop ∷ []) ∷ [];
+  plans = Ok plan_p ∷ Ok plan_q ∷ [];
+  caches = true;
+}
+
+first_match_of : (action : Action)
+    → IsFirstMatch (all_to action ∷ []) one (record { rule = Some 100; action = action })
+first_match_of action = (
+  all_to action,
+  record {
+    member = (0, omega arith, refl);
+    highest = All-from_recursion (λ (other : Row). other.priority ≤ 100) (all_to action ∷ [])
+        (omega arith, tt);
+  },
+  refl,
+  refl,
+)
+
+-- a packet is decided by version 1; then version 2 comes and 1 is retired, and another packet is
+-- decided by version 2
+pub is_run :
+    IsRun two_policies
+    (item.Row 1 (step.Packet 0 one) ∷ item.Entered 1 0 one
+    ∷ item.Decided 1 1 (Some 100) (Out 2) (how.Authority 1 0)
+    ∷ item.Left 1 2 (leaving 1 one 1 (Some 100)) ∷ item.Submitted 2 2 ∷ item.Retired 1
+    ∷ item.Entered 2 0 one ∷ item.Decided 2 2 (Some 100) Drop (how.Authority 1 0)
+    ∷ item.Dropped 2 ∷ [])
+is_run = (
+  _,
+  (
+    _,
+    refl,
+    (
+      _,
+      record { unknown = refl; after = refl },
+      (
+        _,
+        record {
+          packet = record { header = one; entry_mark = 0; decision = None; end = None };
+          policy = all_to (Out 2) ∷ [];
+          entered = refl;
+          undecided = refl;
+          not_ended = refl;
+          not_retired = omega arith;
+          submitted = refl;
+          first_match = first_match_of (Out 2);
+          after = refl;
+        },
+        (
+          _,
+          record {
+            packet = record {
+              header = one;
+              entry_mark = 0;
+              decision = Some (record { rule = Some 100; action = Out 2 });
+              end = None;
+            };
+            entered = refl;
+            not_ended = refl;
+            may = refl;
+            after = refl;
+          },
+          (
+            _,
+            record { newest = refl; after = refl },
+            (
+              _,
+              record { rises = omega arith; below_newest = omega arith; after = refl },
+              (
+                _,
+                record { unknown = refl; after = refl },
+                (
+                  _,
+                  record {
+                    packet = record { header = one; entry_mark = 1; decision = None; end = None };
+                    policy = all_to Drop ∷ [];
+                    entered = refl;
+                    undecided = refl;
+                    not_ended = refl;
+                    not_retired = omega arith;
+                    submitted = refl;
+                    first_match = first_match_of Drop;
+                    after = refl;
+                  },
+                  (
+                    _,
+                    record {
+                      packet = record {
+                        header = one;
+                        entry_mark = 1;
+                        decision = Some (record { rule = Some 100; action = Drop });
+                        end = None;
+                      };
+                      entered = refl;
+                      not_ended = refl;
+                      may = refl;
+                      after = refl;
+                    },
+                    refl,
+                  ),
+                ),
+              ),
+            ),
+          ),
+        ),
+      ),
+    ),
+  ),
+)
+
+-- no packet is decided by a version that was retired as it came in
+pub retired_decides_nothing :
+    (old : Machine) (packet : Packet) (new : Machine) → old.packets 1 ≡ Some packet
+    → packet.entry_mark ≡ 1
+    → Decides old 1 1 (record { rule = Some 100; action = Out 2 }) new → ⊥
+retired_decides_nothing old packet new entered mark decides =
+    let same : decides.packet ≡ packet = some_injective decides.packet packet
+    (sym decides.entered ∙ entered) in
+    let its : decides.packet.entry_mark ≡ 1 = ap (λ (p : Packet). p.entry_mark) same ∙ mark in
+    omega (arith, its, decides.not_retired)

@@ -1,0 +1,265 @@
+-- Quiet networks and others, computed.
+use Rattle.std.proofs.Common.{ℕ, ◌≡◌, ◌<◌, ◌≤◌, ◌++◌, ap, length, inl, inr, List, [], ◌∷◌, refl, sym, true≢false, arith}
+use Rattle.std.specs.Prelude.{◌||◌, not, IsTrue, slice_index_or}
+use Rattle.std.specs.List.{AllByRecursion}
+use Rattle.std.proofs.lemmas.List.Elements.{All-from_recursion}
+use Rattle.ctrl_msg.specs.declared.message.Body.TheVariants as body
+use Rattle.ctrl_msg.specs.declared.message.Message.{Message}
+use Rattle.steps.specs.declared.step.Step.TheVariants as step
+use Rattle.journal.specs.declared.item.Item.{Item}
+use Rattle.journal.specs.declared.item.Item.TheVariants as item
+use Rattle.update_machine.specs.Boots.{boot_of, is_up}
+use Rattle.update_machine.specs.Marks.{current_mark}
+use Rattle.update_machine.specs.Messages.{was_delivered}
+use Rattle.update_machine.specs.Quiet.{IsQuiet, IsReceived, Sending, is_waited_for, matters, sendings}
+use Rattle.update_machine.specs.Setting.{switches_of}
+use Rattle.update_machine.proofs.Examples.{advert, open_net, plan_q, tables_of, to, to_controller}
+use Rattle.update_machine.proofs.UpdateRows.{updated}
+
+by_parts : (journal : List Item)
+    → AllByRecursion (λ s. IsTrue (is_up journal s || not (is_waited_for journal s)))
+    (switches_of open_net)
+    → AllByRecursion
+    (λ one. IsTrue (matters journal one) → IsReceived journal one) (sendings journal)
+    → IsQuiet open_net journal
+by_parts journal switches messages = record {
+  switches =
+      All-from_recursion (λ s. IsTrue (is_up journal s || not (is_waited_for journal s)))
+      (switches_of open_net) switches;
+  messages =
+      All-from_recursion (λ one. IsTrue (matters journal one) → IsReceived journal one)
+      (sendings journal) messages;
+}
+
+abbrev sending : ℕ → Message → ℕ → Sending
+sending number message boot = record { number = number; message = message; boot = boot }
+
+-- what has at most this number replaces nothing that has it
+none_later : (sent : List Sending) (n : ℕ) → AllByRecursion (λ one. one.number ≤ n) sent
+    → (k : ℕ) (later : Sending) → k < length sent → slice_index_or sent k later ≡ later
+    → n < later.number → ⊥
+none_later sent n below k later few is more =
+    let its : (slice_index_or sent k later).number ≤ n =
+    All-from_recursion (λ one. one.number ≤ n) sent below k later few in
+    let same : (slice_index_or sent k later).number ≡ later.number =
+    ap (λ (one : Sending). one.number) is in
+    omega (arith, its, same, more)
+
+-- ---- switches
+
+pub quiet_at_first : IsQuiet open_net []
+unfolding sendings was_delivered is_up boot_of current_mark
+quiet_at_first = by_parts _ (refl, (refl, tt)) tt
+
+-- a is down, and waited for until it is confirmed
+pub waits_for_a : IsQuiet open_net (item.Row 1 (step.Crash 0) ∷ item.Down 0 ∷ []) → ⊥
+unfolding sendings was_delivered is_up boot_of current_mark
+waits_for_a quiet = true≢false (sym (quiet.switches 0 0 (omega arith)))
+
+pub quiet_without_a :
+    IsQuiet open_net
+    (item.Row 1 (step.Crash 0) ∷ item.Down 0 ∷ item.Row 2 (step.Confirm 0) ∷ item.OverNow 0 ∷ [])
+unfolding sendings was_delivered is_up boot_of current_mark
+quiet_without_a = by_parts _ (refl, (refl, tt)) tt
+
+-- ---- messages
+
+-- nothing of an update was delivered
+pub update_waits :
+    IsQuiet open_net
+    (item.Row 1 (step.Update 2) ∷ item.Submitted 2 2
+    ∷ item.Sent 1 (to 0 (body.Install 1 (tables_of plan_q 2 0)))
+    ∷ item.Sent 2 (to 1 (body.Install 1 (tables_of plan_q 2 1))) ∷ []) → ⊥
+unfolding sendings was_delivered is_up boot_of current_mark
+update_waits quiet =
+    elim (quiet.messages 0 (sending 1 (to 0 (body.Install 1 (tables_of plan_q 2 0))) 1)
+    (omega arith) refl) [
+      | inl delivered ↦ true≢false (sym delivered)
+      | inr others ↦ true≢false (sym others.4.1)
+    ]
+
+-- all but a cache rule was, which doesn't matter
+pub quiet_once_updated : IsQuiet open_net updated
+unfolding sendings was_delivered is_up boot_of current_mark
+quiet_once_updated = by_parts _ (refl, (refl, tt)) (
+  λ m. inl refl,
+  (
+    λ m. inl refl,
+    (
+      λ m. inl refl,
+      (
+        λ m. inl refl,
+        (
+          λ m. inl refl,
+          (
+            λ m. inl refl,
+            (
+              λ m. inl refl,
+              (
+                λ m. inl refl,
+                (
+                  λ m. inl refl,
+                  (
+                    λ m. inl refl,
+                    (
+                      λ m. absurd (true≢false (sym m)),
+                      tt,
+                    ),
+                  ),
+                ),
+              ),
+            ),
+          ),
+        ),
+      ),
+    ),
+  ),
+)
+
+-- boot 2 of a began, and its hello was sent; what was sent in its first boot, an advert too, or is
+-- of that boot doesn't matter any more
+abbrev restarted : List Item
+restarted =
+    item.Row 1 (step.Resend 0) ∷ item.Sent 1 (to 0 (advert 1 1 1 1))
+    ∷ item.Sent 2 (to 0 (body.OpenAt 1 1)) ∷ item.Row 2 (step.Crash 0) ∷ item.Down 0
+    ∷ item.Row 3 (step.Restart 0) ∷ item.Booted 0 2
+    ∷ item.Sent 3 (to_controller (body.Hello 0 2)) ∷ item.Row 4 (step.Deliver 3) ∷ item.Delivered 3
+    ∷ item.Sent 4 (to 0 (body.Stamp 1 1)) ∷ item.Sent 5 (to_controller (body.Stamped 0 1 1)) ∷ []
+
+pub quiet_in_boot_2 : IsQuiet open_net restarted
+unfolding sendings was_delivered is_up boot_of current_mark
+quiet_in_boot_2 = by_parts _ (refl, (refl, tt)) (
+  λ m. absurd (true≢false (sym m)),
+  (
+    λ m. absurd (true≢false (sym m)),
+    (
+      λ m. inl refl,
+      (
+        λ m. absurd (true≢false (sym m)),
+        (
+          λ m. absurd (true≢false (sym m)),
+          tt,
+        ),
+      ),
+    ),
+  ),
+)
+
+-- an advert that was sent since does matter
+abbrev told : List Item
+told = restarted ++ item.Sent 6 (to 0 (advert 1 1 2 1)) ∷ []
+
+pub advert_waits : IsQuiet open_net told → ⊥
+unfolding sendings was_delivered is_up boot_of current_mark
+advert_waits quiet =
+    elim (quiet.messages 5 (sending 6 (to 0 (advert 1 1 2 1)) 2) (omega arith) refl) [
+      | inl delivered ↦ true≢false (sym delivered)
+      | inr others ↦ none_later (sendings told) 6 (
+        omega arith,
+        (
+          omega arith,
+          (
+            omega arith,
+            (
+              omega arith,
+              (
+                omega arith,
+                (
+                  omega arith,
+                  tt,
+                ),
+              ),
+            ),
+          ),
+        ),
+      ) others.0 others.1 others.2 others.3 others.4.0.sent_later
+    ]
+
+-- tables of a version below the current one, and their acknowledgement, don't matter
+pub quiet_without_old_tables :
+    IsQuiet open_net
+    (item.Sent 1 (to 0 (body.Install 1 (tables_of plan_q 1 0)))
+    ∷ item.Sent 2 (to_controller (body.Installed 0 1 1)) ∷ item.Current 2 ∷ [])
+unfolding sendings was_delivered is_up boot_of current_mark
+quiet_without_old_tables = by_parts _ (refl, (refl, tt)) (
+  λ m. absurd (true≢false (sym m)),
+  (
+    λ m. absurd (true≢false (sym m)),
+    tt,
+  ),
+)
+
+-- ---- replaced messages
+
+-- a later equal message, a stamp of a greater version and a newer advert replace those before them
+pub quiet_by_later :
+    IsQuiet open_net
+    (item.Sent 1 (to_controller (body.Hello 1 1)) ∷ item.Sent 2 (to 0 (body.Stamp 1 2))
+    ∷ item.Sent 3 (to 0 (advert 1 1 1 1)) ∷ item.Sent 4 (to_controller (body.Hello 1 1))
+    ∷ item.Sent 5 (to 0 (body.Stamp 1 3)) ∷ item.Sent 6 (to 0 (advert 1 1 2 0))
+    ∷ item.Delivered 4 ∷ item.Delivered 5 ∷ item.Delivered 6 ∷ [])
+unfolding sendings was_delivered is_up boot_of current_mark
+quiet_by_later = by_parts _ (refl, (refl, tt)) (
+  λ m. inr (
+    3,
+    sending 4 (to_controller (body.Hello 1 1)) 0,
+    omega arith,
+    refl,
+    (
+      record { sent_later = omega arith; receiver = refl; says = inl refl },
+      refl,
+    ),
+  ),
+  (
+    λ m. inr (
+      4,
+      sending 5 (to 0 (body.Stamp 1 3)) 1,
+      omega arith,
+      refl,
+      (
+        record { sent_later = omega arith; receiver = refl; says = inr refl },
+        refl,
+      ),
+    ),
+    (
+      λ m. inr (
+        5,
+        sending 6 (to 0 (advert 1 1 2 0)) 1,
+        omega arith,
+        refl,
+        (
+          record { sent_later = omega arith; receiver = refl; says = inr refl },
+          refl,
+        ),
+      ),
+      (
+        λ m. inl refl,
+        (
+          λ m. inl refl,
+          (
+            λ m. inl refl,
+            tt,
+          ),
+        ),
+      ),
+    ),
+  ),
+)
+
+-- ---- what doesn't replace
+
+abbrev hello : Message
+hello = to_controller (body.Hello 1 1)
+
+-- the earlier of two equal messages doesn't replace the later one
+abbrev greeted : List Item
+greeted = item.Sent 1 hello ∷ item.Sent 2 hello ∷ item.Delivered 1 ∷ []
+
+pub later_waits : IsQuiet open_net greeted → ⊥
+unfolding sendings was_delivered is_up boot_of current_mark
+later_waits quiet =
+    elim (quiet.messages 1 (sending 2 hello 0) (omega arith) refl) [
+      | inl delivered ↦ true≢false (sym delivered)
+      | inr others ↦ none_later (sendings greeted) 2 (omega arith, (omega arith, tt)) others.0
+          others.1 others.2 others.3 others.4.0.sent_later
+    ]

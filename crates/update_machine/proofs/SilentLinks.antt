@@ -1,0 +1,231 @@
+-- Items that don't concern the links leave as they are the adverts that switches tell, and those
+-- that don't concern a switch either, what it knows of the network.
+use Rattle.std.proofs.Common.{arith, ℕ, ◌≡◌, Bool, true, false, List, [], ◌∷◌, ◌++◌, refl, ap, ◌∙◌, sym, None, append_assoc}
+use Rattle.std.specs.Prelude.{◌==◌, ◌&&◌, not, IsFalse, unwrap_or, if◌then◌else◌, count_by}
+use Rattle.five_tuple.specs.declared.header.Header.{Header}
+use Rattle.journal.specs.declared.item.Item.{Item}
+use Rattle.journal.specs.declared.item.Item.TheVariants as item
+use Rattle.update_machine.specs.Adverts.{adverts_known, has_change, held_adverts, is_cut_off, own_advert, own_seq, route_from}
+use Rattle.update_machine.specs.Boots.{boot_of, heard, is_up, tells_boot, tells_up}
+use Rattle.update_machine.specs.Caches.{cache_of, lookup_at}
+use Rattle.update_machine.specs.Concerns.{NoneConcern, concerns_known, concerns_links, concerns_lookups, concerns_policies, concerns_switch, concerns_waiting}
+use Rattle.update_machine.specs.Laws.{KnownKeeps, LinksKeep, PoliciesKeep, SwitchKeeps}
+use Rattle.update_machine.specs.Links.{near}
+use Rattle.update_machine.specs.Quiet.{is_waited_for, tells_waited_for}
+use Rattle.update_machine.specs.Setting.{Setting}
+use Rattle.update_machine.specs.Steps.{StepItems, steps_in}
+use Rattle.update_machine.specs.Versions.{file_of, is_submission, stamp_of, tells_file, version_count}
+use Rattle.update_machine.proofs.Silent.{count_stays, fewer, last_stays, neither_left, neither_right, stays}
+use Rattle.update_machine.proofs.SilentSteps.{weight_stays}
+use Rattle.update_machine.proofs.SilentSwitches.{link_stays, near_stays, switch_keeps}
+
+-- ---- the number of the own advert
+
+boot_silent : (s : ℕ) (before : List Item) (item : Item) → IsFalse (concerns_links before item)
+    → tells_boot s item ≡ None
+boot_silent s before (item.Booted switch boot) apart = cc
+boot_silent s before _ apart = refl
+
+up_silent : (s : ℕ) (before : List Item) (item : Item) → IsFalse (concerns_links before item)
+    → tells_up s item ≡ None
+up_silent s before (item.Booted switch boot) apart = cc
+up_silent s before (item.Down switch) apart = cc
+up_silent s before _ apart = refl
+
+boot_stays : (s : ℕ) (before items : List Item) → NoneConcern concerns_links before items
+    → boot_of (before ++ items) s ≡ boot_of before s
+unfolding boot_of
+boot_stays s before items none = ap (λ o. unwrap_or o 1)
+    (last_stays (tells_boot s) concerns_links (boot_silent s) before items none)
+
+up_stays : (s : ℕ) (before items : List Item) → NoneConcern concerns_links before items
+    → is_up (before ++ items) s ≡ is_up before s
+unfolding is_up
+up_stays s before items none = ap (λ o. unwrap_or o true)
+    (last_stays (tells_up s) concerns_links (up_silent s) before items none)
+
+same_number : (n m : ℕ) → n ≡ m → (n == m) ≡ true
+same_number n m e = rw e (grind arith)
+
+abbrev once : Bool → ℕ
+once b = if b then 1 else 0
+
+-- such an item alone changes no links
+alone_same : (b c : Bool) → c ≡ true → once (b && not c) ≡ 0
+alone_same true c e = rw e refl
+alone_same false c e = refl
+
+change_alone : (setting : Setting) (s boot : ℕ) (before : List Item) (item : Item)
+    → near setting (before ++ item ∷ []) s ≡ near setting before s
+    → once (has_change setting s boot (record { before = before; items = item ∷ [] })) ≡ 0
+change_alone setting s boot before item same =
+    alone_same (boot_of before s == boot) _ (same_number _ _ (sym same))
+
+change_more : (setting : Setting) (s boot : ℕ) (before : List Item) (item : Item)
+    → near setting (before ++ item ∷ []) s ≡ near setting before s
+    → (newest : StepItems) → newest.before ++ newest.items ≡ before
+    → has_change setting s boot (record newest { items = newest.items ++ item ∷ [] })
+    ≡ has_change setting s boot newest
+change_more setting s boot before item same newest ends =
+    ap (λ n. boot_of newest.before s == boot && not (near setting newest.before s == n)) (
+    ap (λ js. near setting js s)
+    (sym (append_assoc newest.before newest.items (item ∷ []))
+    ∙ ap (λ js. js ++ item ∷ []) ends)
+    ∙ same ∙ ap (λ js. near setting js s) (sym ends)
+    )
+
+-- by whether the switch is up, the number of its advert has its boot and its count
+seq_by : (setting : Setting) (s : ℕ) (after before : List Item) (up : Bool)
+    → is_up after s ≡ up → is_up before s ≡ up → boot_of after s ≡ boot_of before s
+    → count_by (has_change setting s (boot_of before s)) (steps_in after)
+    ≡ count_by (has_change setting s (boot_of before s)) (steps_in before)
+    → own_seq setting after s ≡ own_seq setting before s
+unfolding own_seq
+seq_by setting s after before true now was boot count = rw (now, was, boot, count, own_seq) refl
+seq_by setting s after before false now was boot count = rw (now, was, own_seq) refl
+
+seq_stay : (setting : Setting) (s : ℕ) (before : List Item) (item : Item)
+    → IsFalse (concerns_links before item)
+    → own_seq setting (before ++ item ∷ []) s ≡ own_seq setting before s
+seq_stay setting s before item apart =
+    let one : NoneConcern concerns_links before (item ∷ []) = (apart, tt) in
+    let same : near setting (before ++ item ∷ []) s ≡ near setting before s =
+    near_stays setting s before (item ∷ []) one in
+    seq_by setting s (before ++ item ∷ []) before (is_up before s)
+    (up_stays s before (item ∷ []) one) refl (boot_stays s before (item ∷ []) one)
+    (weight_stays (λ step. once (has_change setting s (boot_of before s) step)) before item
+    (record {
+      alone = change_alone setting s (boot_of before s) before item same;
+      more = λ newest ends row_less. ap once
+          (change_more setting s (boot_of before s) before item same newest ends);
+    }))
+
+seq_stays : (setting : Setting) (s : ℕ) (before items : List Item)
+    → NoneConcern concerns_links before items
+    → own_seq setting (before ++ items) s ≡ own_seq setting before s
+seq_stays setting s before items none =
+    stays (λ js. own_seq setting js s) concerns_links (seq_stay setting s) before items none
+
+advert_stays : (setting : Setting) (s : ℕ) (before items : List Item)
+    → NoneConcern concerns_links before items
+    → own_advert setting (before ++ items) s ≡ own_advert setting before s
+unfolding own_advert
+advert_stays setting s before items none =
+    let boot : boot_of (before ++ items) s ≡ boot_of before s = boot_stays s before items none in
+    let seq : own_seq setting (before ++ items) s ≡ own_seq setting before s =
+    seq_stays setting s before items none in
+    let links : near setting (before ++ items) s ≡ near setting before s =
+    near_stays setting s before items none in
+    rw (boot, seq, links) refl
+
+pub links_keep : (setting : Setting) (before items : List Item)
+    → NoneConcern concerns_links before items → LinksKeep setting before (before ++ items)
+links_keep setting before items none = record {
+  up = link_stays before items none;
+  near = λ s. near_stays setting s before items none;
+  seq = λ s. seq_stays setting s before items none;
+  advert = λ s. advert_stays setting s before items none;
+}
+
+-- ---- what a switch knows
+
+known_stays : (setting : Setting) (s : ℕ) (before items : List Item)
+    → NoneConcern (concerns_switch s) before items → NoneConcern concerns_links before items
+    → adverts_known setting (before ++ items) s ≡ adverts_known setting before s
+unfolding adverts_known
+known_stays setting s before items none no_links =
+    let switch : SwitchKeeps setting s before (before ++ items) =
+    switch_keeps setting s before items none in
+    let boot : boot_of (before ++ items) s ≡ boot_of before s = switch.boot in
+    let up : is_up (before ++ items) s ≡ is_up before s = switch.up in
+    let bodies : heard (before ++ items) s ≡ heard before s = switch.heard in
+    let advert : own_advert setting (before ++ items) s ≡ own_advert setting before s =
+    advert_stays setting s before items no_links in
+    rw (boot, up, bodies, advert) refl
+
+pub known_keeps : (setting : Setting) (s : ℕ) (before items : List Item)
+    → NoneConcern (concerns_known s) before items → KnownKeeps setting s before (before ++ items)
+unfolding held_adverts route_from is_cut_off
+known_keeps setting s before items none =
+    let own : NoneConcern (concerns_switch s) before items =
+    fewer (concerns_switch s) (concerns_known s)
+    (λ js item apart. neither_left (concerns_switch s js item) (concerns_links js item) apart)
+    before items none in
+    let links : NoneConcern concerns_links before items =
+    fewer concerns_links (concerns_known s)
+    (λ js item apart. neither_right (concerns_switch s js item) (concerns_links js item) apart)
+    before items none in
+    let known : adverts_known setting (before ++ items) s ≡ adverts_known setting before s =
+    known_stays setting s before items own links in
+    let near_same : near setting (before ++ items) s ≡ near setting before s =
+    near_stays setting s before items links in
+    record {
+      known = known;
+      held = rw known refl;
+      links = λ down. rw (known, near_same) refl;
+      route = λ targets down. rw (known, near_same) refl;
+      cut_off = λ down target. rw (known, near_same) refl;
+    }
+
+-- ---- policies, and what a switch says of a header
+
+file_silent : (v : ℕ) (before : List Item) (item : Item) → IsFalse (concerns_policies before item)
+    → tells_file v item ≡ None
+file_silent v before (item.Submitted file version) apart = cc
+file_silent v before _ apart = refl
+
+count_silent : (before : List Item) (item : Item) → IsFalse (concerns_policies before item)
+    → is_submission item ≡ false
+count_silent before item apart = apart
+
+file_stays : (before items : List Item) → NoneConcern concerns_policies before items → (v : ℕ)
+    → file_of (before ++ items) v ≡ file_of before v
+unfolding file_of
+file_stays before items none v = ap (λ o. unwrap_or o 1)
+    (last_stays (tells_file v) concerns_policies (file_silent v) before items none)
+
+policy_count_stays : (before items : List Item) → NoneConcern concerns_policies before items
+    → version_count (before ++ items) ≡ version_count before
+unfolding version_count
+policy_count_stays before items none =
+    let count = count_stays is_submission concerns_policies count_silent before items none in
+    rw count refl
+
+pub policies_keep : (before items : List Item) → NoneConcern concerns_policies before items
+    → PoliciesKeep before (before ++ items)
+policies_keep before items none = record {
+  count = policy_count_stays before items none;
+  file = file_stays before items none;
+}
+
+pub lookup_stays : (setting : Setting) (s : ℕ) (header : Header) (before items : List Item)
+    → NoneConcern (concerns_lookups s) before items
+    → lookup_at setting (before ++ items) s header ≡ lookup_at setting before s header
+unfolding lookup_at
+lookup_stays setting s header before items none =
+    let switch : SwitchKeeps setting s before (before ++ items) =
+    switch_keeps setting s before items (fewer (concerns_switch s) (concerns_lookups s)
+    (λ js item apart. neither_left (concerns_switch s js item) (concerns_policies js item) apart)
+    before items none) in
+    let files : (v : ℕ) → file_of (before ++ items) v ≡ file_of before v =
+    file_stays before items (fewer concerns_policies (concerns_lookups s)
+    (λ js item apart. neither_right (concerns_switch s js item) (concerns_policies js item) apart)
+    before items none) in
+    let stamp : stamp_of (before ++ items) s ≡ stamp_of before s = switch.stamp in
+    let cache : cache_of setting (before ++ items) s ≡ cache_of setting before s = switch.cache in
+    let file : file_of (before ++ items) (stamp_of before s) ≡ file_of before (stamp_of before s) =
+    files (stamp_of before s) in
+    rw (stamp, cache, file) refl
+
+-- ---- switches that are waited for
+
+waited_silent : (s : ℕ) (before : List Item) (item : Item)
+    → IsFalse (concerns_waiting s before item) → tells_waited_for s item ≡ None
+waited_silent s before (item.Down switch) apart = rw apart refl
+waited_silent s before (item.OverNow switch) apart = rw apart refl
+waited_silent s before _ apart = refl
+
+pub waited_stays : (s : ℕ) (before items : List Item) → NoneConcern (concerns_waiting s) before
+    items → is_waited_for (before ++ items) s ≡ is_waited_for before s
+waited_stays s before items none = ap (λ o. unwrap_or o false)
+    (last_stays (tells_waited_for s) (concerns_waiting s) (waited_silent s) before items none)

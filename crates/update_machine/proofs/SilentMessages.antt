@@ -1,0 +1,185 @@
+-- Items that don't concern a message, all messages, all packets or the steps leave their words as
+-- they are.
+use Rattle.std.proofs.Common.{ℕ, ◌+◌, ◌≡◌, Bool, false, None, List, [], ◌∷◌, ◌++◌, refl, ap, ◌∙◌}
+use Rattle.std.specs.Prelude.{nat_lt, find, IsFalse, unwrap_or}
+use Rattle.std.specs.List.{range_with_len}
+use Rattle.journal.specs.declared.item.Item.{Item}
+use Rattle.journal.specs.declared.item.Item.TheVariants as item
+use Rattle.update_machine.specs.Concerns.{NoneConcern, concerns_message, concerns_messages, concerns_packets, concerns_steps}
+use Rattle.update_machine.specs.Folds.{count_of}
+use Rattle.update_machine.specs.Laws.{MessageKeeps, MessagesKeep, PacketsKeep}
+use Rattle.update_machine.specs.Messages.{is_deliverable, is_delivery, is_forgetting, is_forgotten, is_sending, is_waiting, message_of, next_message, next_waiting, tells_message, was_delivered}
+use Rattle.update_machine.specs.Packets.{is_packet, next_packet, next_travelling, tells_travelling, travels}
+use Rattle.update_machine.specs.Quiet.{Sending, changes_sendings, sendings}
+use Rattle.update_machine.specs.Steps.{present_step, tells_step}
+use Rattle.update_machine.proofs.Silent.{count_stays, fewer, folded_stays, last_stays}
+
+-- ---- a message
+
+message_silent : (n : ℕ) (before : List Item) (item : Item)
+    → IsFalse (concerns_message n before item) → tells_message n item ≡ None
+message_silent n before (item.Sent number message) apart = rw apart refl
+message_silent n before _ apart = refl
+
+delivery_silent : (n : ℕ) (before : List Item) (item : Item)
+    → IsFalse (concerns_message n before item) → is_delivery n item ≡ false
+delivery_silent n before (item.Delivered number) apart = apart
+delivery_silent n before _ apart = refl
+
+forgetting_silent : (n : ℕ) (before : List Item) (item : Item)
+    → IsFalse (concerns_message n before item) → is_forgetting n item ≡ false
+forgetting_silent n before (item.Forgotten number) apart = apart
+forgetting_silent n before _ apart = refl
+
+message_stays : (n : ℕ) (before items : List Item) → NoneConcern (concerns_message n) before items
+    → message_of (before ++ items) n ≡ message_of before n
+unfolding message_of
+message_stays n before items none =
+    last_stays (tells_message n) (concerns_message n) (message_silent n) before items none
+
+delivered_stays : (n : ℕ) (before items : List Item) → NoneConcern (concerns_message n) before items
+    → was_delivered (before ++ items) n ≡ was_delivered before n
+unfolding was_delivered
+delivered_stays n before items none = ap (nat_lt 0)
+    (count_stays (is_delivery n) (concerns_message n) (delivery_silent n) before items none)
+
+forgotten_stays : (n : ℕ) (before items : List Item) → NoneConcern (concerns_message n) before items
+    → is_forgotten (before ++ items) n ≡ is_forgotten before n
+unfolding is_forgotten
+forgotten_stays n before items none = ap (nat_lt 0)
+    (count_stays (is_forgetting n) (concerns_message n) (forgetting_silent n) before items none)
+
+deliverable_stays : (n : ℕ) (before items : List Item)
+    → NoneConcern (concerns_message n) before items
+    → is_deliverable (before ++ items) n ≡ is_deliverable before n
+unfolding is_deliverable
+deliverable_stays n before items none =
+    let message : message_of (before ++ items) n ≡ message_of before n =
+    message_stays n before items none in
+    let forgotten : is_forgotten (before ++ items) n ≡ is_forgotten before n =
+    forgotten_stays n before items none in
+    rw (message, forgotten) refl
+
+pub message_keeps : (n : ℕ) (before items : List Item)
+    → NoneConcern (concerns_message n) before items → MessageKeeps n before (before ++ items)
+message_keeps n before items none = record {
+  message = message_stays n before items none;
+  delivered = delivered_stays n before items none;
+  forgotten = forgotten_stays n before items none;
+  deliverable = deliverable_stays n before items none;
+}
+
+-- ---- all messages
+
+sending_silent : (before : List Item) (item : Item) → IsFalse (concerns_messages before item)
+    → is_sending item ≡ false
+sending_silent before (item.Sent number message) apart = apart
+sending_silent before _ apart = refl
+
+sendings_silent : (before : List Item) (sent : List Sending) (item : Item)
+    → IsFalse (concerns_messages before item) → changes_sendings before sent item ≡ sent
+sendings_silent before sent (item.Sent number message) apart = cc
+sendings_silent before sent _ apart = refl
+
+each_silent : (n : ℕ) (before : List Item) (item : Item) → IsFalse (concerns_messages before item)
+    → IsFalse (concerns_message n before item)
+each_silent n before (item.Sent number message) apart = cc
+each_silent n before (item.Delivered number) apart = cc
+each_silent n before (item.Forgotten number) apart = cc
+each_silent n before _ apart = refl
+
+find_same : (p q : ℕ → Bool) → ((x : ℕ) → p x ≡ q x) → (xs : List ℕ) → find p xs ≡ find q xs
+find_same p q same [] = refl
+find_same p q same (x ∷ xs) =
+    let here : p x ≡ q x = same x in
+    let rest : find p xs ≡ find q xs = find_same p q same xs in
+    rw (here, rest) refl
+
+sent_count_stays : (before items : List Item) → NoneConcern concerns_messages before items
+    → count_of is_sending (before ++ items) ≡ count_of is_sending before
+sent_count_stays before items none =
+    count_stays is_sending concerns_messages sending_silent before items none
+
+waiting_same : (before items : List Item) → NoneConcern concerns_messages before items → (n : ℕ)
+    → is_waiting (before ++ items) n ≡ is_waiting before n
+waiting_same before items none n =
+    let keeps : MessageKeeps n before (before ++ items) =
+    message_keeps n before items
+    (fewer (concerns_message n) concerns_messages (each_silent n) before items none) in
+    rw (keeps.deliverable, keeps.delivered) refl
+
+waiting_stays : (before items : List Item) → NoneConcern concerns_messages before items
+    → next_waiting (before ++ items) ≡ next_waiting before
+unfolding next_waiting
+waiting_stays before items none =
+    ap (λ count. find (is_waiting (before ++ items)) (range_with_len 1 count))
+    (sent_count_stays before items none)
+    ∙ find_same (is_waiting (before ++ items)) (is_waiting before) (waiting_same before items none)
+    (range_with_len 1 (count_of is_sending before))
+
+pub messages_keep : (before items : List Item) → NoneConcern concerns_messages before items
+    → MessagesKeep before (before ++ items)
+unfolding next_message sendings
+messages_keep before items none = record {
+  next = ap (λ k. k + 1) (sent_count_stays before items none);
+  waiting = waiting_stays before items none;
+  sent = folded_stays changes_sendings [] concerns_messages sendings_silent before items none;
+}
+
+-- ---- all packets
+
+packet_silent : (before : List Item) (item : Item) → IsFalse (concerns_packets before item)
+    → is_packet item ≡ false
+packet_silent before (item.Entered packet switch header) apart = apart
+packet_silent before (item.Closed packet switch) apart = apart
+packet_silent before _ apart = refl
+
+travel_silent : (i : ℕ) (before : List Item) (item : Item) → IsFalse (concerns_packets before item)
+    → tells_travelling i item ≡ None
+travel_silent i before (item.Entered packet switch header) apart = cc
+travel_silent i before (item.Dropped packet) apart = cc
+travel_silent i before (item.Left packet port leaving) apart = cc
+travel_silent i before (item.Lost packet) apart = cc
+travel_silent i before (item.Stuck packet switch cause leg down) apart = cc
+travel_silent i before _ apart = refl
+
+travels_stay : (before items : List Item) → NoneConcern concerns_packets before items → (i : ℕ)
+    → travels (before ++ items) i ≡ travels before i
+unfolding travels
+travels_stay before items none i = ap (λ o. unwrap_or o false)
+    (last_stays (tells_travelling i) concerns_packets (travel_silent i) before items none)
+
+packet_count_stays : (before items : List Item) → NoneConcern concerns_packets before items
+    → count_of is_packet (before ++ items) ≡ count_of is_packet before
+packet_count_stays before items none =
+    count_stays is_packet concerns_packets packet_silent before items none
+
+travelling_stays : (before items : List Item) → NoneConcern concerns_packets before items
+    → next_travelling (before ++ items) ≡ next_travelling before
+unfolding next_travelling
+travelling_stays before items none =
+    ap (λ count. find (travels (before ++ items)) (range_with_len 1 count))
+    (packet_count_stays before items none)
+    ∙ find_same (travels (before ++ items)) (travels before) (travels_stay before items none)
+    (range_with_len 1 (count_of is_packet before))
+
+pub packets_keep : (before items : List Item) → NoneConcern concerns_packets before items
+    → PacketsKeep before (before ++ items)
+unfolding next_packet
+packets_keep before items none = record {
+  next = ap (λ k. k + 1) (packet_count_stays before items none);
+  travelling = travelling_stays before items none;
+}
+
+-- ---- steps
+
+step_silent : (before : List Item) (item : Item) → IsFalse (concerns_steps before item)
+    → tells_step item ≡ None
+step_silent before (item.Row row step) apart = cc
+step_silent before _ apart = refl
+
+pub step_stays : (before items : List Item) → NoneConcern concerns_steps before items
+    → present_step (before ++ items) ≡ present_step before
+unfolding present_step
+step_stays before items none =
+    last_stays tells_step concerns_steps step_silent before items none

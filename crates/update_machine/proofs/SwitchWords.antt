@@ -1,0 +1,228 @@
+-- What switches, links and messages are said to be, on journals of few items.
+use Rattle.std.proofs.Common.{ℕ, ◌≡◌, Some, None, List, [], ◌∷◌, ◌++◌, refl, true, false}
+use Rattle.ctrl_msg.specs.declared.message.Body.{Body}
+use Rattle.ctrl_msg.specs.declared.message.Body.TheVariants.{Collect, Install, Stamp}
+use Rattle.failover.specs.Adverts.{after_hearing, first_adverts, is_news}
+use Rattle.failover.specs.Masks.{switches}
+use Rattle.net_file.specs.Net.{mask_of as net_mask_of}
+use Rattle.steps.specs.declared.step.Step.TheVariants as step
+use Rattle.journal.specs.declared.item.Item.{Item}
+use Rattle.journal.specs.declared.item.Item.TheVariants as item
+use Rattle.update_machine.specs.Adverts.{advert_known, adverts_known, own_advert, own_seq}
+use Rattle.update_machine.specs.Boots.{boot_of, heard, is_up, serves}
+use Rattle.update_machine.specs.Links.{is_link_up, near}
+use Rattle.update_machine.specs.Messages.{is_deliverable, is_forgotten, message_of, next_waiting, was_delivered}
+use Rattle.update_machine.specs.Packets.{next_travelling, travels}
+use Rattle.update_machine.specs.Steps.{steps_in}
+use Rattle.update_machine.specs.Versions.{file_of, holds_version, stamp_of}
+use Rattle.update_machine.proofs.Examples.{advert, one, open_net, plan_p, ring, tables_of, to}
+
+-- switch a is told this
+abbrev told : ℕ → Body → List Item
+told number body = item.Sent number (to 0 body) ∷ item.Delivered number ∷ []
+
+-- ---- boots
+
+abbrev restarted : List Item
+restarted = told 1 (Stamp 1 2) ++ item.Down 0 ∷ item.Booted 0 2 ∷ []
+
+pub boot_2 : boot_of restarted 0 ≡ 2
+unfolding boot_of
+boot_2 = refl
+
+pub down_until_then : is_up (item.Down 0 ∷ []) 0 ≡ false
+unfolding is_up
+down_until_then = refl
+
+pub closed_in_boot_2 : serves restarted 0 ≡ false
+unfolding serves
+closed_in_boot_2 = refl
+
+pub serves_once_opened : serves (restarted ++ item.Opened 0 2 ∷ []) 0 ≡ true
+unfolding serves
+serves_once_opened = refl
+
+-- what was heard is forgotten; what is for another boot, or comes while it is down, isn't heard; an
+-- advert is for any boot
+pub hears_again :
+    heard (restarted ++ told 2 (Stamp 1 3) ++ told 3 (Stamp 2 3) ++ told 4 (advert 1 1 2 1)) 0
+    ≡ Stamp 2 3 ∷ advert 1 1 2 1 ∷ []
+unfolding heard is_up boot_of message_of
+hears_again = refl
+
+pub hears_nothing_down : heard (item.Down 0 ∷ told 1 (Stamp 1 2)) 0 ≡ []
+unfolding heard is_up boot_of message_of
+hears_nothing_down = refl
+
+-- ---- versions
+
+pub greatest_stamp : stamp_of (told 1 (Stamp 1 3) ++ told 2 (Stamp 1 2)) 0 ≡ 3
+unfolding stamp_of heard is_up boot_of message_of
+greatest_stamp = refl
+
+pub no_stamp_in_boot_2 : stamp_of restarted 0 ≡ 0
+unfolding stamp_of heard is_up boot_of message_of
+no_stamp_in_boot_2 = refl
+
+-- it holds what was installed, but for what was collected
+abbrev collected : List Item
+collected =
+    told 1 (Install 1 (tables_of plan_p 2 0)) ++ told 2 (Install 1 (tables_of plan_p 3 0))
+    ++ told 3 (Collect 1 2)
+
+pub holds_2 : holds_version (told 1 (Install 1 (tables_of plan_p 2 0))) 0 2 ≡ true
+unfolding holds_version heard is_up boot_of message_of
+holds_2 = refl
+
+pub holds_1_no_more : holds_version collected 0 1 ≡ false
+unfolding holds_version heard is_up boot_of message_of
+holds_1_no_more = refl
+
+pub holds_2_no_more : holds_version collected 0 2 ≡ false
+unfolding holds_version heard is_up boot_of message_of
+holds_2_no_more = refl
+
+pub holds_3 : holds_version collected 0 3 ≡ true
+unfolding holds_version heard is_up boot_of message_of
+holds_3 = refl
+
+pub holds_none_in_boot_2 : holds_version restarted 0 1 ≡ false
+unfolding holds_version heard is_up boot_of message_of
+holds_none_in_boot_2 = refl
+
+abbrev submitted : List Item
+submitted = item.Submitted 3 2 ∷ item.Submitted 1 3 ∷ []
+
+pub file_of_2 : file_of submitted 2 ≡ 3
+unfolding file_of
+file_of_2 = refl
+
+pub file_of_3 : file_of submitted 3 ≡ 1
+unfolding file_of
+file_of_3 = refl
+
+-- ---- links
+
+-- in the ring a has links to b and c
+pub near_at_first : near ring [] 0 ≡ 6
+unfolding near is_link_up serves net_mask_of
+near_at_first = refl
+
+pub near_without_b : near ring (item.Down 1 ∷ []) 0 ≡ 4
+unfolding near is_link_up serves net_mask_of
+near_without_b = refl
+
+pub near_without_itself : near ring (item.Down 0 ∷ []) 0 ≡ 0
+unfolding near is_link_up serves net_mask_of
+near_without_itself = refl
+
+pub near_without_link : near ring (item.LinkIs 0 2 false ∷ []) 0 ≡ 2
+unfolding near is_link_up serves net_mask_of
+near_without_link = refl
+
+-- ---- adverts
+
+-- two links that fail in one step count once, and one in the next step once more
+abbrev failing : List Item
+failing =
+    item.Row 1 (step.Crash 1) ∷ item.LinkIs 0 1 false ∷ item.LinkIs 0 2 false
+    ∷ item.Row 2 (step.LinkUp 0 2) ∷ item.LinkIs 0 2 true ∷ []
+
+pub seq_of_steps : own_seq ring failing 0 ≡ 3
+unfolding own_seq steps_in near is_link_up serves is_up boot_of net_mask_of
+seq_of_steps = refl
+
+-- what changed in an earlier boot doesn't count
+pub seq_in_boot_2 :
+    own_seq ring (failing ++ item.Row 3 (step.Crash 0) ∷ item.Down 0 ∷ item.Row 4 (step.Restart 0)
+    ∷ item.Booted 0 2 ∷ item.Row 5 (step.Deliver 9) ∷ item.Opened 0 1 ∷ []) 0
+    ≡ 1
+unfolding own_seq steps_in near is_link_up serves is_up boot_of net_mask_of
+seq_in_boot_2 = refl
+
+pub seq_down : own_seq ring (failing ++ item.Row 3 (step.Crash 0) ∷ item.Down 0 ∷ []) 0 ≡ 0
+unfolding own_seq steps_in near is_link_up serves is_up boot_of net_mask_of
+seq_down = refl
+
+-- the first advert of b counts in boot 1, until a newer one is heard; an older one changes nothing
+pub first_of_b :
+    advert_known open_net [] 0 1 ≡ Some (record { origin = 1; boot = 1; seq = 1; up = 1 })
+unfolding adverts_known own_advert own_seq steps_in near is_link_up serves is_up boot_of heard
+    message_of first_adverts after_hearing is_news switches net_mask_of
+first_of_b = refl
+
+pub newer_of_b :
+    advert_known open_net (told 1 (advert 1 1 3 0) ++ told 2 (advert 1 1 2 1)) 0 1
+    ≡ Some (record { origin = 1; boot = 1; seq = 3; up = 0 })
+unfolding adverts_known own_advert own_seq steps_in near is_link_up serves is_up boot_of heard
+    message_of first_adverts after_hearing is_news switches net_mask_of
+newer_of_b = refl
+
+pub newer_boot_of_b :
+    advert_known open_net (told 1 (advert 1 1 3 0) ++ told 2 (advert 1 2 1 1)) 0 1
+    ≡ Some (record { origin = 1; boot = 2; seq = 1; up = 1 })
+unfolding adverts_known own_advert own_seq steps_in near is_link_up serves is_up boot_of heard
+    message_of first_adverts after_hearing is_news switches net_mask_of
+newer_boot_of_b = refl
+
+-- in boot 2 it knows of none, nor of itself
+pub none_of_b_in_boot_2 : advert_known open_net restarted 0 1 ≡ None
+unfolding adverts_known own_advert own_seq steps_in near is_link_up serves is_up boot_of heard
+    message_of first_adverts after_hearing is_news switches net_mask_of
+none_of_b_in_boot_2 = refl
+
+pub none_of_itself_in_boot_2 : advert_known open_net restarted 0 0 ≡ None
+unfolding adverts_known own_advert own_seq steps_in near is_link_up serves is_up boot_of heard
+    message_of first_adverts after_hearing is_news switches net_mask_of
+none_of_itself_in_boot_2 = refl
+
+-- of itself it knows its own, whatever it hears
+pub own_of_a :
+    advert_known open_net (told 1 (advert 0 1 9 0)) 0 0
+    ≡ Some (record { origin = 0; boot = 1; seq = 1; up = 2 })
+unfolding adverts_known own_advert own_seq steps_in near is_link_up serves is_up boot_of heard
+    message_of first_adverts after_hearing is_news switches net_mask_of
+own_of_a = refl
+
+-- ---- messages
+
+abbrev sent : List Item
+sent =
+    item.Sent 1 (to 0 (Stamp 1 1)) ∷ item.Sent 2 (to 0 (Stamp 1 1))
+    ∷ item.Sent 3 (to 0 (Stamp 1 1)) ∷ item.Forgotten 1 ∷ item.Delivered 2 ∷ []
+
+pub forgotten_is_gone : is_deliverable sent 1 ≡ false
+unfolding is_deliverable is_forgotten message_of
+forgotten_is_gone = refl
+
+pub delivered_may_come_again : is_deliverable sent 2 ≡ true
+unfolding is_deliverable is_forgotten message_of
+delivered_may_come_again = refl
+
+pub unsent_is_none : is_deliverable sent 4 ≡ false
+unfolding is_deliverable is_forgotten message_of
+unsent_is_none = refl
+
+pub third_waits : next_waiting sent ≡ Some 3
+unfolding next_waiting is_deliverable is_forgotten was_delivered message_of
+third_waits = refl
+
+pub first_waits_first :
+    next_waiting (item.Sent 1 (to 0 (Stamp 1 1)) ∷ item.Sent 2 (to 0 (Stamp 1 1)) ∷ []) ≡ Some 1
+unfolding next_waiting is_deliverable is_forgotten was_delivered message_of
+first_waits_first = refl
+
+-- ---- packets
+
+pub first_travels_first :
+    next_travelling (item.Entered 1 0 one ∷ item.Entered 2 0 one ∷ item.Entered 3 0 one ∷ [])
+    ≡ Some 1
+unfolding next_travelling travels
+first_travels_first = refl
+
+pub second_travels_next :
+    next_travelling
+    (item.Entered 1 0 one ∷ item.Entered 2 0 one ∷ item.Entered 3 0 one ∷ item.Dropped 1 ∷ [])
+    ≡ Some 2
+unfolding next_travelling travels
+second_travels_next = refl
