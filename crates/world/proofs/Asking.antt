@@ -1,8 +1,6 @@
 -- The switch where a packet on its way stands, as it is asked what becomes of the packet.
 use Rattle.std.proofs.Common.{ℕ, ◌≡◌, ◌<◌, Some, None, List, refl, ap, sym, subst, ◌∙◌, length, get_or, arith}
 use Rattle.std.specs.Prelude.{slice_index, IsTrue}
-use Rattle.net_file.specs.Net.{IsNet}
-use Rattle.net_file.specs.declared.net.Net.{Net}
 use Rattle.journal.specs.declared.item.Item.{Item}
 use Rattle.switch_core.specs.Arriving.{IsAtAuthority}
 use Rattle.switch_core.specs.Entering.{CanLookUp}
@@ -12,8 +10,10 @@ use Rattle.tunnel.specs.Moves.{here, next}
 use Rattle.update_machine.specs.Handled.{handled_count}
 use Rattle.update_machine.specs.Setting.{Setting}
 use Rattle.packet_laws.specs.Words.{words_of}
-use Rattle.world.specs.State.{AreNear, AreTied}
+use Rattle.world.specs.Parts.{AreSound, AreTiedIn, setting_in}
+use Rattle.world.specs.State.{AreTied}
 use Rattle.world.specs.Travelling.{Travellers, traveller}
+use Rattle.world.specs.declared.parts.Parts.{Parts}
 use Rattle.world.specs.declared.travelling.Traveller.{Traveller}
 use Rattle.world.proofs.AtEnd.{IsAtEnd, at_authority, at_end}
 use Rattle.world.proofs.Calmness.{calm_switch, calm_switch_of}
@@ -29,12 +29,9 @@ unfolding AreTied
 within setting journal switches before count i t tied standing =
     omega (arith, tied.many, standing.way.under_way.now)
 
-near_here : (net : Net) (near : List ℕ) (setting : Setting) (s : ℕ) → setting.net ≡ net
-    → IsNet net → AreNear net near → s < length net.switches
-    → slice_index near s ≡ near_of setting s
-near_here net near setting s same sound masks there =
-    masks s (omega (arith, there, sound.few_switches))
-    ∙ ap (λ (net : Net). near_of (record setting { net = net }) s) (sym same)
+pub near_here : (parts : Parts) (s : ℕ) → AreSound parts → s < length parts.net.switches
+    → slice_index parts.near s ≡ near_of (setting_in parts) s
+near_here parts s sound there = sound.masks s (omega (arith, there, sound.sound.few_switches))
 
 pub switch_here : (setting : Setting) (journal : List Item) (switches : List SwitchValue)
     (before : Travellers) (count i : ℕ) (t : Traveller)
@@ -109,32 +106,31 @@ pub record CanAsk (setting : Setting) (t : Traveller) (s near : ℕ) (switch : S
     pub authority : next t.tunnel ≡ None
         → IsAtAuthority switch t.tunnel.header t.tunnel.leg
 
-pub can_ask : (net : Net) (near : List ℕ) (setting : Setting) (journal : List Item)
-    (switches : List SwitchValue) (before : Travellers) (count i : ℕ) (t : Traveller) (s : ℕ)
-    (switch : SwitchValue) → setting.net ≡ net → IsNet net → AreNear net near
-    → AreTied setting journal switches before count → traveller before i ≡ Some t
-    → s ≡ here t.tunnel → switch ≡ get_or switches s switch
-    → CanAsk setting t s (slice_index near s) switch
-can_ask net near setting journal switches before count i t s switch same sound masks tied its at
-    own =
+pub can_ask : (parts : Parts) (i : ℕ) (t : Traveller) (s : ℕ) (switch : SwitchValue)
+    → AreSound parts → AreTiedIn parts → traveller parts.log.travelling i ≡ Some t
+    → s ≡ here t.tunnel → switch ≡ get_or parts.switches.items s switch
+    → CanAsk (setting_in parts) t s (slice_index parts.near s) switch
+can_ask parts i t s switch sound tied its at own =
+    let setting : Setting = setting_in parts in
+    let journal : List Item = parts.log.journal in
+    let switches : List SwitchValue = parts.switches.items in
+    let before : Travellers = parts.log.travelling in
     let standing : IsStanding setting journal i t =
-    standing_of setting journal switches before count i t tied its in
+    standing_of setting journal switches before parts.packets i t tied its in
     let place : ℕ = standing.way.under_way.place in
     let here_it : s ≡ place = at ∙ stands_at setting journal i t standing in
     let handled : ℕ = handled_count journal place in
-    let there : place < length net.switches =
-    subst (λ (n : Net). place < length n.switches) same standing.way.under_way.now in
-    let told : slice_index near place ≡ near_of setting place =
-    near_here net near setting place same sound masks there in
+    let told : slice_index parts.near place ≡ near_of setting place =
+    near_here parts place sound standing.way.under_way.now in
     let is : switch ≡ calm_switch setting handled place =
     own ∙ ap (λ p. get_or switches p switch) here_it
-    ∙ switch_here setting journal switches before count i t tied standing switch in
+    ∙ switch_here setting journal switches before parts.packets i t tied standing switch in
     record {
-      told = ap (slice_index near) here_it ∙ told ∙ ap (near_of setting) (sym here_it);
-      usable = usable_here setting journal i t (slice_index near s) standing
-          (ap (slice_index near) here_it ∙ told);
+      told = ap (slice_index parts.near) here_it ∙ told ∙ ap (near_of setting) (sym here_it);
+      usable = usable_here setting journal i t (slice_index parts.near s) standing
+          (ap (slice_index parts.near) here_it ∙ told);
       serving = serving_here setting place handled switch is;
       stamped = stamped_here setting place handled switch is;
-      authority = λ last. authority_here setting journal switches before count i t tied standing
-          handled switch is last;
+      authority = λ last. authority_here setting journal switches before parts.packets i t tied
+          standing handled switch is last;
     }

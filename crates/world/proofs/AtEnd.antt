@@ -1,7 +1,7 @@
 -- At the end of its route a packet is at one of its leg's targets, which has the partition that it
 -- seeks.
 use Rattle.std.proofs.Common.{ℕ, ◌≡◌, ◌+◌, ◌-◌, ◌<◌, ◌≤◌, true, Option, Some, None, List, refl, ap, sym, subst, ◌∙◌, length, get_or, arith, find, position, inl, inr, ◌⊎◌}
-use Rattle.std.specs.Prelude.{unwrap_or, slice_get, nat_eq, IsTrue, IsSomeAnd}
+use Rattle.std.specs.Prelude.{⊤, unwrap_or, slice_get, nat_eq, IsTrue, IsSomeAnd}
 use Rattle.std.specs.List.{list_any}
 use Rattle.std.proofs.lemmas.Bool.{cases_lt}
 use Rattle.std.proofs.lemmas.Option.{slice_get_within, slice_get-get_or}
@@ -106,7 +106,7 @@ pub record IsSought (setting : Setting) (s : ℕ) (words : PacketWords) (header 
 abbrev pub IsAtEnd : Setting → ℕ → PacketWords → Header → Leg → Type 0
 IsAtEnd setting s words header (Seek version partition) =
     IsSought setting s words header version partition
-IsAtEnd setting s words header (Exit port) = Unit {0}
+IsAtEnd setting s words header (Exit port) = ⊤
 
 pub at_end : (setting : Setting) (journal : List Item) (s : ℕ) (words : PacketWords)
     (header : Header) (leg : Leg) → IsSetting setting → IsCalm setting journal

@@ -3,12 +3,8 @@ use Rattle.std.proofs.Common.{ℕ, ◌≡◌, ◌<◌, true, List, [], ◌∷◌
 use Rattle.journal.specs.declared.item.Item.{Item}
 use Rattle.switch_core.specs.State.{SwitchValue}
 use Rattle.switch_table.specs.Tables.{tables_of}
-use Rattle.update_machine.specs.Adverts.{adverts_known, own_seq}
-use Rattle.update_machine.specs.Boots.{boot_of, heard, is_up, serves}
-use Rattle.update_machine.specs.Caches.{cache_of}
 use Rattle.update_machine.specs.Handled.{handled_count}
 use Rattle.update_machine.specs.Setting.{Setting}
-use Rattle.update_machine.specs.Versions.{holds_version, stamp_of, tables_at}
 use Rattle.packet_laws.specs.Calm.{IsCalm, adverts_at_first, first_plan}
 use Rattle.world.specs.State.{switch_of}
 

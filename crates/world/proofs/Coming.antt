@@ -1,5 +1,5 @@
 -- A packet that comes in: what its step writes.
-use Rattle.std.proofs.Common.{ℕ, ◌≡◌, ◌<◌, ◌==◌, Bool, true, false, if◌then◌else◌, Option, Some, None, List, [], ◌∷◌, ◌++◌, refl, ap, sym, subst, ◌∙◌, length, eq-eqb}
+use Rattle.std.proofs.Common.{ℕ, ◌≡◌, ◌<◌, ◌==◌, true, false, List, [], ◌∷◌, ◌++◌, refl, ap, sym, ◌∙◌, length, eq-eqb}
 use Rattle.std.specs.Prelude.{unwrap_or}
 use Rattle.failover.specs.DownSet.{no_links}
 use Rattle.five_tuple.specs.Header.{header_of}
@@ -16,11 +16,9 @@ use Rattle.switch_core.specs.declared.packet.Packet.{Packet}
 use Rattle.switch_table.specs.Lookup.{table_lookup}
 use Rattle.switch_table.specs.Tables.{tables_of}
 use Rattle.switch_table.specs.declared.search.Found.{Found}
-use Rattle.update_machine.specs.Boots.{serves}
 use Rattle.update_machine.specs.Caches.{lookup_at}
 use Rattle.update_machine.specs.Moves.{found_items, header_at, lookup_items}
-use Rattle.update_machine.specs.Packets.{next_packet}
-use Rattle.update_machine.specs.Pieces.{packet_items, piece}
+use Rattle.update_machine.specs.Pieces.{packet_items}
 use Rattle.update_machine.specs.Setting.{Setting}
 use Rattle.packet_laws.specs.Calm.{HasPacketsAlone, IsCalm, first_plan}
 use Rattle.packet_laws.specs.Words.{words_of}

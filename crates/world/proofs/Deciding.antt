@@ -1,7 +1,6 @@
 -- An authority rule decides a packet at a switch of a calm network as the journal's definitions
 -- say.
-use Rattle.std.proofs.Common.{ℕ, ◌≡◌, ◌<◌, ◌==◌, Bool, true, false, not, ◌&&◌, if◌then◌else◌, Option, Some, None, List, [], ◌∷◌, ◌++◌, refl, ap, sym, subst, ◌∙◌, length, append-nil, eq-eqb}
-use Rattle.five_tuple.specs.declared.header.Header.{Header}
+use Rattle.std.proofs.Common.{ℕ, ◌≡◌, ◌<◌, ◌==◌, true, false, Some, List, [], ◌∷◌, ◌++◌, refl, ap, ◌∙◌, length, append-nil, eq-eqb}
 use Rattle.net_file.specs.Net.{IsNet}
 use Rattle.net_file.specs.Owners.{AreOwners}
 use Rattle.net_file.specs.declared.ports.Ports.{Ports}
@@ -12,14 +11,11 @@ use Rattle.switch_core.specs.Deciding.{by_rule}
 use Rattle.switch_core.specs.Ends.{around, next_of}
 use Rattle.switch_core.specs.declared.answers.Decision.{Decision}
 use Rattle.switch_core.specs.declared.packet.Packet.{Packet}
-use Rattle.update_machine.specs.Marks.{retired_mark}
 use Rattle.update_machine.specs.Moves.{AuthorityRule, authority_items, cache_items, end_items}
-use Rattle.update_machine.specs.Packets.{decision_of, found_down, header_in}
-use Rattle.update_machine.specs.Played.{IsSetting}
 use Rattle.update_machine.specs.Setting.{Setting}
 use Rattle.update_machine.proofs.CallerLemmas.{have_append}
-use Rattle.packet_laws.specs.Calm.{HasPacketsAlone, IsCalm, IsOfPackets}
-use Rattle.packet_laws.specs.Words.{PacketWords, told_by, words_of}
+use Rattle.packet_laws.specs.Calm.{HasPacketsAlone, IsOfPackets}
+use Rattle.packet_laws.specs.Words.{words_of}
 use Rattle.packet_laws.proofs.Calm.{calm}
 use Rattle.packet_laws.proofs.Words.{words_grow}
 use Rattle.world.specs.Writing.{decided_items}

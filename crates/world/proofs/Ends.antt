@@ -1,27 +1,23 @@
 -- A decided packet ends at the switch of a calm network, or sets out for its port, as the journal's
 -- definitions say.
-use Rattle.std.proofs.Common.{ℕ, ◌≡◌, ◌<◌, ◌==◌, Bool, true, false, if◌then◌else◌, Option, Some, None, List, [], ◌∷◌, ◌++◌, refl, ap, sym, ◌∙◌, length, append-nil}
-use Rattle.std.specs.Prelude.{Result, Ok, Err, unwrap_or}
-use Rattle.five_tuple.specs.declared.header.Header.{Header}
+use Rattle.std.proofs.Common.{ℕ, ◌≡◌, ◌<◌, ◌==◌, Bool, true, false, if◌then◌else◌, Some, List, [], ◌∷◌, refl, ap, sym, ◌∙◌, length}
+use Rattle.std.specs.Prelude.{⊤, Result, Ok, Err, unwrap_or}
 use Rattle.net_file.specs.Net.{owner_of}
-use Rattle.net_file.specs.Owners.{AreOwners, port_owner}
+use Rattle.net_file.specs.Owners.{AreOwners}
 use Rattle.net_file.specs.declared.ports.Ports.{Ports}
-use Rattle.policy_rules.specs.declared.packet.How.TheVariants as how
 use Rattle.policy_rules.specs.declared.packet.Leg.TheVariants.{Exit}
 use Rattle.policy_rules.specs.declared.policy.Action.{Action}
 use Rattle.policy_rules.specs.declared.policy.Action.TheVariants as action
 use Rattle.journal.specs.declared.item.Item.{Item}
-use Rattle.journal.specs.declared.item.Item.TheVariants as item
 use Rattle.switch_core.specs.Ends.{around, exit_by, leave_by, next_of, set_out}
 use Rattle.switch_core.specs.declared.answers.Decision.{Decision as Decided}
 use Rattle.switch_core.specs.State.{SwitchValue}
-use Rattle.switch_core.specs.declared.answers.Next.{Next}
 use Rattle.switch_core.specs.declared.answers.Next.TheVariants as next
 use Rattle.switch_core.specs.declared.packet.Packet.{Packet}
 use Rattle.tunnel.specs.Tunnel.{TunnelValue}
 use Rattle.policy_rules.specs.declared.packet.Cause.{Cause}
-use Rattle.update_machine.specs.Moves.{end_items, header_at, leaves as left, leg_items}
-use Rattle.update_machine.specs.Packets.{Decision, decision_of, found_down, header_in, owner}
+use Rattle.update_machine.specs.Moves.{end_items, leaves as left, leg_items}
+use Rattle.update_machine.specs.Packets.{decision_of, found_down, header_in, no_switch, owner}
 use Rattle.update_machine.specs.Setting.{Setting}
 use Rattle.packet_laws.specs.Calm.{IsCalm}
 use Rattle.world.specs.Writing.{end_of, leaves}
@@ -96,7 +92,7 @@ out_law setting journal calm s handled there packet decision said port its acts 
 
 -- an action that names no port, or one that a switch has
 abbrev pub HasOwner : Setting → Action → Type 0
-HasOwner setting action.Drop = Unit {0}
+HasOwner setting action.Drop = ⊤
 HasOwner setting (action.Out port) =
     (its : ℕ) × (owner_of setting.net.switches port ≡ Some its)
 
@@ -116,4 +112,4 @@ end_law setting journal calm s handled there ports owners packet decision said (
     acts own =
     rw (owners port, own.1)
     (out_law setting journal calm s handled there packet decision said port own.0 acts
-    (ap (λ o. unwrap_or o 0) own.1) (own.0 == s) refl)
+    (ap (λ o. unwrap_or o no_switch) own.1) (own.0 == s) refl)

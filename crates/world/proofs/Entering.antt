@@ -1,39 +1,28 @@
 -- A packet that is looked up at a switch of a calm network: its switch answers as the journal's
 -- definitions say.
-use Rattle.std.proofs.Common.{ℕ, ◌≡◌, ◌<◌, ◌==◌, Bool, true, false, if◌then◌else◌, Option, Some, None, List, [], ◌∷◌, ◌++◌, refl, ap, sym, subst, ◌∙◌, length, map, find, filter, Contains, slice_get, position}
-use Rattle.std.specs.Prelude.{Result, Ok, Err, unwrap_or, option_map}
-use Rattle.std.specs.Option.{option_and_then, IsSomeAnd}
+use Rattle.std.proofs.Common.{ℕ, ◌≡◌, ◌<◌, false, Option, Some, None, List, [], ◌∷◌, refl, ap, sym, ◌∙◌, length, slice_get}
+use Rattle.std.specs.Prelude.{Result, Ok, Err, option_map}
 use Rattle.std.proofs.lemmas.Option.{get_or_from_slice_get}
-use Rattle.five_tuple.specs.Header.{IsHeader, number_of}
-use Rattle.five_tuple.specs.declared.header.Header.{Header}
 use Rattle.net_file.specs.Net.{IsNet}
 use Rattle.net_file.specs.Owners.{AreOwners}
 use Rattle.net_file.specs.declared.ports.Ports.{Ports}
-use Rattle.policy_rules.specs.Partitions.{is_in}
-use Rattle.policy_rules.specs.Policy.{scan}
-use Rattle.policy_rules.specs.RuleList.{hit_of_rule}
 use Rattle.policy_rules.specs.declared.packet.Cause.{Cause}
 use Rattle.policy_rules.specs.declared.packet.Leg.{Leg}
 use Rattle.policy_rules.specs.declared.packet.Leg.TheVariants.{Seek}
-use Rattle.policy_rules.specs.declared.policy.Row.{Row}
-use Rattle.policy_rules.specs.declared.rules.Partition.{Partition}
 use Rattle.policy_rules.specs.declared.rules.Rule.{Rule}
 use Rattle.journal.specs.declared.item.Item.{Item}
 use Rattle.journal.specs.declared.item.Item.TheVariants as item
-use Rattle.switch_core.specs.Deciding.{IsFound, by_rule, own_part, part_numbered, rule_in}
+use Rattle.switch_core.specs.Deciding.{by_rule, part_numbered, rule_in}
 use Rattle.switch_core.specs.Ends.{Surroundings, around, next_of, set_out}
 use Rattle.switch_core.specs.State.{SwitchValue}
 use Rattle.switch_core.specs.Entering.{enter_seeking, entered_by, seek_by}
-use Rattle.switch_core.specs.declared.answers.Entered.{Entered}
 use Rattle.switch_core.specs.declared.packet.Packet.{Packet}
-use Rattle.switch_table.specs.Lookup.{Decides, Leads, plan_lookup, lookup_in, rule_at, authority_of}
-use Rattle.switch_table.specs.Tables.{Placed, has_target, part_of, tables_of}
+use Rattle.switch_table.specs.Tables.{Placed, part_of, tables_of}
 use Rattle.switch_table.specs.declared.tables.Tables.{Tables}
 use Rattle.switch_table.specs.declared.search.Found.{Found}
 use Rattle.switch_table.specs.declared.search.Found.TheVariants as found
 use Rattle.tunnel.specs.Tunnel.{TunnelValue}
 use Rattle.update_machine.specs.Moves.{AuthorityRule, authority_items, authority_rule, found_items}
-use Rattle.update_machine.specs.Played.{IsSetting}
 use Rattle.update_machine.specs.Setting.{Setting}
 use Rattle.update_machine.specs.Versions.{stamp_of}
 use Rattle.packet_laws.specs.Calm.{HasPacketsAlone, IsCalm, first_plan}

@@ -1,12 +1,12 @@
 -- Switches as they begin.
-use Rattle.std.proofs.Common.{ℕ, ◌≡◌, ◌<◌, Bool, true, false, if◌then◌else◌, Option, Some, None, List, [], ◌∷◌, refl, ap, sym, subst, ◌∙◌, length, map, get_or, slice_set, arith, nat_lt}
+use Rattle.std.proofs.Common.{ℕ, ◌≡◌, ◌<◌, Bool, true, false, if◌then◌else◌, Some, None, List, refl, ap, sym, subst, ◌∙◌, length, map, get_or, arith, nat_lt}
 use Rattle.std.specs.Bool.{IsFalse}
 use Rattle.std.specs.List.{range_with_len}
 use Rattle.std.proofs.lemmas.Bool.{ltb-true}
 use Rattle.std.proofs.lemmas.List.{ext_get_or}
 use Rattle.std.proofs.lemmas.List.FromFn.{get_or-map-range_with_len}
 use Rattle.failover.proofs.Adverts.{by_origin-first, held-first}
-use Rattle.failover.specs.Adverts.{first_advert, first_adverts, first_of, held, is_newer}
+use Rattle.failover.specs.Adverts.{first_advert, first_adverts, first_of, is_newer}
 use Rattle.failover.specs.declared.advert.Advert.{Advert}
 use Rattle.net_file.specs.Net.{IsNet, links_of}
 use Rattle.net_file.specs.declared.net.Net.{Net}

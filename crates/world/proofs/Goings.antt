@@ -1,14 +1,13 @@
 -- Where a packet that comes in goes on by its switch's answer: by its port, or to the targets of
 -- its partition.
-use Rattle.std.proofs.Common.{ℕ, ◌≡◌, ◌<◌, ◌==◌, Bool, true, false, if◌then◌else◌, Option, Some, None, List, [], ◌∷◌, ◌++◌, refl, ap, sym, subst, ◌∙◌, length, eq-eqb, slice_get}
-use Rattle.std.specs.Prelude.{Result, Ok, Err, option_map, unwrap_or}
+use Rattle.std.proofs.Common.{ℕ, ◌≡◌, ◌==◌, Bool, true, false, if◌then◌else◌, Option, Some, None, List, [], ◌∷◌, ◌++◌, refl, ap, sym, subst, ◌∙◌, eq-eqb}
+use Rattle.std.specs.Prelude.{⊤, option_map, unwrap_or}
 use Rattle.std.specs.Option.{ok_or}
 use Rattle.failover.specs.Routes.{route_of}
 use Rattle.net_file.specs.Net.{owner_of}
 use Rattle.net_file.specs.Owners.{AreOwners, port_owner}
 use Rattle.net_file.specs.declared.ports.Ports.{Ports}
 use Rattle.policy_rules.specs.declared.packet.Cause.{Cause}
-use Rattle.policy_rules.specs.declared.packet.Leg.{Leg}
 use Rattle.policy_rules.specs.declared.packet.Leg.TheVariants.{Seek, Exit}
 use Rattle.policy_rules.specs.declared.policy.Action.{Action}
 use Rattle.policy_rules.specs.declared.policy.Action.TheVariants as action
@@ -29,7 +28,7 @@ use Rattle.switch_table.specs.declared.search.Found.TheVariants as found
 use Rattle.tunnel.specs.Moves.{begun}
 use Rattle.tunnel.specs.Tunnel.{TunnelValue}
 use Rattle.update_machine.specs.Marks.{retired_mark}
-use Rattle.update_machine.specs.Packets.{owner, targets_in}
+use Rattle.update_machine.specs.Packets.{no_switch, owner, targets_in}
 use Rattle.update_machine.specs.Setting.{Setting}
 use Rattle.packet_laws.specs.Calm.{first_plan}
 use Rattle.packet_laws.specs.OnWay.{IsUnknown}
@@ -40,7 +39,7 @@ use Rattle.world.proofs.Calmness.{calm_switch}
 use Rattle.world.proofs.Ends.{at_switch}
 use Rattle.world.proofs.Entering.{IsSaid}
 use Rattle.world.proofs.Legs.{near_of}
-use Rattle.world.proofs.Own.{GoesOn, IsSeen, decided_goes}
+use Rattle.world.proofs.Own.{GoesOn, decided_goes}
 use Rattle.world.proofs.Words.{first_targets, traveller_by, words_along}
 
 -- ---- once it is decided
@@ -75,7 +74,7 @@ leave_goes setting s near packet at port decision (Some its) acts owns =
     (exit_goes setting s near packet at port its decision
     (cause_of s near packet.down (Exit port) (its ∷ []))
     (route_of s.database s.number (its ∷ []) near packet.down) acts
-    (ap (λ o. unwrap_or o 0) owns))
+    (ap (λ o. unwrap_or o no_switch) owns))
   where
     by_place : (here : Bool)
         → GoesOn setting (at_switch at packet) packet.ingress decision
@@ -107,11 +106,11 @@ pub record IsWay (setting : Setting) (at : Standing) (tunnel : TunnelValue) : Ty
       (first_targets setting (Seek version partition)) route at.down
 
 abbrev pub IsComing : Setting → Standing → Entered → Type 0
-IsComing setting at entered.Closed = Unit {0}
+IsComing setting at entered.Closed = ⊤
 IsComing setting at (entered.Decided decision onward) =
     GoesOn setting at at.switch decision onward
 IsComing setting at (entered.Seek tunnel) = IsWay setting at tunnel
-IsComing setting at (entered.Stuck cause leg) = Unit {0}
+IsComing setting at (entered.Stuck cause leg) = ⊤
 
 seek_goes : (setting : Setting) (packet : Packet) (partition : ℕ) (targets : List ℕ)
     (cause : Cause) (route : Option (List ℕ)) → targets_in (first_plan setting) partition ≡ targets

@@ -42,7 +42,7 @@ use Rattle.packet_laws.proofs.Words.{words_grow}
 use Rattle.world.specs.Packets.{arrival, arrival_items, hop_items, hop_traveller, hopped_switch, standing_at}
 use Rattle.world.specs.State.{AreTied}
 use Rattle.world.specs.Travelling.{Travellers, WithOne, traveller}
-use Rattle.world.specs.Writing.{IsPart, arrived_items, decided_items}
+use Rattle.world.specs.Writing.{arrived_items, decided_items}
 use Rattle.world.specs.declared.log.Standing.{Standing}
 use Rattle.world.specs.declared.travelling.Traveller.{Traveller}
 use Rattle.world.proofs.Arrivals.{arrival_goes, arrive_law}
@@ -491,17 +491,6 @@ hop_written setting journal new switches before after count row i t s switch oth
     after count) (sym answered)
     (subst (λ p. AreTied setting (journal ++ item.Row row (Hop i) ∷ items)
     (set switches p (hopped_switch switch (next t.tunnel))) after count) (sym same) kept))
-
-pub hop_part : (setting : Setting) (journal new items : List Item) (row i : ℕ)
-    → piece setting journal row (Hop i) ≡ item.Row row (Hop i) ∷ items
-    → IsPart (journal ++ item.Row row (Hop i) ∷ []) items new
-    → IsPart journal (piece setting journal row (Hop i)) new
-hop_part setting journal new items row i is part = record {
-  written = item.Row row (Hop i) ∷ part.written;
-  rest = part.rest;
-  split = is ∙ ap (λ items. item.Row row (Hop i) ∷ items) part.split;
-  grown = part.grown ∙ append_assoc journal (item.Row row (Hop i) ∷ []) part.written;
-}
 
 -- the piece of a hop, by what its switch is told
 pub hop_piece_of : (setting : Setting) (journal : List Item) (switches : List SwitchValue)

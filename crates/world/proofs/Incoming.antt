@@ -1,7 +1,6 @@
 -- A packet that comes in: its whole step keeps the tie.
-use Rattle.std.proofs.Common.{ℕ, ◌≡◌, ◌≢◌, ◌+◌, ◌-◌, ◌^◌, ◌<◌, ◌≤◌, ◌==◌, Bool, true, false, if◌then◌else◌, cond, Option, Some, None, List, [], ◌∷◌, ◌++◌, refl, ap, sym, subst, ◌∙◌, append_assoc, length, get_or, set, min, eqb-true, eq-eqb, arith}
-use Rattle.std.specs.Prelude.{OnErr, OnOk, Result, Ok, Err}
-use Rattle.std.proofs.lemmas.Result.{on_ok_weaker}
+use Rattle.std.proofs.Common.{ℕ, ◌≡◌, ◌≢◌, ◌+◌, ◌-◌, ◌^◌, ◌<◌, ◌≤◌, ◌==◌, Bool, true, false, if◌then◌else◌, cond, List, [], ◌∷◌, ◌++◌, refl, ap, sym, subst, ◌∙◌, length, get_or, set, min, eqb-true, eq-eqb, arith}
+use Rattle.std.specs.Prelude.{⊤, OnOk, Result}
 use Rattle.std.proofs.lemmas.List.{get_or-set_other, get_or-set_same, get_or_default, length-set}
 use Rattle.std.proofs.lemmas.List.Sums.{sum_by-cons}
 use Rattle.failover.specs.DownSet.{no_links}
@@ -12,7 +11,6 @@ use Rattle.policy_rules.specs.declared.packet.Leg.{Leg}
 use Rattle.policy_rules.specs.declared.packet.Leg.TheVariants.{Seek, Exit}
 use Rattle.journal.specs.declared.item.Item.{Item}
 use Rattle.journal.specs.declared.item.Item.TheVariants as item
-use Rattle.steps.specs.declared.step.Step.{Step}
 use Rattle.steps.specs.declared.step.Step.TheVariants.{Packet as PacketStep}
 use Rattle.switch_core.specs.Entering.{CanLookUp, entered, incoming}
 use Rattle.switch_core.specs.State.{SwitchValue, counted}
@@ -23,7 +21,6 @@ use Rattle.switch_core.specs.declared.answers.Next.{Next}
 use Rattle.switch_core.specs.declared.answers.Next.TheVariants as next
 use Rattle.switch_table.specs.Lookup.{table_lookup}
 use Rattle.switch_table.specs.Tables.{tables_of}
-use Rattle.switch_table.specs.declared.search.Found.{Found}
 use Rattle.update_machine.specs.Folds.{count_of}
 use Rattle.update_machine.specs.Handled.{handled_count, is_entry_at, most_handled}
 use Rattle.update_machine.specs.Moves.{takes_route}
@@ -33,12 +30,12 @@ use Rattle.update_machine.specs.Played.{MayPlay}
 use Rattle.update_machine.specs.Setting.{Setting}
 use Rattle.packet_laws.specs.Calm.{IsCalm, first_plan}
 use Rattle.packet_laws.specs.OnWay.{IsUnknown}
-use Rattle.packet_laws.specs.Words.{PacketWords, words_of}
+use Rattle.packet_laws.specs.Words.{words_of}
 use Rattle.packet_laws.proofs.Plans.{begun}
 use Rattle.world.specs.Packets.{coming_in, entry}
-use Rattle.world.specs.State.{AreTied, Tied, switch_of}
+use Rattle.world.specs.State.{AreTied, switch_of}
 use Rattle.world.specs.Travelling.{Travellers, WithOne, traveller}
-use Rattle.world.specs.Writing.{IsPart, end_of, entered_items, entered_traveller}
+use Rattle.world.specs.Writing.{end_of, entered_items, entered_traveller}
 use Rattle.world.specs.declared.log.Standing.{Standing}
 use Rattle.world.proofs.Calmness.{calm_switch, calm_switch_of}
 use Rattle.world.proofs.Coming.{come_law}
@@ -48,7 +45,8 @@ use Rattle.world.proofs.Others.{entered_other, unnamed}
 use Rattle.world.proofs.Played.{played_alone, played_calm, played_found, played_unknown}
 use Rattle.world.proofs.Owners.{said_law}
 use Rattle.world.proofs.Steps.{NoRow, NoRows, calls_in}
-use Rattle.world.proofs.Tying.{Steps, idle, tied_more, with_calls}
+use Rattle.world.proofs.Tying.{idle, tied_more, with_calls}
+use Rattle.world.proofs.Writing.{both_ok, grown_more}
 use Rattle.world.proofs.Words.{calm_traveller, traveller_by, words_along}
 
 -- ---- the items behind the first
@@ -58,7 +56,7 @@ abbrev pub IsLater : Item → Type 0
 IsLater one = NoRow one × (is_packet one ≡ false) × ((q : ℕ) → is_entry_at q one ≡ false)
 
 abbrev pub AreLater : List Item → Type 0
-AreLater [] = Unit {0}
+AreLater [] = ⊤
 AreLater (first ∷ items) = IsLater first × AreLater items
 
 pub later_rows : (items : List Item) → AreLater items → NoRows items
@@ -311,7 +309,7 @@ come_asked setting journal switches before count s header own tied may its =
 -- its number has 32 bits
 pub come_fits : (setting : Setting) (journal : List Item) (switches : List SwitchValue)
     (before : Travellers) (count : ℕ) → AreTied setting journal switches before count
-    → next_packet journal < 4000000000 → count + 1 < 4000000000
+    → next_packet journal ≤ 4000000000 → count + 1 ≤ 4000000000
 unfolding AreTied
 come_fits setting journal switches before count tied few = omega (arith, tied.counted, few)
 
@@ -359,24 +357,6 @@ come_tied setting journal switches before after count row s header ports own nea
     owners there))
     (sym its) with
 
--- ---- what is written
-
-both_ok : {T E P Q R : Type 0} (r : Result T E) → (P → Q → R) → OnOk r P → OnOk r Q → OnOk r R
-both_ok (Ok x) f p q = f p q
-both_ok (Err e) f p q = tt
-
-grown_more : (journal begun new items : List Item) (first : Item)
-    → begun ≡ journal ++ first ∷ [] → new ≡ begun ++ items → new ≡ journal ++ first ∷ items
-grown_more journal begun new items first row_is grown =
-    grown ∙ ap (λ js. js ++ items) row_is ∙ append_assoc journal (first ∷ []) items
-
-pub come_written : {T E : Type 0} (r : Result T E) (journal begun new items all : List Item)
-    (first : Item) → all ≡ first ∷ items → begun ≡ journal ++ first ∷ []
-    → OnOk r (new ≡ begun ++ items) → OnOk r (new ≡ journal ++ all)
-come_written r journal begun new items all first all_is row_is written =
-    on_ok_weaker r (λ grown. grown_more journal begun new items first row_is grown
-    ∙ ap (λ more. journal ++ more) (sym all_is)) written
-
 pub come_kept : {T E : Type 0} (r : Result T E) (setting : Setting) (journal begun new : List Item)
     (switches : List SwitchValue) (before after : Travellers) (count row s : ℕ) (header : Header)
     (ports : Ports) (own changed : SwitchValue) (near : ℕ)
@@ -402,20 +382,3 @@ come_kept r setting journal begun new switches before after count row s header p
     (sym changed_is)
     (come_tied setting journal switches before after count row s header ports own near tied may
     owners masks its with).1)) written travels
-
-pub part_more : (journal begun new items all : List Item) (first : Item) → all ≡ first ∷ items
-    → begun ≡ journal ++ first ∷ [] → IsPart begun items new → IsPart journal all new
-part_more journal begun new items all first all_is begun_is part = record {
-  written = first ∷ part.written;
-  rest = part.rest;
-  split = all_is ∙ ap (λ more. first ∷ more) part.split;
-  grown = part.grown ∙ ap (λ js. js ++ part.written) begun_is
-      ∙ append_assoc journal (first ∷ []) part.written;
-}
-
-pub come_part : {T E : Type 0} (r : Result T E) (journal begun new items all : List Item)
-    (first : Item) → all ≡ first ∷ items → begun ≡ journal ++ first ∷ []
-    → OnErr r (IsPart begun items new) → OnErr r (IsPart journal all new)
-come_part (Ok x) journal begun new items all first all_is row_is part = tt
-come_part (Err e) journal begun new items all first all_is row_is part =
-    part_more journal begun new items all first all_is row_is part

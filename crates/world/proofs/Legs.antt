@@ -1,11 +1,10 @@
 -- The switch of a calm network takes a leg as the journal's definitions say.
-use Rattle.std.proofs.Common.{ℕ, ◌≡◌, ◌<◌, Bool, true, false, Option, Some, None, if◌then◌else◌, List, [], ◌∷◌, refl, ap, sym, ◌∙◌, length}
+use Rattle.std.proofs.Common.{ℕ, ◌≡◌, ◌<◌, Bool, Option, Some, None, if◌then◌else◌, List, [], ◌∷◌, refl, ap, ◌∙◌, length}
 use Rattle.std.specs.Prelude.{Result, Ok, Err, option_map}
 use Rattle.std.specs.List.{list_all}
 use Rattle.std.specs.Option.{ok_or}
 use Rattle.failover.specs.Links.{is_isolated}
 use Rattle.failover.specs.Routes.{route_of}
-use Rattle.five_tuple.specs.declared.header.Header.{Header}
 use Rattle.net_file.specs.Net.{links_of}
 use Rattle.policy_rules.specs.declared.packet.Cause.{Cause}
 use Rattle.policy_rules.specs.declared.packet.Cause.TheVariants.{NoAuthority, NoRoute}

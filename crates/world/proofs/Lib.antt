@@ -25,3 +25,6 @@ pub mod Arrivals
 pub mod HopTie
 pub mod Goings
 pub mod Incoming
+pub mod OverParts
+pub mod TestWorlds
+pub mod Marked

@@ -1,5 +1,5 @@
 -- A packet is lost.
-use Rattle.std.proofs.Common.{ℕ, ◌≡◌, ◌+◌, ◌<◌, ◌==◌, Bool, true, false, if◌then◌else◌, Option, Some, None, List, [], ◌∷◌, ◌++◌, refl, ap, sym, subst, ◌∙◌, append_assoc, length, get_or, eqb-true, inl, inr, arith}
+use Rattle.std.proofs.Common.{ℕ, ◌≡◌, ◌==◌, Bool, true, false, if◌then◌else◌, Some, None, List, [], ◌∷◌, ◌++◌, refl, ap, sym, subst, ◌∙◌, append_assoc, eqb-true, arith}
 use Rattle.std.specs.Prelude.{is_some}
 use Rattle.std.proofs.lemmas.Bool.Decides.{nat_tests}
 use Rattle.journal.specs.declared.item.Item.{Item}
@@ -12,13 +12,12 @@ use Rattle.update_machine.specs.Pieces.{lose_items, nothing, piece}
 use Rattle.update_machine.specs.Played.{MayPlay}
 use Rattle.update_machine.specs.Setting.{Setting}
 use Rattle.packet_laws.specs.Calm.{IsCalm}
-use Rattle.packet_laws.specs.Words.{PacketWords, words_of}
+use Rattle.packet_laws.specs.Words.{words_of}
 use Rattle.packet_laws.proofs.Words.{words_grow}
-use Rattle.world.specs.State.{AreTied, Tied, traveller_in}
+use Rattle.world.specs.State.{AreTied, traveller_in}
 use Rattle.world.specs.Travelling.{Travellers, WithOne, traveller}
-use Rattle.world.specs.declared.travelling.Traveller.{Traveller}
 use Rattle.world.proofs.Played.{played_calm}
-use Rattle.world.proofs.Tying.{Steps, idle, tied_more}
+use Rattle.world.proofs.Tying.{idle, tied_more}
 use Rattle.world.proofs.Words.{calm_traveller, traveller_by, words_along}
 
 -- a row tells nothing of a packet

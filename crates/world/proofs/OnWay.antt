@@ -10,7 +10,6 @@ use Rattle.journal.specs.declared.item.Item.{Item}
 use Rattle.switch_core.specs.Moving.{found_down}
 use Rattle.switch_core.specs.State.{SwitchValue}
 use Rattle.tunnel.specs.Moves.{here, next}
-use Rattle.update_machine.specs.Packets.{travels}
 use Rattle.update_machine.specs.Setting.{Setting}
 use Rattle.packet_laws.specs.Calm.{IsCalm}
 use Rattle.packet_laws.specs.OnWay.{IsOnWay}

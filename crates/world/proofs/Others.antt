@@ -1,9 +1,9 @@
 -- What a switch's answer to one packet says of all others: nothing.
-use Rattle.std.proofs.Common.{ℕ, ◌≡◌, ◌==◌, Bool, true, false, if◌then◌else◌, Option, Some, None, List, [], ◌∷◌, ◌++◌, refl, ap, sym, ◌∙◌}
+use Rattle.std.specs.Prelude.{⊤}
+use Rattle.std.proofs.Common.{ℕ, ◌≡◌, ◌==◌, false, List, [], ◌∷◌, ◌++◌, refl}
 use Rattle.policy_rules.specs.declared.packet.Leg.{Leg}
 use Rattle.policy_rules.specs.declared.packet.Leg.TheVariants.{Seek, Exit}
 use Rattle.journal.specs.declared.item.Item.{Item}
-use Rattle.journal.specs.declared.item.Item.TheVariants as item
 use Rattle.switch_core.specs.declared.answers.Arrived.{Arrived}
 use Rattle.switch_core.specs.declared.answers.Arrived.TheVariants as arrived
 use Rattle.switch_core.specs.declared.answers.Decision.{Decision}
@@ -13,14 +13,14 @@ use Rattle.switch_core.specs.declared.answers.Next.{Next}
 use Rattle.switch_core.specs.declared.answers.Next.TheVariants as next
 use Rattle.update_machine.specs.Moves.{takes_route}
 use Rattle.packet_laws.specs.Words.{PacketWords, names}
-use Rattle.world.specs.Writing.{arrived_items, end_of, entered_items, exit_leg}
+use Rattle.world.specs.Writing.{arrived_items, end_of, entered_items}
 use Rattle.world.specs.declared.log.Standing.{Standing}
 use Rattle.world.specs.declared.travelling.Traveller.{Traveller}
 use Rattle.world.proofs.Words.{words_along}
 
 -- none of the items names the packet
 abbrev pub NoneName : ℕ → List Item → Type 0
-NoneName i [] = Unit {0}
+NoneName i [] = ⊤
 NoneName i (first ∷ items) = (names i first ≡ false) × NoneName i items
 
 pub unnamed : (i : ℕ) (before items : List Item) (words : PacketWords) → NoneName i items

@@ -1,12 +1,9 @@
 -- What a switch's answer says of its own packet: the traveller that goes on.
-use Rattle.std.proofs.Common.{ℕ, ◌≡◌, ◌==◌, Bool, true, false, if◌then◌else◌, Option, Some, None, List, [], ◌∷◌, ◌++◌, refl, ap, sym, subst, ◌∙◌, eq-eqb}
-use Rattle.std.specs.Prelude.{unwrap_or}
-use Rattle.five_tuple.specs.declared.header.Header.{Header}
-use Rattle.policy_rules.specs.declared.packet.Leg.{Leg}
-use Rattle.policy_rules.specs.declared.packet.Leg.TheVariants.{Seek, Exit}
+use Rattle.std.proofs.Common.{ℕ, ◌≡◌, ◌==◌, true, Some, List, refl, sym, subst, eq-eqb}
+use Rattle.std.specs.Prelude.{⊤}
+use Rattle.policy_rules.specs.declared.packet.Leg.TheVariants.{Exit}
 use Rattle.policy_rules.specs.declared.policy.Action.TheVariants as action
 use Rattle.journal.specs.declared.item.Item.{Item}
-use Rattle.journal.specs.declared.item.Item.TheVariants as item
 use Rattle.switch_core.specs.declared.answers.Decision.{Decision}
 use Rattle.switch_core.specs.declared.answers.Next.{Next}
 use Rattle.switch_core.specs.declared.answers.Next.TheVariants as next
@@ -16,7 +13,6 @@ use Rattle.update_machine.specs.Setting.{Setting}
 use Rattle.packet_laws.specs.Words.{PacketWords}
 use Rattle.world.specs.Writing.{decided_items, decided_traveller}
 use Rattle.world.specs.declared.log.Standing.{Standing}
-use Rattle.world.specs.declared.travelling.Traveller.{Traveller}
 use Rattle.world.proofs.Words.{first_targets, traveller_by, words_along}
 
 -- the packet's words as its switch decides it
@@ -37,7 +33,7 @@ pub record IsExit (setting : Setting) (at : Standing) (ingress port : ℕ) (tunn
 abbrev pub GoesOn : Setting → Standing → ℕ → Decision → Next → Type 0
 GoesOn setting at ingress decision (next.Exit tunnel) =
     (port : ℕ) × (decision.action ≡ action.Out port) × IsExit setting at ingress port tunnel
-GoesOn setting at ingress decision _ = Unit {0}
+GoesOn setting at ingress decision _ = ⊤
 
 by_port : (setting : Setting) (before : List Item) (at : Standing) (ingress : ℕ)
     (decision : Decision) (route : List ℕ) (port : ℕ) (words : PacketWords)

@@ -1,5 +1,5 @@
 -- The actions of the first plan's rules name ports that switches have.
-use Rattle.std.proofs.Common.{ℕ, ◌≡◌, ◌<◌, ◌≤◌, ◌^◌, Bool, true, false, Option, Some, None, List, [], ◌∷◌, refl, ap, sym, subst, ◌∙◌, length, map, find, filter, get_or, arith, All}
+use Rattle.std.proofs.Common.{ℕ, ◌≡◌, ◌<◌, ◌^◌, Option, Some, None, List, [], ◌∷◌, refl, subst, length, map, find, filter, get_or, arith, All}
 use Rattle.std.specs.Prelude.{is_some, option_map}
 use Rattle.std.specs.Bool.{IsTrue}
 use Rattle.std.specs.Option.{IsSomeAnd}
@@ -7,7 +7,7 @@ use Rattle.std.proofs.lemmas.List.Elements.{All-contains, All-filter, All-nil}
 use Rattle.five_tuple.specs.Header.{IsHeader, fields_of}
 use Rattle.five_tuple.specs.declared.header.Header.{Header}
 use Rattle.net_file.specs.Net.{owner_of}
-use Rattle.policy_rules.specs.Policy.{highest, hit_of, is_highest, row_matches, scan}
+use Rattle.policy_rules.specs.Policy.{hit_of, is_highest, row_matches, scan}
 use Rattle.policy_rules.specs.RuleList.{hit_of_rule}
 use Rattle.policy_rules.specs.declared.policy.Action.{Action}
 use Rattle.policy_rules.specs.declared.policy.Action.TheVariants as action
@@ -125,7 +125,7 @@ said_law setting s header is sound =
     let few_rules : All (λ placed. length placed.0.rules < 2 ^ 32) plan =
     λ k d within. omega (arith, holds.leaves k d within, is.net.leaf_rules) in
     let good : AreSoundTables (tables_of plan 1 s) =
-    tables_are_sound rows plan 1 s holds.sound few few_rules in
+    tables_are_sound rows plan 1 s holds.sound holds.ended few few_rules in
     by_found setting s header (table_lookup (tables_of plan 1 s) header) is holds
     (tables_lead rows plan 1 s header holds.sound (has_targets rows setting.net plan holds) sound)
     (lookup_is_found [] (tables_of plan 1 s) header good sound)

@@ -1,21 +1,19 @@
 -- The first plan of a setting: sound partitions, each at the place of its number.
-use Rattle.std.proofs.Common.{ℕ, ◌≡◌, ◌<◌, Bool, true, false, Option, Some, None, List, [], ◌∷◌, refl, ap, sym, subst, ◌∙◌, length, map, get_or, arith, All, Contains, find, slice_get}
+use Rattle.std.proofs.Common.{ℕ, ◌≡◌, ◌<◌, Some, List, [], ◌∷◌, refl, ap, sym, subst, ◌∙◌, length, map, get_or, arith, All, Contains, slice_get}
 use Rattle.std.specs.Prelude.{Result, Ok, Err, IsOk}
-use Rattle.std.specs.Bool.{IsTrue}
-use Rattle.std.proofs.lemmas.List.Elements.{All-head}
 use Rattle.std.proofs.lemmas.List.{get_or-map, length-map}
 use Rattle.std.proofs.lemmas.Option.{slice_get-get_or}
 use Rattle.net_file.specs.Net.{IsNet}
 use Rattle.net_file.specs.declared.net.Net.{Net}
 use Rattle.partition.specs.Plan.{IsPlan, NoPlan, TooManyLeaves, Placed, plan_of}
 use Rattle.partition.proofs.CallerLemmas.{plan_holds}
-use Rattle.policy_rules.specs.Partitions.{AreNumbered, AreSoundPartitions}
+use Rattle.policy_rules.specs.Partitions.{AreNumbered}
 use Rattle.policy_rules.specs.Policy.{IsPolicy}
 use Rattle.policy_rules.specs.declared.policy.Row.{Row}
 use Rattle.policy_rules.specs.declared.rules.Partition.{Partition}
 use Rattle.switch_table.specs.Tables.{part_of}
 use Rattle.update_machine.specs.Played.{IsSetting}
-use Rattle.update_machine.specs.Setting.{Setting, placed_in, plan_of_file, policy_of_file}
+use Rattle.update_machine.specs.Setting.{Setting, placed_in, policy_of_file}
 use Rattle.packet_laws.specs.Calm.{first_plan}
 
 holds_of : (net : Net) (rows : List Row) (plan : Result (List Placed) NoPlan) → IsNet net

@@ -1,24 +1,18 @@
 -- What the tables of the first plan say of a header at a switch: a rule, or targets, of that plan.
-use Rattle.std.proofs.Common.{ℕ, suc, ◌≡◌, ◌+◌, ◌-◌, ◌<◌, ◌==◌, Bool, true, false, if◌then◌else◌, cond, Option, Some, None, List, [], ◌∷◌, refl, ap, sym, subst, ◌∙◌, length, map, find, filter, Contains, slice_get, position, All, get_or, arith, eqb-true, inl, inr}
+use Rattle.std.proofs.Common.{ℕ, ◌≡◌, ◌<◌, ◌==◌, Bool, true, false, if◌then◌else◌, Option, Some, None, List, [], refl, ap, sym, ◌∙◌, length, map, find, filter, slice_get, All, get_or, arith, eqb-true}
 use Rattle.std.specs.Prelude.{option_map, unwrap_or}
-use Rattle.std.specs.Bool.{IsTrue}
-use Rattle.std.specs.Option.{option_and_then, IsSomeAnd}
+use Rattle.std.specs.Option.{option_and_then}
 use Rattle.std.proofs.lemmas.List.Elements.{All-contains, All-filter, All-map}
 use Rattle.std.proofs.lemmas.List.{get_or-map, get_or_default, length-map}
 use Rattle.std.proofs.lemmas.Option.{slice_get-map, slice_get_within, slice_get-get_or}
-use Rattle.five_tuple.specs.Header.{IsHeader}
 use Rattle.five_tuple.specs.declared.header.Header.{Header}
 use Rattle.policy_rules.specs.Partitions.{AreNumbered, is_in}
-use Rattle.policy_rules.specs.Policy.{scan}
-use Rattle.policy_rules.specs.RuleList.{hit_of_rule}
-use Rattle.policy_rules.specs.declared.policy.Row.{Row}
 use Rattle.policy_rules.specs.declared.rules.Partition.{Partition}
 use Rattle.policy_rules.specs.declared.rules.Rule.{Rule}
 use Rattle.ternary.specs.Word.{any_word}
-use Rattle.switch_core.specs.Deciding.{IsFirstHit, own_part, part_numbered}
-use Rattle.switch_table.specs.Lookup.{lookup_in, plan_lookup, authority_of, rule_at}
+use Rattle.switch_core.specs.Deciding.{own_part, part_numbered}
+use Rattle.switch_table.specs.Lookup.{lookup_in, authority_of, rule_at}
 use Rattle.switch_table.specs.Tables.{Placed, has_target, part_of, tables_of}
-use Rattle.switch_table.specs.declared.search.Found.{Found}
 use Rattle.switch_table.specs.declared.search.Found.TheVariants as found
 use Rattle.switch_table.proofs.TableLemmas.{find-there}
 use Rattle.world.proofs.Plans.{at_number}

@@ -1,16 +1,15 @@
 -- A world in which nothing happened yet is as its journal says.
-use Rattle.std.proofs.Common.{ℕ, ◌≡◌, ◌<◌, ◌≤◌, List, [], ◌∷◌, ◌++◌, refl, ap, sym, subst, ◌∙◌, length, map, get_or, arith, All}
-use Rattle.std.specs.Prelude.{Result, Ok, Err, IsOk}
+use Rattle.std.proofs.Common.{ℕ, ◌≡◌, ◌<◌, ◌≤◌, List, [], ◌∷◌, refl, ap, sym, subst, ◌∙◌, length, map, get_or, arith, All}
+use Rattle.std.specs.Prelude.{Ok, IsOk}
 use Rattle.std.specs.List.{range_with_len}
 use Rattle.std.proofs.lemmas.List.Elements.{All-nil}
 use Rattle.std.proofs.lemmas.List.FromFn.{get_or-map-range_with_len, length-map-range_with_len}
 use Rattle.net_file.specs.Net.{IsNet}
 use Rattle.net_file.specs.declared.net.Net.{Net}
-use Rattle.partition.specs.Plan.{NoPlan, TooManyLeaves, Placed, plan_of}
+use Rattle.partition.specs.Plan.{Placed, plan_of}
 use Rattle.policy_rules.specs.Policy.{IsPolicy}
 use Rattle.policy_rules.specs.declared.policy.Row.{Row}
 use Rattle.switch_core.specs.State.{SwitchValue}
-use Rattle.update_machine.specs.Folds.{folded}
 use Rattle.update_machine.specs.Handled.{handled_count}
 use Rattle.update_machine.specs.Packets.{next_packet, travels}
 use Rattle.update_machine.specs.Played.{IsSetting, MayPlay, NamesOwnPort}
@@ -18,7 +17,7 @@ use Rattle.update_machine.specs.Setting.{Setting, plan_of_file, setting_of}
 use Rattle.update_machine.specs.Steps.{steps_in}
 use Rattle.packet_laws.specs.Calm.{IsCalm, first_plan}
 use Rattle.packet_laws.proofs.Calm.{calm}
-use Rattle.world.specs.State.{AreTied, Tied, switch_begun, switch_of, traveller_in}
+use Rattle.world.specs.State.{AreTied, switch_begun, traveller_in}
 use Rattle.world.proofs.Calmness.{calm_switch_of}
 
 planned_first : (net : Net) (policies : List (List Row)) → 1 ≤ length policies

@@ -1,5 +1,6 @@
 -- One more step of a journal: it is played, and the calls that it counts.
-use Rattle.std.proofs.Common.{ℕ, ◌≡◌, ◌+◌, Bool, true, false, if◌then◌else◌, Option, Some, None, List, [], ◌∷◌, ◌++◌, refl, ap, sym, subst, ◌∙◌, append_assoc, append-nil, All, arith, min, sum_by}
+use Rattle.std.specs.Prelude.{⊤}
+use Rattle.std.proofs.Common.{ℕ, ◌≡◌, ◌+◌, List, [], ◌∷◌, ◌++◌, refl, ap, sym, ◌∙◌, append_assoc, append-nil, arith, min, sum_by}
 use Rattle.std.proofs.lemmas.List.Elements.{All-push}
 use Rattle.std.proofs.lemmas.List.Sums.{sum_by-cons}
 use Rattle.journal.specs.declared.item.Item.{Item}
@@ -40,10 +41,10 @@ played_more setting journal row step played may = record {
 -- an item that begins no step
 abbrev pub NoRow : Item → Type 0
 NoRow (item.Row row step) = ⊥
-NoRow _ = Unit {0}
+NoRow _ = ⊤
 
 abbrev pub NoRows : List Item → Type 0
-NoRows [] = Unit {0}
+NoRows [] = ⊤
 NoRows (first ∷ items) = NoRow first × NoRows items
 
 with_more : (before : List Item) (newest : StepItems) (steps : List StepItems)

@@ -1,5 +1,5 @@
 -- One more step keeps the tie of a world to its journal.
-use Rattle.std.proofs.Common.{ℕ, ◌≡◌, ◌+◌, ◌<◌, List, [], ◌∷◌, ◌++◌, refl, ap, sym, subst, ◌∙◌, length, get_or, min, arith}
+use Rattle.std.proofs.Common.{ℕ, ◌≡◌, ◌+◌, ◌<◌, List, ◌∷◌, ◌++◌, ap, sym, subst, ◌∙◌, length, get_or, min, arith}
 use Rattle.journal.specs.declared.item.Item.{Item}
 use Rattle.journal.specs.declared.item.Item.TheVariants as item
 use Rattle.steps.specs.declared.step.Step.{Step}
@@ -13,7 +13,7 @@ use Rattle.update_machine.specs.Setting.{Setting}
 use Rattle.update_machine.proofs.CallerLemmas.{count_of_append}
 use Rattle.packet_laws.specs.Calm.{IsCalm}
 use Rattle.packet_laws.specs.Words.{words_of}
-use Rattle.world.specs.State.{AreTied, Tied, switch_of}
+use Rattle.world.specs.State.{AreTied, switch_of}
 use Rattle.world.specs.Travelling.{Travellers, traveller}
 use Rattle.world.proofs.Calmness.{calm_switch, calm_switch_of}
 use Rattle.world.proofs.Played.{played_calm}

@@ -1,14 +1,13 @@
 -- What the words of a packet are behind some items, and what is known of it as it travels.
-use Rattle.std.proofs.Common.{ℕ, ◌≡◌, Bool, true, false, if◌then◌else◌, Option, Some, None, List, [], ◌∷◌, ◌++◌, refl, ap, sym, ◌∙◌, append_assoc, append-nil}
+use Rattle.std.proofs.Common.{ℕ, ◌≡◌, if◌then◌else◌, Option, Some, None, List, [], ◌∷◌, ◌++◌, refl, ap, sym, ◌∙◌, append_assoc, append-nil}
 use Rattle.std.specs.Prelude.{unwrap_or, option_map}
 use Rattle.policy_rules.specs.declared.packet.Leg.{Leg}
 use Rattle.policy_rules.specs.declared.packet.Leg.TheVariants.{Seek, Exit}
 use Rattle.five_tuple.specs.Header.{header_of}
 use Rattle.journal.specs.declared.item.Item.{Item}
 use Rattle.update_machine.specs.Marks.{retired_mark}
-use Rattle.update_machine.specs.Packets.{owner, targets_in, targets_of, decision_of, found_down, header_in, ingress_of, leg_of, route_in, route_place, standing, travels}
+use Rattle.update_machine.specs.Packets.{owner, targets_in, targets_of, leg_of}
 use Rattle.update_machine.specs.Setting.{Setting}
-use Rattle.update_machine.specs.Versions.{plan_at}
 use Rattle.packet_laws.specs.Calm.{IsCalm, first_plan}
 use Rattle.packet_laws.specs.Words.{PacketWords, names, told_by, words_of}
 use Rattle.packet_laws.proofs.Words.{words_grow}

@@ -1,5 +1,7 @@
--- Parts of what a step writes.
-use Rattle.std.proofs.Common.{ℕ, ◌≡◌, List, [], ◌∷◌, ◌++◌, refl, sym, ◌∙◌, append-nil}
+-- What a step writes behind its row, and parts of it.
+use Rattle.std.proofs.Common.{ℕ, ◌≡◌, List, [], ◌∷◌, ◌++◌, refl, ap, sym, ◌∙◌, append-nil, append_assoc}
+use Rattle.std.specs.Prelude.{OnErr, OnOk, Result, Ok, Err}
+use Rattle.std.proofs.lemmas.Result.{on_ok_weaker}
 use Rattle.journal.specs.declared.item.Item.{Item}
 use Rattle.journal.specs.declared.item.Item.TheVariants as item
 use Rattle.steps.specs.declared.step.Step.{Step}
@@ -22,3 +24,38 @@ part_row setting old new row step is = record {
   split = refl;
   grown = is;
 }
+
+-- ---- the row, and then the rest
+
+pub both_ok : {T E P Q R : Type 0} (r : Result T E) → (P → Q → R) → OnOk r P → OnOk r Q → OnOk r R
+both_ok (Ok x) f p q = f p q
+both_ok (Err e) f p q = tt
+
+pub grown_more : (journal begun new items : List Item) (first : Item)
+    → begun ≡ journal ++ first ∷ [] → new ≡ begun ++ items → new ≡ journal ++ first ∷ items
+grown_more journal begun new items first row_is grown =
+    grown ∙ ap (λ js. js ++ items) row_is ∙ append_assoc journal (first ∷ []) items
+
+pub step_written : {T E : Type 0} (r : Result T E) (journal begun new items all : List Item)
+    (first : Item) → all ≡ first ∷ items → begun ≡ journal ++ first ∷ []
+    → OnOk r (new ≡ begun ++ items) → OnOk r (new ≡ journal ++ all)
+step_written r journal begun new items all first all_is row_is written =
+    on_ok_weaker r (λ grown. grown_more journal begun new items first row_is grown
+    ∙ ap (λ more. journal ++ more) (sym all_is)) written
+
+part_more : (journal begun new items all : List Item) (first : Item) → all ≡ first ∷ items
+    → begun ≡ journal ++ first ∷ [] → IsPart begun items new → IsPart journal all new
+part_more journal begun new items all first all_is begun_is part = record {
+  written = first ∷ part.written;
+  rest = part.rest;
+  split = all_is ∙ ap (λ more. first ∷ more) part.split;
+  grown = part.grown ∙ ap (λ js. js ++ part.written) begun_is
+      ∙ append_assoc journal (first ∷ []) part.written;
+}
+
+pub step_part : {T E : Type 0} (r : Result T E) (journal begun new items all : List Item)
+    (first : Item) → all ≡ first ∷ items → begun ≡ journal ++ first ∷ []
+    → OnErr r (IsPart begun items new) → OnErr r (IsPart journal all new)
+step_part (Ok x) journal begun new items all first all_is row_is part = tt
+step_part (Err e) journal begun new items all first all_is row_is part =
+    part_more journal begun new items all first all_is row_is part

@@ -3,3 +3,4 @@ pub mod State
 pub mod Writing
 pub mod Packets
 pub mod Parts
+pub mod Marks

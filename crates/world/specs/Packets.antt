@@ -1,5 +1,5 @@
 -- What becomes of the journal and of the packets on their way as a packet comes in or moves on.
-use Rattle.std.specs.Prelude.{ℕ, ◌≡◌, Option, Some, None, List, [], ◌∷◌, ◌++◌}
+use Rattle.std.specs.Prelude.{ℕ, Option, Some, None, List, [], ◌∷◌}
 use Rattle.failover.specs.DownSet.{no_links}
 use Rattle.five_tuple.specs.declared.header.Header.{Header}
 use Rattle.journal.specs.declared.item.Item.{Item}
@@ -10,7 +10,7 @@ use Rattle.switch_core.specs.Ends.{around}
 use Rattle.switch_core.specs.Entering.{entered, incoming}
 use Rattle.switch_core.specs.State.{SwitchValue, counted}
 use Rattle.switch_core.specs.declared.answers.Entered.{Entered}
-use Rattle.tunnel.specs.Moves.{advanced, next}
+use Rattle.tunnel.specs.Moves.{advanced}
 use Rattle.world.specs.Writing.{arrived_items, arrived_traveller}
 use Rattle.world.specs.declared.log.Standing.{Standing}
 use Rattle.world.specs.declared.travelling.Traveller.{Traveller}

@@ -1,20 +1,22 @@
 -- The parts of a world, and what holds of them.
-use Rattle.std.specs.Prelude.{ℕ, ◌≡◌, ◌<◌, Bool, false, List, slice_index}
-use Rattle.net_file.specs.Net.{IsNet, links_of}
+use Rattle.std.specs.Prelude.{◌≡◌, Bool, false, length}
+use Rattle.net_file.specs.Net.{IsNet}
 use Rattle.net_file.specs.Owners.{AreOwners}
-use Rattle.net_file.specs.declared.net.Net.{Net}
 use Rattle.update_machine.specs.Setting.{Setting, setting_of}
+use Rattle.version_update.specs.Marks.{first_marks}
 use Rattle.world.specs.State.{AreNear, AreTied, WorldValue}
 use Rattle.world.specs.declared.parts.Parts.{Parts}
 
 abbrev pub setting_in : Parts → Setting
 setting_in parts = setting_of parts.net parts.policies.items
 
--- the tables of the ports and the neighbours are the network's
+-- the tables of the ports and the neighbours are the network's, and the marks are as they began,
+-- since no message is sent yet
 pub record AreSound (parts : Parts) : Type 0 where
   pub sound : IsNet parts.net
   pub owners : AreOwners parts.net.switches parts.ports
   pub masks : AreNear parts.net parts.near
+  pub marks : parts.controller.marks ≡ first_marks (length parts.net.switches)
 
 -- the parts are as their journal says
 abbrev pub AreTiedIn : Parts → Type 0
@@ -22,12 +24,13 @@ AreTiedIn parts =
     AreTied (setting_in parts) parts.log.journal parts.switches.items parts.log.travelling
     parts.packets
 
--- the network and the policies stay, and what is told of them
+-- the network, the policies and the controller stay, and what is told of them
 pub record KeepNet (before after : Parts) : Type 0 where
   pub same_net : after.net ≡ before.net
   pub same_policies : after.policies.items ≡ before.policies.items
   pub same_ports : after.ports ≡ before.ports
   pub same_near : after.near ≡ before.near
+  pub same_controller : after.controller ≡ before.controller
 
 -- a world as contracts see it
 abbrev pub value_of : Parts → Bool → WorldValue
@@ -37,6 +40,7 @@ value_of parts is_spent = record {
   switches = parts.switches.items;
   travelling = parts.log.travelling;
   packets = parts.packets;
+  controller = parts.controller;
   is_spent = is_spent;
 }
 

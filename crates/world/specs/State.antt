@@ -2,6 +2,7 @@
 -- packet that travels is on its way.
 use Rattle.std.specs.Prelude.{ℕ, ◌≡◌, ◌+◌, ◌<◌, Bool, false, map, slice_index, ◌==◌, if◌then◌else◌, Option, Some, None, option_map, unwrap_or, List, [], ◌∷◌, ◌++◌, filter, filter_map, fold, length, slice_index_or}
 use Rattle.std.specs.List.{list_any, range_with_len}
+use Rattle.controller.specs.Controller.{ControllerValue}
 use Rattle.ctrl_msg.specs.declared.message.Body.{Body}
 use Rattle.ctrl_msg.specs.declared.message.Body.TheVariants.{Install, Collect}
 use Rattle.policy_rules.specs.declared.packet.Leg.{Leg}
@@ -10,6 +11,8 @@ use Rattle.journal.specs.declared.item.Item.{Item}
 use Rattle.failover.specs.Adverts.{first_adverts}
 use Rattle.net_file.specs.Net.{links_of}
 use Rattle.net_file.specs.declared.net.Net.{Net}
+use Rattle.steps.specs.declared.step.Step.{Step}
+use Rattle.steps.specs.declared.step.Step.TheVariants.{Packet}
 use Rattle.switch_core.specs.State.{SwitchValue, begun}
 use Rattle.switch_table.specs.Tables.{Placed, tables_of}
 use Rattle.switch_table.specs.declared.tables.Tables.{Tables}
@@ -34,6 +37,7 @@ pub record WorldValue : Type 0 where
   pub travelling : Travellers
   -- how many packets came in or were refused
   pub packets : ℕ
+  pub controller : ControllerValue
   -- memory ran out within a step, so that no further one is taken
   pub is_spent : Bool
 
@@ -149,3 +153,8 @@ pub record IsBegun (setting : Setting) (world : WorldValue) : Type 0 where
   pub own : world.setting ≡ setting
   pub silent : world.journal ≡ []
   pub able : world.is_spent ≡ false
+
+-- how many packets a step brings in, refused ones counted
+abbrev pub comes_in : Step → ℕ
+comes_in (Packet switch header) = 1
+comes_in _ = 0

@@ -27,3 +27,6 @@ pub use controller::PlanError;
 pub use error::StepError;
 pub use travelling::Traveller;
 pub use world::World;
+
+#[cfg(test)]
+mod tests;

@@ -1,13 +1,15 @@
-ghost use Rattle.std.specs.Prelude.{◌≡◌, ◌++◌, ◌<◌, OnOk, OnErr};
+ghost use Rattle.std.specs.Prelude.{◌≡◌, ◌+◌, ◌++◌, ◌≤◌, OnOk, OnErr};
 ghost use Rattle.update_machine.specs.Packets.{next_packet};
 ghost use Rattle.update_machine.specs.Pieces.{piece};
 ghost use Rattle.update_machine.specs.Played.{MayPlay};
 ghost use Rattle.steps.specs.declared.step.Step.TheVariants.{Hop as HopStep, Lose as LoseStep, Packet as PacketStep};
 ghost use Rattle.world.specs.Parts.{AreSound, AreTiedIn, KeepNet, setting_in};
+ghost use Rattle.world.specs.State.{comes_in};
 ghost use Rattle.world.specs.Writing.{IsPart};
 
 use crate::log::Log;
 use crate::packets::{enter, hop};
+use controller::Controller;
 use five_tuple::Header;
 use journal::Item;
 use net_file::{Net, Ports};
@@ -28,6 +30,7 @@ pub struct Parts {
     pub log: Log,
     /// How many packets came in or were refused.
     pub packets: u32,
+    pub controller: Controller,
 }
 
 impl Parts {
@@ -39,8 +42,9 @@ impl Parts {
         requires sound { AreSound self.old }
         requires tied { AreTiedIn self.old }
         requires may { MayPlay (setting_in self.old) step.now }
-        requires few { next_packet self.old.log.journal < 4_000_000_000 }
+        requires few { next_packet self.old.log.journal ≤ 4_000_000_000 }
         ensures net { KeepNet self.old self.new }
+        ensures counted { OnOk result (self.new.packets ≡ self.old.packets + comes_in step.now) }
         ensures written { OnOk result (self.new.log.journal ≡ self.old.log.journal
             ++ piece (setting_in self.old) self.old.log.journal row step.now) }
         ensures tied { OnOk result (AreTiedIn self.new) }
@@ -67,8 +71,9 @@ impl Parts {
         requires sound { AreSound self.old }
         requires tied { AreTiedIn self.old }
         requires may { MayPlay (setting_in self.old) (PacketStep switch header.now) }
-        requires few { next_packet self.old.log.journal < 4_000_000_000 }
+        requires few { next_packet self.old.log.journal ≤ 4_000_000_000 }
         ensures net { KeepNet self.old self.new }
+        ensures counted { self.new.packets ≡ self.old.packets + 1 }
         ensures written { OnOk result (self.new.log.journal ≡ self.old.log.journal
             ++ piece (setting_in self.old) self.old.log.journal row
             (PacketStep switch header.now)) }
@@ -102,6 +107,7 @@ impl Parts {
         requires tied { AreTiedIn self.old }
         requires may { MayPlay (setting_in self.old) (HopStep packet) }
         ensures net { KeepNet self.old self.new }
+        ensures counted { self.new.packets ≡ self.old.packets }
         ensures written { OnOk result (self.new.log.journal ≡ self.old.log.journal
             ++ piece (setting_in self.old) self.old.log.journal row (HopStep packet)) }
         ensures tied { OnOk result (AreTiedIn self.new) }
@@ -134,6 +140,7 @@ impl Parts {
         requires tied { AreTiedIn self.old }
         requires may { MayPlay (setting_in self.old) (LoseStep packet) }
         ensures net { KeepNet self.old self.new }
+        ensures counted { self.new.packets ≡ self.old.packets }
         ensures written { OnOk result (self.new.log.journal ≡ self.old.log.journal
             ++ piece (setting_in self.old) self.old.log.journal row (LoseStep packet)) }
         ensures tied { OnOk result (AreTiedIn self.new) }

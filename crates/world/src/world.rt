@@ -6,7 +6,8 @@ ghost use Rattle.update_machine.specs.Packets.{next_packet, travels};
 ghost use Rattle.update_machine.specs.Pieces.{piece};
 ghost use Rattle.update_machine.specs.Played.{MayPlay, NamesOwnPort};
 ghost use Rattle.update_machine.specs.Setting.{setting_of};
-ghost use Rattle.world.specs.State.{AreTied, IsBegun};
+ghost use Rattle.world.specs.Marks.{AreMarksOf};
+ghost use Rattle.world.specs.State.{AreTied, IsBegun, comes_in};
 ghost use Rattle.world.specs.Travelling.{IsNextFrom, traveller};
 ghost use Rattle.world.specs.Writing.{IsPart};
 
@@ -15,7 +16,7 @@ use crate::error::StepError;
 use crate::log::Log;
 use crate::parts::Parts;
 use crate::travelling::Travelling;
-use controller::{PlanError, compile};
+use controller::{Controller, PlanError, compile};
 use journal::Journal;
 use net_file::Net;
 use policy_rules::Policy;
@@ -24,10 +25,11 @@ use std::marker::Model;
 use steps::Step;
 use switch_core::Switch;
 
-/// A network of switches, the packets on their way in it, and the journal of what happened.
+/// A network of switches with its controller, the packets on their way in it, and the journal of
+/// what happened.
 ///
 /// Contracts see the setting, the journal, the switches, the packets on their way, how many packets
-/// there were, and whether memory ran out within a step.
+/// there were, the controller, and whether memory ran out within a step.
 #[derive(Drop)]
 pub struct World {
     parts: Parts,
@@ -65,6 +67,7 @@ impl World {
         let plan = compile(alloc, &policies[0], net)?;
         let near = near_masks(net);
         let switches = switches_of(alloc, net, &plan, &near)?;
+        let controller = Controller::begin(alloc, net, plan)?;
         let parts = Parts {
             net: net.clone()?,
             policies,
@@ -76,6 +79,7 @@ impl World {
                 travelling: Travelling::new(alloc),
             },
             packets: 0,
+            controller,
         };
         Ok(World {
             parts,
@@ -90,10 +94,11 @@ impl World {
     /// is taken.
     pub fn step(&mut self, alloc: Global, row: u32, step: &Step) -> Result<(), StepError>
         requires may { MayPlay self.old.setting step.now }
-        requires few { next_packet self.old.journal < 4_000_000_000 }
+        requires few { next_packet self.old.journal ≤ 4_000_000_000 }
         ensures setting { self.new.setting ≡ self.old.setting }
         ensures written { OnOk result (self.new.journal ≡ self.old.journal
             ++ piece self.old.setting self.old.journal row step.now) }
+        ensures counted { OnOk result (self.new.packets ≡ self.old.packets + comes_in step.now) }
         ensures goes_on { OnOk result (self.new.is_spent ≡ false) }
         ensures part { OnErr result (IsPart self.old.journal
             (piece self.old.setting self.old.journal row step.now) self.new.journal) }
@@ -129,11 +134,30 @@ impl World {
         &self.parts.log.journal
     }
 
+    /// What happened so far; all else is let go. It takes no memory.
+    pub fn into_journal(self) -> Journal
+        ensures { result ≡ self.journal }
+    {
+        let parts = self.parts;
+        let log = parts.log;
+        log.journal
+    }
+
     /// The switches, by their numbers.
     pub fn switches(&self) -> &[Switch]
         ensures { result.now ≡ self.now.switches }
     {
         &self.parts.switches
+    }
+
+    /// The controller. As long as memory didn't run out within a step, its marks are as the journal
+    /// says.
+    pub fn controller(&self) -> &Controller
+        ensures controller { result.now ≡ self.now.controller }
+        ensures marks { self.now.is_spent ≡ false → AreMarksOf self.now.setting self.now.journal
+            self.now.controller.marks }
+    {
+        &self.parts.controller
     }
 
     /// How many packets came in or were refused.

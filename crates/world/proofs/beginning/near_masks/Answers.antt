@@ -1,4 +1,4 @@
-use Rattle.std.proofs.Common.{ℕ, ◌≡◌, ◌<◌, ◌≢◌, length, arith, get_or, below_more, ◌∙◌, set}
+use Rattle.std.proofs.Common.{◌≡◌, ◌<◌, ◌≢◌, length, arith, get_or, below_more, ◌∙◌, set}
 use Rattle.std.proofs.lemmas.List.{get_or-set_other, get_or-set_same, length-set}
 use Rattle.net_file.specs.Net.{links_of}
 use Rattle.world.proofs.beginning.near_masks.Goals as goal

@@ -1,8 +1,7 @@
-use Rattle.std.proofs.Common.{ℕ, ◌≡◌, ◌+◌, ◌<◌, ◌∷◌, [], ◌++◌, ap, sym, ◌∙◌, map, length, subst, List, arith}
+use Rattle.std.proofs.Common.{ℕ, ◌≡◌, ◌<◌, ◌∷◌, [], ◌++◌, ap, sym, ◌∙◌, map, length, subst, arith}
 use Rattle.std.specs.List.{range_with_len}
 use Rattle.std.proofs.lemmas.List.FromFn.{map-range_with_len_more}
 use Rattle.failover.specs.Adverts.{first_adverts}
-use Rattle.failover.specs.declared.advert.Advert.{Advert}
 use Rattle.switch_core.specs.State.{HasOwnUpTo, SwitchValue, begun}
 use Rattle.net_file.specs.Net.{links_of}
 use Rattle.switch_table.specs.Tables.{tables_of}

@@ -1,6 +1,6 @@
 -- Where a hop ends is said by the next switch of the route.
 use Rattle.std.proofs.Common.{ℕ, ◌≡◌, ◌++◌, Option, Some, None, ap, sym, subst, ◌∙◌}
-use Rattle.std.specs.Prelude.{[], ◌∷◌, OnOk, OnErr, Result, Ok, Err}
+use Rattle.std.specs.Prelude.{⊤, [], ◌∷◌, OnOk, OnErr, Result, Ok, Err}
 use Rattle.std.specs.declared.alloc.AllocError.{AllocError}
 use Rattle.journal.specs.declared.item.Item.TheVariants.{Hopped}
 use Rattle.switch_core.specs.Arriving.{IsAtAuthority}
@@ -86,7 +86,7 @@ returns-in_ok-put-in-Move-clause-counted c =
     moves _ _ _ _ c.requires.usable (sym c.hop-hop.ensures.end ∙ c.in-Move.is) in
     c.hop-hop.ensures.after ∙ ap (hopped_switch c.args.switch.now) (sym goes)
 
-always : {P : Type 0} (r : Result (Unit {0}) AllocError) → P → OnOk r P
+always : {P : Type 0} (r : Result (⊤) AllocError) → P → OnOk r P
 always (Ok done) p = p
 always (Err error) p = tt
 
