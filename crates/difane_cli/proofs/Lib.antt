@@ -1,3 +1,4 @@
+mod Begun
 mod Gains
 mod OneSwitch
 mod Plays

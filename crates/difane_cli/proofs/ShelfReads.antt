@@ -2,7 +2,7 @@
 use Rattle.std.proofs.Common.{ℕ, zero, suc, ◌≡◌, ◌+◌, ◌≤◌, Bool, true, false, Option, Some, None, Ok, List, ◌∷◌, [], refl, ap, ◌∙◌, arith}
 use Rattle.std.specs.Option.{ForSome}
 use Rattle.net_file.specs.declared.net.Net.{Net}
-use Rattle.plain_schedule.specs.declared.step.Event.{Event}
+use Rattle.steps.specs.declared.step.Event.{Event}
 use Rattle.shelf.specs.Faults.{counted, counted_up}
 use Rattle.shelf.specs.Shelf.{Files, ShelfState, IsAfterReads}
 use Rattle.difane_cli.specs.Inputs.{most_reads, net_reads, read_net, read_schedule, switch_on, up_to_refusal}
@@ -30,16 +30,47 @@ reads_then a b most old middle new few first then =
       );
     }
 
--- a command reads two files, where the first one is accepted
-pub two_reads : (known : Option Files) (command : ReplayCommand) (events : List Event)
-    → ForSome known (λ files. read_schedule files command.schedule ≡ Ok events)
-    → 2 ≤ most_reads known (Some (Replay command))
-two_reads None command events accepted = omega arith
-two_reads (Some files) command events accepted = rw (accepted files refl) (more _)
+-- a replay reads its schedule too, where the network is accepted
+pub schedule_read : (known : Option Files) (command : ReplayCommand) (net : Net)
+    → ForSome known (λ files. read_net files command.net ≡ Ok net)
+    → net_reads command.net + 1 ≤ most_reads known (Some (Replay command))
+schedule_read None command net read = omega arith
+schedule_read (Some files) command net read = rw (read files refl) (more _ _)
   where
-    more : (b : Bool) → 2 ≤ up_to_refusal (true ∷ b ∷ [])
+    more : (a b : Bool) → net_reads command.net + 1
+        ≤ net_reads command.net + up_to_refusal (a ∷ b ∷ [])
+    more true true = omega arith
+    more true false = omega arith
+    more false b = omega arith
+
+-- and then its policy, where the schedule is accepted
+pub both_read : (known : Option Files) (command : ReplayCommand) (net : Net) (events : List Event)
+    → ForSome known (λ files. read_net files command.net ≡ Ok net)
+    → ForSome known (λ files. read_schedule net files command.schedule ≡ Ok events)
+    → net_reads command.net + 1 + 1 ≤ most_reads known (Some (Replay command))
+both_read None command net events read accepted = omega arith
+both_read (Some files) command net events read accepted =
+    rw (read files refl, accepted files refl) (more _)
+  where
+    more : (b : Bool) → net_reads command.net + 1 + 1
+        ≤ net_reads command.net + up_to_refusal (true ∷ b ∷ [])
     more true = omega arith
     more false = omega arith
+
+-- the reads of a replay, of its network, its schedule and its policy
+pub three_reads : (command : ReplayCommand) (net : Net) (events : List Event)
+    (old one two new : ShelfState)
+    → ForSome old.files (λ files. read_net files command.net ≡ Ok net)
+    → ForSome one.files (λ files. read_schedule net files command.schedule ≡ Ok events)
+    → IsAfterReads (net_reads command.net) old one → IsAfterReads 1 one two
+    → IsAfterReads 1 two new
+    → IsAfterReads (most_reads old.files (Some (Replay command))) old new
+three_reads command net events old one two new net_read events_read first second third =
+    let most = net_reads command.net + 1 in
+    let both = reads_then (net_reads command.net) 1 most old one two (omega arith) first second in
+    let all = both_read old.files command net events net_read
+    (λ files is. events_read files (first.same_files ∙ is)) in
+    reads_then most 1 _ old two new all both third
 
 -- a printing command reads its policy too, where the network and the switch are accepted
 pub policy_read : (known : Option Files) (command : PrintCommand) (net : Net) (switch : Option ℕ)

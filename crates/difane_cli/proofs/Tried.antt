@@ -3,7 +3,7 @@ use Rattle.std.proofs.Common.{◌≡◌, Some, None, [], ◌∷◌, codes, refl}
 use Rattle.difane_cli.specs.Words.{Print, Replay, command_of}
 
 two_names : command_of (codes "replay" ∷ codes "s.csv" ∷ codes "p.csv" ∷ []) ≡ Some
-    (Replay (record { schedule = codes "s.csv"; policy = codes "p.csv" }))
+    (Replay (record { schedule = codes "s.csv"; policy = codes "p.csv"; net = None }))
 two_names = refl
 
 no_option : command_of (codes "replay" ∷ codes "s.csv" ∷ codes "--net" ∷ []) ≡ None
@@ -43,6 +43,7 @@ no_empty_net = refl
 no_net_between : command_of (codes "show" ∷ codes "p.csv" ∷ codes "--net=n" ∷ codes "a" ∷ []) ≡ None
 no_net_between = refl
 
-no_net_for_replay : command_of
-    (codes "replay" ∷ codes "s.csv" ∷ codes "p.csv" ∷ codes "--net=n" ∷ []) ≡ None
-no_net_for_replay = refl
+net_for_replay : command_of
+    (codes "replay" ∷ codes "s.csv" ∷ codes "p.csv" ∷ codes "--net=n" ∷ []) ≡ Some
+    (Replay (record { schedule = codes "s.csv"; policy = codes "p.csv"; net = Some (codes "n") }))
+net_for_replay = refl

@@ -1,11 +1,11 @@
 -- What the words and the files that a command read are to the definitions.
-use Rattle.std.specs.Prelude.{⊤, ℕ, ◌≤◌, Option, option_map, List, [], ◌∷◌, length, map, All, string_bytes}
+use Rattle.std.specs.Prelude.{ℕ, ◌≡◌, ◌≤◌, Option, option_map, List, length, map, string_bytes, All}
 use Rattle.std.specs.Borrow.{Bor}
 use Rattle.net_file.specs.Net.{IsNet}
-use Rattle.plain_schedule.specs.OneSwitch.{IsOfOneSwitch, NamesOwnPorts}
-use Rattle.plain_schedule.specs.declared.plain.TheConstants.{MAX_EVENTS}
-use Rattle.plain_machine.specs.Setting.{first_policy}
-use Rattle.difane_cli.specs.Run.{IsPrintingOf}
+use Rattle.steps.specs.declared.step.TheConstants.{MAX_EVENTS}
+use Rattle.update_machine.specs.Played.{MayHappen}
+use Rattle.world.specs.State.{IsBegun}
+use Rattle.difane_cli.specs.Run.{IsPrintingOf, IsReplayOf}
 use Rattle.difane_cli.specs.Inputs.{Inputs, Printing, Task, Play, Print}
 use Rattle.difane_cli.specs.Words as grammar
 use Rattle.difane_cli.specs.declared.inputs.ReplayInputs.{ReplayInputs}
@@ -23,7 +23,11 @@ abbrev pub net_named : Option (Bor (List ℕ)) → Option (List ℕ)
 net_named name = option_map (λ n. n.now) name
 
 abbrev pub replay_named : ReplayWords → grammar.ReplayCommand
-replay_named words = record { schedule = words.schedule.now; policy = words.policy.now }
+replay_named words = record {
+  schedule = words.schedule.now;
+  policy = words.policy.now;
+  net = net_named words.net;
+}
 
 abbrev pub print_named : PrintWords → grammar.PrintCommand
 print_named words =
@@ -41,7 +45,7 @@ cut_seen cut = record { net = net_named cut.net; words = map string_bytes cut.wo
 -- the inputs that were read
 abbrev pub inputs_stated : ReplayInputs → Inputs
 inputs_stated inputs = record {
-  setting = record { policies = inputs.policy ∷ [] };
+  setting = inputs.world.setting;
   events = inputs.events.items;
 }
 
@@ -57,15 +61,21 @@ abbrev pub task_stated : declared_task.Task → Task
 task_stated (asked.Play inputs) = Play (inputs_stated inputs)
 task_stated (asked.Print inputs) = Print (printing_stated inputs)
 
--- inputs name the one switch and its ports alone; a plan is on a network
-abbrev pub IsSoundTask : Task → Type 0
-IsSoundTask (Play inputs) =
-    All IsOfOneSwitch inputs.events × (length inputs.events ≤ MAX_EVENTS)
-    × NamesOwnPorts (first_policy inputs.setting)
-IsSoundTask (Print printing) = IsNet printing.net
+-- in the world of a replay nothing happened yet, its network is the one that was read, and the
+-- events may happen on it
+pub record IsReady (inputs : ReplayInputs) : Type 0 where
+  pub begun : IsBegun inputs.world.setting inputs.world
+  pub net : inputs.world.setting.net ≡ inputs.net
+  pub may : All (MayHappen inputs.world.setting) inputs.events.items
+  pub few : length inputs.events.items ≤ MAX_EVENTS
 
--- the task is of the kind that the command asks for, and a plan is as it asks for it
+-- a plan is on a network
+abbrev pub IsReadyTask : declared_task.Task → Type 0
+IsReadyTask (asked.Play inputs) = IsReady inputs
+IsReadyTask (asked.Print inputs) = IsNet inputs.net
+
+-- the task is of the kind that the command asks for, and as it asks for it
 abbrev pub IsTaskOf : grammar.Command → Task → Type 0
-IsTaskOf (grammar.Replay words) (Play inputs) = ⊤
+IsTaskOf (grammar.Replay words) (Play inputs) = IsReplayOf words inputs
 IsTaskOf (grammar.Print words) (Print printing) = IsPrintingOf words printing
 IsTaskOf _ _ = ⊥

@@ -7,20 +7,19 @@ use Rattle.net_file.specs.Refusals as net_text
 use Rattle.net_file.specs.declared.net.Net.{Net}
 use Rattle.partition.specs.Plan.{NoPlan, Placed, plan_of}
 use Rattle.partition.specs.Plan as no_plan
-use Rattle.policy_rules.specs.RuleList.{word_total}
 use Rattle.policy_rules.specs.declared.policy.Row.{Row}
 use Rattle.policy_file.specs.Ports.{first_without_port}
 use Rattle.policy_file.specs.Reading as policy_text
 use Rattle.policy_file.specs.declared.ports.NoPort.{NoPort}
-use Rattle.plain_schedule.specs.OneSwitch as one_switch
-use Rattle.plain_schedule.specs.Plain as schedule_text
-use Rattle.plain_schedule.specs.declared.step.Event.{Event}
+use Rattle.schedule.specs.Reading as schedule_text
+use Rattle.schedule.specs.Refusals as refused_by
+use Rattle.steps.specs.declared.step.Event.{Event}
 use Rattle.shelf.specs.Shelf.{Files, file_named}
-use Rattle.plain_machine.specs.Setting.{Setting}
+use Rattle.update_machine.specs.Setting.{Setting, setting_of}
 use Rattle.difane_cli.specs.Words.{Command, PrintCommand, ReplayCommand}
 use Rattle.difane_cli.specs.Words as asked
 use Rattle.difane_cli.specs.declared.inputs.TheConstants.{MAX_BYTES, MISSING, TOO_LONG}
-use Rattle.difane_cli.specs.declared.policies.TheConstants.{MAX_WORDS, NO_PORT, NO_ROOM, NO_SWITCH, TOO_MANY_LEAVES, TOO_MANY_WORDS}
+use Rattle.difane_cli.specs.declared.policies.TheConstants.{NO_PORT, NO_ROOM, NO_SWITCH, TOO_MANY_LEAVES, TOO_MANY_WORDS}
 use Rattle.difane_cli.specs.declared.status.Refusal.{Refusal}
 use Rattle.difane_cli.specs.declared.status.Stop.{Stop}
 use Rattle.difane_cli.specs.declared.status.Stop.TheVariants as stop
@@ -45,15 +44,15 @@ content_from name (Some bytes) =
 abbrev pub content_of : Files → List ℕ → Result (List ℕ) Refusal
 content_of files name = content_from name (file_named files name)
 
-abbrev pub schedule_from : List ℕ → Result (List Event) schedule_text.Refusal
+abbrev pub schedule_from : List ℕ → Result (List Event) refused_by.Refusal
     → Result (List Event) Refusal
 schedule_from name (Ok events) = Ok events
 schedule_from name (Err refusal) =
-    Err (record { file = name; code = refusal.code; row = refusal.row })
+    Err (record { file = name; code = refused_by.code_of refusal.refusal; row = refusal.row })
 
--- the events that the bytes of this file state
-abbrev pub schedule_in : List ℕ → List ℕ → Result (List Event) Refusal
-schedule_in name bytes = schedule_from name (schedule_text.schedule_of bytes)
+-- the events that the bytes of this file state for the network, where one policy is named
+abbrev pub schedule_in : Net → List ℕ → List ℕ → Result (List Event) Refusal
+schedule_in net name bytes = schedule_from name (schedule_text.schedule_of net 1 bytes)
 
 abbrev pub policy_from : List ℕ → Result (List Row) policy_text.Refusal → Result (List Row) Refusal
 policy_from name (Ok rows) = Ok rows
@@ -70,8 +69,8 @@ policy_in ports name bytes =
     and_then (policy_from name (policy_text.policy_of bytes)) (λ rows.
     with_ports name rows (first_without_port ports rows))
 
-abbrev pub read_schedule : Files → List ℕ → Result (List Event) Refusal
-read_schedule files name = and_then (content_of files name) (schedule_in name)
+abbrev pub read_schedule : Net → Files → List ℕ → Result (List Event) Refusal
+read_schedule net files name = and_then (content_of files name) (schedule_in net name)
 
 abbrev pub read_policy : ℕ → Files → List ℕ → Result (List Row) Refusal
 read_policy ports files name = and_then (content_of files name) (policy_in ports name)
@@ -90,32 +89,7 @@ abbrev pub read_net : Files → Option (List ℕ) → Result Net Refusal
 read_net files None = Ok solo_net
 read_net files (Some name) = and_then (content_of files name) (net_in name)
 
--- ---- all files of a replay
-
--- the first policy, unless it has too many words
-abbrev pub first_plan : List ℕ → List Row → Result (List Row) Refusal
-first_plan name rows =
-    if nat_le (word_total rows) MAX_WORDS then Ok rows else Err (whole name TOO_MANY_WORDS)
-
-pub record Inputs : Type 0 where
-  pub setting : Setting
-  pub events : List Event
-
--- the schedule is read and checked, then the policy, and then the first policy is planned
-abbrev pub inputs_of : Files → ReplayCommand → Result Inputs Refusal
-inputs_of files command =
-    and_then (read_schedule files command.schedule) (λ events.
-    and_then (read_policy one_switch.port_mask files command.policy) (λ rows.
-    and_then (first_plan command.policy rows) (λ policy.
-    Ok (record { setting = record { policies = policy ∷ [] }; events = events }))))
-
--- ---- all files of a plan
-
--- the number of the switch of this name, if one is asked for
-abbrev pub switch_on : Net → Option (List ℕ) → Result (Option ℕ) Refusal
-switch_on net None = Ok None
-switch_on net (Some name) =
-    option_map_or (λ s. Ok (Some s)) (switch_number net.switches name) (Err (whole name NO_SWITCH))
+-- ---- plans
 
 abbrev pub plan_from : List ℕ → Result (List Placed) NoPlan → Result (List Placed) Refusal
 plan_from name (Ok placed) = Ok placed
@@ -127,6 +101,34 @@ plan_from name (Err (no_plan.NoRoom partition)) =
 -- the plan of the rows of this file on the network
 abbrev pub plan_on : List ℕ → Net → List Row → Result (List Placed) Refusal
 plan_on name net rows = plan_from name (plan_of rows net)
+
+-- the first policy, unless it has no plan on the network
+abbrev pub first_plan : List ℕ → Net → List Row → Result (List Row) Refusal
+first_plan name net rows = and_then (plan_on name net rows) (λ placed. Ok rows)
+
+-- ---- all files of a replay
+
+pub record Inputs : Type 0 where
+  pub setting : Setting
+  pub events : List Event
+
+-- the network is read and checked, then the schedule, then the policy, and then the first policy is
+-- planned
+abbrev pub inputs_of : Files → ReplayCommand → Result Inputs Refusal
+inputs_of files command =
+    and_then (read_net files command.net) (λ net.
+    and_then (read_schedule net files command.schedule) (λ events.
+    and_then (read_policy (port_mask net.switches) files command.policy) (λ rows.
+    and_then (first_plan command.policy net rows) (λ policy.
+    Ok (record { setting = setting_of net (policy ∷ []); events = events })))))
+
+-- ---- all files of a plan
+
+-- the number of the switch of this name, if one is asked for
+abbrev pub switch_on : Net → Option (List ℕ) → Result (Option ℕ) Refusal
+switch_on net None = Ok None
+switch_on net (Some name) =
+    option_map_or (λ s. Ok (Some s)) (switch_number net.switches name) (Err (whole name NO_SWITCH))
 
 -- a policy planned on a network, and the switch whose tables are asked for
 pub record Printing : Type 0 where
@@ -185,14 +187,20 @@ abbrev pub net_reads : Option (List ℕ) → ℕ
 net_reads None = 0
 net_reads (Some name) = 1
 
+-- how many reads a replay makes at most behind that of its network
+abbrev pub replay_reads : Files → ReplayCommand → Result Net Refusal → ℕ
+replay_reads files words (Err refusal) = 0
+replay_reads files words (Ok net) =
+    up_to_refusal (is_ok (read_schedule net files words.schedule)
+    ∷ is_ok (read_policy (port_mask net.switches) files words.policy) ∷ [])
+
 -- how many reads a command makes at most
 abbrev pub most_reads : Option Files → Option Command → ℕ
 most_reads files None = 0
-most_reads None (Some (asked.Replay words)) = 2
+most_reads None (Some (asked.Replay words)) = net_reads words.net + 2
 most_reads None (Some (asked.Print words)) = net_reads words.net + 1
 most_reads (Some files) (Some (asked.Replay words)) =
-    up_to_refusal (is_ok (read_schedule files words.schedule)
-    ∷ is_ok (read_policy one_switch.port_mask files words.policy) ∷ [])
+    net_reads words.net + replay_reads files words (read_net files words.net)
 most_reads (Some files) (Some (asked.Print words)) =
     net_reads words.net + (if is_ok (place_of files words) then 1 else 0)
 

@@ -1,20 +1,21 @@
 -- What became of a call of the program, by its status.
-use Rattle.std.specs.Prelude.{⊤, ℕ, ◌≡◌, ◌⊎◌, Option, Some, None, is_some, IsTrue, Result, Ok, Err, IsOk, List, [], take}
+use Rattle.std.specs.Prelude.{⊤, ℕ, ◌≡◌, ◌⊎◌, Option, Some, None, is_some, IsTrue, Result, Ok, Err, IsOk, List, [], length, take, All}
 use Rattle.std.specs.Option.{ForSome}
 use Rattle.net_file.specs.Net.{IsNet, solo_net, switch_number}
 use Rattle.net_file.specs.declared.net.Net.{Net}
 use Rattle.partition.specs.Plan.{plan_of}
 use Rattle.policy_rules.specs.Policy.{IsPolicy}
-use Rattle.replay.specs.Text.{journal_text}
+use Rattle.journal_text.specs.Lines.{journal_text}
 use Rattle.show_text.specs.Text.{compile_text, table_text}
 use Rattle.switch_table.specs.Tables.{tables_of}
 use Rattle.shelf.specs.Sink.{gained, GainedPart, SinkState}
-use Rattle.plain_machine.specs.Answers.{Answers, BeginsAnswer}
-use Rattle.plain_machine.specs.Causes.{EndsHaveCauses}
-use Rattle.plain_machine.specs.Machine.{IsRun}
-use Rattle.plain_machine.specs.declared.journal.Item.{Item}
+use Rattle.journal.specs.declared.item.Item.{Item}
+use Rattle.update_machine.specs.Answers.{Answers, BeginsAnswer}
+use Rattle.update_machine.specs.Causes.{EndsHaveCauses}
+use Rattle.update_machine.specs.Machine.{IsRun}
+use Rattle.update_machine.specs.Played.{IsSetting, MayHappen}
 use Rattle.difane_cli.specs.Inputs.{Inputs, Play, Print, Printing, Task}
-use Rattle.difane_cli.specs.Words.{Command, PrintCommand}
+use Rattle.difane_cli.specs.Words.{Command, PrintCommand, ReplayCommand}
 use Rattle.difane_cli.specs.Words as asked
 use Rattle.difane_cli.specs.declared.status.Refusal.{Refusal}
 use Rattle.difane_cli.specs.declared.status.Status.{Status}
@@ -33,54 +34,69 @@ pub record Unplayed (journal : List Item) (before now : SinkState) : Type 0 wher
   pub nothing_played : journal ≡ []
   pub untouched : now ≡ before
 
+-- the network is that of a file, or of one switch
+abbrev pub IsNetOf : Option (List ℕ) → Net → Type 0
+IsNetOf None net = net ≡ solo_net
+IsNetOf (Some name) net = IsNet net
+
+-- ---- replays
+
+-- the inputs are on the network that the command names: the one policy has a plan on it and names
+-- its ports alone, and the events name its switches alone
+pub record IsReplayOf (command : ReplayCommand) (inputs : Inputs) : Type 0 where
+  pub net : IsNetOf command.net inputs.setting.net
+  pub one_policy : length inputs.setting.policies ≡ 1
+  pub setting : IsSetting inputs.setting
+  pub events : All (MayHappen inputs.setting) inputs.events
+
 -- the journal answers these inputs, which are the known ones where the task is known; so it is a
 -- run of the machine, and its ends have their causes
-pub record IsAnswer (known : Known) (inputs : Inputs) (journal : List Item) : Type 0 where
+pub record IsAnswer (command : ReplayCommand) (known : Known) (inputs : Inputs)
+    (journal : List Item) : Type 0 where
+  pub asked : IsReplayOf command inputs
   pub accepted : ForSome known (λ read. read ≡ Ok (Play inputs))
   pub answers : Answers inputs.setting inputs.events journal
   pub run : IsRun inputs.setting journal
   pub causes : EndsHaveCauses inputs.setting journal
 
 -- there are inputs that the journal answers, and the output gained its text
-pub record Replayed (known : Known) (journal : List Item) (before now : SinkState)
-    : Type 0 where
+pub record Replayed (command : ReplayCommand) (known : Known) (journal : List Item)
+    (before now : SinkState) : Type 0 where
   pub inputs : Inputs
-  pub played : IsAnswer known inputs journal
-  pub written : now.bytes ≡ gained before.bytes (journal_text inputs.setting journal)
+  pub played : IsAnswer command known inputs journal
+  pub written : now.bytes ≡ gained before.bytes (journal_text inputs.setting.net journal)
 
 -- the same, but that the output failed and gained a part of the text
-pub record CutShort (known : Known) (journal : List Item) (before now : SinkState)
-    : Type 0 where
+pub record CutShort (command : ReplayCommand) (known : Known) (journal : List Item)
+    (before now : SinkState) : Type 0 where
   pub inputs : Inputs
-  pub played : IsAnswer known inputs journal
-  pub written : GainedPart before.bytes (journal_text inputs.setting journal) now.bytes
+  pub played : IsAnswer command known inputs journal
+  pub written : GainedPart before.bytes (journal_text inputs.setting.net journal) now.bytes
 
 -- there are such inputs; the journal begins an answer to them, and the output gained some of its
 -- text
-pub record Begun (known : Known) (journal : List Item) (before now : SinkState)
-    : Type 0 where
+pub record Begun (command : ReplayCommand) (known : Known) (journal : List Item)
+    (before now : SinkState) : Type 0 where
   pub inputs : Inputs
+  pub asked : IsReplayOf command inputs
   pub accepted : ForSome known (λ read. read ≡ Ok (Play inputs))
   pub begins : BeginsAnswer inputs.setting inputs.events journal
   pub run : IsRun inputs.setting journal
   pub causes : EndsHaveCauses inputs.setting journal
-  pub written : GainedSome before.bytes (journal_text inputs.setting journal) now.bytes
+  pub written : GainedSome before.bytes (journal_text inputs.setting.net journal) now.bytes
 
 -- the journal and the output that a status of a replay comes with
-abbrev pub ReplayOutcome : Known → Status → List Item → (before now : SinkState)
-    → Type 0
-ReplayOutcome known status.Ok journal before now = Replayed known journal before now
-ReplayOutcome known status.WriteFault journal before now = CutShort known journal before now
-ReplayOutcome known status.NoMemory journal before now =
-    Unplayed journal before now ⊎ Begun known journal before now
-ReplayOutcome known _ journal before now = Unplayed journal before now
+abbrev pub ReplayOutcome : ReplayCommand → Known → Status → List Item
+    → (before now : SinkState) → Type 0
+ReplayOutcome command known status.Ok journal before now =
+    Replayed command known journal before now
+ReplayOutcome command known status.WriteFault journal before now =
+    CutShort command known journal before now
+ReplayOutcome command known status.NoMemory journal before now =
+    Unplayed journal before now ⊎ Begun command known journal before now
+ReplayOutcome command known _ journal before now = Unplayed journal before now
 
 -- ---- plans and tables
-
--- the network is that of a file, or of one switch
-abbrev pub IsNetOf : Option (List ℕ) → Net → Type 0
-IsNetOf None net = net ≡ solo_net
-IsNetOf (Some name) net = IsNet net
 
 -- the switch has the name that was asked for
 abbrev pub IsSwitchOf : Option (List ℕ) → Net → Option ℕ → Type 0
@@ -132,7 +148,7 @@ abbrev pub Outcome : Option Command → Known → Status → List Item
     → (before now : SinkState) → Type 0
 Outcome None known status journal before now = Unplayed journal before now
 Outcome (Some (asked.Replay words)) known status journal before now =
-    ReplayOutcome known status journal before now
+    ReplayOutcome words known status journal before now
 Outcome (Some (asked.Print words)) known status journal before now =
     PrintOutcome words known status journal before now
 

@@ -19,7 +19,7 @@ status_of stop.ReadFault = status.ReadFault
 status_of stop.NoMemory = status.NoMemory
 
 -- the status of a command whose work was written, or not
-abbrev pub status_after : Result (Unit {0}) SinkError → Status
+abbrev pub status_after : Result (⊤) SinkError → Status
 status_after (Ok done) = status.Ok
 status_after (Err sink.Failed) = status.WriteFault
 status_after (Err sink.NoMemory) = status.NoMemory

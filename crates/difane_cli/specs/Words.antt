@@ -4,10 +4,11 @@ use Rattle.std.specs.Global.{Global}
 use Rattle.std.specs.List.{starts_with}
 use Rattle.std.specs.Option.{option_map_or}
 
--- `replay SCHEDULE POLICY`
+-- `replay SCHEDULE POLICY`, on the network of a file, or on that of one switch
 pub record ReplayCommand : Type 0 where
   pub schedule : List ℕ
   pub policy : List ℕ
+  pub net : Option (List ℕ)
 
 -- `compile POLICY`, or `show POLICY SWITCH`; on the network of a file, or on that of one switch
 pub record PrintCommand : Type 0 where
@@ -67,19 +68,25 @@ end_net None words = whole_cut (cut_net words)
 
 -- ---- the commands
 
-abbrev pub replay_of : List (List ℕ) → Option Command
-replay_of (schedule ∷ policy ∷ []) =
+-- a replay of these names, where what stands behind them is a network's option or nothing
+abbrev pub play_of : List ℕ → List ℕ → Option (Option (List ℕ)) → Option Command
+play_of schedule policy end =
+    option_map (λ net. Replay (record { schedule = schedule; policy = policy; net = net })) end
+
+-- the words behind `replay`, where this option stood in front of them or none
+abbrev pub replay_of : Option (List ℕ) → List (List ℕ) → Option Command
+replay_of net (schedule ∷ policy ∷ words) =
     if is_name schedule && is_name policy
-    then Some (Replay (record { schedule = schedule; policy = policy }))
+    then play_of schedule policy (end_net net words)
     else None
-replay_of _ = None
+replay_of net _ = None
 
 -- a plan or tables of these names, where what stands behind them is a network's option or nothing
 abbrev pub print_of : List ℕ → Option (List ℕ) → Option (Option (List ℕ)) → Option Command
 print_of policy switch end =
     option_map (λ net. Print (record { policy = policy; switch = switch; net = net })) end
 
--- the words behind `compile`, where this option stood in front of them or none
+-- the words behind `compile`, likewise
 abbrev pub compile_of : Option (List ℕ) → List (List ℕ) → Option Command
 compile_of net [] = None
 compile_of net (policy ∷ words) =
@@ -98,7 +105,7 @@ abbrev pub command_of : List (List ℕ) → Option Command
 command_of [] = None
 command_of (command ∷ words) =
     let cut = cut_net words in
-    if bytes_eq command (codes "replay") then replay_of words
+    if bytes_eq command (codes "replay") then replay_of cut.net cut.words
     else if bytes_eq command (codes "compile") then compile_of cut.net cut.words
     else if bytes_eq command (codes "show") then show_of cut.net cut.words
     else None

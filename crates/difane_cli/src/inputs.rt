@@ -1,22 +1,29 @@
 //! The files of a command, read and checked one after another.
-ghost use Rattle.std.specs.Prelude.{◌≡◌, ◌≤◌, All, vec_len, IfOk, IfErr, Ok, Some};
+ghost use Rattle.std.specs.Prelude.{◌≡◌, All, IsTrue, IfOk, IfErr, Ok, Some};
 ghost use Rattle.std.specs.Option.{ForSome};
-ghost use Rattle.plain_schedule.specs.OneSwitch.{IsOfOneSwitch, NamesOwnPorts};
-ghost use Rattle.plain_schedule.specs.declared.plain.TheConstants.{MAX_EVENTS};
+ghost use Rattle.net_file.specs.Net.{IsNet};
+ghost use Rattle.policy_file.specs.Ports.{has_port};
+ghost use Rattle.policy_rules.specs.Policy.{IsPolicy};
+ghost use Rattle.schedule.specs.Reading.{AreSound};
 ghost use Rattle.shelf.specs.Faults.{Rose};
 ghost use Rattle.shelf.specs.Shelf.{IsAfterReads};
 ghost use Rattle.difane_cli.specs.Inputs.{Refuses, Stops, StopsContent, content_of, inputs_of, most_reads, read_policy, read_schedule, schedule_in};
+ghost use Rattle.difane_cli.specs.Run.{IsReplayOf};
 ghost use Rattle.difane_cli.specs.Status.{NeedsReadFault, status_of};
-ghost use Rattle.difane_cli.specs.Commands.{inputs_stated, replay_named};
+ghost use Rattle.difane_cli.specs.Commands.{IsReady, inputs_stated, replay_named};
 ghost use Rattle.difane_cli.specs.Words.{Replay};
 
-use crate::policies::{OWN_PORTS, check_policy, check_words};
+use crate::networks::take_network;
+use crate::policies::{begin_world, check_policy};
 use crate::status::{FileName, Refusal, Stop};
 use crate::words::ReplayWords;
-use plain_schedule::{Event, ScheduleError};
+use net_file::Net;
 use policy_rules::Policy;
+use schedule::ScheduleError;
 use shelf::{Shelf, ShelfError};
 use std::alloc::Global;
+use steps::Event;
+use world::World;
 
 /// The most bytes of a file.
 pub const MAX_BYTES: u64 = 16_777_216;
@@ -56,34 +63,42 @@ pub fn read_bytes<F: Shelf>(alloc: Global, shelf: &mut F, name: &str) -> Result<
     }
 }
 
-/// The events that the bytes of this file state.
-fn check_schedule(alloc: Global, name: &str, bytes: &[u8]) -> Result<Vec<Event>, Stop>
-    ensures value { IfOk result (λ events. schedule_in name.now bytes.now ≡ Ok events.items) }
-    ensures stopped { IfErr result (StopsContent (schedule_in name.now bytes.now)) }
-    ensures one_switch { IfOk result (λ events. All IsOfOneSwitch events.items) }
-    ensures few { IfOk result (λ events. vec_len events ≤ MAX_EVENTS) }
+/// The events that the bytes of this file state for the network.
+fn check_schedule(alloc: Global, name: &str, bytes: &[u8], net: &Net) -> Result<Vec<Event>, Stop>
+    requires { IsNet net.now }
+    ensures value { IfOk result (λ events.
+        schedule_in net.now name.now bytes.now ≡ Ok events.items) }
+    ensures stopped { IfErr result (StopsContent (schedule_in net.now name.now bytes.now)) }
+    ensures sound { IfOk result (λ events. AreSound net.now 1 events.items) }
 {
-    match plain_schedule::read_schedule(alloc, bytes) {
+    match schedule::read_schedule(alloc, bytes, net, 1) {
         Ok(events) => Ok(events),
-        Err(ScheduleError::Refused { code, row }) => Err(refused(alloc, name, code, row)),
+        Err(ScheduleError::Refused { refusal, row }) => {
+            Err(refused(alloc, name, refusal.code(), row))
+        }
         Err(ScheduleError::NoMemory) => Err(Stop::NoMemory),
     }
 }
 
-/// The events of the schedule of this name.
-fn read_schedule<F: Shelf>(alloc: Global, shelf: &mut F, name: &str) -> Result<Vec<Event>, Stop>
+/// The events of the schedule of this name, on the network.
+fn read_schedule<F: Shelf>(
+    alloc: Global,
+    shelf: &mut F,
+    name: &str,
+    net: &Net,
+) -> Result<Vec<Event>, Stop>
+    requires { IsNet net.now }
     ensures value { IfOk result (λ events. ForSome (F.state shelf.old).files (λ files.
-        read_schedule files name.now ≡ Ok events.items)) }
+        read_schedule net.now files name.now ≡ Ok events.items)) }
     ensures stopped { IfErr result (λ stop. ForSome (F.state shelf.old).files (λ files.
-        Stops (read_schedule files name.now) stop)) }
+        Stops (read_schedule net.now files name.now) stop)) }
     ensures faults { IfErr result (λ stop. NeedsReadFault (F.state shelf.old).files (status_of stop)
         → Rose (F.state shelf.old).faults (F.state shelf.new).faults) }
     ensures shelf { IsAfterReads 1 (F.state shelf.old) (F.state shelf.new) }
-    ensures one_switch { IfOk result (λ events. All IsOfOneSwitch events.items) }
-    ensures few { IfOk result (λ events. vec_len events ≤ MAX_EVENTS) }
+    ensures sound { IfOk result (λ events. AreSound net.now 1 events.items) }
 {
     let bytes = read_bytes(alloc, shelf, name)?;
-    check_schedule(alloc, name, &bytes)
+    check_schedule(alloc, name, &bytes, net)
 }
 
 /// The policy of this name, which names only ports of the mask.
@@ -100,7 +115,8 @@ pub fn read_policy<F: Shelf>(
     ensures faults { IfErr result (λ stop. NeedsReadFault (F.state shelf.old).files (status_of stop)
         → Rose (F.state shelf.old).faults (F.state shelf.new).faults) }
     ensures shelf { IsAfterReads 1 (F.state shelf.old) (F.state shelf.new) }
-    ensures own_ports { IfOk result NamesOwnPorts }
+    ensures own_ports { IfOk result (All (λ row. IsTrue (has_port ports row.action))) }
+    ensures sound { IfOk result IsPolicy }
 {
     let bytes = read_bytes(alloc, shelf, name)?;
     check_policy(alloc, name, &bytes, ports)
@@ -110,11 +126,13 @@ pub fn read_policy<F: Shelf>(
 #[derive(Drop)]
 pub struct ReplayInputs {
     pub events: Vec<Event>,
-    pub policy: Policy,
+    pub net: Net,
+    /// The network with the policy in force, on which nothing happened yet.
+    pub world: World,
 }
 
-/// The inputs of a replay: the schedule is read and checked, then the policy, and last the first
-/// policy is planned.
+/// The inputs of a replay: the network is read and checked, then the schedule, then the policy, and
+/// last the first policy is planned.
 pub fn read_inputs<F: Shelf>(
     alloc: Global,
     shelf: &mut F,
@@ -129,12 +147,13 @@ pub fn read_inputs<F: Shelf>(
     ensures shelf { IsAfterReads
         (most_reads (F.state shelf.old).files (Some (Replay (replay_named words.entry))))
         (F.state shelf.old) (F.state shelf.new) }
-    ensures one_switch { IfOk result (λ inputs. All IsOfOneSwitch inputs.events.items) }
-    ensures few { IfOk result (λ inputs. vec_len inputs.events ≤ MAX_EVENTS) }
-    ensures own_ports { IfOk result (λ inputs. NamesOwnPorts inputs.policy) }
+    ensures ready { IfOk result IsReady }
+    ensures asked { IfOk result (λ inputs.
+        IsReplayOf (replay_named words.entry) (inputs_stated inputs)) }
 {
-    let events = read_schedule(alloc, shelf, words.schedule)?;
-    let policy = read_policy(alloc, shelf, words.policy, OWN_PORTS)?;
-    check_words(alloc, words.policy, &policy)?;
-    Ok(ReplayInputs { events, policy })
+    let net = take_network(alloc, shelf, words.net)?;
+    let events = read_schedule(alloc, shelf, words.schedule, &net)?;
+    let policy = read_policy(alloc, shelf, words.policy, net.port_mask())?;
+    let world = begin_world(alloc, words.policy, policy, &net)?;
+    Ok(ReplayInputs { events, net, world })
 }

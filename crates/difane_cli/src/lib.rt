@@ -1,5 +1,5 @@
-//! The program's top call: it reads the words and the files, plays the schedule, and writes the
-//! journal.
+//! The program's top call: it reads the words and the files, plays the schedule on a network, and
+//! writes the journal.
 //!
 //! `run` carries the headline. Where it answers `Ok` there are inputs that its journal answers, is
 //! a run of the abstract machine for, and whose ends have their causes; where files are known,

@@ -1,25 +1,25 @@
 //! The play of accepted inputs, and the writing of its journal.
-ghost use Rattle.std.specs.Prelude.{◌≡◌, ◌≤◌, ◌<◌, ◌+◌, Ok, All, IfOk, IsErrOf, OnOk, OnErr, drop, length, take, vec_len};
+ghost use Rattle.std.specs.Prelude.{◌≡◌, ◌≤◌, ◌<◌, ◌+◌, Ok, IsErrOf, OnOk, OnErr, drop, length, take};
 ghost use Rattle.std.specs.Option.{ForSome};
-ghost use Rattle.replay.specs.Text.{journal_text};
-ghost use Rattle.plain_schedule.specs.OneSwitch.{IsOfOneSwitch, NamesOwnPorts};
-ghost use Rattle.plain_schedule.specs.declared.plain.TheConstants.{MAX_EVENTS};
+ghost use Rattle.journal_text.specs.Lines.{journal_text};
+ghost use Rattle.net_file.specs.Net.{IsNet};
 ghost use Rattle.shelf.specs.Faults.{Rose};
 ghost use Rattle.shelf.specs.Sink.{GainedPart, gained};
-ghost use Rattle.plain_machine.specs.Answers.{Answers};
-ghost use Rattle.plain_machine.specs.Setting.{Setting};
-ghost use Rattle.difane_cli.specs.Commands.{inputs_stated};
-ghost use Rattle.difane_cli.specs.Run.{GainedSome, Known, ReplayOutcome};
+ghost use Rattle.difane_cli.specs.Commands.{IsReady, inputs_stated};
+ghost use Rattle.difane_cli.specs.Run.{GainedSome, IsReplayOf, Known, ReplayOutcome};
 ghost use Rattle.difane_cli.specs.Inputs.{Play};
 ghost use Rattle.difane_cli.specs.Status.{status_after};
+ghost use Rattle.difane_cli.specs.Words.{ReplayCommand};
 
 use crate::inputs::ReplayInputs;
-use plain_machine::{Item, Journal};
-use replay::{lines, replay};
+use journal::{Item, Journal};
+use journal_text::lines;
+use net_file::Net;
+use packet_laws::{answers_are_runs, ends_have_causes};
 use shelf::{Sink, SinkError, write_whole};
-use std::alloc::{AllocError, Global};
+use std::alloc::Global;
 
-/// How many items are printed before they are written: their lines have about 40,000 bytes.
+/// How many items are printed before they are written: their lines have about 50,000 bytes.
 const BLOCK: usize = 1_024;
 
 /// Plays the inputs and writes the journal. What comes of it is told for whatever is known of them.
@@ -28,44 +28,41 @@ pub fn play<K: Sink>(
     inputs: ReplayInputs,
     out: &mut K,
 ) -> (Result<(), SinkError>, Journal)
-    requires one_switch { All IsOfOneSwitch inputs.events.items }
-    requires few { vec_len inputs.events ≤ MAX_EVENTS }
-    requires own_ports { NamesOwnPorts inputs.policy }
-    ensures outcome { (known : Known)
+    requires { IsReady inputs }
+    ensures outcome { (command : ReplayCommand) (known : Known)
+        → IsReplayOf command (inputs_stated inputs)
         → ForSome known (λ read. read ≡ Ok (Play (inputs_stated inputs)))
-        → ReplayOutcome known (status_after result.0) result.1
+        → ReplayOutcome command known (status_after result.0) result.1
         (K.state out.old) (K.state out.new) }
     ensures failed { IsErrOf result.0 SinkError.Failed
         → Rose (K.state out.old).faults (K.state out.new).faults }
     ensures faults { (K.state out.old).faults ≤ (K.state out.new).faults }
 {
-    let Ok(journal) = journal_of(alloc, inputs) else {
+    let ReplayInputs { events, net, world } = inputs;
+    answers_are_runs();
+    ends_have_causes();
+    let Ok(played) = replay::play(alloc, world, &events) else {
         return (Err(SinkError::NoMemory), Journal::new(alloc));
     };
-    let written = write_journal(alloc, &journal, out);
-    (written, journal)
-}
-
-fn journal_of(alloc: Global, inputs: ReplayInputs) -> Result<Journal, AllocError>
-    requires { vec_len inputs.events ≤ MAX_EVENTS }
-    ensures { IfOk result (λ journal.
-        Answers (inputs_stated inputs).setting (inputs_stated inputs).events journal) }
-{
-    let mut policies = Vec::new(alloc);
-    policies.push(inputs.policy)?;
-    let played = replay(alloc, policies, &inputs.events)?;
-    Ok(played.journal)
+    let written = write_journal(alloc, &played.journal, &net, out);
+    (written, played.journal)
 }
 
 /// Writes the lines of the journal, so many items at a time.
-fn write_journal<K: Sink>(alloc: Global, journal: &Journal, out: &mut K) -> Result<(), SinkError>
-    ensures whole { (setting : Setting) → OnOk result ((K.state out.new).bytes
-        ≡ gained (K.state out.old).bytes (journal_text setting journal.now)) }
-    ensures part { (setting : Setting) → IsErrOf result SinkError.Failed
-        → GainedPart (K.state out.old).bytes (journal_text setting journal.now)
+fn write_journal<K: Sink>(
+    alloc: Global,
+    journal: &Journal,
+    net: &Net,
+    out: &mut K,
+) -> Result<(), SinkError>
+    requires { IsNet net.now }
+    ensures whole { OnOk result ((K.state out.new).bytes
+        ≡ gained (K.state out.old).bytes (journal_text net.now journal.now)) }
+    ensures part { IsErrOf result SinkError.Failed
+        → GainedPart (K.state out.old).bytes (journal_text net.now journal.now)
         (K.state out.new).bytes }
-    ensures some { (setting : Setting) → OnErr result
-        (GainedSome (K.state out.old).bytes (journal_text setting journal.now)
+    ensures some { OnErr result
+        (GainedSome (K.state out.old).bytes (journal_text net.now journal.now)
         (K.state out.new).bytes) }
     ensures failed { IsErrOf result SinkError.Failed
         → Rose (K.state out.old).faults (K.state out.new).faults }
@@ -75,7 +72,7 @@ fn write_journal<K: Sink>(alloc: Global, journal: &Journal, out: &mut K) -> Resu
     let mut written = 0;
     while written < items.len() {
         let block = next_block(items, written);
-        match write_block(alloc, block, out) {
+        match write_block(alloc, block, net, out) {
             Ok(()) => written += block.len(),
             Err(error) => return Err(error),
         }
@@ -95,19 +92,25 @@ fn next_block(items: &[Item], written: usize) -> &[Item]
 }
 
 /// Writes the lines of some items.
-fn write_block<K: Sink>(alloc: Global, items: &[Item], out: &mut K) -> Result<(), SinkError>
-    ensures whole { (setting : Setting) → OnOk result ((K.state out.new).bytes
-        ≡ gained (K.state out.old).bytes (journal_text setting items.now)) }
-    ensures part { (setting : Setting) → IsErrOf result SinkError.Failed
-        → GainedPart (K.state out.old).bytes (journal_text setting items.now)
+fn write_block<K: Sink>(
+    alloc: Global,
+    items: &[Item],
+    net: &Net,
+    out: &mut K,
+) -> Result<(), SinkError>
+    requires { IsNet net.now }
+    ensures whole { OnOk result ((K.state out.new).bytes
+        ≡ gained (K.state out.old).bytes (journal_text net.now items.now)) }
+    ensures part { IsErrOf result SinkError.Failed
+        → GainedPart (K.state out.old).bytes (journal_text net.now items.now)
         (K.state out.new).bytes }
-    ensures some { (setting : Setting) → OnErr result
-        (GainedSome (K.state out.old).bytes (journal_text setting items.now)
+    ensures some { OnErr result
+        (GainedSome (K.state out.old).bytes (journal_text net.now items.now)
         (K.state out.new).bytes) }
     ensures failed { IsErrOf result SinkError.Failed
         → Rose (K.state out.old).faults (K.state out.new).faults }
     ensures faults { (K.state out.old).faults ≤ (K.state out.new).faults }
 {
-    let text = lines(alloc, items)?;
+    let text = lines(alloc, items, net)?;
     write_whole(out, &text)
 }

@@ -1,27 +1,32 @@
 //! Policies as a command takes them: read from bytes, and checked against the network.
-ghost use Rattle.std.specs.Prelude.{◌≡◌, IfOk, IfErr, Ok, OnOk};
+ghost use Rattle.std.specs.Prelude.{◌≡◌, All, List, IfOk, IfErr, IsTrue, Ok, OnOk, [], ◌∷◌};
 ghost use Rattle.policy_file.specs.Reading.{policy_of};
-ghost use Rattle.plain_schedule.specs.OneSwitch.{NamesOwnPorts};
+ghost use Rattle.policy_file.specs.Ports.{has_port};
+ghost use Rattle.policy_rules.specs.Policy.{IsPolicy};
+ghost use Rattle.policy_rules.specs.declared.policy.Row.{Row};
+ghost use Rattle.controller.specs.Plan.{RefusesPlan};
 ghost use Rattle.difane_cli.specs.Inputs.{StopsContent, first_plan, plan_on, policy_from, policy_in};
-ghost use Rattle.net_file.specs.Net.{IsNet};
+ghost use Rattle.net_file.specs.Net.{IsNet, port_mask};
+ghost use Rattle.net_file.specs.declared.net.Net.{Net};
 ghost use Rattle.partition.specs.Plan.{plan_of};
+ghost use Rattle.update_machine.specs.Played.{IsSetting};
+ghost use Rattle.update_machine.specs.Setting.{setting_of};
+ghost use Rattle.world.specs.State.{IsBegun};
 
 use crate::inputs::refused;
 use crate::status::Stop;
 use controller::{Plan, PlanError, compile};
-use net_file::Net;
+use net_file::{Net, port_laws};
 use policy_file::{NoPort, PolicyError, check_ports, read_policy};
-use policy_rules::{Policy, count_words};
-use std::alloc::Global;
+use policy_rules::Policy;
+use std::alloc::{AllocError, Global};
+use world::World;
 
 /// The code of a row that names a port that the network lacks.
 pub const NO_PORT: u32 = 13;
 
 /// The code of a first policy that has too many words.
 pub const TOO_MANY_WORDS: u32 = 12;
-
-/// The most words of a first policy.
-pub const MAX_WORDS: u64 = 4096;
 
 /// The code of a first policy whose tree has too many leaves.
 pub const TOO_MANY_LEAVES: u32 = 14;
@@ -32,14 +37,11 @@ pub const NO_ROOM: u32 = 15;
 /// The code of a switch that the network lacks.
 pub const NO_SWITCH: u32 = 21;
 
-/// The ports of the one switch, 0 to 63.
-pub const OWN_PORTS: u64 = u64::MAX;
-
 /// The policy that the bytes of this file state.
 fn state_policy(alloc: Global, name: &str, bytes: &[u8]) -> Result<Policy, Stop>
     ensures value { IfOk result (λ policy. policy_of bytes.now ≡ Ok policy) }
     ensures stopped { IfErr result (StopsContent (policy_from name.now (policy_of bytes.now))) }
-    ensures own_ports { IfOk result NamesOwnPorts }
+    ensures sound { IfOk result IsPolicy }
 {
     match read_policy(alloc, bytes) {
         Ok(policy) => Ok(policy),
@@ -54,7 +56,8 @@ fn state_policy(alloc: Global, name: &str, bytes: &[u8]) -> Result<Policy, Stop>
 pub fn check_policy(alloc: Global, name: &str, bytes: &[u8], ports: u64) -> Result<Policy, Stop>
     ensures value { IfOk result (λ policy. policy_in ports name.now bytes.now ≡ Ok policy) }
     ensures stopped { IfErr result (StopsContent (policy_in ports name.now bytes.now)) }
-    ensures own_ports { IfOk result NamesOwnPorts }
+    ensures own_ports { IfOk result (All (λ row. IsTrue (has_port ports row.action))) }
+    ensures sound { IfOk result IsPolicy }
 {
     let policy = state_policy(alloc, name, bytes)?;
     match check_ports(&policy, ports) {
@@ -63,16 +66,50 @@ pub fn check_policy(alloc: Global, name: &str, bytes: &[u8], ports: u64) -> Resu
     }
 }
 
-/// Checks that a first policy has few enough words.
-pub fn check_words(alloc: Global, name: &str, policy: &Policy) -> Result<(), Stop>
-    ensures value { OnOk result (first_plan name.now policy.now ≡ Ok policy.now) }
-    ensures stopped { IfErr result (StopsContent (first_plan name.now policy.now)) }
+/// The stop at a policy of this file that has no plan.
+fn no_plan(alloc: Global, name: &str, error: PlanError) -> Stop
+    ensures { (rows : List Row) (net : Net) → RefusesPlan rows net error
+        → StopsContent (plan_on name.now net rows) result }
 {
-    if count_words(policy) <= MAX_WORDS {
-        Ok(())
-    } else {
-        Err(refused(alloc, name, TOO_MANY_WORDS, 0))
+    match error {
+        PlanError::TooManyWords { .. } => refused(alloc, name, TOO_MANY_WORDS, 0),
+        PlanError::TooManyLeaves => refused(alloc, name, TOO_MANY_LEAVES, 0),
+        PlanError::NoRoom { partition } => refused(alloc, name, NO_ROOM, partition),
+        PlanError::NoMemory => Stop::NoMemory,
     }
+}
+
+/// The network with the policy of this file in force as its first version.
+pub fn begin_world(alloc: Global, name: &str, policy: Policy, net: &Net) -> Result<World, Stop>
+    requires net { IsNet net.now }
+    requires sound { IsPolicy policy }
+    requires ports { All (λ row. IsTrue (has_port (port_mask net.now.switches) row.action)) policy }
+    ensures value { OnOk result (first_plan name.now net.now policy ≡ Ok policy) }
+    ensures begun { IfOk result (IsBegun (setting_of net.now (policy ∷ []))) }
+    ensures sound { IfOk result (λ world. IsSetting world.setting) }
+    ensures stopped { IfErr result (StopsContent (first_plan name.now net.now policy)) }
+{
+    port_laws();
+    let policies = match one_policy(alloc, policy) {
+        Ok(policies) => policies,
+        Err(_) => return Err(Stop::NoMemory),
+    };
+    match World::begin(alloc, net, policies) {
+        Ok(world) => {
+            world.tied();
+            Ok(world)
+        }
+        Err(error) => Err(no_plan(alloc, name, error)),
+    }
+}
+
+/// The list of this policy.
+fn one_policy(alloc: Global, policy: Policy) -> Result<Vec<Policy>, AllocError>
+    ensures { IfOk result (λ policies. policies.items ≡ policy ∷ []) }
+{
+    let mut policies = Vec::new(alloc);
+    policies.push(policy)?;
+    Ok(policies)
 }
 
 /// The plan of the policy of this file on the network.
@@ -85,9 +122,6 @@ pub fn plan_policy(alloc: Global, name: &str, policy: &Policy, net: &Net) -> Res
 {
     match compile(alloc, policy, net) {
         Ok(plan) => Ok(plan),
-        Err(PlanError::TooManyWords { .. }) => Err(refused(alloc, name, TOO_MANY_WORDS, 0)),
-        Err(PlanError::TooManyLeaves) => Err(refused(alloc, name, TOO_MANY_LEAVES, 0)),
-        Err(PlanError::NoRoom { partition }) => Err(refused(alloc, name, NO_ROOM, partition)),
-        Err(PlanError::NoMemory) => Err(Stop::NoMemory),
+        Err(error) => Err(no_plan(alloc, name, error)),
     }
 }

@@ -53,8 +53,6 @@ pub fn read_printing<F: Shelf>(
     let net = take_network(alloc, shelf, words.net)?;
     let switch = find_switch(alloc, &net, words.switch)?;
     let policy = read_policy(alloc, shelf, words.policy, net.port_mask())?;
-    // The rows of a policy are sound.
-    let _ = policy.rows();
     let plan = plan_policy(alloc, words.policy, &policy, &net)?;
     Ok(PrintInputs { plan, net, switch })
 }

@@ -3,7 +3,7 @@ ghost use Rattle.std.specs.Prelude.{◌≡◌, ◌≤◌, Ok, Some, IfOk, IfErr,
 ghost use Rattle.std.specs.Option.{ForSome};
 ghost use Rattle.shelf.specs.Faults.{Rose};
 ghost use Rattle.shelf.specs.Shelf.{IsAfterReads};
-ghost use Rattle.difane_cli.specs.Commands.{IsSoundTask, IsTaskOf, command_named, task_stated};
+ghost use Rattle.difane_cli.specs.Commands.{IsReadyTask, IsTaskOf, command_named, task_stated};
 ghost use Rattle.difane_cli.specs.Inputs.{known_task, most_reads};
 ghost use Rattle.difane_cli.specs.Inputs.{Task as Stated};
 ghost use Rattle.difane_cli.specs.declared.status.Refusal.{Refusal};
@@ -16,7 +16,7 @@ use crate::playing::play;
 use crate::printing::{PrintInputs, print, read_printing};
 use crate::status::Stop;
 use crate::words::Command;
-use plain_machine::Journal;
+use journal::Journal;
 use shelf::{Shelf, Sink, SinkError};
 use std::alloc::Global;
 
@@ -40,7 +40,7 @@ pub fn read_task<F: Shelf>(alloc: Global, shelf: &mut F, command: Command<'_>) -
     ensures shelf { IsAfterReads
         (most_reads (F.state shelf.old).files (Some (command_named command.entry)))
         (F.state shelf.old) (F.state shelf.new) }
-    ensures sound { IfOk result (λ task. IsSoundTask (task_stated task)) }
+    ensures ready { IfOk result IsReadyTask }
     ensures asked { IfOk result (λ task.
         IsTaskOf (command_named command.entry) (task_stated task)) }
 {
@@ -58,7 +58,7 @@ pub fn read_task<F: Shelf>(alloc: Global, shelf: &mut F, command: Command<'_>) -
 
 /// Does the task and writes what comes of it, which is told for whatever is known of the task.
 pub fn work<K: Sink>(alloc: Global, task: Task, out: &mut K) -> (Result<(), SinkError>, Journal)
-    requires { IsSoundTask (task_stated task) }
+    requires { IsReadyTask task }
     ensures outcome { (command : grammar.Command) (known : Known)
         → IsTaskOf command (task_stated task)
         → ForSome known (λ read. read ≡ Ok (task_stated task))

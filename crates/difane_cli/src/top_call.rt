@@ -12,7 +12,7 @@ ghost use Rattle.difane_cli.specs.declared.status.Status.TheVariants as status;
 use crate::status::{Status, tell};
 use crate::task::{read_task, work};
 use crate::words::read_words;
-use plain_machine::Journal;
+use journal::Journal;
 use shelf::{Shelf, Sink};
 use std::alloc::Global;
 
@@ -23,9 +23,9 @@ pub struct Finished {
     pub journal: Journal,
 }
 
-/// Does what the words ask: `replay SCHEDULE POLICY` plays the schedule on one switch and writes
-/// the journal to `out`; `compile POLICY` writes the plan of the policy, and `show POLICY SWITCH`
-/// the tables that it gives to the switch, each on the network of `--net NET` or on one switch.
+/// Does what the words ask: `replay SCHEDULE POLICY` plays the schedule and writes the journal to
+/// `out`; `compile POLICY` writes the plan of the policy, and `show POLICY SWITCH` the tables that
+/// it gives to the switch, each on the network of `--net NET` or on one switch.
 ///
 /// A status other than `Ok` writes its line to `errs`. The words are those of the command line
 /// without the program's name. The first refusal in the order of work ends the call: the words, the

@@ -11,6 +11,8 @@ pub struct ReplayWords<'a> {
     pub schedule: &'a str,
     /// The name of the policy's file.
     pub policy: &'a str,
+    /// The name of the network's file; without it the network is that of one switch.
+    pub net: Option<&'a str>,
 }
 
 /// What is to be printed: the plan of a policy, or the tables that it gives to a switch.
@@ -46,7 +48,7 @@ pub fn read_words(words: &[String]) -> Option<Command<'_>>
         return None;
     };
     if command.as_str() == "replay" {
-        read_replay(words)
+        read_replay(cut_net(words))
     } else if command.as_str() == "compile" {
         read_compile(cut_net(words))
     } else if command.as_str() == "show" {
@@ -56,21 +58,26 @@ pub fn read_words(words: &[String]) -> Option<Command<'_>>
     }
 }
 
-// The words behind `replay`.
-fn read_replay(words: &[String]) -> Option<Command<'_>>
-    ensures { option_map command_named result ≡ replay_of (map string_bytes words.now) }
+// The words behind `replay` and its options.
+fn read_replay(cut: Cut<'_>) -> Option<Command<'_>>
+    ensures { option_map command_named result
+        ≡ replay_of (net_named cut.entry.net) (map string_bytes cut.entry.words.now) }
 {
-    let [schedule, policy] = words else {
+    let [schedule, words @ ..] = cut.words else {
         return None;
     };
-    if is_name(schedule) && is_name(policy) {
-        Some(Command::Replay(ReplayWords {
-            schedule: schedule.as_str(),
-            policy: policy.as_str(),
-        }))
-    } else {
-        None
+    let [policy, words @ ..] = words else {
+        return None;
+    };
+    if !is_name(schedule) || !is_name(policy) {
+        return None;
     }
+    let net = end_net(cut.net, words)?;
+    Some(Command::Replay(ReplayWords {
+        schedule: schedule.as_str(),
+        policy: policy.as_str(),
+        net,
+    }))
 }
 
 // The words behind `compile` and its options.

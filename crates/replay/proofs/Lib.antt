@@ -1,1 +1,3 @@
-mod Playing
+mod Events
+mod LeastHops
+mod TestEvents

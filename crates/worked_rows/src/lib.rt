@@ -2,6 +2,8 @@
 #![tactic(auto)]
 
 #[cfg(test)]
+mod networks;
+#[cfg(test)]
 mod plans;
 #[cfg(test)]
 mod tests;

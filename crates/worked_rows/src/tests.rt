@@ -123,7 +123,7 @@ fn refuses_with_a_cause(rt: HostRuntime) -> Result<(), Fail> {
                 ..PLAIN
             },
             3,
-            "difane: input s.csv code 18 row 0\n",
+            "difane: input s.csv code 1 row 0\n",
         ),
         // The schedule is checked before the policy is read, so that a read which fails there
         // doesn't show.
@@ -134,7 +134,7 @@ fn refuses_with_a_cause(rt: HostRuntime) -> Result<(), Fail> {
                 ..PLAIN
             },
             3,
-            "difane: input s.csv code 18 row 0\n",
+            "difane: input s.csv code 1 row 0\n",
         ),
         (
             Case {

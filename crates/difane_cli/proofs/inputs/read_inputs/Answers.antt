@@ -1,24 +1,56 @@
+use Rattle.std.proofs.Common.{◌∙◌, ap, refl}
 use Rattle.difane_cli.specs.Commands.{replay_named}
-use Rattle.difane_cli.proofs.ShelfReads.{reads_then, two_reads}
+use Rattle.difane_cli.specs.Inputs.{net_reads}
+use Rattle.difane_cli.proofs.Begun.{all_may_happen, asked_for, inputs_are}
+use Rattle.difane_cli.proofs.ShelfReads.{reads_then, schedule_read, three_reads}
 use Rattle.difane_cli.proofs.inputs.read_inputs.Goals as goal
+
+pub returns-in_err-events-clause-shelf : goal.returns-in_err-events-clause-shelf
+returns-in_err-events-clause-shelf g c =
+    let words = replay_named c.args.words in
+    let one = schedule_read _ words c.in_ok-net.net c.in_ok-net.ensures.value in
+    reads_then (net_reads words.net) 1 _ _ (g.F.Shelf.state c.take_network.new.shelf) _ one
+    c.in_ok-net.ensures.shelf c.in_err-events.ensures.shelf
 
 pub returns-in_err-policy-clause-shelf : goal.returns-in_err-policy-clause-shelf
 returns-in_err-policy-clause-shelf g c =
-    let two = two_reads _ (replay_named c.args.words) c.in_ok-events.events.items
-    c.in_ok-events.ensures.value in
-    reads_then 1 1 _ _ (g.F.Shelf.state c.read_schedule.new.shelf) _ two
+    three_reads (replay_named c.args.words) c.in_ok-net.net c.in_ok-events.events.items _ _ _ _
+    c.in_ok-net.ensures.value c.in_ok-events.ensures.value c.in_ok-net.ensures.shelf
     c.in_ok-events.ensures.shelf c.in_err-policy.ensures.shelf
 
-pub returns-in_err-check_words-clause-shelf : goal.returns-in_err-check_words-clause-shelf
-returns-in_err-check_words-clause-shelf g c =
-    let two = two_reads _ (replay_named c.args.words) c.in_ok-events.events.items
-    c.in_ok-events.ensures.value in
-    reads_then 1 1 _ _ (g.F.Shelf.state c.read_schedule.new.shelf) _ two
+pub returns-in_err-world-clause-shelf : goal.returns-in_err-world-clause-shelf
+returns-in_err-world-clause-shelf g c =
+    three_reads (replay_named c.args.words) c.in_ok-net.net c.in_ok-events.events.items _ _ _ _
+    c.in_ok-net.ensures.value c.in_ok-events.ensures.value c.in_ok-net.ensures.shelf
     c.in_ok-events.ensures.shelf c.in_ok-policy.ensures.shelf
 
 pub returns-clause-shelf : goal.returns-clause-shelf
 returns-clause-shelf g c =
-    let two = two_reads _ (replay_named c.args.words) c.in_ok-events.events.items
-    c.in_ok-events.ensures.value in
-    reads_then 1 1 _ _ (g.F.Shelf.state c.read_schedule.new.shelf) _ two
+    three_reads (replay_named c.args.words) c.in_ok-net.net c.in_ok-events.events.items _ _ _ _
+    c.in_ok-net.ensures.value c.in_ok-events.ensures.value c.in_ok-net.ensures.shelf
     c.in_ok-events.ensures.shelf c.in_ok-policy.ensures.shelf
+
+pub returns-clause-value : goal.returns-clause-value
+returns-clause-value g c =
+    let net_files = c.in_ok-net.ensures.shelf.same_files in
+    inputs_are _ _ _ (replay_named c.args.words) c.in_ok-net.net c.in_ok-policy.policy
+    c.in_ok-events.events.items c.in_ok-world.world.setting _ net_files
+    (c.in_ok-events.ensures.shelf.same_files ∙ net_files) c.port_mask.ensures
+    c.in_ok-net.ensures.value c.in_ok-events.ensures.value c.in_ok-policy.ensures.value
+    c.in_ok-world.ensures.value c.in_ok-world.ensures.begun.own
+
+pub returns-clause-ready : goal.returns-clause-ready
+returns-clause-ready g c =
+    let begun = c.in_ok-world.ensures.begun in record {
+      begun = record { own = refl; silent = begun.silent; able = begun.able };
+      net = ap (λ s. s.net) begun.own;
+      may = all_may_happen c.in_ok-net.net c.in_ok-policy.policy _ c.in_ok-events.events.items
+          begun.own c.in_ok-events.ensures.sound;
+      few = c.in_ok-events.ensures.sound.few;
+    }
+
+pub returns-clause-asked : goal.returns-clause-asked
+returns-clause-asked g c =
+    asked_for (replay_named c.args.words) c.in_ok-net.net c.in_ok-policy.policy
+    c.in_ok-events.events.items c.in_ok-world.world.setting c.in_ok-net.ensures.named
+    c.in_ok-world.ensures.begun.own c.in_ok-world.ensures.sound c.in_ok-events.ensures.sound

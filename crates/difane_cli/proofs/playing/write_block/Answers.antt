@@ -4,10 +4,10 @@ use Rattle.difane_cli.proofs.Gains.{some_on_err}
 use Rattle.difane_cli.proofs.playing.write_block.Goals as goal
 
 pub returns-clause-some : goal.returns-clause-some
-returns-clause-some g c = λ setting.
+returns-clause-some g c =
     let before = (g.K.Sink.state c.args.out.now).bytes in
     let now = (g.K.Sink.state c.write_whole.new.sink).bytes in
     let part = some_on_err c.write_whole.result before now c.deref.result.now
     c.write_whole.ensures.after.part in
     subst (λ (bytes : List ℕ). OnErr c.write_whole.result (GainedSome before bytes now))
-    (c.deref.ensures.value ∙ c.in_ok-text.ensures setting) part
+    (c.deref.ensures.value ∙ c.in_ok-text.ensures) part

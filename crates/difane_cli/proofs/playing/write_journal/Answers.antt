@@ -1,8 +1,8 @@
 use Rattle.std.proofs.Common.{ℕ, ◌++◌, ◌∷◌, [], ◌∙◌, ap, subst, List, drop, take, length, arith}
 use Rattle.std.specs.List.{flat_map}
 use Rattle.shelf.specs.Sink.{gained, gained-gained, GainedPart}
-use Rattle.plain_machine.specs.declared.journal.Item.{Item}
-use Rattle.replay.specs.Text.{item_line, names_of}
+use Rattle.journal.specs.declared.item.Item.{Item}
+use Rattle.journal_text.specs.Lines.{item_line}
 use Rattle.difane_cli.specs.Run.{GainedSome}
 use Rattle.difane_cli.proofs.Gains.{GainedPart-behind, GainedSome-behind, flat_map-block, flat_map-more}
 use Rattle.difane_cli.proofs.playing.write_journal.Goals as goal
@@ -14,10 +14,10 @@ loop-written-preserved g c =
     let block = c.next_block-block.result.now in
     let at = c.loop-written.written in record {
       within = c.next_block-block.ensures.within;
-      gained = λ setting.
-          let line : Item → List ℕ = λ item. item_line (names_of setting) item ++ 10 ∷ [] in
-          c.in-Ok.ensures.whole setting ∙ ap (λ b. gained b (flat_map line block))
-          (c.loop-written.invariant.gained setting)
+      gained =
+          let line : Item → List ℕ = λ item. item_line c.args.net.now item ++ 10 ∷ [] in
+          c.in-Ok.ensures.whole ∙ ap (λ b. gained b (flat_map line block))
+          c.loop-written.invariant.gained
           ∙ gained-gained before (flat_map line (take at items)) (flat_map line block)
           ∙ ap (gained before) (flat_map-more line items block at
           c.next_block-block.ensures.block);
@@ -25,37 +25,35 @@ loop-written-preserved g c =
     }
 
 pub returns-in-Err-clause-part : goal.returns-in-Err-clause-part
-returns-in-Err-clause-part g c =
-    λ setting is.
+returns-in-Err-clause-part g c = λ is.
     let before = (g.K.Sink.state c.args.out.now).bytes in
     let middle = (g.K.Sink.state c.loop-written.out).bytes in
     let now = (g.K.Sink.state c.write_block.new.out).bytes in
     let items = c.items-items.result.now in
     let block = c.next_block-block.result.now in
     let at = c.loop-written.written in
-    let line : Item → List ℕ = λ item. item_line (names_of setting) item ++ 10 ∷ [] in
+    let line : Item → List ℕ = λ item. item_line c.args.net.now item ++ 10 ∷ [] in
     let whole = flat_map-block line items block at c.next_block-block.ensures.block
     ∙ ap (flat_map line) c.items-items.ensures in
     let rest = flat_map line (drop (length block) (drop at items)) in
     let behind = GainedPart-behind before middle now (flat_map line (take at items))
-    (flat_map line block) rest (c.loop-written.invariant.gained setting)
-    (c.in-Err.ensures.part setting is) in
+    (flat_map line block) rest c.loop-written.invariant.gained
+    (c.in-Err.ensures.part is) in
     subst (λ bytes. GainedPart before bytes now) whole behind
 
 pub returns-in-Err-clause-some : goal.returns-in-Err-clause-some
 returns-in-Err-clause-some g c =
-    λ setting.
     let before = (g.K.Sink.state c.args.out.now).bytes in
     let middle = (g.K.Sink.state c.loop-written.out).bytes in
     let now = (g.K.Sink.state c.write_block.new.out).bytes in
     let items = c.items-items.result.now in
     let block = c.next_block-block.result.now in
     let at = c.loop-written.written in
-    let line : Item → List ℕ = λ item. item_line (names_of setting) item ++ 10 ∷ [] in
+    let line : Item → List ℕ = λ item. item_line c.args.net.now item ++ 10 ∷ [] in
     let whole = flat_map-block line items block at c.next_block-block.ensures.block
     ∙ ap (flat_map line) c.items-items.ensures in
     let rest = flat_map line (drop (length block) (drop at items)) in
     let behind = GainedSome-behind before middle now (flat_map line (take at items))
-    (flat_map line block) rest (c.loop-written.invariant.gained setting)
-    (c.in-Err.ensures.some setting) in
+    (flat_map line block) rest c.loop-written.invariant.gained
+    c.in-Err.ensures.some in
     subst (λ bytes. GainedSome before bytes now) whole behind

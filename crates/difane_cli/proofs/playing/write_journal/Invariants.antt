@@ -1,14 +1,13 @@
 use Rattle.std.proofs.Common.{◌≡◌, ◌≤◌, ◌-◌, length, take}
 use Rattle.shelf.specs.Sink.{gained}
-use Rattle.plain_machine.specs.Setting.{Setting}
-use Rattle.replay.specs.Text.{journal_text}
+use Rattle.journal_text.specs.Lines.{journal_text}
 use Rattle.difane_cli.proofs.playing.write_journal.Given as goal
 
 abbrev pub invariant-loop-written : goal.invariant-loop-written
 invariant-loop-written g l = record {
   within : l.written ≤ length l.items;
-  gained : (setting : Setting) → (g.K.Sink.state l.out).bytes ≡ gained
-      (g.K.Sink.state l.initial.out).bytes (journal_text setting (take l.written l.items));
+  gained : (g.K.Sink.state l.out).bytes ≡ gained (g.K.Sink.state l.initial.out).bytes
+      (journal_text l.net (take l.written l.items));
   faults : (g.K.Sink.state l.initial.out).faults ≤ (g.K.Sink.state l.out).faults;
 }
 

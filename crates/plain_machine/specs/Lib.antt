@@ -1,5 +1,0 @@
-pub mod Setting
-pub mod Folds
-pub mod Machine
-pub mod Answers
-pub mod Causes

@@ -1,2 +1,0 @@
-mod AllRead
-mod Splitting

@@ -1,2 +1,0 @@
-pub mod OneSwitch
-pub mod Plain

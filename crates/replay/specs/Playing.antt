@@ -1,0 +1,44 @@
+-- What a play makes of a journal, event by event.
+use Rattle.std.specs.Prelude.{⊤, ℕ, ◌≡◌, Result, Err, List, ◌++◌}
+use Rattle.controller.specs.declared.plan_error.PlanError.{PlanError}
+use Rattle.controller.specs.declared.plan_error.PlanError.TheVariants as why
+use Rattle.journal.specs.declared.item.Item.{Item}
+use Rattle.partition.specs.Plan.{NoPlan, Placed}
+use Rattle.partition.specs.Plan as no_plan
+use Rattle.steps.specs.declared.step.Event.{Event}
+use Rattle.update_machine.specs.Answers.{AreFirstStepsOf, AreStepsOf, StepOfRow, after_steps}
+use Rattle.update_machine.specs.Setting.{Setting}
+use Rattle.replay.specs.declared.error.ReplayError.{ReplayError}
+use Rattle.replay.specs.declared.error.ReplayError.TheVariants as replayed
+
+-- behind this journal, the event of the row took all its steps
+pub record Happens (setting : Setting) (row : ℕ) (event : Event) (before after : List Item)
+    : Type 0 where
+  pub steps : List StepOfRow
+  pub all : AreStepsOf setting row event before steps
+  pub written : after ≡ after_steps setting before steps
+
+-- behind this journal, the event of the row took first steps, and items of the last one may lack
+pub record Begins (setting : Setting) (row : ℕ) (event : Event) (before after : List Item)
+    : Type 0 where
+  pub steps : List StepOfRow
+  pub first : AreFirstStepsOf setting row event before steps
+  pub written : List Item
+  pub grown : after ≡ before ++ written
+  pub lacking : List Item
+  pub whole : after_steps setting before steps ≡ after ++ lacking
+
+-- ---- refusals
+
+-- want of memory is no refusal
+abbrev pub error_of : PlanError → ReplayError
+error_of why.NoMemory = replayed.NoMemory
+error_of error = replayed.Plan error
+
+-- why there is no first plan, or memory ran out
+abbrev pub IsRefusal : Result (List Placed) NoPlan → ReplayError → Type 0
+IsRefusal plan (replayed.Plan (why.TooManyWords words)) = plan ≡ Err (no_plan.TooManyWords words)
+IsRefusal plan (replayed.Plan why.TooManyLeaves) = plan ≡ Err no_plan.TooManyLeaves
+IsRefusal plan (replayed.Plan (why.NoRoom partition)) = plan ≡ Err (no_plan.NoRoom partition)
+IsRefusal plan (replayed.Plan why.NoMemory) = ⊥
+IsRefusal plan replayed.NoMemory = ⊤

@@ -1,0 +1,37 @@
+ghost use Rattle.std.specs.Prelude.{◌≡◌};
+ghost use Rattle.replay.specs.Playing.{error_of};
+ghost use Rattle.replay.specs.declared.error.ReplayError.TheVariants.{NoMemory};
+
+use thiserror::Error;
+use world::{PlanError, StepError};
+
+/// Why nothing is played.
+#[derive(Clone, Copy, Debug, PartialEq, Eq, Error)]
+pub enum ReplayError {
+    /// The first policy has no plan on the network.
+    #[error("{0}")]
+    Plan(PlanError),
+    #[error("no memory")]
+    NoMemory,
+}
+
+impl From<PlanError> for ReplayError {
+    ghost from_gives = { λ error e. e ≡ error_of error };
+
+    fn from(error: PlanError) -> Self {
+        match error {
+            PlanError::NoMemory => ReplayError::NoMemory,
+            other => ReplayError::Plan(other),
+        }
+    }
+}
+
+impl From<StepError> for ReplayError {
+    ghost from_gives = { λ _ e. e ≡ NoMemory };
+
+    fn from(error: StepError) -> Self {
+        match error {
+            StepError::NoMemory => ReplayError::NoMemory,
+        }
+    }
+}

@@ -1,0 +1,101 @@
+ghost use Rattle.std.specs.Prelude.{◌≡◌, ◌≤◌, ◌<◌, ◌+◌, false, All, IfErr, IfOk, IsOk, OnOk, length, slice_index_or, []};
+ghost use Rattle.net_file.specs.Net.{IsNet};
+ghost use Rattle.partition.specs.Plan.{plan_of};
+ghost use Rattle.policy_rules.specs.Policy.{IsPolicy};
+ghost use Rattle.steps.specs.declared.step.TheConstants.{MAX_EVENTS};
+ghost use Rattle.update_machine.specs.Answers.{Answers};
+ghost use Rattle.update_machine.specs.Played.{MayHappen, NamesOwnPort};
+ghost use Rattle.update_machine.specs.Setting.{setting_of};
+ghost use Rattle.world.specs.State.{IsBegun};
+ghost use Rattle.replay.specs.Playing.{Happens, IsRefusal};
+
+use crate::draining::drain;
+use crate::error::ReplayError;
+use journal::Journal;
+use net_file::Net;
+use policy_rules::Policy;
+use std::alloc::Global;
+use steps::Event;
+use world::{StepError, World};
+
+/// What a play leaves.
+#[derive(Drop)]
+pub struct Played {
+    pub journal: Journal,
+}
+
+/// Plays the events on the network, on which the first policy is in force as version 1: event k,
+/// from 1, is row k of the schedule. A drain is a hop of the least packet that travels, until none
+/// does.
+///
+/// # Errors
+/// `Plan` exactly where the first policy has no plan on the network, unless memory runs out.
+pub fn replay(
+    alloc: Global,
+    net: &Net,
+    policies: Vec<Policy>,
+    events: &[Event],
+) -> Result<Played, ReplayError>
+    requires net { IsNet net.now }
+    requires some { 1 ≤ length policies.items }
+    requires sound { All IsPolicy policies.items }
+    requires ports { All (All (λ row. NamesOwnPort (setting_of net.now policies.items)
+        row.action)) policies.items }
+    requires events { All (MayHappen (setting_of net.now policies.items)) events.now }
+    requires few { length events.now ≤ MAX_EVENTS }
+    ensures answer { IfOk result (λ played.
+        Answers (setting_of net.now policies.items) events.now played.journal) }
+    ensures planned { OnOk result
+        (IsOk (plan_of (slice_index_or policies.items 0 []) net.now)) }
+    ensures refused { IfErr result
+        (IsRefusal (plan_of (slice_index_or policies.items 0 []) net.now)) }
+{
+    let world = World::begin(alloc, net, policies)?;
+    world.tied();
+    let played = play(alloc, world, events)?;
+    Ok(played)
+}
+
+/// Plays the events in a world in which nothing happened yet, as `replay` does.
+///
+/// # Errors
+/// Want of memory alone.
+pub fn play(alloc: Global, world: World, events: &[Event]) -> Result<Played, StepError>
+    requires begun { IsBegun world.setting world }
+    requires events { All (MayHappen world.setting) events.now }
+    requires few { length events.now ≤ MAX_EVENTS }
+    ensures { IfOk result (λ played. Answers world.setting events.now played.journal) }
+{
+    world.tied();
+    let mut world = world;
+    let mut row = 0u32;
+    for event in events {
+        row += 1;
+        play_event(alloc, &mut world, row, event)?;
+    }
+    Ok(Played {
+        journal: world.into_journal(),
+    })
+}
+
+// Takes all steps of an event of this row.
+fn play_event(alloc: Global, world: &mut World, row: u32, event: &Event) -> Result<(), StepError>
+    requires able { world.old.is_spent ≡ false }
+    requires few { world.old.packets < row }
+    requires small { row ≤ MAX_EVENTS }
+    requires may { MayHappen world.old.setting event.now }
+    ensures setting { world.new.setting ≡ world.old.setting }
+    ensures able { OnOk result (world.new.is_spent ≡ false) }
+    ensures few { OnOk result (world.new.packets ≤ row) }
+    ensures happens { OnOk result (Happens world.old.setting row event.now world.old.journal
+        world.new.journal) }
+{
+    match event {
+        Event::One(step) => {
+            world.tied();
+            world.step(alloc, row, step)
+        }
+        Event::Drain => drain(alloc, world, row),
+        Event::Flush => unreachable!(),
+    }
+}

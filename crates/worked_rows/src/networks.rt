@@ -1,0 +1,122 @@
+//! Worked runs of `replay` over several switches.
+use difane_cli::run;
+use shelf::{MemShelf, MemSink};
+use std::alloc::{AllocError, Global};
+use std::test::Fail;
+
+/// Two switches and the link between them, of which b decides.
+const PAIR: &str = "leaf_rules = 8\ncache = 1\n\
+    switch = [{ name = \"a\", ports = [1] }, { name = \"b\", ports = [2], authority = 100 }]\n\
+    link = [{ ends = [\"a\", \"b\"] }]\n";
+
+const UNLINKED: &str = "leaf_rules = 8\ncache = 4\n\
+    switch = [{ name = \"a\", ports = [1] }, { name = \"b\", ports = [2], authority = 100 }]\n";
+
+/// Four switches in two pairs.
+const TWO_PAIRS: &str = "switch = [{ name = \"a\", ports = [1] }, \
+    { name = \"b\", ports = [2], authority = 100 }, { name = \"c\" }, { name = \"d\" }]\n\
+    link = [{ ends = [\"a\", \"c\"] }, { ends = [\"b\", \"d\"] }]\n";
+
+const TWO_ROWS: &str = "priority,src,dst,sport,dport,proto,action\n\
+    200,any,10.1.0.0/16,any,80,tcp,drop\n\
+    100,any,10.0.0.0/8,any,any,tcp,out:2\n";
+
+const ONE_ROW: &str = "priority,src,dst,sport,dport,proto,action\n\
+    100,any,any,any,any,any,out:2\n";
+
+const ONE_PACKET: &str = "event,arguments\npacket,a,1.2.3.4,10.2.0.1,5000,80,tcp\n";
+
+const DRAINED: &str = "event,arguments\npacket,a,1.2.3.4,10.2.0.1,5000,80,tcp\ndrain\n";
+
+const OUT: &str = "row 1: packet a 1.2.3.4 10.2.0.1 5000 80 tcp\n\
+    \x20 entered 1 a\n\
+    \x20 tunnelled 1 v1 part 0 via a b\n\
+    row 2: hop 1\n\
+    \x20 hopped 1 b\n\
+    row 2: hop 1\n\
+    \x20 decided 1 v1 rule 100 out:2 authority b part 0\n\
+    \x20 out 1 port 2\n";
+
+const NO_AUTHORITY: &str = "row 1: packet a 1.2.3.4 10.2.0.1 5000 80 tcp\n\
+    \x20 entered 1 a\n\
+    \x20 stuck 1 a no-authority\n";
+
+const NO_ROUTE: &str = "row 1: packet a 1.2.3.4 10.2.0.1 5000 80 tcp\n\
+    \x20 entered 1 a\n\
+    \x20 stuck 1 a no-route\n";
+
+fn named(alloc: Global, name: &str, content: &str) -> Result<(String, Vec<u8>), AllocError> {
+    Ok((
+        String::from_str(alloc, name)?,
+        Vec::from_slice(alloc, content.as_bytes())?,
+    ))
+}
+
+/// The status, the output and the line of errors of `replay --net n.toml s.csv p.csv`.
+fn played(
+    alloc: Global,
+    schedule: &str,
+    policy: &str,
+    net: &str,
+) -> Result<(u8, MemSink, MemSink), AllocError> {
+    let files = vec![in alloc;
+        named(alloc, "s.csv", schedule)?,
+        named(alloc, "p.csv", policy)?,
+        named(alloc, "n.toml", net)?,
+    ]?;
+    let mut words = Vec::new(alloc);
+    for word in ["replay", "--net", "n.toml", "s.csv", "p.csv"] {
+        words.push(String::from_str(alloc, word)?)?;
+    }
+    let mut shelf = MemShelf::new(alloc, files, Vec::new(alloc));
+    let mut out = MemSink::new(alloc, u64::MAX, Vec::new(alloc));
+    let mut errs = MemSink::new(alloc, u64::MAX, Vec::new(alloc));
+    let finished = run(alloc, &words, &mut shelf, &mut out, &mut errs);
+    Ok((finished.status.number(), out, errs))
+}
+
+#[test]
+fn replays_over_switches(rt: HostRuntime) -> Result<(), Fail> {
+    for (schedule, policy, net, text) in [
+        (DRAINED, TWO_ROWS, PAIR, OUT),
+        (ONE_PACKET, ONE_ROW, UNLINKED, NO_AUTHORITY),
+        (ONE_PACKET, ONE_ROW, TWO_PAIRS, NO_ROUTE),
+    ] {
+        let (status, written, told) = played(rt.alloc(), schedule, policy, net)?;
+        assert_eq!(rt; status, 0);
+        assert_eq!(rt; written.bytes(), text.as_bytes());
+        assert_eq!(rt; told.bytes(), b"".as_slice());
+    }
+    Ok(())
+}
+
+// Each file is refused before the next one is looked at: the network, the schedule, the policy, its
+// ports and its plan.
+#[test]
+fn refuses_in_order(rt: HostRuntime) -> Result<(), Fail> {
+    let flush = "event,arguments\nflush\n";
+    let port = "priority,src,dst,sport,dport,proto,action\n7,any,any,any,any,any,out:3\n";
+    let no_room = "switch = [{ name = \"a\", ports = [1, 2] }]\n";
+    for (schedule, policy, net, line) in [
+        (flush, port, "", "difane: input n.toml code 2 row 0\n"),
+        (flush, port, PAIR, "difane: input s.csv code 10 row 1\n"),
+        (
+            ONE_PACKET,
+            port,
+            PAIR,
+            "difane: input p.csv code 13 row 1\n",
+        ),
+        (
+            ONE_PACKET,
+            ONE_ROW,
+            no_room,
+            "difane: input p.csv code 15 row 0\n",
+        ),
+    ] {
+        let (status, written, told) = played(rt.alloc(), schedule, policy, net)?;
+        assert_eq!(rt; status, 3);
+        assert_eq!(rt; written.bytes(), b"".as_slice());
+        assert_eq!(rt; told.bytes(), line.as_bytes());
+    }
+    Ok(())
+}
