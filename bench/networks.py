@@ -49,6 +49,14 @@ def ports():
     return '[[switch]]\nname = "a"\nports = [' + "1," * 8_000_000 + "1]\n"
 
 
+def spaced_ports():
+    return '[[switch]]\nname = "a"\nports = [' + "40, " * 4_000_000 + "40]\n"
+
+
+def names():
+    return '[[switch]]\nname = "a"\nports = [' + '"a long name in the place of a port", ' * 420_000 + '""]\n'
+
+
 def switches():
     return "switch = [" + "{}," * 5_000_000 + "{}]\n"
 
@@ -61,13 +69,20 @@ def seconds():
 def main():
     with tempfile.TemporaryDirectory() as folder:
         program = build(folder, "net_times", ["anyhow", "net_file"], MAIN)
-        for name, case in (("64 switches, 256 links", large), ("8,000,001 ports", ports), ("5,000,001 switches", switches)):
+        cases = (
+            ("64 switches, 256 links", large),
+            ("8,000,001 ports of 2 bytes", ports),
+            ("4,000,001 ports of 4", spaced_ports),
+            ("420,001 texts", names),
+            ("5,000,001 empty switches", switches),
+        )
+        for name, case in cases:
             path = os.path.join(folder, "net.toml")
             with open(path, "w") as file:
                 file.write(case())
             begun = seconds()
             answer = subprocess.run([program, path], stdout=subprocess.PIPE, check=True, text=True).stdout.strip()
-            print("%-24s %-16s %.3f s" % (name, answer, seconds() - begun))
+            print("%-26s %-16s %.3f s" % (name, answer, seconds() - begun))
 
 
 main()

@@ -1,0 +1,83 @@
+#!/usr/bin/env python3
+"""Times `difane replay --net` on made schedules over a ring of 16 switches.
+
+usage: bench/worlds.py BIN
+
+BIN is the proved program (`rt run` leaves it in crates/difane/out/difane). Port i is at switch i; two opposite switches
+are authorities. A schedule has 33,000 packets, each behind it a drain, or only the packets. Each case runs in a folder of
+its own, with its output sent to a file. Prints a line a case: seconds, peak memory in MiB, items and bytes of the journal
+written. It needs GNU time.
+"""
+import os
+import random
+import subprocess
+import sys
+import tempfile
+import time
+
+PACKETS = 33_000
+SWITCHES = 16
+
+
+def network():
+    lines = ["leaf_rules = 32", "backups = 1", "cache = 64"]
+    for s in range(SWITCHES):
+        lines += ["[[switch]]", 'name = "n%d"' % s, "ports = [%d]" % s]
+        if s in (0, SWITCHES // 2):
+            lines.append("authority = 8192")
+    for s in range(SWITCHES):
+        lines += ["[[link]]", 'ends = ["n%d", "n%d"]' % (s, (s + 1) % SWITCHES)]
+    return "\n".join(lines) + "\n"
+
+
+def policy(rng, rows):
+    lines = ["priority,src,dst,sport,dport,proto,action"]
+    for k in range(1, rows):
+        action = "drop" if rng.randrange(4) == 0 else "out:%d" % rng.randrange(SWITCHES)
+        lines.append("%d,10.%d.%d.0/24,10.%d.0.0/16,any,any,tcp,%s" % (k, rng.randrange(4), rng.randrange(256), rng.randrange(4), action))
+    lines.append("%d,any,any,any,any,any,out:0" % rows)
+    return "\n".join(lines) + "\n"
+
+
+def address(rng):
+    return "10.%d.%d.%d" % (rng.randrange(4), rng.randrange(256), rng.randrange(256))
+
+
+def schedule(rng, drains):
+    lines = ["event,arguments"]
+    for _ in range(PACKETS):
+        lines.append("packet,n%d,%s,%s,%d,%d,tcp" % (rng.randrange(SWITCHES), address(rng), address(rng), rng.randrange(1024, 65536), rng.randrange(1024)))
+        if drains:
+            lines.append("drain")
+    return "\n".join(lines) + "\n"
+
+
+def run(program, folder, name):
+    # GNU time, a small process, measures the memory: what a child of this script inherits would count as its own.
+    with open(os.path.join(folder, "out"), "wb") as out:
+        words = ["/usr/bin/time", "-f", "%M", "-o", "memory", program, "replay", "s.csv", "p.csv", "--net", "n.toml"]
+        begun = time.monotonic()
+        status = subprocess.run(words, cwd=folder, stdout=out).returncode
+        seconds = time.monotonic() - begun
+    if status != 0:
+        sys.exit("status %d" % status)
+    with open(os.path.join(folder, "memory")) as memory:
+        mebibytes = int(memory.read()) / 1024
+    with open(os.path.join(folder, "out"), "rb") as out:
+        text = out.read()
+    print("%s: %.3f s, %.1f MiB, %d items, %d bytes written" % (name, seconds, mebibytes, text.count(b"\n"), len(text)))
+
+
+def main():
+    program = os.path.abspath(sys.argv[1])
+    rng = random.Random(2010)
+    for rows in (100, 2000):
+        for drains in (False, True):
+            with tempfile.TemporaryDirectory() as folder:
+                for name, content in (("n.toml", network()), ("p.csv", policy(rng, rows)), ("s.csv", schedule(rng, drains))):
+                    with open(os.path.join(folder, name), "w") as file:
+                        file.write(content)
+                run(program, folder, "%d packets%s, %4d rows" % (PACKETS, ", each drained" if drains else "", rows))
+
+
+main()
