@@ -1,11 +1,11 @@
 -- Cache entries in a ring: where they stand after a push, a replacement, a removal and a filter,
 -- and that no two have one key.
 use Rattle.std.proofs.Common.{ℕ, suc, ◌≡◌, ◌∙◌, ◌+◌, ◌-◌, ◌<◌, ◌≤◌, Bool, true, false, cond, Option, Some, None, leb, ◌||◌, eqb, is_some, List, [], ◌∷◌, ◌++◌, length, length-append, length-drop, length-set, append-nil, append_assoc, map, filter, remove, take, drop, set, slice_get, get_or, get_or-drop, get_or-take, option_map, take-append-drop, take_all, refl, ap, sym, subst, arith, All}
-use Rattle.std.specs.List.{insert, list_any, swap_remove}
+use Rattle.std.specs.List.{list_any, swap_remove}
 use Rattle.std.specs.Map.{lookup}
-use Rattle.std.specs.Option.{IfSome, option_map_or}
+use Rattle.std.specs.Option.{IfSome}
 use Rattle.std.proofs.lemmas.Option.{get_or_from_slice_get, slice_get-get_or, slice_get-map}
-use Rattle.indexmap.specs.IndexMap.{insert_entry, move_index}
+use Rattle.indexmap.specs.IndexMap.{insert_entry}
 use Rattle.indexmap.proofs.MapLemmas.{absent_from_lookup, insert_entry-absent}
 use Rattle.std.proofs.Math.Seq.{drop-append_seam, get_or-append_right, get_or-append_seam, take-append_seam, take-suc-set}
 use Rattle.std.proofs.lemmas.Bool.{and_parts, and_from, eqb-true, eq-eqb, false≢true, false_from_ne_true}
@@ -17,7 +17,7 @@ use Rattle.std.proofs.lemmas.List.Kept.{AllPairs-filter}
 use Rattle.std.proofs.lemmas.List.Quantifiers.{all_pairs_push, all_pairs_remove}
 use Rattle.ternary.specs.Word.{word_eq}
 use Rattle.switch_table.specs.Cache.{HaveDistinctKeys, same_key}
-use Rattle.switch_table.specs.Queue.{IsRing, Pair, equal_keys, key_of, pairs_from, ring_entries, turned}
+use Rattle.switch_table.specs.Queue.{IsRing, Pair, equal_keys, key_of, pair_of, pairs_from, ring_entries, turned}
 use Rattle.switch_table.specs.declared.cache.CacheEntry.{CacheEntry}
 use Rattle.switch_table.specs.declared.queue.CacheKey.{CacheKey}
 
@@ -101,16 +101,6 @@ turned_home xs =
     ap (λ ys. ys ++ take (length xs) xs) (drop_all (length xs) xs (omega arith))
     ∙ take_all (length xs) xs (omega arith) ∙ sym (append-nil xs)
 
-turned_insert : {X : Type 0} (place : ℕ) (xs : List X) (x : X) → place ≤ length xs →
-    turned (place + 1) (insert xs place x) ≡ turned place xs ++ x ∷ []
-turned_insert place xs x within =
-    let front = take place xs in
-    let back = drop place xs in
-    let len : length (front ++ x ∷ []) ≡ place + 1 =
-    length-append front (x ∷ []) ∙ ap (λ n. n + 1) (length-take-le place xs within) in
-    ap (turned (place + 1)) (sym (append_assoc front (x ∷ []) back))
-    ∙ parts_at (place + 1) (front ++ x ∷ []) back len ∙ sym (append_assoc back front (x ∷ []))
-
 turned_set : {X : Type 0} (place : ℕ) (xs : List X) (x : X) → place < length xs →
     turned (place + 1) (set xs place x) ≡ drop 1 (turned place xs) ++ x ∷ []
 turned_set place xs x within =
@@ -177,20 +167,6 @@ swapped xs place x d within =
     ∙ ap (λ ys. take (length (xs ++ x ∷ []) - 1) ys) (set-append_left xs (x ∷ []) place x within)
     ∙ ap (λ n. take n (set xs place x ++ x ∷ [])) (last ∙ sym (length-set xs place x))
     ∙ take-append_seam (set xs place x) (x ∷ [])
-
--- the last item moved to a place
-pub moved : {X : Type 0} (xs : List X) (place : ℕ) (x : X) →
-    move_index (xs ++ x ∷ []) (length xs) place ≡ insert xs place x
-moved xs place x =
-    let there : slice_get (xs ++ x ∷ []) (length xs) ≡ Some x =
-    slice_get-get_or (xs ++ x ∷ []) (length xs) x
-    (omega (arith, length-append xs (x ∷ []))) ∙ ap Some (get_or-append_seam xs x [] x) in
-    let none : length xs - length xs ≡ 0 = omega arith in
-    let rest : remove (xs ++ x ∷ []) (length xs) ≡ xs =
-    remove-append_right xs (x ∷ []) (length xs) (length xs) refl (omega arith)
-    ∙ ap (λ n. xs ++ remove (x ∷ []) n) none ∙ append-nil xs in
-    ap (λ o. option_map_or (λ y. insert (remove (xs ++ x ∷ []) (length xs)) place y) o
-    (xs ++ x ∷ [])) there ∙ ap (λ ys. insert ys place x) rest
 
 -- ---- the entries of a ring
 
@@ -344,38 +320,98 @@ ring_of first pairs entries within own are distinct = record {
   entries_are = are;
 }
 
--- an entry comes last
-pub ring_push : (first : ℕ) (pairs : List Pair) (entry : CacheEntry) → IsRing first pairs →
-    list_any (same_key entry) (ring_entries first pairs) ≡ false →
-    IsRingOf (first + 1) (insert pairs first (key_of entry, entry))
-    (ring_entries first pairs ++ entry ∷ [])
-ring_push first pairs entry is absent =
-    let pair : Pair = (key_of entry, entry) in
-    let front = take first pairs in
-    let back = drop first pairs in
-    let len : length (insert pairs first pair) ≡ length pairs + 1 =
-    length-append front (pair ∷ back)
-    ∙ omega (arith, length-take-le first pairs is.within, length-drop first pairs, is.within) in
-    ring_of (first + 1) (insert pairs first pair) _ (omega (arith, len, is.within))
-    (All-append IsOwn front (pair ∷ back) (All-take IsOwn first pairs is.own)
-    (All-cons IsOwn pair back refl (All-drop IsOwn first pairs is.own)))
-    (ap (map entry_of) (turned_insert first pairs pair is.within)
-    ∙ map-append entry_of (turned first pairs) (pair ∷ []))
-    (push_distinct (ring_entries first pairs) entry is.distinct absent)
+none_own : All IsOwn []
+none_own = λ k d within. absurd (omega arith)
 
--- an entry that was inserted last, and moved to its place in the ring
-pub ring_pushed : (first last : ℕ) (pairs more new : List Pair) (entry : CacheEntry)
+-- an entry comes last, at the map's end
+pub ring_pushed : (first last : ℕ) (pairs new : List Pair) (entry : CacheEntry)
     (entries : List CacheEntry) → IsRing first pairs → ring_entries first pairs ≡ entries →
-    list_any (same_key entry) entries ≡ false → more ≡ pairs ++ (key_of entry, entry) ∷ [] →
-    last ≡ length pairs → new ≡ move_index more last first →
-    IsRingOf (first + 1) new (entries ++ entry ∷ [])
-ring_pushed first last pairs more new entry entries is are absent added len made =
-    let pair : Pair = (key_of entry, entry) in
-    let put : new ≡ insert pairs first pair =
-    made ∙ ap (λ ps. move_index ps last first) added
-    ∙ ap (λ n. move_index (pairs ++ pair ∷ []) n first) len ∙ moved pairs first pair in
-    rw (put, ← are) (ring_push first pairs entry is
-    (ap (list_any (same_key entry)) are ∙ absent))
+    length pairs ≤ first → list_any (same_key entry) entries ≡ false →
+    new ≡ pairs ++ pair_of entry ∷ [] → last ≡ length new →
+    IsRingOf last new (entries ++ entry ∷ [])
+ring_pushed first last pairs new entry entries is are home absent added len =
+    let pair = pair_of entry in
+    let all : entries ≡ map entry_of pairs =
+    sym are ∙ ap (map entry_of) (ap (λ n. turned n pairs) (home_is first pairs is.within home)
+    ∙ turned_home pairs ∙ append-nil pairs) in
+    let now : ring_entries last new ≡ entries ++ entry ∷ [] =
+    ap (map entry_of) (ap (λ n. turned n new) len ∙ turned_home new ∙ append-nil new ∙ added)
+    ∙ map-append entry_of pairs (pair ∷ []) ∙ ap (λ es. es ++ entry ∷ []) (sym all) in
+    ring_of last new (entries ++ entry ∷ []) (omega (arith, len))
+    (rw added (All-append IsOwn pairs (pair ∷ []) is.own
+    (All-cons IsOwn pair [] refl none_own))) now
+    (push_distinct entries entry (subst HaveDistinctKeys are is.distinct) absent)
+  where
+    home_is : (first : ℕ) (pairs : List Pair) → first ≤ length pairs → length pairs ≤ first →
+        first ≡ length pairs
+    home_is first pairs within home = omega arith
+
+-- what a push makes of a ring that has not gone round, as the calls say it
+pub ring_put : (first last : ℕ) (pairs made new : List Pair) (key : CacheKey) (entry : CacheEntry)
+    (entries : List CacheEntry) → IsRing first pairs → ring_entries first pairs ≡ entries →
+    length pairs ≤ first → list_any (same_key entry) entries ≡ false → key ≡ key_of entry →
+    made ≡ insert_entry equal_keys pairs key entry → new ≡ made → last ≡ length new →
+    IsRingOf last new (entries ++ entry ∷ [])
+ring_put first last pairs made new key entry entries is are home absent own put now len =
+    ring_pushed first last pairs new entry entries is are home absent
+    (now ∙ ring_inserted first pairs made key entry entries is are absent own put) len
+
+-- ---- a map that holds entries in order
+
+length-pairs : (entries : List CacheEntry) → length (map pair_of entries) ≡ length entries
+length-pairs entries = length-map entries pair_of
+
+own_pairs : (entries : List CacheEntry) → All IsOwn (map pair_of entries)
+own_pairs [] = none_own
+own_pairs (entry ∷ entries) =
+    All-cons IsOwn (pair_of entry) (map pair_of entries) refl (own_pairs entries)
+
+entries_of_pairs : (entries : List CacheEntry) → map entry_of (map pair_of entries) ≡ entries
+entries_of_pairs [] = refl
+entries_of_pairs (entry ∷ entries) = ap (λ es. entry ∷ es) (entries_of_pairs entries)
+
+-- it is a ring that has not gone round
+pub ring_straight : (entries : List CacheEntry) → HaveDistinctKeys entries →
+    IsRingOf (length (map pair_of entries)) (map pair_of entries) entries
+ring_straight entries distinct =
+    let pairs = map pair_of entries in
+    ring_of (length pairs) pairs entries (omega arith) (own_pairs entries)
+    (ap (map entry_of) (turned_home pairs ∙ append-nil pairs) ∙ entries_of_pairs entries) distinct
+
+-- no entry before another one has its key
+pub none_before : (before : List CacheEntry) (entry : CacheEntry) (rest : List CacheEntry) →
+    HaveDistinctKeys (before ++ entry ∷ rest) → list_any (same_key entry) before ≡ false
+none_before [] entry rest distinct = refl
+none_before (x ∷ before) entry rest distinct =
+    let len = length-append (x ∷ before) (entry ∷ rest) in
+    let at = get_or-append_seam (x ∷ before) entry rest entry in
+    let apart : same_key x entry ≡ false =
+    subst (λ e. same_key x e ≡ false) at
+    (distinct 0 (length (x ∷ before)) entry (omega arith) (omega (arith, len))) in
+    let rest_apart = none_before before entry rest (rest_distinct (x ∷ before ++ entry ∷ rest)
+    distinct) in
+    ap (λ b. b || list_any (same_key entry) before) (apart-sym x entry apart) ∙ rest_apart
+
+-- one more entry comes in
+pub straight_grown : (before : List CacheEntry) (entry : CacheEntry) (rest : List CacheEntry)
+    (pairs new : List Pair) (key : CacheKey) → HaveDistinctKeys (before ++ entry ∷ rest) →
+    pairs ≡ map pair_of before → key ≡ key_of entry →
+    new ≡ insert_entry equal_keys pairs key entry → new ≡ map pair_of (before ++ entry ∷ [])
+straight_grown before entry rest pairs new key distinct are own made =
+    let absent = none_before before entry rest distinct in
+    let is = ring_straight before (before_distinct before (entry ∷ rest) distinct) in
+    let put = ring_inserted (length (map pair_of before)) (map pair_of before) new key entry before
+    is.ring is.entries_are absent own
+    (made ∙ ap (λ ps. insert_entry equal_keys ps key entry) are) in
+    put ∙ sym (map-append pair_of before (entry ∷ []))
+  where
+    before_distinct : (before rest : List CacheEntry) → HaveDistinctKeys (before ++ rest) →
+        HaveDistinctKeys before
+    before_distinct before rest distinct = λ i j d less within.
+        let len = length-append before rest in
+        let one = get_or_append_left before rest d i (omega arith) in
+        let two = get_or_append_left before rest d j within in
+        rw (← one, ← two) (distinct i j d less (omega (arith, len)))
 
 map-rest : {X Y : Type 0} (f : X → Y) (xs : List X) → map f (drop 1 xs) ≡ drop 1 (map f xs)
 map-rest f [] = refl

@@ -14,6 +14,9 @@ equal_keys a b = (a.version == b.version) && word_eq a.word b.word
 abbrev pub Pair : Type 0
 Pair = CacheKey × CacheEntry
 
+abbrev pub pair_of : CacheEntry → Pair
+pair_of entry = (key_of entry, entry)
+
 -- the list as it is read from a place to the end, and then from the front to that place
 abbrev pub turned : {X : Type 0} → ℕ → List X → List X
 turned place xs = drop place xs ++ take place xs

@@ -1,7 +1,7 @@
-ghost use Rattle.std.specs.Prelude.{◌≡◌, ◌<◌, [], ◌∷◌, ◌++◌, length, drop, remove, filter, nat_le, slice_get, IsFalse, OnOk, OnErr};
+ghost use Rattle.std.specs.Prelude.{◌≡◌, ◌<◌, [], ◌∷◌, ◌++◌, length, drop, remove, map, filter, nat_le, slice_get, IsFalse, IfOk, OnOk, OnErr};
 ghost use Rattle.std.specs.List.{list_any};
 ghost use Rattle.switch_table.specs.Cache.{same_key, HaveDistinctKeys};
-ghost use Rattle.switch_table.specs.Queue.{key_of};
+ghost use Rattle.switch_table.specs.Queue.{key_of, pair_of};
 
 use crate::cache::CacheEntry;
 use crate::items::CacheItems;
@@ -68,18 +68,34 @@ impl EntryQueue {
         self.ring.contains_key(&CacheKey::of(entry))
     }
 
-    /// Puts an entry last, whose key is not there: at the map's end, or before the first entry of a
-    /// ring that has gone round.
+    /// Puts an entry last, whose key is not there. A ring that has gone round is straightened
+    /// first, so that none moves at the next pushes.
     pub fn push(&mut self, entry: &CacheEntry) -> Result<(), AllocError>
         requires { IsFalse (list_any (same_key entry.now) self.old) }
         ensures ok { OnOk result (self.new ≡ self.old ++ entry.now ∷ []) }
         ensures err { OnErr result (self.new ≡ self.old) }
     {
-        let last = self.ring.len();
-        self.ring.insert(CacheKey::of(entry), *entry)?;
-        self.ring.move_index(last, self.first);
-        self.first += 1;
+        if self.first < self.ring.len() {
+            let mut ring = self.straight()?;
+            ring.insert(CacheKey::of(entry), *entry)?;
+            self.ring = ring;
+        } else {
+            self.ring.insert(CacheKey::of(entry), *entry)?;
+        }
+        self.first = self.ring.len();
         Ok(())
+    }
+
+    // A map that holds the entries in order, with room for one more.
+    fn straight(&self) -> Result<IndexMap<CacheKey, CacheEntry>, AllocError>
+        ensures entries { IfOk result (λ ring. ring.entries ≡ map pair_of self.now) }
+        ensures distinct { HaveDistinctKeys self.now }
+    {
+        let mut ring = IndexMap::with_capacity(*self.ring.allocator(), self.ring.len() + 1)?;
+        for entry in self.iter() {
+            ring.insert(CacheKey::of(&entry), entry)?;
+        }
+        Ok(ring)
     }
 
     /// Puts an entry last, whose key is not there, and takes the first one out.

@@ -1,44 +1,38 @@
-use Rattle.std.proofs.Common.{ap, length, length-append, arith}
-use Rattle.switch_table.specs.Queue.{equal_keys}
-use Rattle.switch_table.proofs.QueueLemmas.{ring_inserted, ring_pushed}
+use Rattle.std.proofs.Common.{◌∙◌, ◌∷◌, [], ◌++◌, ap, length, map, arith}
+use Rattle.indexmap.specs.IndexMap.{insert_entry}
+use Rattle.switch_table.specs.Queue.{equal_keys, pair_of}
+use Rattle.switch_table.proofs.QueueLemmas.{IsRingOf, ring_put, ring_straight}
 use Rattle.switch_table.proofs.queue.EntryQueue.push.Goals as goal
+use Rattle.switch_table.proofs.queue.EntryQueue.push.Goals.{After-self-1, then-self-len+in_ok-ring+in_ok-insert, else-self-len+in_ok-insert-2}
 
-pub move_index-requires-clause-from_in_bounds : goal.move_index-requires-clause-from_in_bounds
+pushed : (c : After-self-1) → IsRingOf c.len-self-inside.result
+    c.if-self-len.self-inside.ring.entries (c.args.self.now ++ c.args.entry.now ∷ [])
 unfolding equal_keys
-move_index-requires-clause-from_in_bounds c =
-    let pairs = c.self.inside.ring.entries in
-    let added = ring_inserted c.self.inside.first pairs c.insert.new.self.entries c.of.result
-    c.args.entry.now c.args.self.now c.self.invariant c.self.view_is c.requires c.of.ensures
-    c.in_ok-insert.ensures.entries in
-    omega (arith, ap length added, length-append pairs, c.len-last.ensures.len)
-
-pub move_index-requires-clause-to_in_bounds : goal.move_index-requires-clause-to_in_bounds
-unfolding equal_keys
-move_index-requires-clause-to_in_bounds c =
-    let pairs = c.self.inside.ring.entries in
-    let added = ring_inserted c.self.inside.first pairs c.insert.new.self.entries c.of.result
-    c.args.entry.now c.args.self.now c.self.invariant c.self.view_is c.requires c.of.ensures
-    c.in_ok-insert.ensures.entries in
-    omega (arith, ap length added, length-append pairs, c.self.invariant.within)
+pushed c =
+    let entry = c.args.entry.now in
+    let entries = c.args.self.now in
+    let last = c.len-self-inside.result in
+    let new = c.if-self-len.self-inside.ring.entries in
+    let len = c.len-self-inside.ensures.len in
+    elim c.if-self-len.branch [
+      | then-self-len+in_ok-ring+in_ok-insert w ↦
+          let pairs = map pair_of entries in
+          let is = ring_straight entries w.in_ok-ring.ensures.distinct in
+          ring_put (length pairs) last pairs w.insert.new.self.entries new w.of.result entry
+          entries is.ring is.entries_are (omega arith) c.requires w.of.ensures
+          (w.in_ok-insert.ensures.entries
+          ∙ ap (λ ps. insert_entry equal_keys ps w.of.result entry) w.in_ok-ring.ensures.entries)
+          (ap (λ s. s.ring.entries) w.self-inside-is) len
+      | else-self-len+in_ok-insert-2 w ↦
+          ring_put c.self.inside.first last c.self.inside.ring.entries
+          w.insert-else-self-len.new.self.entries new w.of-else-self-len.result entry entries
+          c.self.invariant c.self.view_is (omega (arith, w.if-self-len.false, c.len.ensures.len))
+          c.requires w.of-else-self-len.ensures w.in_ok-insert-2.ensures.entries
+          (ap (λ s. s.ring.entries) w.self-inside-is) len
+    ]
 
 pub invariant_of-self-2 : goal.invariant_of-self-2
-unfolding equal_keys
-invariant_of-self-2 c =
-    let added = ring_inserted c.self.inside.first c.self.inside.ring.entries
-    c.insert.new.self.entries c.of.result c.args.entry.now c.args.self.now c.self.invariant
-    c.self.view_is c.requires c.of.ensures c.in_ok-insert.ensures.entries in
-    (ring_pushed c.self.inside.first c.len-last.result c.self.inside.ring.entries
-    c.insert.new.self.entries c.move_index.new.self.entries c.args.entry.now c.args.self.now
-    c.self.invariant c.self.view_is c.requires added c.len-last.ensures.len
-    c.move_index.ensures.entries).ring
+invariant_of-self-2 c = (pushed c).ring
 
 pub returns-clause-ok : goal.returns-clause-ok
-unfolding equal_keys
-returns-clause-ok c =
-    let added = ring_inserted c.self.inside.first c.self.inside.ring.entries
-    c.insert.new.self.entries c.of.result c.args.entry.now c.args.self.now c.self.invariant
-    c.self.view_is c.requires c.of.ensures c.in_ok-insert.ensures.entries in
-    (ring_pushed c.self.inside.first c.len-last.result c.self.inside.ring.entries
-    c.insert.new.self.entries c.move_index.new.self.entries c.args.entry.now c.args.self.now
-    c.self.invariant c.self.view_is c.requires added c.len-last.ensures.len
-    c.move_index.ensures.entries).entries_are
+returns-clause-ok c = (pushed c).entries_are
