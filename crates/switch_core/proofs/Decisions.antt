@@ -81,7 +81,8 @@ own_entry s told packet version tables own =
 
 -- the decisions of these tables' rules, and of a cached rule, are from where they should be
 abbrev own_comes : (s : SwitchValue) (header : Header) (tables : Tables)
-    (own : OwnRule tables header) (decision : Decision) → held_tables s tables.version ≡ Some tables →
+    (own : OwnRule tables header) (decision : Decision) →
+    held_tables s tables.version ≡ Some tables →
     by_rule s.number tables.version own.part.number own.rule ≡ decision →
     IsByOwnRule s header decision
 own_comes s header tables own decision held is = record {

@@ -1,5 +1,5 @@
-//! One switch by its calls: a packet decided at an authority switch, a packet on its way past a
-//! link that is down, and a switch through two versions, a crash and a new boot.
+//! One switch by its calls: a packet decided at an authority switch, a packet on its way to one and
+//! where its link is down, and a switch through two versions, a crash and a new boot.
 ghost use Rattle.std.specs.Prelude.{◌≡◌, [], ◌∷◌, IfOk, IsSomeAnd, IsTrue};
 ghost use Rattle.five_tuple.specs.declared.header.Header.{Header};
 ghost use Rattle.ternary.specs.Word.{any_word};
@@ -16,7 +16,7 @@ use super::*;
 use ctrl_msg::{Body, SharedTables};
 use failover::{Advert, Database, DownSet};
 use five_tuple::{Fields, Header};
-use net_file::solo;
+use net_file::{Ports, solo};
 use policy_rules::{Action, Cause, How, Leg, Partition, Rule, Rules, Targets};
 use std::alloc::Global;
 use std::test::Fail;
@@ -192,11 +192,17 @@ const fn decided(version: u32, how: How) -> Decision {
     }
 }
 
-fn install(alloc: Global, version: u32) -> Result<Body, Fail>
+fn install(alloc: Global, boot: u32, version: u32) -> Result<Body, Fail>
     ensures { IfOk result IsSoundBody }
 {
     let tables = authority_tables(alloc, version)?;
-    Ok(Body::Install { boot: 1, tables })
+    Ok(Body::Install { boot, tables })
+}
+
+const fn open(boot: u32, version: u32) -> Body
+    ensures { IsSoundBody result }
+{
+    Body::OpenAt { boot, version }
 }
 
 const fn stamp(version: u32) -> Body
@@ -238,7 +244,7 @@ fn an_authority_switch_decides(rt: HostRuntime) -> Result<(), Fail> {
 }
 
 #[test]
-fn a_packet_goes_past_links_that_are_down(rt: HostRuntime) -> Result<(), Fail> {
+fn a_packet_goes_on_to_its_authority(rt: HostRuntime) -> Result<(), Fail> {
     let alloc = rt.alloc();
     let ports = solo(alloc)?.ports();
     let mut a = Switch::begin(alloc, 0, 4, ingress_tables(alloc, 1)?, chain())?;
@@ -272,63 +278,75 @@ fn a_packet_is_stuck_without_a_route(rt: HostRuntime) -> Result<(), Fail> {
     Ok(())
 }
 
-#[test]
-fn versions_come_and_go(rt: HostRuntime) -> Result<(), Fail> {
-    let alloc = rt.alloc();
-    let ports = solo(alloc)?.ports();
-    let mut b = authority(alloc)?;
-    let heard = b.hear(alloc, 1, &install(alloc, 2)?, 0b101)?;
-    assert!(rt; acknowledges(&heard, 1, 2));
-    assert!(rt; is_stamped(&b.hear(alloc, 2, &stamp(2), 0b101)?, 1, 2));
+// It has tables of two versions, and a cache rule of the one that it stamps with alone.
+fn takes_version_two(alloc: Global, b: &mut Switch) -> Result<bool, Fail> {
+    b.hear(alloc, 1, &cache_rule(1), 0b101)?;
+    let installed = b.hear(alloc, 2, &install(alloc, 1, 2)?, 0b101)?;
+    let opened = b.hear(alloc, 3, &open(1, 1), 0b101)?;
+    let stamped = b.hear(alloc, 4, &stamp(2), 0b101)?;
+    b.hear(alloc, 5, &cache_rule(1), 0b101)?;
+    b.hear(alloc, 6, &cache_rule(2), 0b101)?;
+    Ok(acknowledges(&installed, 1, 2) && opened.opened.is_none() && is_stamped(&stamped, 1, 2))
+}
+
+// It has no tables of version 1 any more, and takes none.
+fn lets_version_one_go(alloc: Global, b: &mut Switch) -> Result<bool, Fail> {
     let collect = Body::Collect {
         boot: 1,
         version: 1,
     };
-    b.hear(alloc, 3, &collect, 0b101)?;
-    let heard = b.hear(alloc, 4, &install(alloc, 1)?, 0b101)?;
-    assert!(rt; acknowledges(&heard, 1, 1));
+    b.hear(alloc, 7, &collect, 0b101)?;
+    let installed = b.hear(alloc, 8, &install(alloc, 1, 1)?, 0b101)?;
+    Ok(acknowledges(&installed, 1, 1) && !b.holds_version(1))
+}
+
+// In its second boot it obeys no message of the first, and opens with version 3.
+fn opens_again(alloc: Global, b: &mut Switch) -> Result<bool, Fail> {
+    let of_old_boot = b.hear(alloc, 9, &open(1, 2), 0)?;
+    let installed = b.hear(alloc, 10, &install(alloc, 2, 3)?, 0)?;
+    let opened = b.hear(alloc, 11, &open(2, 3), 0)?;
+    let is_new = of_old_boot.opened.is_none() && acknowledges(&installed, 2, 3);
+    Ok(is_new && opened.opened == Some(3))
+}
+
+// By which version, and how, a packet is decided that comes in.
+fn decides(b: &mut Switch, ports: &Ports) -> Option<(u32, How)>
+    requires { CanLookUp b.old }
+{
+    match b.enter(8, &header(), 0b101, ports) {
+        Entered::Decided { decision, .. } => Some((decision.version, decision.how)),
+        _ => None,
+    }
+}
+
+#[test]
+fn versions_and_boots_come_and_go(rt: HostRuntime) -> Result<(), Fail> {
+    let alloc = rt.alloc();
+    let ports = solo(alloc)?.ports();
+    let mut b = authority(alloc)?;
+    assert!(rt; takes_version_two(alloc, &mut b)?);
+    assert!(rt; b.holds_version(b.stamp()));
+    let by_cache = How::Cached { message: 6 };
+    assert_eq!(rt; decides(&mut b, &ports), Some((2, by_cache)));
+    assert_eq!(rt; b.expire(0), Some(6));
+    assert!(rt; lets_version_one_go(alloc, &mut b)?);
     assert!(rt; b.serves());
     assert!(rt; b.holds_version(b.stamp()));
     let is_kept = b.holds_version(1);
     assert!(rt; !is_kept, "version 1 was collected");
     let arrived = b.arrive(&seeking(1)?, 0b101, &ports);
     assert!(rt; is_decided(&arrived, 2), "looked up anew");
-    Ok(())
-}
-
-#[test]
-fn cache_rules_of_old_versions_go(rt: HostRuntime) -> Result<(), Fail> {
-    let alloc = rt.alloc();
-    let mut b = authority(alloc)?;
-    b.hear(alloc, 1, &cache_rule(1), 0)?;
-    b.hear(alloc, 2, &stamp(2), 0)?;
-    assert_eq!(rt; b.expire(0), None, "the rule of version 1 is gone");
-    b.hear(alloc, 3, &cache_rule(1), 0)?;
-    b.hear(alloc, 4, &cache_rule(2), 0)?;
-    assert_eq!(rt; b.expire(0), Some(4));
-    Ok(())
-}
-
-#[test]
-fn a_boot_forgets(rt: HostRuntime) -> Result<(), Fail> {
-    let alloc = rt.alloc();
-    let mut b = authority(alloc)?;
+    assert_eq!(rt; b.boot(), 1);
     b.crash();
     assert!(rt; !b.is_up());
     assert_eq!(rt; b.restart(), 2);
-    assert_eq!(rt; b.boot(), 2);
-    let of_old_boot = Body::OpenAt {
-        boot: 1,
-        version: 1,
+    assert!(rt; opens_again(alloc, &mut b)?);
+    assert!(rt; b.holds_version(b.stamp()));
+    let by_authority = How::Authority {
+        switch: 1,
+        partition: 0,
     };
-    assert_eq!(rt; b.hear(alloc, 1, &of_old_boot, 0)?.opened, None);
-    let open = Body::OpenAt {
-        boot: 2,
-        version: 3,
-    };
-    assert_eq!(rt; b.hear(alloc, 2, &open, 0)?.opened, Some(3));
-    assert!(rt; b.serves());
-    assert!(rt; !b.holds_version(3));
+    assert_eq!(rt; decides(&mut b, &ports), Some((3, by_authority)));
     Ok(())
 }
 
