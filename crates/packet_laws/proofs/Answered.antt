@@ -14,11 +14,11 @@ use Rattle.update_machine.specs.Pieces.{piece}
 use Rattle.update_machine.specs.Played.{IsSetting, MayHappen}
 use Rattle.update_machine.specs.Setting.{Setting}
 use Rattle.update_machine.proofs.CallerLemmas.{have_take}
-use Rattle.packet_laws.specs.OnWay.{IsOnWay}
+use Rattle.packet_laws.specs.OnWay.{IsOnWay, IsServed}
 use Rattle.packet_laws.specs.PacketCauses.{IsPlayedItem}
 use Rattle.packet_laws.specs.Words.{words_of}
 use Rattle.packet_laws.proofs.Calm.{have_map}
-use Rattle.packet_laws.proofs.Played.{ArePlayable, IsPlayable, IsSettled, may_play, settled_at_first, settled_on_way, steps_settled}
+use Rattle.packet_laws.proofs.Played.{ArePlayable, IsPlayable, IsSettled, may_play, settled_at_first, settled_on_way, settled_served, steps_settled}
 use Rattle.packet_laws.proofs.Runs.{caused_is_run}
 
 hop_of : (setting : Setting) (o : Option ℕ) (step : Step) → option_map Hop o ≡ Some step
@@ -150,4 +150,10 @@ pub answer_on_way : (setting : Setting) (events : List Event) (journal : List It
     → IsSetting setting → All (MayHappen setting) events → Answers setting events journal
     → (i : ℕ) → IsTrue (travels journal i) → IsOnWay setting journal (words_of journal i)
 answer_on_way setting events journal is may answers = settled_on_way setting journal is
+    (answer_settled setting events journal is may answers)
+
+pub answer_served : (setting : Setting) (events : List Event) (journal : List Item)
+    → IsSetting setting → All (MayHappen setting) events → Answers setting events journal
+    → (i : ℕ) → IsTrue (travels journal i) → IsServed journal (words_of journal i)
+answer_served setting events journal is may answers = settled_served setting journal is
     (answer_settled setting events journal is may answers)

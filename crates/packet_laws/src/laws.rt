@@ -62,6 +62,9 @@ pub fn packets_travel()
     ensures served { (setting : Setting) (journal : List Item)
         → IsSetting setting → IsPlayed setting journal
         → (i : ℕ) → IsTrue (travels journal i) → IsServed journal (words_of journal i) }
+    ensures served_in_answers { (setting : Setting) (events : List Event) (journal : List Item)
+        → IsSetting setting → All (MayHappen setting) events → Answers setting events journal
+        → (i : ℕ) → IsTrue (travels journal i) → IsServed journal (words_of journal i) }
     ensures found { (setting : Setting) (journal : List Item)
         → IsSetting setting → IsPlayed setting journal
         → (i : ℕ) → (words_of journal i).found ≡ no_links }
