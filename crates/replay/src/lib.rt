@@ -7,7 +7,7 @@
 //!
 //! ```text
 //! let played = replay(alloc, &net, policies, &events)?; // Plan(why) where there is no first plan
-//! let text = journal_text::text(alloc, &played.journal, &net)?;
+//! let text = text(alloc, &played.journal, &net)?; // its lines, by `journal_text`
 //! ```
 #![tactic(auto)]
 
@@ -18,6 +18,7 @@ mod playing;
 pub use draining::drain;
 pub use error::ReplayError;
 pub use journal::{Item, Journal};
+pub use journal_text::text;
 pub use net_file::Net;
 pub use playing::{Played, play, replay};
 pub use policy_rules::Policy;
