@@ -63,7 +63,7 @@ stops_first name net rows stop.ReadFault stops = stops
 
 pub sound_by_tie : (world : WorldValue) → world.is_spent ≡ false
     → (world.is_spent ≡ false → AreTied world.setting world.journal world.switches
-    world.travelling world.packets) → IsSetting world.setting
+    world.travelling world.packets world.controller.marks) → IsSetting world.setting
 unfolding AreTied
 sound_by_tie world able tied = (tied able).sound
 

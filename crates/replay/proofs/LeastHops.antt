@@ -174,8 +174,8 @@ least_travels setting journal travelling next tie over least =
 
 -- ---- ties
 
-pub tie_of : (setting : Setting) (journal : List Item) (travelling : Travellers) (count : ℕ)
-    (switches : List _) → AreTied setting journal switches travelling count
-    → Tied setting journal switches travelling count
+pub tie_of : {marks : _} (setting : Setting) (journal : List Item) (travelling : Travellers)
+    (count : ℕ) (switches : List _) → AreTied setting journal switches travelling count marks
+    → Tied setting journal switches travelling count marks
 unfolding AreTied
 tie_of setting journal travelling count switches tied = tied

@@ -33,6 +33,7 @@ use Rattle.update_machine.specs.Pieces.{nothing, piece}
 use Rattle.update_machine.specs.Pieces.{hop_items as hop_items_of}
 use Rattle.update_machine.specs.Played.{IsSetting, MayPlay}
 use Rattle.update_machine.specs.Setting.{Setting}
+use Rattle.version_update.specs.Marks.{MarksValue}
 use Rattle.packet_laws.specs.Calm.{HasPacketsAlone, IsCalm}
 use Rattle.packet_laws.specs.OnWay.{IsOnWay}
 use Rattle.packet_laws.specs.Words.{PacketWords, told_by, words_of}
@@ -382,10 +383,11 @@ calls_go setting journal items switches row i place k d switch after stays false
     ∙ idle_there
     ∙ ap (λ calls. with_calls calls (get_or switches k d)) (sym count)
 
-hop_steps : (setting : Setting) (journal : List Item) (switches : List SwitchValue)
+hop_steps : (marks : MarksValue) (setting : Setting) (journal : List Item)
+    (switches : List SwitchValue)
     (before after : Travellers) (count row i : ℕ) (t : Traveller) (switch : SwitchValue)
     (near_it : ℕ) (ports : Ports)
-    → AreTied setting journal switches before count → MayPlay setting (Hop i)
+    → AreTied setting journal switches before count marks → MayPlay setting (Hop i)
     → (asked : IsAsked setting journal i t switch near_it ports)
     → (goes_on : Option ℕ) → next t.tunnel ≡ goes_on
     → WithOne before i (hop_traveller (counted switch) near_it ports t goes_on) after
@@ -393,7 +395,7 @@ hop_steps : (setting : Setting) (journal : List Item) (switches : List SwitchVal
     switches (set switches asked.standing.way.under_way.place (hopped_switch switch goes_on))
     after
 unfolding AreTied words_of
-hop_steps setting journal switches before after count row i t switch near_it ports tied may
+hop_steps marks setting journal switches before after count row i t switch near_it ports tied may
     asked goes_on is without =
     let place : ℕ = asked.standing.way.under_way.place in
     let items : List Item = hop_items (counted switch) near_it ports t goes_on in
@@ -430,16 +432,17 @@ hop_steps setting journal switches before after count row i t switch near_it por
 
 -- ---- the step
 
-pub asked_of : (setting : Setting) (journal : List Item) (switches : List SwitchValue)
+pub asked_of : (marks : MarksValue) (setting : Setting) (journal : List Item)
+    (switches : List SwitchValue)
     (before : Travellers) (count i : ℕ) (t : Traveller) (s : ℕ) (switch : SwitchValue)
     (near_it : ℕ) (ports : Ports)
-    → (tied : AreTied setting journal switches before count) → traveller before i ≡ Some t
+    → (tied : AreTied setting journal switches before count marks) → traveller before i ≡ Some t
     → AreOwners setting.net.switches ports → s ≡ here t.tunnel
     → switch ≡ get_or switches s switch → near_it ≡ near_of setting s
     → IsStanding setting journal i t → IsAsked setting journal i t switch near_it ports
 unfolding AreTied
-asked_of setting journal switches before count i t s switch near_it ports tied its owners at own
-    told standing_it =
+asked_of marks setting journal switches before count i t s switch near_it ports tied its owners at
+    own told standing_it =
     let place : ℕ = standing_it.way.under_way.place in
     let same : s ≡ place = at ∙ stands_at setting journal i t standing_it in
     record {
@@ -448,29 +451,31 @@ asked_of setting journal switches before count i t s switch near_it ports tied i
       standing = standing_it;
       owners = owners;
       own = own ∙ ap (λ p. get_or switches p switch) same
-          ∙ switch_here setting journal switches before count i t tied standing_it switch;
+          ∙ switch_here marks setting journal switches before count i t tied standing_it switch;
       told = told ∙ ap (near_of setting) same;
-      ends = λ last. ends_here setting journal switches before count i t tied standing_it last;
+      ends = λ last. ends_here marks setting journal switches before count i t tied standing_it
+          last;
     }
 
-pub hop_written : (setting : Setting) (journal new : List Item) (switches : List SwitchValue)
+pub hop_written : (marks : MarksValue) (setting : Setting) (journal new : List Item)
+    (switches : List SwitchValue)
     (before after : Travellers) (count row i : ℕ) (t : Traveller) (s : ℕ)
     (switch other : SwitchValue) (near_it : ℕ) (ports : Ports)
-    → AreTied setting journal switches before count → MayPlay setting (Hop i)
+    → AreTied setting journal switches before count marks → MayPlay setting (Hop i)
     → traveller before i ≡ Some t → AreOwners setting.net.switches ports → s ≡ here t.tunnel
     → switch ≡ get_or switches s switch → near_it ≡ near_of setting s
     → other ≡ hopped_switch switch (next t.tunnel)
     → WithOne before i (hop_traveller (counted switch) near_it ports t (next t.tunnel)) after
     → new ≡ journal ++ item.Row row (Hop i) ∷ []
     ++ hop_items (counted switch) near_it ports t (next t.tunnel)
-    → AreTied setting new (set switches s other) after count
-hop_written setting journal new switches before after count row i t s switch other near_it ports
-    tied may its owners at own told answered without is =
+    → AreTied setting new (set switches s other) after count marks
+hop_written marks setting journal new switches before after count row i t s switch other near_it
+    ports tied may its owners at own told answered without is =
     let standing_it : IsStanding setting journal i t =
-    standing_of setting journal switches before count i t tied its in
+    standing_of marks setting journal switches before count i t tied its in
     let asked : IsAsked setting journal i t switch near_it ports =
-    asked_of setting journal switches before count i t s switch near_it ports tied its owners at
-    own told standing_it in
+    asked_of marks setting journal switches before count i t s switch near_it ports tied its owners
+    at own told standing_it in
     let place : ℕ = asked.standing.way.under_way.place in
     let same : s ≡ place = at ∙ stands_at setting journal i t asked.standing in
     let items : List Item = hop_items (counted switch) near_it ports t (next t.tunnel) in
@@ -479,35 +484,36 @@ hop_written setting journal new switches before after count row i t s switch oth
     let of : IsOfHop row i (goes_further (next t.tunnel)) items =
     items_of_hop row i (counted switch) near_it ports t (next t.tunnel) in
     let kept : AreTied setting (journal ++ item.Row row (Hop i) ∷ items)
-    (set switches place (hopped_switch switch (next t.tunnel))) after count =
-    tied_more setting journal switches
+    (set switches place (hopped_switch switch (next t.tunnel))) after count marks =
+    tied_more marks setting journal switches
     (set switches place (hopped_switch switch (next t.tunnel))) before after count count row
     (Hop i) items tied
-    (hop_steps setting journal switches before after count row i t switch near_it ports tied may
-    asked (next t.tunnel) refl without)
+    (hop_steps marks setting journal switches before after count row i t switch near_it ports tied
+    may asked (next t.tunnel) refl without)
     (omega (arith, of.packets)) in
-    subst (λ js. AreTied setting js (set switches s other) after count) (sym all)
+    subst (λ js. AreTied setting js (set switches s other) after count marks) (sym all)
     (subst (λ w. AreTied setting (journal ++ item.Row row (Hop i) ∷ items) (set switches s w)
-    after count) (sym answered)
+    after count marks) (sym answered)
     (subst (λ p. AreTied setting (journal ++ item.Row row (Hop i) ∷ items)
-    (set switches p (hopped_switch switch (next t.tunnel))) after count) (sym same) kept))
+    (set switches p (hopped_switch switch (next t.tunnel))) after count marks) (sym same) kept))
 
 -- the piece of a hop, by what its switch is told
-pub hop_piece_of : (setting : Setting) (journal : List Item) (switches : List SwitchValue)
+pub hop_piece_of : (marks : MarksValue) (setting : Setting) (journal : List Item)
+    (switches : List SwitchValue)
     (before : Travellers) (count row i : ℕ) (t : Traveller) (s : ℕ) (switch : SwitchValue)
     (near_it : ℕ) (ports : Ports)
-    → (tied : AreTied setting journal switches before count) → traveller before i ≡ Some t
+    → (tied : AreTied setting journal switches before count marks) → traveller before i ≡ Some t
     → AreOwners setting.net.switches ports → s ≡ here t.tunnel
     → switch ≡ get_or switches s switch → near_it ≡ near_of setting s
     → piece setting journal row (Hop i)
     ≡ item.Row row (Hop i) ∷ hop_items (counted switch) near_it ports t (next t.tunnel)
-hop_piece_of setting journal switches before count row i t s switch near_it ports tied its owners
-    at own told =
+hop_piece_of marks setting journal switches before count row i t s switch near_it ports tied its
+    owners at own told =
     let standing_it : IsStanding setting journal i t =
-    standing_of setting journal switches before count i t tied its in
+    standing_of marks setting journal switches before count i t tied its in
     hop_piece setting journal row i t switch near_it ports
-    (asked_of setting journal switches before count i t s switch near_it ports tied its owners at
-    own told standing_it) (next t.tunnel) refl
+    (asked_of marks setting journal switches before count i t s switch near_it ports tied its
+    owners at own told standing_it) (next t.tunnel) refl
 
 -- ---- a packet that doesn't travel
 
@@ -521,15 +527,15 @@ left_piece setting journal row i off =
       | true ↦ move_items setting i (unwrap_or (place_of new i) 0) new
     ]) (ap (λ (words : PacketWords). words.travels) (same_words journal row i i) ∙ off)
 
-pub hop_left : (setting : Setting) (journal new : List Item) (switches : List SwitchValue)
-    (before : Travellers) (count row i : ℕ)
-    → AreTied setting journal switches before count → MayPlay setting (Hop i)
+pub hop_left : (marks : MarksValue) (setting : Setting) (journal new : List Item)
+    (switches : List SwitchValue) (before : Travellers) (count row i : ℕ)
+    → AreTied setting journal switches before count marks → MayPlay setting (Hop i)
     → is_some (traveller before i) ≡ false
     → new ≡ journal ++ item.Row row (Hop i) ∷ [] ++ item.Nothing ∷ []
     → (new ≡ journal ++ piece setting journal row (Hop i))
-    × AreTied setting new switches before count
+    × AreTied setting new switches before count marks
 unfolding AreTied
-hop_left setting journal new switches before count row i tied may resting is =
+hop_left marks setting journal new switches before count row i tied may resting is =
     let calm_now : IsCalm setting journal = played_calm setting journal tied.sound tied.played in
     let off : travels journal i ≡ false =
     sym (ap is_some (tied.packet i) ∙ travels_as setting journal i) ∙ resting in
@@ -538,8 +544,8 @@ hop_left setting journal new switches before count row i tied may resting is =
     let all : new ≡ journal ++ item.Row row (Hop i) ∷ item.Nothing ∷ [] =
     is ∙ append_assoc journal (item.Row row (Hop i) ∷ []) (item.Nothing ∷ []) in
     let kept : AreTied setting (journal ++ item.Row row (Hop i) ∷ item.Nothing ∷ []) switches
-    before count =
-    tied_more setting journal switches switches before before count count row (Hop i)
+    before count marks =
+    tied_more marks setting journal switches switches before before count count row (Hop i)
     (item.Nothing ∷ []) tied (record {
       may = may;
       piece_is = piece_is;
@@ -552,7 +558,7 @@ hop_left setting journal new switches before count row i tied may resting is =
       travels = λ q. tied.packet q ∙ calm_traveller setting journal calm_now q;
     }) (omega arith) in (
       all ∙ ap (λ items. journal ++ items) (sym piece_is),
-      subst (λ js. AreTied setting js switches before count) (sym all) kept,
+      subst (λ js. AreTied setting js switches before count marks) (sym all) kept,
     )
   where
     no_calls : (journal : List Item) (row i s : ℕ) → travels journal i ≡ false

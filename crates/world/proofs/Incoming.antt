@@ -28,6 +28,7 @@ use Rattle.update_machine.specs.Packets.{is_packet, next_packet}
 use Rattle.update_machine.specs.Pieces.{packet_items, piece}
 use Rattle.update_machine.specs.Played.{MayPlay}
 use Rattle.update_machine.specs.Setting.{Setting}
+use Rattle.version_update.specs.Marks.{MarksValue}
 use Rattle.packet_laws.specs.Calm.{IsCalm, first_plan}
 use Rattle.packet_laws.specs.OnWay.{IsUnknown}
 use Rattle.packet_laws.specs.Words.{words_of}
@@ -200,26 +201,29 @@ along setting journal row header at answer before q false is unknown unmarked co
 -- ---- the step
 
 -- what the step writes, and the tie behind it
-abbrev pub Comes : Setting → List Item → List SwitchValue → Travellers → ℕ → ℕ → ℕ → Header
+abbrev pub Comes : MarksValue → Setting → List Item → List SwitchValue → Travellers → ℕ → ℕ → ℕ →
+    Header
     → Ports → SwitchValue → ℕ → Type 0
-Comes setting journal switches after count row s header ports own near =
+Comes marks setting journal switches after count row s header ports own near =
     (piece setting journal row (PacketStep s header)
     ≡ item.Row row (PacketStep s header) ∷ entered_items (coming_in (count + 1) header own.number)
     (entry own near ports (count + 1) header))
     × AreTied setting (journal ++ item.Row row (PacketStep s header)
     ∷ entered_items (coming_in (count + 1) header own.number)
-    (entry own near ports (count + 1) header)) (set switches s (counted own)) after (count + 1)
+    (entry own near ports (count + 1) header)) (set switches s (counted own)) after (count +
+    1) marks
 
 -- what the switch answers is what the journal's definitions say
-piece_calm : (setting : Setting) (journal : List Item) (switches : List SwitchValue)
+piece_calm : (marks : MarksValue) (setting : Setting) (journal : List Item)
+    (switches : List SwitchValue)
     (before : Travellers) (count row s handled : ℕ) (header : Header) (ports : Ports)
-    → AreTied setting journal switches before count → MayPlay setting (PacketStep s header)
+    → AreTied setting journal switches before count marks → MayPlay setting (PacketStep s header)
     → AreOwners setting.net.switches ports
     → piece setting journal row (PacketStep s header)
     ≡ item.Row row (PacketStep s header) ∷ entered_items (coming_in (count + 1) header s)
     (entry (calm_switch setting handled s) (near_of setting s) ports (count + 1) header)
 unfolding AreTied piece
-piece_calm setting journal switches before count row s handled header ports tied may owners =
+piece_calm marks setting journal switches before count row s handled header ports tied may owners =
     let i : ℕ = count + 1 in
     let first : Item = item.Row row (PacketStep s header) in
     ap (λ n. first ∷ packet_items setting n s header (journal ++ first ∷ [])) tied.counted
@@ -229,18 +233,19 @@ piece_calm setting journal switches before count row s handled header ports tied
     (played_found setting journal tied.sound tied.played i) may.own.0 owners
     (said_law setting s header tied.sound may.own.1))
 
-come_calm : (setting : Setting) (journal : List Item) (switches : List SwitchValue)
+come_calm : (marks : MarksValue) (setting : Setting) (journal : List Item)
+    (switches : List SwitchValue)
     (before after : Travellers) (count row s handled : ℕ) (header : Header) (ports : Ports)
-    → AreTied setting journal switches before count → MayPlay setting (PacketStep s header)
+    → AreTied setting journal switches before count marks → MayPlay setting (PacketStep s header)
     → AreOwners setting.net.switches ports → s < length switches
     → get_or switches s (calm_switch setting handled s) ≡ calm_switch setting handled s
     → WithOne before (count + 1) (entered_traveller
     (entry (calm_switch setting handled s) (near_of setting s) ports (count + 1) header)) after
-    → Comes setting journal switches after count row s header ports
+    → Comes marks setting journal switches after count row s header ports
     (calm_switch setting handled s) (near_of setting s)
 unfolding AreTied entered
-come_calm setting journal switches before after count row s handled header ports tied may owners
-    there its with =
+come_calm marks setting journal switches before after count row s handled header ports tied may
+    owners there its with =
     let i : ℕ = count + 1 in
     let own : SwitchValue = calm_switch setting handled s in
     let at : Standing = coming_in i header s in
@@ -257,11 +262,12 @@ come_calm setting journal switches before after count row s handled header ports
     found_goes setting handled ports (incoming own i header)
     (table_lookup (tables_of (first_plan setting) 1 s) header) owners said in
     let is : piece setting journal row (PacketStep s header) ≡ first ∷ items =
-    piece_calm setting journal switches before count row s handled header ports tied may owners in
+    piece_calm marks setting journal switches before count row s handled header ports tied may
+    owners in
     let once : ComesOnce s items = entered_once at answer in
     let sum = sum_by-cons (λ x. cond (is_packet x) 1 0) first items in (
       is,
-      tied_more setting journal switches (set switches s (counted own)) before after count
+      tied_more marks setting journal switches (set switches s (counted own)) before after count
           (count + 1) row (PacketStep s header) items tied (record {
             may = may;
             piece_is = is;
@@ -279,88 +285,96 @@ come_calm setting journal switches before after count row s handled header ports
     )
 
 -- its switch is there, and can be asked
-pub come_ready : (setting : Setting) (journal : List Item) (switches : List SwitchValue)
-    (before : Travellers) (count s : ℕ) (header : Header)
-    → AreTied setting journal switches before count → MayPlay setting (PacketStep s header)
+pub come_ready : (marks : MarksValue) (setting : Setting) (journal : List Item)
+    (switches : List SwitchValue) (before : Travellers) (count s : ℕ) (header : Header)
+    → AreTied setting journal switches before count marks → MayPlay setting (PacketStep s header)
     → s < length switches
 unfolding AreTied
-come_ready setting journal switches before count s header tied may =
+come_ready marks setting journal switches before count s header tied may =
     omega (arith, may.own.0, tied.many)
 
-own_calm : (setting : Setting) (journal : List Item) (switches : List SwitchValue)
+own_calm : (marks : MarksValue) (setting : Setting) (journal : List Item)
+    (switches : List SwitchValue)
     (before : Travellers) (count s : ℕ) (header : Header) (own : SwitchValue)
-    → AreTied setting journal switches before count → MayPlay setting (PacketStep s header)
+    → AreTied setting journal switches before count marks → MayPlay setting (PacketStep s header)
     → own ≡ get_or switches s own → own ≡ calm_switch setting (handled_count journal s) s
 unfolding AreTied
-own_calm setting journal switches before count s header own tied may its =
+own_calm marks setting journal switches before count s header own tied may its =
     let there : s < length switches = omega (arith, may.own.0, tied.many) in
     its ∙ tied.each s own there
     ∙ calm_switch_of setting journal (played_calm setting journal tied.sound tied.played) s
     may.own.0
 
-pub come_asked : (setting : Setting) (journal : List Item) (switches : List SwitchValue)
+pub come_asked : (marks : MarksValue) (setting : Setting) (journal : List Item)
+    (switches : List SwitchValue)
     (before : Travellers) (count s : ℕ) (header : Header) (own : SwitchValue)
-    → AreTied setting journal switches before count → MayPlay setting (PacketStep s header)
+    → AreTied setting journal switches before count marks → MayPlay setting (PacketStep s header)
     → own ≡ get_or switches s own → CanLookUp own
-come_asked setting journal switches before count s header own tied may its =
-    subst CanLookUp (sym (own_calm setting journal switches before count s header own tied may its))
+come_asked marks setting journal switches before count s header own tied may its =
+    subst CanLookUp
+    (sym (own_calm marks setting journal switches before count s header own tied may its))
     (λ serving. refl)
 
 -- its number has 32 bits
-pub come_fits : (setting : Setting) (journal : List Item) (switches : List SwitchValue)
-    (before : Travellers) (count : ℕ) → AreTied setting journal switches before count
+pub come_fits : (marks : MarksValue) (setting : Setting) (journal : List Item)
+    (switches : List SwitchValue)
+    (before : Travellers) (count : ℕ) → AreTied setting journal switches before count marks
     → next_packet journal ≤ 4000000000 → count + 1 ≤ 4000000000
 unfolding AreTied
-come_fits setting journal switches before count tied few = omega (arith, tied.counted, few)
+come_fits marks setting journal switches before count tied few = omega (arith, tied.counted, few)
 
-pub come_piece : (setting : Setting) (journal : List Item) (switches : List SwitchValue)
+pub come_piece : (marks : MarksValue) (setting : Setting) (journal : List Item)
+    (switches : List SwitchValue)
     (before : Travellers) (count row s : ℕ) (header : Header) (ports : Ports)
     (own : SwitchValue) (near : ℕ)
-    → AreTied setting journal switches before count → MayPlay setting (PacketStep s header)
+    → AreTied setting journal switches before count marks → MayPlay setting (PacketStep s header)
     → AreOwners setting.net.switches ports → near ≡ near_of setting s
     → own ≡ get_or switches s own
     → piece setting journal row (PacketStep s header)
     ≡ item.Row row (PacketStep s header) ∷ entered_items (coming_in (count + 1) header own.number)
     (entry own near ports (count + 1) header)
-come_piece setting journal switches before count row s header ports own near tied may owners masks
-    its =
+come_piece marks setting journal switches before count row s header ports own near tied may owners
+    masks its =
     let handled : ℕ = handled_count journal s in
     let P : SwitchValue → ℕ → Type 0 = λ own near. piece setting journal row (PacketStep s header)
     ≡ item.Row row (PacketStep s header) ∷ entered_items (coming_in (count + 1) header own.number)
     (entry own near ports (count + 1) header) in
     subst (λ own. P own near)
-    (sym (own_calm setting journal switches before count s header own tied may its))
+    (sym (own_calm marks setting journal switches before count s header own tied may its))
     (subst (λ near. P (calm_switch setting handled s) near) (sym masks)
-    (piece_calm setting journal switches before count row s handled header ports tied may owners))
+    (piece_calm marks setting journal switches before count row s handled header ports tied may
+    owners))
 
-pub come_tied : (setting : Setting) (journal : List Item) (switches : List SwitchValue)
+pub come_tied : (marks : MarksValue) (setting : Setting) (journal : List Item)
+    (switches : List SwitchValue)
     (before after : Travellers) (count row s : ℕ) (header : Header) (ports : Ports)
     (own : SwitchValue) (near : ℕ)
-    → AreTied setting journal switches before count → MayPlay setting (PacketStep s header)
+    → AreTied setting journal switches before count marks → MayPlay setting (PacketStep s header)
     → AreOwners setting.net.switches ports → near ≡ near_of setting s
     → own ≡ get_or switches s own
     → WithOne before (count + 1) (entered_traveller (entry own near ports (count + 1) header)) after
-    → Comes setting journal switches after count row s header ports own near
-come_tied setting journal switches before after count row s header ports own near tied may owners
-    masks its with =
+    → Comes marks setting journal switches after count row s header ports own near
+come_tied marks setting journal switches before after count row s header ports own near tied may
+    owners masks its with =
     let there : s < length switches =
-    come_ready setting journal switches before count s header tied may in
+    come_ready marks setting journal switches before count s header tied may in
     let handled : ℕ = handled_count journal s in
     let is : own ≡ calm_switch setting handled s =
-    own_calm setting journal switches before count s header own tied may its in
+    own_calm marks setting journal switches before count s header own tied may its in
     let P : SwitchValue → ℕ → Type 0 = λ own near. get_or switches s own ≡ own
     → WithOne before (count + 1) (entered_traveller (entry own near ports (count + 1) header)) after
-    → Comes setting journal switches after count row s header ports own near in
+    → Comes marks setting journal switches after count row s header ports own near in
     subst (λ own. P own near) (sym is)
     (subst (λ near. P (calm_switch setting handled s) near) (sym masks)
-    (come_calm setting journal switches before after count row s handled header ports tied may
+    (come_calm marks setting journal switches before after count row s handled header ports tied may
     owners there))
     (sym its) with
 
-pub come_kept : {T E : Type 0} (r : Result T E) (setting : Setting) (journal begun new : List Item)
+pub come_kept : {T E : Type 0} (r : Result T E) (marks : MarksValue) (setting : Setting)
+    (journal begun new : List Item)
     (switches : List SwitchValue) (before after : Travellers) (count row s : ℕ) (header : Header)
     (ports : Ports) (own changed : SwitchValue) (near : ℕ)
-    → AreTied setting journal switches before count → MayPlay setting (PacketStep s header)
+    → AreTied setting journal switches before count marks → MayPlay setting (PacketStep s header)
     → AreOwners setting.net.switches ports → near ≡ near_of setting s
     → own ≡ get_or switches s own → changed ≡ counted own
     → begun ≡ journal ++ item.Row row (PacketStep s header) ∷ []
@@ -368,17 +382,17 @@ pub come_kept : {T E : Type 0} (r : Result T E) (setting : Setting) (journal beg
     (entry own near ports (count + 1) header))
     → OnOk r (WithOne before (count + 1)
     (entered_traveller (entry own near ports (count + 1) header)) after)
-    → OnOk r (AreTied setting new (set switches s changed) after (count + 1))
-come_kept r setting journal begun new switches before after count row s header ports own changed
-    near tied may owners masks its changed_is row_is written travels =
+    → OnOk r (AreTied setting new (set switches s changed) after (count + 1) marks)
+come_kept r marks setting journal begun new switches before after count row s header ports own
+    changed near tied may owners masks its changed_is row_is written travels =
     let first : Item = item.Row row (PacketStep s header) in
     let items : List Item = entered_items (coming_in (count + 1) header own.number)
     (entry own near ports (count + 1) header) in
     both_ok r (λ grown with.
-    subst (λ js. AreTied setting js (set switches s changed) after (count + 1))
+    subst (λ js. AreTied setting js (set switches s changed) after (count + 1) marks)
     (sym (grown_more journal begun new items first row_is grown))
     (subst (λ one. AreTied setting (journal ++ first ∷ items) (set switches s one) after
-    (count + 1))
+    (count + 1) marks)
     (sym changed_is)
-    (come_tied setting journal switches before after count row s header ports own near tied may
-    owners masks its with).1)) written travels
+    (come_tied marks setting journal switches before after count row s header ports own near tied
+    may owners masks its with).1)) written travels

@@ -11,6 +11,7 @@ use Rattle.update_machine.specs.Packets.{travels}
 use Rattle.update_machine.specs.Pieces.{lose_items, nothing, piece}
 use Rattle.update_machine.specs.Played.{MayPlay}
 use Rattle.update_machine.specs.Setting.{Setting}
+use Rattle.version_update.specs.Marks.{MarksValue}
 use Rattle.packet_laws.specs.Calm.{IsCalm}
 use Rattle.packet_laws.specs.Words.{words_of}
 use Rattle.packet_laws.proofs.Words.{words_grow}
@@ -63,14 +64,15 @@ gone setting journal row i q true is = let same : (i == q) ≡ true = grind (ari
 gone setting journal row i q false is = let other : (i == q) ≡ false = grind (arith, nat_tests) in
     rw other refl
 
-pub lost : (setting : Setting) (journal : List Item) (switches : List SwitchValue)
-    (before after : Travellers) (count row i : ℕ)
-    → AreTied setting journal switches before count → MayPlay setting (Lose i)
+pub lost : (marks : MarksValue) (setting : Setting) (journal : List Item)
+    (switches : List SwitchValue) (before after : Travellers) (count row i : ℕ)
+    → AreTied setting journal switches before count marks → MayPlay setting (Lose i)
     → is_some (traveller before i) ≡ true → WithOne before i None after
     → (piece setting journal row (Lose i) ≡ item.Row row (Lose i) ∷ item.Lost i ∷ [])
     × AreTied setting (journal ++ item.Row row (Lose i) ∷ item.Lost i ∷ []) switches after count
+    marks
 unfolding AreTied
-lost setting journal switches before after count row i tied may travelling without =
+lost marks setting journal switches before after count row i tied may travelling without =
     let calm : IsCalm setting journal = played_calm setting journal tied.sound tied.played in
     let on : travels journal i ≡ true =
     sym (ap is_some (tied.packet i) ∙ travels_as setting journal i) ∙ travelling in
@@ -78,7 +80,7 @@ lost setting journal switches before after count row i tied may travelling witho
     lose_piece setting journal row i
     ∙ ap (λ b. item.Row row (Lose i) ∷ (if b then item.Lost i ∷ [] else nothing)) on in (
       is,
-      tied_more setting journal switches switches before after count count row (Lose i)
+      tied_more marks setting journal switches switches before after count count row (Lose i)
           (item.Lost i ∷ []) tied (record {
             may = may;
             piece_is = is;
@@ -103,14 +105,15 @@ stayed setting journal row i q true is off = let same : travels journal q ≡ fa
     ap (travels journal) (eqb-true _ _ is) ∙ off in rw same refl
 stayed setting journal row i q false is off = refl
 
-pub not_lost : (setting : Setting) (journal : List Item) (switches : List SwitchValue)
-    (before after : Travellers) (count row i : ℕ)
-    → AreTied setting journal switches before count → MayPlay setting (Lose i)
+pub not_lost : (marks : MarksValue) (setting : Setting) (journal : List Item)
+    (switches : List SwitchValue) (before after : Travellers) (count row i : ℕ)
+    → AreTied setting journal switches before count marks → MayPlay setting (Lose i)
     → is_some (traveller before i) ≡ false → WithOne before i None after
     → (piece setting journal row (Lose i) ≡ item.Row row (Lose i) ∷ item.Nothing ∷ [])
     × AreTied setting (journal ++ item.Row row (Lose i) ∷ item.Nothing ∷ []) switches after count
+    marks
 unfolding AreTied
-not_lost setting journal switches before after count row i tied may resting without =
+not_lost marks setting journal switches before after count row i tied may resting without =
     let calm : IsCalm setting journal = played_calm setting journal tied.sound tied.played in
     let off : travels journal i ≡ false =
     sym (ap is_some (tied.packet i) ∙ travels_as setting journal i) ∙ resting in
@@ -118,7 +121,7 @@ not_lost setting journal switches before after count row i tied may resting with
     lose_piece setting journal row i
     ∙ ap (λ b. item.Row row (Lose i) ∷ (if b then item.Lost i ∷ [] else nothing)) off in (
       is,
-      tied_more setting journal switches switches before after count count row (Lose i)
+      tied_more marks setting journal switches switches before after count count row (Lose i)
           (item.Nothing ∷ []) tied (record {
             may = may;
             piece_is = is;
@@ -134,31 +137,34 @@ not_lost setting journal switches before after count row i tied may resting with
 
 -- ---- the step
 
-pub lost_written : (setting : Setting) (journal new : List Item) (switches : List SwitchValue)
-    (before after : Travellers) (count row i : ℕ)
-    → AreTied setting journal switches before count → MayPlay setting (Lose i)
+pub lost_written : (marks : MarksValue) (setting : Setting) (journal new : List Item)
+    (switches : List SwitchValue) (before after : Travellers) (count row i : ℕ)
+    → AreTied setting journal switches before count marks → MayPlay setting (Lose i)
     → is_some (traveller before i) ≡ true → WithOne before i None after
     → new ≡ journal ++ item.Row row (Lose i) ∷ [] ++ item.Lost i ∷ []
     → (new ≡ journal ++ piece setting journal row (Lose i))
-    × AreTied setting new switches after count
-lost_written setting journal new switches before after count row i tied may travelling without is =
-    let both = lost setting journal switches before after count row i tied may travelling without in
+    × AreTied setting new switches after count marks
+lost_written marks setting journal new switches before after count row i tied may travelling without
+    is =
+    let both = lost marks setting journal switches before after count row i tied may travelling
+    without in
     let all : new ≡ journal ++ item.Row row (Lose i) ∷ item.Lost i ∷ [] =
     is ∙ append_assoc journal (item.Row row (Lose i) ∷ []) (item.Lost i ∷ []) in
-    let P : List Item → Type 0 = λ js. AreTied setting js switches after count in
+    let P : List Item → Type 0 = λ js. AreTied setting js switches after count marks in
     (all ∙ ap (λ items. journal ++ items) (sym both.0), subst P (sym all) both.1)
 
-pub not_lost_written : (setting : Setting) (journal new : List Item)
+pub not_lost_written : (marks : MarksValue) (setting : Setting) (journal new : List Item)
     (switches : List SwitchValue) (before after : Travellers) (count row i : ℕ)
-    → AreTied setting journal switches before count → MayPlay setting (Lose i)
+    → AreTied setting journal switches before count marks → MayPlay setting (Lose i)
     → is_some (traveller before i) ≡ false → WithOne before i None after
     → new ≡ journal ++ item.Row row (Lose i) ∷ [] ++ item.Nothing ∷ []
     → (new ≡ journal ++ piece setting journal row (Lose i))
-    × AreTied setting new switches after count
-not_lost_written setting journal new switches before after count row i tied may resting without is =
-    let both = not_lost setting journal switches before after count row i tied may resting
+    × AreTied setting new switches after count marks
+not_lost_written marks setting journal new switches before after count row i tied may resting
+    without is =
+    let both = not_lost marks setting journal switches before after count row i tied may resting
     without in
     let all : new ≡ journal ++ item.Row row (Lose i) ∷ item.Nothing ∷ [] =
     is ∙ append_assoc journal (item.Row row (Lose i) ∷ []) (item.Nothing ∷ []) in
-    let P : List Item → Type 0 = λ js. AreTied setting js switches after count in
+    let P : List Item → Type 0 = λ js. AreTied setting js switches after count marks in
     (all ∙ ap (λ items. journal ++ items) (sym both.0), subst P (sym all) both.1)

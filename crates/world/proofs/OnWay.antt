@@ -11,6 +11,7 @@ use Rattle.switch_core.specs.Moving.{found_down}
 use Rattle.switch_core.specs.State.{SwitchValue}
 use Rattle.tunnel.specs.Moves.{here, next}
 use Rattle.update_machine.specs.Setting.{Setting}
+use Rattle.version_update.specs.Marks.{MarksValue}
 use Rattle.packet_laws.specs.Calm.{IsCalm}
 use Rattle.packet_laws.specs.OnWay.{IsOnWay}
 use Rattle.packet_laws.specs.Words.{PacketWords, words_of}
@@ -72,12 +73,12 @@ pub record IsStanding (setting : Setting) (journal : List Item) (i : ℕ) (t : T
     pub is : t ≡ on_leg setting i (words_of journal i) way.under_way.header
         way.under_way.ingress way.leg
 
-pub standing_of : (setting : Setting) (journal : List Item) (switches : List SwitchValue)
-    (before : Travellers) (count i : ℕ) (t : Traveller)
-    → AreTied setting journal switches before count → traveller before i ≡ Some t
+pub standing_of : (marks : MarksValue) (setting : Setting) (journal : List Item)
+    (switches : List SwitchValue) (before : Travellers) (count i : ℕ) (t : Traveller)
+    → AreTied setting journal switches before count marks → traveller before i ≡ Some t
     → IsStanding setting journal i t
 unfolding AreTied words_of
-standing_of setting journal switches before count i t tied its =
+standing_of marks setting journal switches before count i t tied its =
     let calm : IsCalm setting journal = played_calm setting journal tied.sound tied.played in
     let by : traveller_by setting i (words_of journal i) ≡ Some t =
     sym (tied.packet i ∙ calm_traveller setting journal calm i) ∙ its in
@@ -129,10 +130,10 @@ usable_here setting journal i t near standing is =
     way.under_way.place two way.stands
     (sym (next_of_words setting journal i t standing) ∙ goes)))
 
-pub number_of_packet : (setting : Setting) (journal : List Item) (switches : List SwitchValue)
-    (before : Travellers) (count i : ℕ) (t : Traveller)
-    → AreTied setting journal switches before count → traveller before i ≡ Some t
+pub number_of_packet : (marks : MarksValue) (setting : Setting) (journal : List Item)
+    (switches : List SwitchValue) (before : Travellers) (count i : ℕ) (t : Traveller)
+    → AreTied setting journal switches before count marks → traveller before i ≡ Some t
     → t.tunnel.packet ≡ i
-number_of_packet setting journal switches before count i t tied its =
+number_of_packet marks setting journal switches before count i t tied its =
     ap (λ (u : Traveller). u.tunnel.packet)
-    (standing_of setting journal switches before count i t tied its).is
+    (standing_of marks setting journal switches before count i t tied its).is

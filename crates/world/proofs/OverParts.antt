@@ -32,7 +32,7 @@ pub come_is : (parts : Parts) (row s : ℕ) (header : Header) (own : SwitchValue
     ∷ entered_items (coming_in (parts.packets + 1) header own.number)
     (entry own (slice_index parts.near s) parts.ports (parts.packets + 1) header)
 come_is parts row s header own sound tied may its =
-    come_piece (setting_in parts) parts.log.journal parts.switches.items parts.log.travelling
+    come_piece _ (setting_in parts) parts.log.journal parts.switches.items parts.log.travelling
     parts.packets row s header parts.ports own (slice_index parts.near s) tied may sound.owners
     (near_here parts s sound may.own.0) its
 
@@ -46,10 +46,10 @@ pub come_ties : {T E : Type 0} (r : Result T E) (parts : Parts) (row s : ℕ) (h
     → OnOk r (WithOne parts.log.travelling (parts.packets + 1) (entered_traveller
     (entry own (slice_index parts.near s) parts.ports (parts.packets + 1) header)) after)
     → OnOk r (AreTied (setting_in parts) new (set parts.switches.items s changed) after
-    (parts.packets + 1))
+    (parts.packets + 1) parts.controller.marks)
 come_ties r parts row s header own changed begun new after sound tied may its changed_is row_is
     written travels =
-    come_kept r (setting_in parts) parts.log.journal begun new parts.switches.items
+    come_kept r _ (setting_in parts) parts.log.journal begun new parts.switches.items
     parts.log.travelling after parts.packets row s header parts.ports own changed
     (slice_index parts.near s) tied may sound.owners (near_here parts s sound may.own.0) its
     changed_is row_is written travels
@@ -63,7 +63,7 @@ pub hop_is : (parts : Parts) (row i : ℕ) (t : Traveller) (s : ℕ) (switch : S
     ≡ item.Row row (Hop i)
     ∷ hop_items (counted switch) (slice_index parts.near s) parts.ports t (next t.tunnel)
 hop_is parts row i t s switch sound tied its at own =
-    hop_piece_of (setting_in parts) parts.log.journal parts.switches.items parts.log.travelling
+    hop_piece_of _ (setting_in parts) parts.log.journal parts.switches.items parts.log.travelling
     parts.packets row i t s switch (slice_index parts.near s) parts.ports tied its sound.owners at
     own (can_ask parts i t s switch sound tied its at own).told
 
@@ -78,17 +78,17 @@ pub hop_ties : {T E : Type 0} (r : Result T E) (parts : Parts) (row i : ℕ) (t 
     → OnOk r (WithOne parts.log.travelling t.tunnel.packet
     (hop_traveller (counted switch) (slice_index parts.near s) parts.ports t (next t.tunnel)) after)
     → OnOk r (AreTied (setting_in parts) new (set parts.switches.items s changed) after
-    parts.packets)
+    parts.packets parts.controller.marks)
 hop_ties r parts row i t s switch changed begun new after sound tied may its at own changed_is
     row_is written travels =
     let near : ℕ = slice_index parts.near s in
     both_ok r (λ grown with.
-    hop_written (setting_in parts) parts.log.journal new parts.switches.items
+    hop_written _ (setting_in parts) parts.log.journal new parts.switches.items
     parts.log.travelling after parts.packets row i t s switch changed near parts.ports tied may
     its sound.owners at own (can_ask parts i t s switch sound tied its at own).told changed_is
     (subst (λ k. WithOne parts.log.travelling k
     (hop_traveller (counted switch) near parts.ports t (next t.tunnel)) after)
-    (number_of_packet (setting_in parts) parts.log.journal parts.switches.items
+    (number_of_packet _ (setting_in parts) parts.log.journal parts.switches.items
     parts.log.travelling parts.packets i t tied its) with)
     (grown ∙ ap (λ js. js ++ hop_items (counted switch) near parts.ports t (next t.tunnel))
     row_is)) written travels

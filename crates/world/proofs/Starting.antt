@@ -15,10 +15,13 @@ use Rattle.update_machine.specs.Packets.{next_packet, travels}
 use Rattle.update_machine.specs.Played.{IsSetting, MayPlay, NamesOwnPort}
 use Rattle.update_machine.specs.Setting.{Setting, plan_of_file, setting_of}
 use Rattle.update_machine.specs.Steps.{steps_in}
+use Rattle.version_update.specs.Marks.{MarksValue, first_marks}
 use Rattle.packet_laws.specs.Calm.{IsCalm, first_plan}
 use Rattle.packet_laws.proofs.Calm.{calm}
+use Rattle.world.specs.Marks.{AreMarksOf}
 use Rattle.world.specs.State.{AreTied, switch_begun, traveller_in}
 use Rattle.world.proofs.Calmness.{calm_switch_of}
+use Rattle.world.proofs.Marked.{marks_begun}
 
 planned_first : (net : Net) (policies : List (List Row)) → 1 ≤ length policies
     → plan_of_file (setting_of net policies) 1 ≡ plan_of (get_or policies 0 []) net
@@ -45,14 +48,15 @@ setting_begun net policies plan sound some rows ports is =
     }
 
 pub begun_tied : (net : Net) (policies : List (List Row)) (plan : List Placed)
-    (switches : List SwitchValue) → IsNet net
+    (switches : List SwitchValue) (marks : MarksValue) → IsNet net
     → 1 ≤ length policies → All IsPolicy policies
     → All (All (λ row. NamesOwnPort (setting_of net policies) row.action)) policies
     → plan_of (get_or policies 0 []) net ≡ Ok plan
     → switches ≡ map (switch_begun net plan) (range_with_len 0 (length net.switches))
-    → AreTied (setting_of net policies) [] switches [] 0
+    → marks ≡ first_marks (length net.switches)
+    → AreTied (setting_of net policies) [] switches [] 0 marks
 unfolding AreTied traveller_in travels next_packet
-begun_tied net policies plan switches sound some rows ports is made =
+begun_tied net policies plan switches marks sound some rows ports is made marked =
     let setting : Setting = setting_of net policies in
     let first : first_plan setting ≡ plan = rw (planned_first net policies some, is) refl in
     let quiet : IsCalm setting [] = calm setting [] sound tt in
@@ -75,4 +79,5 @@ begun_tied net policies plan switches sound some rows ports is made =
           ∙ sym (calm_switch_of setting [] quiet s own ∙ rw (none_handled s, first) refl);
       packet = λ i. refl;
       counted = refl;
+      marks = subst (AreMarksOf setting []) (sym marked) (marks_begun setting);
     }

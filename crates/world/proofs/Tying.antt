@@ -11,11 +11,13 @@ use Rattle.update_machine.specs.Pieces.{piece}
 use Rattle.update_machine.specs.Played.{IsPlayed, MayPlay}
 use Rattle.update_machine.specs.Setting.{Setting}
 use Rattle.update_machine.proofs.CallerLemmas.{count_of_append}
+use Rattle.version_update.specs.Marks.{MarksValue}
 use Rattle.packet_laws.specs.Calm.{IsCalm}
 use Rattle.packet_laws.specs.Words.{words_of}
 use Rattle.world.specs.State.{AreTied, switch_of}
 use Rattle.world.specs.Travelling.{Travellers, traveller}
 use Rattle.world.proofs.Calmness.{calm_switch, calm_switch_of}
+use Rattle.world.proofs.Marked.{apart_played, marks_on}
 use Rattle.world.proofs.Played.{played_calm}
 use Rattle.world.proofs.Steps.{NoRows, calls_in, handled_more, played_more}
 use Rattle.world.proofs.Words.{calm_traveller, traveller_by, words_all, words_along}
@@ -52,14 +54,16 @@ unfolding next_packet
 next_on journal items count next is more =
     rw (count_of_append is_packet journal items) (omega (arith, is, more))
 
-pub tied_more : (setting : Setting) (journal : List Item) (switches others : List SwitchValue)
+pub tied_more : (marks : MarksValue) (setting : Setting) (journal : List Item)
+    (switches others : List SwitchValue)
     (before after : Travellers) (count next row : ℕ) (step : Step) (items : List Item)
-    → AreTied setting journal switches before count
+    → AreTied setting journal switches before count marks
     → Steps setting journal row step items switches others after
     → next ≡ count + count_of is_packet (item.Row row step ∷ items)
-    → AreTied setting (journal ++ item.Row row step ∷ items) others after next
+    → AreTied setting (journal ++ item.Row row step ∷ items) others after next marks
 unfolding AreTied
-tied_more setting journal switches others before after count next row step items tied steps more =
+tied_more marks setting journal switches others before after count next row step items tied steps
+    more =
     let new : List Item = journal ++ item.Row row step ∷ items in
     let played : IsPlayed setting new =
     played_on setting journal row step items tied.played steps.may steps.piece_is in
@@ -83,6 +87,8 @@ tied_more setting journal switches others before after count next row step items
           (sym (words_all i journal (item.Row row step ∷ items)))
           ∙ sym (calm_traveller setting new calmer i);
       counted = next_on journal (item.Row row step ∷ items) count next tied.counted more;
+      marks = marks_on setting journal (item.Row row step ∷ items) marks
+          (apart_played setting journal (item.Row row step ∷ items) tied.sound played) tied.marks;
     }
 
 -- ---- a switch that answers no call

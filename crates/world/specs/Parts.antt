@@ -1,28 +1,25 @@
 -- The parts of a world, and what holds of them.
-use Rattle.std.specs.Prelude.{◌≡◌, Bool, false, length}
+use Rattle.std.specs.Prelude.{◌≡◌, Bool, false}
 use Rattle.net_file.specs.Net.{IsNet}
 use Rattle.net_file.specs.Owners.{AreOwners}
 use Rattle.update_machine.specs.Setting.{Setting, setting_of}
-use Rattle.version_update.specs.Marks.{first_marks}
 use Rattle.world.specs.State.{AreNear, AreTied, WorldValue}
 use Rattle.world.specs.declared.parts.Parts.{Parts}
 
 abbrev pub setting_in : Parts → Setting
 setting_in parts = setting_of parts.net parts.policies.items
 
--- the tables of the ports and the neighbours are the network's, and the marks are as they began,
--- since no message is sent yet
+-- the tables of the ports and the neighbours are the network's
 pub record AreSound (parts : Parts) : Type 0 where
   pub sound : IsNet parts.net
   pub owners : AreOwners parts.net.switches parts.ports
   pub masks : AreNear parts.net parts.near
-  pub marks : parts.controller.marks ≡ first_marks (length parts.net.switches)
 
 -- the parts are as their journal says
 abbrev pub AreTiedIn : Parts → Type 0
 AreTiedIn parts =
     AreTied (setting_in parts) parts.log.journal parts.switches.items parts.log.travelling
-    parts.packets
+    parts.packets parts.controller.marks
 
 -- the network, the policies and the controller stay, and what is told of them
 pub record KeepNet (before after : Parts) : Type 0 where

@@ -26,6 +26,8 @@ use Rattle.update_machine.specs.Packets.{decision_of, found_down, ingress_of, le
 use Rattle.update_machine.specs.Played.{IsPlayed, IsSetting}
 use Rattle.update_machine.specs.Setting.{Setting}
 use Rattle.update_machine.specs.Versions.{greatest, holds_version, stamp_of, tables_at}
+use Rattle.version_update.specs.Marks.{MarksValue}
+use Rattle.world.specs.Marks.{AreMarksOf}
 use Rattle.world.specs.Travelling.{Travellers, traveller}
 use Rattle.world.specs.declared.travelling.Traveller.{Traveller}
 
@@ -121,9 +123,10 @@ traveller_in setting journal i =
 
 -- ---- the tie
 
--- the journal is played, and the switches and the packets on their way are as it says
+-- the journal is played, and the switches, the packets on their way and the controller's marks are
+-- as it says
 pub record Tied (setting : Setting) (journal : List Item) (switches : List SwitchValue)
-    (travelling : Travellers) (count : ℕ) : Type 0 where
+    (travelling : Travellers) (count : ℕ) (known : MarksValue) : Type 0 where
   pub sound : IsSetting setting
   pub played : IsPlayed setting journal
   pub many : length switches ≡ length setting.net.switches
@@ -131,10 +134,12 @@ pub record Tied (setting : Setting) (journal : List Item) (switches : List Switc
       slice_index_or switches s d ≡ switch_of setting journal s
   pub packet : (i : ℕ) → traveller travelling i ≡ traveller_in setting journal i
   pub counted : next_packet journal ≡ count + 1
+  pub marks : AreMarksOf setting journal known
 
-unfoldable pub AreTied : Setting → List Item → List SwitchValue → Travellers → ℕ → Type 0
-AreTied setting journal switches travelling count =
-    Tied setting journal switches travelling count
+unfoldable pub AreTied : Setting → List Item → List SwitchValue → Travellers → ℕ → MarksValue
+    → Type 0
+AreTied setting journal switches travelling count known =
+    Tied setting journal switches travelling count known
 
 -- ---- a world
 

@@ -6,7 +6,6 @@ ghost use Rattle.update_machine.specs.Packets.{next_packet, travels};
 ghost use Rattle.update_machine.specs.Pieces.{piece};
 ghost use Rattle.update_machine.specs.Played.{MayPlay, NamesOwnPort};
 ghost use Rattle.update_machine.specs.Setting.{setting_of};
-ghost use Rattle.world.specs.Marks.{AreMarksOf};
 ghost use Rattle.world.specs.State.{AreTied, IsBegun, comes_in};
 ghost use Rattle.world.specs.Travelling.{IsNextFrom, traveller};
 ghost use Rattle.world.specs.Writing.{IsPart};
@@ -150,12 +149,9 @@ impl World {
         &self.parts.switches
     }
 
-    /// The controller. As long as memory didn't run out within a step, its marks are as the journal
-    /// says.
+    /// The controller.
     pub fn controller(&self) -> &Controller
-        ensures controller { result.now ≡ self.now.controller }
-        ensures marks { self.now.is_spent ≡ false → AreMarksOf self.now.setting self.now.journal
-            self.now.controller.marks }
+        ensures { result.now ≡ self.now.controller }
     {
         &self.parts.controller
     }
@@ -174,11 +170,11 @@ impl World {
         self.is_spent
     }
 
-    /// As long as memory didn't run out within a step, the switches and the packets on their way
-    /// are as the journal says.
+    /// As long as memory didn't run out within a step, the switches, the packets on their way and
+    /// the controller's marks are as the journal says.
     pub fn tied(&self)
         ensures { self.now.is_spent ≡ false → AreTied self.now.setting self.now.journal
-            self.now.switches self.now.travelling self.now.packets }
+            self.now.switches self.now.travelling self.now.packets self.now.controller.marks }
     {
         let _spent = self.is_spent;
     }

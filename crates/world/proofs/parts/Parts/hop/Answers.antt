@@ -28,7 +28,7 @@ returns-in-None-clause-written c =
     let off : is_some (traveller c.args.self.now.log.travelling c.args.packet) ≡ false =
     ap is_some (sym c.get.ensures ∙ ap option_copied c.in-None.is) in
     if_ok c.push-in-None.result c.push-in-None.ensures.pushed (λ pushed.
-    (hop_left _ _ c.push-in-None.new.self _ _ _ c.args.row _ c.requires.tied c.requires.may off
+    (hop_left _ _ _ c.push-in-None.new.self _ _ _ c.args.row _ c.requires.tied c.requires.may off
     (pushed ∙ ap (λ js. js ++ item.Nothing ∷ []) c.in_ok-push.ensures.pushed)).0)
 
 pub returns-in-None-clause-tied : goal.returns-in-None-clause-tied
@@ -36,7 +36,7 @@ returns-in-None-clause-tied c =
     let off : is_some (traveller c.args.self.now.log.travelling c.args.packet) ≡ false =
     ap is_some (sym c.get.ensures ∙ ap option_copied c.in-None.is) in
     if_ok c.push-in-None.result c.push-in-None.ensures.pushed (λ pushed.
-    (hop_left _ _ c.push-in-None.new.self _ _ _ c.args.row _ c.requires.tied c.requires.may off
+    (hop_left _ _ _ c.push-in-None.new.self _ _ _ c.args.row _ c.requires.tied c.requires.may off
     (pushed ∙ ap (λ js. js ++ item.Nothing ∷ []) c.in_ok-push.ensures.pushed)).1)
 
 pub returns-in-None-clause-part : goal.returns-in-None-clause-part
@@ -49,7 +49,7 @@ returns-in-None-clause-part c =
 pub index_mut-requires : goal.index_mut-requires
 index_mut-requires c =
     let there : c.here-here.result < length c.args.self.now.switches.items =
-    within_here (setting_in c.args.self.now) c.args.self.now.log.journal
+    within_here _ (setting_in c.args.self.now) c.args.self.now.log.journal
     c.args.self.now.switches.items c.args.self.now.log.travelling c.args.self.now.packets
     c.args.packet c.in-Some.traveller.now c.here-here.result c.requires.tied
     (sym c.get.ensures ∙ ap option_copied c.in-Some.is) c.here-here.ensures.here in

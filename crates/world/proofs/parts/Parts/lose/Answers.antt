@@ -9,7 +9,7 @@ pub returns-then-remove-clause-written : goal.returns-then-remove-clause-written
 returns-then-remove-clause-written c =
     let log = c.args.self.now.log in
     on_ok_weaker c.push-then-remove.result
-    (λ grown. (lost_written (setting_in c.args.self.now) log.journal
+    (λ grown. (lost_written _ (setting_in c.args.self.now) log.journal
     c.push-then-remove.new.self c.args.self.now.switches.items log.travelling
     c.remove.new.self c.args.self.now.packets c.args.row c.args.packet c.requires.tied
     c.requires.may (sym c.remove.ensures.was ∙ c.if-remove.true) c.remove.ensures.after
@@ -20,7 +20,7 @@ pub returns-then-remove-clause-tied : goal.returns-then-remove-clause-tied
 returns-then-remove-clause-tied c =
     let log = c.args.self.now.log in
     on_ok_weaker c.push-then-remove.result
-    (λ grown. (lost_written (setting_in c.args.self.now) log.journal
+    (λ grown. (lost_written _ (setting_in c.args.self.now) log.journal
     c.push-then-remove.new.self c.args.self.now.switches.items log.travelling
     c.remove.new.self c.args.self.now.packets c.args.row c.args.packet c.requires.tied
     c.requires.may (sym c.remove.ensures.was ∙ c.if-remove.true) c.remove.ensures.after
@@ -31,7 +31,7 @@ pub returns-else-remove-clause-written : goal.returns-else-remove-clause-written
 returns-else-remove-clause-written c =
     let log = c.args.self.now.log in
     on_ok_weaker c.push-else-remove.result
-    (λ grown. (not_lost_written (setting_in c.args.self.now) log.journal
+    (λ grown. (not_lost_written _ (setting_in c.args.self.now) log.journal
     c.push-else-remove.new.self c.args.self.now.switches.items log.travelling
     c.remove.new.self c.args.self.now.packets c.args.row c.args.packet c.requires.tied
     c.requires.may (sym c.remove.ensures.was ∙ c.if-remove.false) c.remove.ensures.after
@@ -42,7 +42,7 @@ pub returns-else-remove-clause-tied : goal.returns-else-remove-clause-tied
 returns-else-remove-clause-tied c =
     let log = c.args.self.now.log in
     on_ok_weaker c.push-else-remove.result
-    (λ grown. (not_lost_written (setting_in c.args.self.now) log.journal
+    (λ grown. (not_lost_written _ (setting_in c.args.self.now) log.journal
     c.push-else-remove.new.self c.args.self.now.switches.items log.travelling
     c.remove.new.self c.args.self.now.packets c.args.row c.args.packet c.requires.tied
     c.requires.may (sym c.remove.ensures.was ∙ c.if-remove.false) c.remove.ensures.after

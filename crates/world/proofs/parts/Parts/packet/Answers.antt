@@ -10,14 +10,14 @@ use Rattle.world.proofs.parts.Parts.packet.Goals as goal
 pub overflow_add-self : goal.overflow_add-self
 overflow_add-self c =
     let self = c.args.self.now in
-    let fits = come_fits (setting_in self) self.log.journal self.switches.items
+    let fits = come_fits _ (setting_in self) self.log.journal self.switches.items
     self.log.travelling self.packets c.requires.tied c.requires.few in
     omega (arith, fits)
 
 pub index_mut-requires : goal.index_mut-requires
 index_mut-requires c =
     let self = c.args.self.now in
-    let there = come_ready (setting_in self) self.log.journal self.switches.items
+    let there = come_ready _ (setting_in self) self.log.journal self.switches.items
     self.log.travelling self.packets c.args.switch c.args.header.now c.requires.tied
     c.requires.may in
     omega (arith, there, self.switches.ok.0)
@@ -25,7 +25,7 @@ index_mut-requires c =
 pub enter-requires : goal.enter-requires
 enter-requires c =
     let self = c.args.self.now in
-    come_asked (setting_in self) self.log.journal self.switches.items self.log.travelling
+    come_asked _ (setting_in self) self.log.journal self.switches.items self.log.travelling
     self.packets c.args.switch c.args.header.now c.index_mut.result.now c.requires.tied
     c.requires.may c.index_mut.ensures.value
 

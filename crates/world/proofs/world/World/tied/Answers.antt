@@ -5,5 +5,6 @@ use Rattle.world.proofs.world.World.tied.Goals as goal
 pub returns : goal.returns
 returns c =
     subst (λ (w : WorldValue). w.is_spent ≡ false
-    → AreTied w.setting w.journal w.switches w.travelling w.packets) c.self.view_is
+    → AreTied w.setting w.journal w.switches w.travelling w.packets
+    w.controller.marks) c.self.view_is
     c.self.invariant.tied
