@@ -8,7 +8,7 @@ use Rattle.switch_core.specs.Arriving.{IsAtAuthority}
 use Rattle.switch_core.specs.Moving.{Moved, found_down, hopped, moved}
 use Rattle.switch_core.specs.State.{SwitchValue, counted}
 use Rattle.switch_core.specs.declared.answers.HopEnd.TheVariants.{Arrive, Move, Stuck}
-use Rattle.tunnel.specs.Moves.{advanced, next}
+use Rattle.tunnel.specs.Moves.{next}
 use Rattle.tunnel.specs.Tunnel.{TunnelValue}
 
 pub hop_moves : (s : SwitchValue) (near : ℕ) (t : TunnelValue)
@@ -35,12 +35,6 @@ pub moves : (s : SwitchValue) (near : ℕ) (t : TunnelValue) (other : ℕ)
     → next t ≡ Some other
 moves s near t other usable is =
     moves_to t (next t) other (ap (λ (m : Moved). m.end) (sym (hop_moves s near t usable)) ∙ is)
-
-pub moved_on : (s : SwitchValue) (near : ℕ) (t : TunnelValue) (other : ℕ)
-    → found_down near (next t) ≡ None → next t ≡ Some other
-    → (hopped s near t).tunnel ≡ advanced t
-moved_on s near t other usable goes =
-    ap (λ (m : Moved). m.tunnel) (hop_moves s near t usable ∙ ap (moved t) goes)
 
 stuck_at : (t : TunnelValue) (onward : Option ℕ) (cause : Cause)
     → (moved t onward).end ≡ Stuck cause → ⊥

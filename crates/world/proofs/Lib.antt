@@ -28,3 +28,4 @@ pub mod Incoming
 pub mod OverParts
 pub mod TestWorlds
 pub mod Marked
+pub mod Tables

@@ -10,7 +10,7 @@ use Rattle.switch_core.specs.Ends.{around}
 use Rattle.switch_core.specs.Entering.{entered, incoming}
 use Rattle.switch_core.specs.State.{SwitchValue, counted}
 use Rattle.switch_core.specs.declared.answers.Entered.{Entered}
-use Rattle.tunnel.specs.Moves.{advanced}
+use Rattle.world.specs.Travelling.{moved_on}
 use Rattle.world.specs.Writing.{arrived_items, arrived_traveller}
 use Rattle.world.specs.declared.log.Standing.{Standing}
 use Rattle.world.specs.declared.travelling.Traveller.{Traveller}
@@ -56,7 +56,7 @@ hop_items s near ports traveller (Some other) = item.Hopped traveller.tunnel.pac
 abbrev pub hop_traveller : SwitchValue → ℕ → Ports → Traveller → Option ℕ → Option Traveller
 hop_traveller s near ports traveller None = arrival s near ports traveller
 hop_traveller s near ports traveller (Some other) =
-    Some (record traveller { tunnel = advanced traveller.tunnel })
+    Some (moved_on traveller)
 
 -- the switch answered a hop, and where the packet's route ends there its arrival too
 abbrev pub hopped_switch : SwitchValue → Option ℕ → SwitchValue

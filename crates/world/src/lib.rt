@@ -17,6 +17,7 @@
 
 mod beginning;
 mod error;
+mod kept;
 mod log;
 mod packets;
 mod parts;

@@ -1,16 +1,16 @@
-ghost use Rattle.std.specs.Prelude.{◌≡◌, [], ◌∷◌, ◌++◌, Some, None, OnOk, OnErr, IfOk};
+ghost use Rattle.std.specs.Prelude.{◌≡◌, [], ◌∷◌, ◌++◌, Some, None, OnOk, OnErr};
 ghost use Rattle.journal.specs.declared.item.Item.TheVariants.{Stuck as StuckItem};
 ghost use Rattle.update_machine.specs.Moves.{takes_route};
 ghost use Rattle.world.specs.Travelling.{WithOne};
 ghost use Rattle.world.specs.Writing.{IsPart, decided_items, decided_traveller, exit_leg, leaves};
 
+use crate::kept::Kept;
 use crate::travelling::{Traveller, Travelling};
 use five_tuple::Header;
 use journal::{DownSet, Item, Journal, Leaving, SharedLinks, SharedRoute};
 use policy_rules::{Action, Cause, Leg};
 use std::alloc::{AllocError, Global};
 use switch_core::{Decision, Next};
-use tunnel::Tunnel;
 
 /// What happened so far, and the packets that are on their way.
 #[derive(Drop)]
@@ -48,7 +48,7 @@ impl Standing {
 }
 
 impl Log {
-    /// The packet takes the route of its tunnel.
+    /// The packet takes the route of its tunnel, which the item and the table share.
     ///
     /// # Errors
     /// Want of memory alone; nothing is written then.
@@ -56,18 +56,19 @@ impl Log {
         &mut self,
         alloc: Global,
         packet: u32,
-        traveller: Traveller,
+        traveller: &Traveller,
     ) -> Result<(), AllocError>
-        ensures written { OnOk result (self.new.journal
-            ≡ self.old.journal ++ takes_route packet traveller.tunnel.leg traveller.tunnel.route
-            ∷ []) }
+        ensures written { OnOk result (self.new.journal ≡ self.old.journal
+            ++ takes_route packet traveller.now.tunnel.leg traveller.now.tunnel.route ∷ []) }
         ensures travels { OnOk result
-            (WithOne self.old.travelling packet (Some traveller) self.new.travelling) }
+            (WithOne self.old.travelling packet (Some traveller.now) self.new.travelling) }
         ensures unwritten { OnErr result (self.new.journal ≡ self.old.journal) }
     {
-        let item = takes_route(alloc, packet, &traveller.tunnel)?;
-        self.travelling.put(packet, traveller)?;
-        self.journal.push(item)
+        let route = SharedRoute::new(alloc, traveller.tunnel.route)?;
+        let kept = Kept::new(alloc, traveller, route.clone()?)?;
+        self.travelling.put(packet, kept)?;
+        self.journal
+            .push(takes_route(packet, traveller.tunnel.leg, route))
     }
 
     /// The packet ends in this way.
@@ -149,19 +150,18 @@ impl Log {
                     version: decision.version,
                     rule: decision.rule,
                 };
-                self.set_out(alloc, at.packet, traveller)
+                self.set_out(alloc, at.packet, &traveller)
             }
             Next::Stuck(cause) => self.stuck(alloc, at, cause, exit_leg(decision.action)),
         }
     }
 }
 
-// The packet takes the route of the tunnel.
-fn takes_route(alloc: Global, packet: u32, tunnel: &Tunnel) -> Result<Item, AllocError>
-    ensures { IfOk result (λ item. item ≡ takes_route packet tunnel.now.leg tunnel.now.route) }
+// The packet takes the route on the leg.
+fn takes_route(packet: u32, leg: Leg, route: SharedRoute) -> Item
+    ensures { result ≡ takes_route packet leg route }
 {
-    let route = SharedRoute::new(alloc, tunnel.route)?;
-    Ok(match tunnel.leg {
+    match leg {
         Leg::Seek { version, partition } => Item::Seeking {
             packet,
             version,
@@ -169,7 +169,7 @@ fn takes_route(alloc: Global, packet: u32, tunnel: &Tunnel) -> Result<Item, Allo
             route,
         },
         Leg::Exit { .. } => Item::Exiting { packet, route },
-    })
+    }
 }
 
 // The leg to the port of an action.

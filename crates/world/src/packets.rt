@@ -1,11 +1,11 @@
-ghost use Rattle.std.specs.Prelude.{◌≡◌, ◌++◌, None, IsTrue, OnOk, OnErr};
+ghost use Rattle.std.specs.Prelude.{◌≡◌, ◌++◌, Some, None, IsTrue, OnOk, OnErr};
 ghost use Rattle.switch_core.specs.Arriving.{IsAtAuthority};
 ghost use Rattle.switch_core.specs.Entering.{CanLookUp};
 ghost use Rattle.switch_core.specs.Moving.{found_down};
 ghost use Rattle.switch_core.specs.State.{counted, serves};
 ghost use Rattle.tunnel.specs.Moves.{next};
 ghost use Rattle.world.specs.Packets.{arrival, arrival_items, coming_in, entry, hop_items, hop_traveller, hopped_switch};
-ghost use Rattle.world.specs.Travelling.{WithOne};
+ghost use Rattle.world.specs.Travelling.{WithOne, traveller as traveller_of};
 ghost use Rattle.world.specs.Writing.{IsPart, arrived_items, arrived_traveller, entered_items, entered_traveller};
 
 use crate::log::{Log, Standing};
@@ -88,7 +88,7 @@ fn note_entered(
                 version: 0,
                 rule: None,
             };
-            log.set_out(alloc, at.packet, traveller)
+            log.set_out(alloc, at.packet, &traveller)
         }
         Entered::Stuck { cause, leg } => log.stuck(alloc, at, cause, leg),
     }
@@ -107,6 +107,8 @@ pub fn hop(
     near: u64,
     ports: &Ports,
 ) -> Result<(), AllocError>
+    requires known { traveller_of log.old.travelling traveller.now.tunnel.packet
+        ≡ Some traveller.now }
     requires usable { found_down near (next traveller.now.tunnel) ≡ None }
     requires serving { IsTrue (serves switch.old) }
     requires stamped { CanLookUp switch.old }
@@ -123,13 +125,13 @@ pub fn hop(
         (next traveller.now.tunnel)) log.new.journal) }
     ensures counted { switch.new ≡ hopped_switch switch.old (next traveller.now.tunnel) }
 {
-    let mut moved = *traveller;
-    let hop = switch.hop(&mut moved.tunnel, near);
+    let packet = traveller.tunnel.packet;
+    let mut tunnel = traveller.tunnel;
+    let hop = switch.hop(&mut tunnel, near);
     match hop.end {
         HopEnd::Arrive => arrive(alloc, log, traveller, switch, near, ports),
         HopEnd::Move(next) => {
-            let packet = moved.tunnel.packet;
-            log.travelling.put(packet, moved)?;
+            log.travelling.advance(packet);
             log.journal.push(Item::Hopped {
                 packet,
                 switch: next,
@@ -209,7 +211,7 @@ fn note_arrived(
                 version: traveller.version,
                 rule: traveller.rule,
             };
-            log.set_out(alloc, at.packet, onward)
+            log.set_out(alloc, at.packet, &onward)
         }
         Arrived::Stuck { cause, leg } => log.stuck(alloc, at, cause, leg),
     }

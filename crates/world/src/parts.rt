@@ -121,7 +121,7 @@ impl Parts {
         })?;
         let traveller = match self.log.travelling.get(packet) {
             None => return self.log.journal.push(Item::Nothing),
-            Some(traveller) => *traveller,
+            Some(traveller) => traveller,
         };
         let here = traveller.tunnel.here() as usize;
         hop(

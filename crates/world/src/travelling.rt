@@ -1,9 +1,14 @@
-ghost use Rattle.std.specs.Prelude.{◌≡◌, [], Some, None, is_some, OnOk};
-ghost use Rattle.std.specs.Option.{option_copied};
-ghost use Rattle.world.specs.Travelling.{IsNextFrom, WithOne, traveller};
+//! The packets on their way: a table by their numbers, which grows as the journal does.
+//!
+//! A slot has at most 128 bytes. A packet takes it when it first travels, by pushes alone, so that
+//! n packets take O(n) in all; a hop writes its place there, and what the packet's route takes is
+//! the journal's. Nothing is given back before the end, as in a journal.
+ghost use Rattle.std.specs.Prelude.{◌≡◌, ◌+◌, ◌<◌, ◌≤◌, ℕ, max, [], Some, None, is_some, option_map, length, IsSome, OnOk};
+ghost use Rattle.std.specs.Option.{IsSomeAnd};
+ghost use Rattle.world.specs.Travelling.{GoesOn, IsNextFrom, WithOne, moved_on, traveller};
 
+use crate::kept::Kept;
 use std::alloc::{AllocError, Global};
-use std::collections::BTreeMap;
 use std::marker::Model;
 use tunnel::Tunnel;
 
@@ -21,43 +26,75 @@ pub struct Traveller {
 /// travels.
 #[derive(Drop)]
 pub struct Travelling {
-    packets: BTreeMap<u32, Traveller>,
+    slots: Vec<Option<Kept>>,
+    // No packet below it travels, so that a look for the least one passes each slot once.
+    first: usize,
 }
 
 impl Model for Travelling {
-    ghost use Rattle.world.specs.Travelling.{Travellers};
+    ghost use Rattle.world.specs.Travelling.{IsTable, Travellers};
 
     ghost Value = { Travellers };
 
-    ghost view = { λ t. t.packets.entries };
+    ghost view = { λ t. t.slots.items };
+
+    ghost invariant = { λ t. IsTable t.slots.items t.first };
 }
 
 impl Travelling {
-    /// No packet travels.
+    /// No packet travels. It takes no memory yet.
     pub fn new(alloc: Global) -> Travelling
         ensures { result ≡ [] }
     {
         Travelling {
-            packets: BTreeMap::new(alloc),
+            slots: Vec::new(alloc),
+            first: 0,
         }
     }
 
-    /// What is known of the packet, if it travels.
-    pub fn get(&self, packet: u32) -> Option<&Traveller>
-        ensures { option_copied result ≡ traveller self.now packet }
+    /// Whether the packet travels.
+    pub fn has(&self, packet: u32) -> bool
+        ensures { result ≡ is_some (traveller self.now packet) }
     {
-        self.packets.get(&packet)
+        matches!(self.slots.get(packet as usize), Some(Some(_)))
+    }
+
+    /// What is known of the packet, if it travels. It takes no memory.
+    pub fn get(&self, packet: u32) -> Option<Traveller>
+        ensures { result ≡ traveller self.now packet }
+    {
+        match self.slots.get(packet as usize) {
+            Some(Some(kept)) => Some(kept.traveller()),
+            _ => None,
+        }
     }
 
     /// The packet travels, and this is known of it from now on.
     ///
     /// # Errors
     /// Want of memory alone.
-    pub fn put(&mut self, packet: u32, traveller: Traveller) -> Result<(), AllocError>
-        ensures { OnOk result (WithOne self.old packet (Some traveller) self.new) }
+    pub fn put(&mut self, packet: u32, kept: Kept) -> Result<(), AllocError>
+        ensures { OnOk result (WithOne self.old packet (Some kept) self.new) }
     {
-        self.packets.insert(packet, traveller)?;
+        let number = packet as usize;
+        let none_travels = self.first >= self.slots.len();
+        make_room(&mut self.slots, number)?;
+        if none_travels || number < self.first {
+            self.first = number;
+        }
+        self.slots[number] = Some(kept);
         Ok(())
+    }
+
+    /// The packet, whose route goes on, is one place further. It takes no memory.
+    pub fn advance(&mut self, packet: u32)
+        requires { IsSomeAnd (traveller self.old packet) GoesOn }
+        ensures { WithOne self.old packet (option_map moved_on (traveller self.old packet))
+            self.new }
+    {
+        if let Some(kept) = &mut self.slots[packet as usize] {
+            kept.advance();
+        }
     }
 
     /// The packet doesn't travel from now on. Answers whether it did.
@@ -65,16 +102,50 @@ impl Travelling {
         ensures was { result ≡ is_some (traveller self.old packet) }
         ensures after { WithOne self.old packet None self.new }
     {
-        self.packets.remove(&packet).is_some()
+        if !self.has(packet) {
+            return false;
+        }
+        self.slots[packet as usize] = None;
+        self.first = first_held(&self.slots, self.first);
+        true
     }
 
     /// The least number at or above `from` of a packet that travels.
     pub fn next(&self, from: u32) -> Option<u32>
         ensures { IsNextFrom self.now from result }
     {
-        match self.packets.range(from..).next() {
-            Some((packet, _)) => Some(*packet),
-            None => None,
+        let number = first_held(&self.slots, self.first.max(from as usize));
+        if number < self.slots.len() {
+            Some(number as u32)
+        } else {
+            None
         }
     }
+}
+
+// There is a slot of this number. Each new one is pushed, so that n of them take O(n) in all.
+#[tactic(auto, using(crate::proofs::Tables::pushed_same))]
+fn make_room(slots: &mut Vec<Option<Kept>>, number: usize) -> Result<(), AllocError>
+    ensures room { OnOk result (number < length slots.new.items) }
+    ensures few { length slots.new.items ≤ max (length slots.old.items) (number + 1) }
+    ensures same { (i : ℕ) → traveller slots.new.items i ≡ traveller slots.old.items i }
+{
+    while slots.len() <= number {
+        slots.push(None)?;
+    }
+    Ok(())
+}
+
+// The least number at or above `from` of a slot that holds a packet; where there is none, one of no
+// slot.
+fn first_held(slots: &[Option<Kept>], from: usize) -> usize
+    ensures from { from ≤ result }
+    ensures empty { (i : ℕ) → from ≤ i → i < result → traveller slots.now i ≡ None }
+    ensures held { result < length slots.now → IsSome (traveller slots.now result) }
+{
+    let mut number = from;
+    while number < slots.len() && slots[number].is_none() {
+        number += 1;
+    }
+    number
 }

@@ -123,7 +123,7 @@ impl World {
     pub fn travels(&self, packet: u32) -> bool
         ensures { result ≡ is_some (traveller self.now.travelling packet) }
     {
-        self.parts.log.travelling.get(packet).is_some()
+        self.parts.log.travelling.has(packet)
     }
 
     /// What happened so far.

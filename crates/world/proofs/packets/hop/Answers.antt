@@ -1,17 +1,19 @@
 -- Where a hop ends is said by the next switch of the route.
-use Rattle.std.proofs.Common.{ℕ, ◌≡◌, ◌++◌, Option, Some, None, ap, sym, subst, ◌∙◌}
-use Rattle.std.specs.Prelude.{⊤, [], ◌∷◌, OnOk, OnErr, Result, Ok, Err}
+use Rattle.std.proofs.Common.{ℕ, ◌≡◌, ◌+◌, ◌++◌, Option, Some, None, ap, sym, subst, ◌∙◌}
+use Rattle.std.specs.Prelude.{⊤, [], ◌∷◌, OnOk, OnErr, Result, Ok, Err, option_map}
+use Rattle.std.specs.Option.{IsSomeAnd}
 use Rattle.std.specs.declared.alloc.AllocError.{AllocError}
+use Rattle.std.proofs.lemmas.Option.{slice_get_within}
 use Rattle.journal.specs.declared.item.Item.TheVariants.{Hopped}
 use Rattle.switch_core.specs.Arriving.{IsAtAuthority}
 use Rattle.switch_core.specs.State.{SwitchValue, counted}
-use Rattle.tunnel.specs.Moves.{advanced, next}
+use Rattle.tunnel.specs.Moves.{next}
 use Rattle.tunnel.specs.Tunnel.{TunnelValue}
 use Rattle.world.specs.Packets.{hop_items, hop_traveller, hopped_switch}
-use Rattle.world.specs.Travelling.{WithOne}
-use Rattle.world.specs.Writing.{IsPart}
+use Rattle.world.specs.Travelling.{GoesOn, WithOne, moved_on, traveller}
 use Rattle.world.specs.declared.travelling.Traveller.{Traveller}
-use Rattle.world.proofs.Hopping.{arrives, authority_counted, moved_on, moves, not_stuck}
+use Rattle.world.specs.Writing.{IsPart}
+use Rattle.world.proofs.Hopping.{arrives, authority_counted, moves, not_stuck}
 use Rattle.world.proofs.packets.hop.Goals as goal
 
 pub unreachable-requires : goal.unreachable-requires
@@ -74,14 +76,18 @@ returns-in-Arrive-clause-counted c =
     c.arrive.ensures.counted ∙ ap counted c.hop-hop.ensures.after
     ∙ ap (hopped_switch c.args.switch.now) (sym none)
 
-pub returns-in_err-put-in-Move-clause-counted : goal.returns-in_err-put-in-Move-clause-counted
-returns-in_err-put-in-Move-clause-counted c =
-    let goes : next c.args.traveller.now.tunnel ≡ Some c.in-Move.next =
+pub advance-requires : goal.advance-requires
+advance-requires c =
+    let t : TunnelValue = c.args.traveller.now.tunnel in
+    let goes : next t ≡ Some c.in-Move.next =
     moves _ _ _ _ c.requires.usable (sym c.hop-hop.ensures.end ∙ c.in-Move.is) in
-    c.hop-hop.ensures.after ∙ ap (hopped_switch c.args.switch.now) (sym goes)
+    subst (λ packet. IsSomeAnd (traveller c.args.log.now.travelling packet) GoesOn)
+    (sym (ap (λ (t : Traveller). t.tunnel.packet) c.traveller.view_is))
+    (subst (λ o. IsSomeAnd o GoesOn) (sym c.requires.known)
+    (slice_get_within t.route (t.place + 1) c.in-Move.next goes))
 
-pub returns-in_ok-put-in-Move-clause-counted : goal.returns-in_ok-put-in-Move-clause-counted
-returns-in_ok-put-in-Move-clause-counted c =
+pub returns-in-Move-clause-counted : goal.returns-in-Move-clause-counted
+returns-in-Move-clause-counted c =
     let goes : next c.args.traveller.now.tunnel ≡ Some c.in-Move.next =
     moves _ _ _ _ c.requires.usable (sym c.hop-hop.ensures.end ∙ c.in-Move.is) in
     c.hop-hop.ensures.after ∙ ap (hopped_switch c.args.switch.now) (sym goes)
@@ -90,37 +96,30 @@ always : {P : Type 0} (r : Result (⊤) AllocError) → P → OnOk r P
 always (Ok done) p = p
 always (Err error) p = tt
 
-pub returns-in_ok-put-in-Move-clause-written : goal.returns-in_ok-put-in-Move-clause-written
-returns-in_ok-put-in-Move-clause-written c =
-    let t : TunnelValue = c.args.traveller.now.tunnel in
-    let goes : next t ≡ Some c.in-Move.next =
+pub returns-in-Move-clause-written : goal.returns-in-Move-clause-written
+returns-in-Move-clause-written c =
+    let goes : next c.args.traveller.now.tunnel ≡ Some c.in-Move.next =
     moves _ _ _ _ c.requires.usable (sym c.hop-hop.ensures.end ∙ c.in-Move.is) in
-    let on : c.hop-hop.new.t ≡ advanced t =
-    c.hop-hop.ensures.tunnel ∙ moved_on _ _ _ _ c.requires.usable goes in
     let P : ℕ → Type 0 = λ packet. OnOk c.push.result (c.push.new.self
     ≡ c.args.log.now.journal ++ Hopped packet c.in-Move.next ∷ []) in
     let Q : Option ℕ → Type 0 = λ onward. OnOk c.push.result (c.push.new.self
     ≡ c.args.log.now.journal ++ hop_items (counted c.args.switch.now) c.args.near
     c.args.ports.now c.args.traveller.now onward) in
-    subst Q (sym goes) (subst P (ap (λ (m : Traveller). m.tunnel.packet) c.moved.view_is
-    ∙ ap (λ (u : TunnelValue). u.packet) on)
-    c.push.ensures.pushed)
+    subst Q (sym goes)
+    (subst P (ap (λ (t : Traveller). t.tunnel.packet) c.traveller.view_is) c.push.ensures.pushed)
 
-pub returns-in_ok-put-in-Move-clause-travels : goal.returns-in_ok-put-in-Move-clause-travels
-returns-in_ok-put-in-Move-clause-travels c =
+pub returns-in-Move-clause-travels : goal.returns-in-Move-clause-travels
+returns-in-Move-clause-travels c =
     let t : TunnelValue = c.args.traveller.now.tunnel in
     let goes : next t ≡ Some c.in-Move.next =
     moves _ _ _ _ c.requires.usable (sym c.hop-hop.ensures.end ∙ c.in-Move.is) in
-    let on : c.hop-hop.new.t ≡ advanced t =
-    c.hop-hop.ensures.tunnel ∙ moved_on _ _ _ _ c.requires.usable goes in
-    let P : ℕ → TunnelValue → Type 0 = λ packet u. WithOne c.args.log.now.travelling packet
-    (Some (record c.args.traveller.now { tunnel = u })) c.put.new.self in
     let Q : Option ℕ → Type 0 = λ onward. OnOk c.push.result (WithOne
     c.args.log.now.travelling t.packet
     (hop_traveller (counted c.args.switch.now) c.args.near c.args.ports.now
-    c.args.traveller.now onward) c.put.new.self) in
-    subst Q (sym goes) (always c.push.result (subst (P t.packet) on
-    (subst (λ packet. P packet c.hop-hop.new.t)
-    (ap (λ (m : Traveller). m.tunnel.packet) c.moved.view_is
-    ∙ ap (λ (u : TunnelValue). u.packet) on)
-    (c.in_ok-put-in-Move.ensures {u = tt}))))
+    c.args.traveller.now onward) c.advance.new.self) in
+    let P : ℕ → Type 0 = λ packet. WithOne c.args.log.now.travelling packet
+    (option_map moved_on (traveller c.args.log.now.travelling packet)) c.advance.new.self in
+    subst Q (sym goes) (always c.push.result
+    (subst (λ o. WithOne c.args.log.now.travelling t.packet (option_map moved_on o)
+    c.advance.new.self) c.requires.known
+    (subst P (ap (λ (t : Traveller). t.tunnel.packet) c.traveller.view_is) c.advance.ensures)))

@@ -1,0 +1,11 @@
+-- The table of the packets on their way.
+use Rattle.std.proofs.Common.{ℕ, zero, suc, ◌≡◌, None, [], ◌∷◌, ◌++◌, refl}
+use Rattle.world.specs.Travelling.{Travellers, traveller}
+
+-- an empty slot behind the others says nothing
+pub pushed_same : (slots : Travellers) (i : ℕ)
+    → traveller (slots ++ None ∷ []) i ≡ traveller slots i
+pushed_same [] zero = refl
+pushed_same [] (suc i) = refl
+pushed_same (slot ∷ slots) zero = refl
+pushed_same (slot ∷ slots) (suc i) = pushed_same slots i

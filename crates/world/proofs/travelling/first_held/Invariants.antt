@@ -1,0 +1,12 @@
+use Rattle.std.proofs.Common.{ℕ, ◌≡◌, ◌-◌, ◌<◌, ◌≤◌, None, length}
+use Rattle.world.specs.Travelling.{traveller}
+use Rattle.world.proofs.travelling.first_held.Given as goal
+
+abbrev pub invariant-loop-number : goal.invariant-loop-number
+invariant-loop-number l = record {
+  from : l.from ≤ l.number;
+  empty : (i : ℕ) → l.from ≤ i → i < l.number → traveller l.slots i ≡ None;
+}
+
+abbrev pub decreases-loop-number : goal.decreases-loop-number
+decreases-loop-number l = length l.slots - l.number

@@ -1,0 +1,12 @@
+use Rattle.std.proofs.Common.{ℕ, ◌≡◌, ◌+◌, ◌-◌, ◌≤◌, length, max}
+use Rattle.world.specs.Travelling.{traveller}
+use Rattle.world.proofs.travelling.make_room.Given as goal
+
+abbrev pub invariant-loop-slots : goal.invariant-loop-slots
+invariant-loop-slots l = record {
+  few : length l.slots.items ≤ max (length l.initial.slots.items) (l.number + 1);
+  same : (i : ℕ) → traveller l.slots.items i ≡ traveller l.initial.slots.items i;
+}
+
+abbrev pub decreases-loop-slots : goal.decreases-loop-slots
+decreases-loop-slots l = l.number + 1 - length l.slots.items

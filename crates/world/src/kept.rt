@@ -1,0 +1,103 @@
+ghost use Rattle.std.specs.Prelude.{◌≡◌, ◌+◌, ◌<◌, length, IfOk};
+ghost use Rattle.world.specs.Travelling.{moved_on};
+
+use crate::travelling::Traveller;
+use five_tuple::Header;
+use journal::{DownSet, SharedLinks, SharedRoute};
+use policy_rules::{Leg, Targets};
+use std::alloc::{AllocError, Global};
+use std::marker::Model;
+use tunnel::Tunnel;
+
+/// What the table keeps of a packet on its way: its route is the one that the journal's item has,
+/// and a set of links is there only where the packet found one down. Contracts see the traveller.
+#[derive(Drop)]
+pub struct Kept {
+    packet: u32,
+    header: Header,
+    ingress: u32,
+    leg: Leg,
+    targets: Targets,
+    route: SharedRoute,
+    place: u32,
+    down: Option<SharedLinks>,
+    version: u32,
+    rule: Option<u32>,
+}
+
+const _: () = prove!(size_of::<Option<Kept>>() <= 128);
+
+impl Model for Kept {
+    ghost use Rattle.tunnel.specs.Tunnel.{IsOnRoute};
+    ghost use Rattle.world.specs.Travelling.{traveller_kept};
+    ghost use Rattle.world.specs.declared.travelling.Traveller.{Traveller};
+
+    ghost Value = { Traveller };
+
+    ghost view = { traveller_kept };
+
+    ghost invariant = { λ k. IsOnRoute k.route k.place };
+}
+
+impl Kept {
+    /// What is kept of this traveller, whose route is shared.
+    ///
+    /// # Errors
+    /// Want of memory alone, which is taken only where it found links down.
+    pub fn new(alloc: Global, traveller: &Traveller, route: SharedRoute) -> Result<Kept, AllocError>
+        requires { route ≡ traveller.now.tunnel.route }
+        ensures { IfOk result (λ kept. kept ≡ traveller.now) }
+    {
+        let tunnel = &traveller.tunnel;
+        let _here = tunnel.here();
+        let down = if tunnel.down == DownSet::empty() {
+            None
+        } else {
+            Some(SharedLinks::new(alloc, tunnel.down)?)
+        };
+        Ok(Kept {
+            packet: tunnel.packet,
+            header: tunnel.header,
+            ingress: tunnel.ingress,
+            leg: tunnel.leg,
+            targets: tunnel.targets,
+            route,
+            place: tunnel.place,
+            down,
+            version: traveller.version,
+            rule: traveller.rule,
+        })
+    }
+
+    /// The traveller, with a copy of its route. It takes no memory.
+    pub fn traveller(&self) -> Traveller
+        ensures { result ≡ self.now }
+    {
+        let down = match &self.down {
+            None => DownSet::empty(),
+            Some(links) => *links.links(),
+        };
+        Traveller {
+            tunnel: Tunnel {
+                packet: self.packet,
+                header: self.header,
+                ingress: self.ingress,
+                leg: self.leg,
+                targets: self.targets,
+                route: *self.route.route(),
+                place: self.place,
+                down,
+            },
+            version: self.version,
+            rule: self.rule,
+        }
+    }
+
+    /// Moves one place on. It takes no memory.
+    pub fn advance(&mut self)
+        requires { self.old.tunnel.place + 1 < length self.old.tunnel.route }
+        ensures { self.new ≡ moved_on self.old }
+    {
+        self.place += 1;
+    }
+}
