@@ -4,23 +4,23 @@ use Rattle.journal.specs.declared.item.Item.{Item}
 use Rattle.steps.specs.declared.step.Event.{Event}
 use Rattle.steps.specs.declared.step.Event.TheVariants.{One, Flush, Drain}
 use Rattle.steps.specs.declared.step.Step.{Step}
-use Rattle.update_machine.specs.Answers.{AnswersSoFar, AreAll, AreFirstSteps, AreFirstStepsOf, AreSome, AreStepsOf, StepOfRow, after_steps, next_delivery, next_hop}
+use Rattle.update_machine.specs.Answers.{AnswersSoFar, AreAll, AreFirstSteps, AreFirstStepsOf, AreSome, AreSteps, AreStepsOf, StepOfRow, after_steps, next_delivery, next_hop}
 use Rattle.update_machine.specs.Pieces.{piece}
 use Rattle.update_machine.specs.Setting.{Setting}
 use Rattle.update_machine.proofs.OneAnswer.{event_same, same_step, some_injective}
 
 -- the second list is the first, and then these
-record Begins (xs ys : List StepOfRow) : Type 0 where
-  rest : List StepOfRow
-  is : ys ≡ xs ++ rest
+pub record Begins (xs ys : List StepOfRow) : Type 0 where
+  pub rest : List StepOfRow
+  pub is : ys ≡ xs ++ rest
 
-begins_nil : (ys : List StepOfRow) → Begins [] ys
+pub begins_nil : (ys : List StepOfRow) → Begins [] ys
 begins_nil ys = record { rest = ys; is = refl }
 
 begins_itself : (xs ys : List StepOfRow) → ys ≡ xs → Begins xs ys
 begins_itself xs ys same = record { rest = []; is = same ∙ sym (append-nil xs) }
 
-begins_cons : (x y : StepOfRow) (xs ys : List StepOfRow) → x ≡ y → Begins xs ys
+pub begins_cons : (x y : StepOfRow) (xs ys : List StepOfRow) → x ≡ y → Begins xs ys
     → Begins (x ∷ xs) (y ∷ ys)
 begins_cons x y xs ys same begins =
     record { rest = begins.rest; is = ap (λ z. z ∷ ys) (sym same) ∙ ap (λ zs. x ∷ zs) begins.is }
@@ -128,7 +128,7 @@ either_behind ws vs xs ys one other same first second (inr begins) =
     inr (begins_along (ws ++ ys) (ws ++ xs) other one (second ∙ ap (λ us. us ++ ys) (sym same))
     first (begins_behind ws ys xs begins))
 
-first_steps_either : (setting : Setting) (row : ℕ) (events : List Event) (before : List Item)
+pub first_steps_either : (setting : Setting) (row : ℕ) (events : List Event) (before : List Item)
     (one other : List StepOfRow) →
     AreFirstSteps setting row events before one → AreFirstSteps setting row events before other
     → Begins one other ⊎ Begins other one
@@ -154,6 +154,28 @@ first_steps_either setting row (event ∷ events) before one other (inr first) (
     either_behind first.0 second.0 first.1 second.1 one other mine first.2.split second.2.split
     (first_steps_either setting (row + 1) events (after_steps setting before first.0) first.1
     second.1 first.4 onward)
+
+-- and first steps begin all steps
+pub first_begin_all : (setting : Setting) (row : ℕ) (events : List Event) (before : List Item)
+    (one all : List StepOfRow) → AreFirstSteps setting row events before one
+    → AreSteps setting row events before all → Begins one all
+first_begin_all setting row [] before one all first whole =
+    record { rest = []; is = whole ∙ ap (λ steps. steps ++ []) (sym first) }
+first_begin_all setting row (event ∷ events) before one all (inl first) whole =
+    begins_along one (whole.0 ++ whole.1) one all refl whole.2.split
+    (begins_more one whole.0 whole.1
+    (event_begins setting row event before one whole.0 first whole.3))
+first_begin_all setting row (event ∷ events) before one all (inr first) whole =
+    let mine : whole.0 ≡ first.0 =
+    event_same setting row event before whole.0 first.0 whole.3 first.3 in
+    let onward : AreSteps setting (row + 1) events (after_steps setting before first.0) whole.1 =
+    subst (λ steps. AreSteps setting (row + 1) events (after_steps setting before steps) whole.1)
+    mine whole.4 in
+    begins_along (first.0 ++ first.1) (first.0 ++ whole.1) one all first.2.split
+    (whole.2.split ∙ ap (λ steps. steps ++ whole.1) mine)
+    (begins_behind first.0 first.1 whole.1
+    (first_begin_all setting (row + 1) events (after_steps setting before first.0) first.1 whole.1
+    first.4 onward))
 
 no_rest : (rest : List StepOfRow) → length rest ≡ 0 → rest ≡ []
 no_rest [] none = refl

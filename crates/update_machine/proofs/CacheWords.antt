@@ -1,5 +1,5 @@
 -- What caches and lookups are said to be, on journals of few items.
-use Rattle.std.proofs.Common.{ℕ, ◌≡◌, Some, List, [], ◌∷◌, ◌++◌, refl, true}
+use Rattle.std.proofs.Common.{ℕ, ◌≡◌, Some, List, [], ◌∷◌, ◌++◌, refl}
 use Rattle.std.specs.Prelude.{Ok}
 use Rattle.ctrl_msg.specs.declared.message.Body.TheVariants.{CacheRule, Stamp}
 use Rattle.policy_rules.specs.declared.policy.Action.TheVariants.{Drop}
@@ -22,7 +22,6 @@ moved = record {
   net = two_switches;
   policies = [];
   plans = Ok plan_p ∷ Ok (on (0 ∷ []) all_dropped) ∷ [];
-  caches = true;
 }
 
 -- a hears a cache rule of this version and word, or a stamp

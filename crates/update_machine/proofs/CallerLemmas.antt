@@ -17,3 +17,5 @@ pub use Rattle.update_machine.proofs.Numbering.{begun_is_numbered}
 pub use Rattle.update_machine.proofs.KnownLinks.{known_link_laws}
 pub use Rattle.update_machine.proofs.Beginnings.{one_by_steps}
 pub use Rattle.update_machine.proofs.WholeAnswers.{answers_so_far, begins_itself}
+pub use Rattle.update_machine.proofs.OnePlay.{full_by_count, one_play, rooms_append}
+pub use Rattle.update_machine.proofs.SomePlay.{first_front, play_exists, stop_begins, stop_so_far}

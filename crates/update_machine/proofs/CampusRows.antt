@@ -1,5 +1,5 @@
 -- A whole day of a small campus, computed: cache rules, a link that fails, an update.
-use Rattle.std.proofs.Common.{◌≡◌, Some, None, [], ◌∷◌, refl, true, false}
+use Rattle.std.proofs.Common.{◌≡◌, Some, None, [], ◌∷◌, refl, false}
 use Rattle.policy_rules.specs.declared.policy.Action.TheVariants.{Drop, Out}
 use Rattle.policy_rules.specs.declared.packet.How.TheVariants as how
 use Rattle.ctrl_msg.specs.declared.message.Body.TheVariants as body
@@ -175,8 +175,6 @@ campus = record {
   net = campus_net;
   policies = [];
   plans = Ok plan_1 ∷ Ok plan_2 ∷ [];
-  caches =
-      true;
 }
 
 -- four switches in a ring; the journal is that of the whole day

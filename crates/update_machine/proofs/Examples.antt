@@ -1,5 +1,5 @@
 -- Small networks, policies and messages on which the definitions are tried.
-use Rattle.std.proofs.Common.{true, ℕ, Some, None, List, [], ◌∷◌, Option, ◌-◌, ◌^◌}
+use Rattle.std.proofs.Common.{ℕ, Some, None, List, [], ◌∷◌, Option, ◌-◌, ◌^◌}
 use Rattle.std.specs.Prelude.{Ok, codes}
 use Rattle.five_tuple.specs.Header.{header_of}
 use Rattle.five_tuple.specs.declared.header.Header.{Header}
@@ -115,15 +115,13 @@ two_switches =
     network (switch (codes "a") 2 0 ∷ switch (codes "b") 4 100 ∷ []) (link 0 1 ∷ [])
 
 abbrev pub shielded : Setting
-shielded = record { net = two_switches; policies = []; plans = Ok shield_plan ∷ []; caches = true }
+shielded = record { net = two_switches; policies = []; plans = Ok shield_plan ∷ [] }
 
 abbrev pub open_net : Setting
 open_net = record {
   net = two_switches;
   policies = [];
   plans = Ok plan_p ∷ Ok plan_q ∷ [];
-  caches =
-      true;
 }
 
 -- a-b, a-c, b-d, c-d; d has the port 2, and room
@@ -139,8 +137,6 @@ ring = record {
   net = ring_net;
   policies = [];
   plans = Ok (on (3 ∷ []) all_dropped) ∷ [];
-  caches =
-      true;
 }
 
 -- a-b, b-c; c is the authority, and b its backup
@@ -151,7 +147,6 @@ row_of_three = record {
       (link 0 1 ∷ link 1 2 ∷ []);
   policies = [];
   plans = Ok (on (2 ∷ 1 ∷ []) all_dropped) ∷ [];
-  caches = true;
 }
 
 -- one switch with all ports
@@ -160,5 +155,4 @@ solo = record {
   net = network (switch (codes "s0") (2 ^ 64 - 1) 8192 ∷ []) [];
   policies = [];
   plans = Ok plan_s ∷ [];
-  caches = true;
 }

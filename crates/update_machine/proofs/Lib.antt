@@ -34,4 +34,6 @@ mod Start
 mod KnownLinks
 mod Beginnings
 mod WholeAnswers
+mod OnePlay
+mod SomePlay
 pub mod CallerLemmas

@@ -1,5 +1,5 @@
 -- A run of the abstract machine, computed.
-use Rattle.std.proofs.Common.{◌≡◌, ap, sym, ◌∙◌, Some, None, [], ◌∷◌, refl, arith, true}
+use Rattle.std.proofs.Common.{◌≡◌, ap, sym, ◌∙◌, Some, None, [], ◌∷◌, refl, arith}
 use Rattle.std.specs.Prelude.{Ok, ◌≤◌}
 use Rattle.std.proofs.lemmas.List.Elements.{All-from_recursion}
 use Rattle.five_tuple.specs.declared.matching.Proto.TheVariants.{Any}
@@ -32,7 +32,6 @@ two_policies = record {
   net = two_switches;
   policies = (all_to (Out 2) ∷ []) ∷ (all_to Drop ∷ []) ∷ [];
   plans = Ok plan_p ∷ Ok plan_q ∷ [];
-  caches = true;
 }
 
 first_match_of : (action : Action)

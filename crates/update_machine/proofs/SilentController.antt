@@ -2,11 +2,12 @@
 use Rattle.std.proofs.Common.{ℕ, ◌≡◌, ◌+◌, Bool, false, None, List, [], ◌++◌, refl, ap, arith, append-nil}
 use Rattle.std.specs.Prelude.{IsFalse, unwrap_or}
 use Rattle.ctrl_msg.specs.declared.message.Body.{Body}
+use Rattle.ctrl_msg.specs.declared.message.Body.TheVariants.{OpenAt}
 use Rattle.journal.specs.declared.item.Item.{Item}
 use Rattle.journal.specs.declared.item.Item.TheVariants as item
-use Rattle.update_machine.specs.Concerns.{NoneConcern, concerns_controller, is_message_to_controller}
+use Rattle.update_machine.specs.Concerns.{NoneConcern, concerns_controller, is_message_to_controller, is_opening}
 use Rattle.update_machine.specs.Laws.{ControllerKeeps}
-use Rattle.update_machine.specs.Marks.{acked_stamp, changes_over, changes_told, controller_heard, current_mark, has_acked, is_member, is_over, known_boot, open_sent, opened_at, retired_mark, said_to_controller, tells_current, tells_retired}
+use Rattle.update_machine.specs.Marks.{acked_stamp, changes_over, changes_told, controller_heard, current_mark, has_acked, is_member, is_over, known_boot, open_in, open_sent, opened_at, retired_mark, said_to_controller, tells_current, tells_retired}
 use Rattle.update_machine.specs.Folds.{all_given}
 use Rattle.update_machine.specs.Versions.{is_submission, version_count}
 use Rattle.update_machine.proofs.Silent.{count_stays, folded_stays, given_stays, last_stays}
@@ -28,9 +29,15 @@ over_silent s before over (item.Delivered number) apart = rw (told_nothing befor
 over_silent s before over (item.OverNow switch) apart = cc
 over_silent s before over _ apart = refl
 
+-- a body that opens no switch
+closed_body : (boot : ℕ) (body : Body) → IsFalse (is_opening body) → open_in boot body ≡ []
+closed_body boot (OpenAt of version) apart = cc
+closed_body boot _ apart = refl
+
 open_silent : (s boot : ℕ) (before : List Item) (item : Item)
     → IsFalse (concerns_controller before item) → open_sent s boot item ≡ []
-open_silent s boot before (item.Sent number message) apart = cc
+open_silent s boot before (item.Sent number message) apart =
+    let none : open_in boot message.body ≡ [] = closed_body boot message.body apart in grind arith
 open_silent s boot before _ apart = refl
 
 current_silent : (before : List Item) (item : Item) → IsFalse (concerns_controller before item)

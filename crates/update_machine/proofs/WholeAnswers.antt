@@ -6,7 +6,7 @@ use Rattle.steps.specs.declared.step.Event.{Event}
 use Rattle.update_machine.specs.Answers.{Answers, AnswersSoFar, AreFirstSteps, AreSteps, BeginsAnswer, StepOfRow, after_steps}
 use Rattle.update_machine.specs.Setting.{Setting}
 
-all_are_first : (setting : Setting) (row : ℕ) (events : List Event) (before : List Item)
+pub all_are_first : (setting : Setting) (row : ℕ) (events : List Event) (before : List Item)
     (steps : List StepOfRow) → AreSteps setting row events before steps
     → AreFirstSteps setting row events before steps
 all_are_first setting row [] before steps all = all

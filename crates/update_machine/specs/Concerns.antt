@@ -2,6 +2,8 @@
 -- other items change none of their words.
 use Rattle.std.specs.Prelude.{ℕ, Bool, true, false, ◌||◌, ◌==◌, List, IsFalse}
 use Rattle.std.specs.Option.{option_map_or}
+use Rattle.ctrl_msg.specs.declared.message.Body.{Body}
+use Rattle.ctrl_msg.specs.declared.message.Body.TheVariants.{OpenAt}
 use Rattle.journal.specs.declared.item.Item.{Item}
 use Rattle.journal.specs.declared.item.Item.TheVariants as item
 use Rattle.steps.specs.declared.step.Step.TheVariants.{Hop}
@@ -56,11 +58,16 @@ abbrev pub is_message_to_controller : List Item → ℕ → Bool
 is_message_to_controller before number =
     option_map_or (λ message. is_to_controller message.to) (message_of before number) false
 
--- what is delivered to the controller, what it sends to switches, confirmations, submissions and
+-- a switch is let serve by it
+abbrev pub is_opening : Body → Bool
+is_opening (OpenAt boot version) = true
+is_opening _ = false
+
+-- what is delivered to the controller, by what it opens switches, confirmations, submissions and
 -- marks
 abbrev pub concerns_controller : List Item → Item → Bool
 concerns_controller before (item.Delivered number) = is_message_to_controller before number
-concerns_controller before (item.Sent number message) = true
+concerns_controller before (item.Sent number message) = is_opening message.body
 concerns_controller before (item.OverNow switch) = true
 concerns_controller before (item.Submitted file version) = true
 concerns_controller before (item.Current version) = true

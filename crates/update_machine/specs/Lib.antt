@@ -14,6 +14,7 @@ pub mod Settling
 pub mod Deliveries
 pub mod Pieces
 pub mod Answers
+pub mod Full
 pub mod Handled
 pub mod Machine
 pub mod Causes

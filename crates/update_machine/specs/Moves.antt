@@ -1,7 +1,7 @@
 -- What becomes of a packet at a switch: lookups, decisions, tunnels and exits, as in Yu, Rexford,
 -- Freedman and Wang, "Scalable Flow-Based Networking with DIFANE", SIGCOMM 2010. Each block of
 -- items is read on the journal before it.
-use Rattle.std.specs.Prelude.{ℕ, true, false, not, ◌&&◌, ◌==◌, if◌then◌else◌, Option, Some, None, unwrap_or, option_and_then, option_map, List, [], ◌∷◌, ◌++◌, position, slice_get}
+use Rattle.std.specs.Prelude.{ℕ, true, false, ◌==◌, if◌then◌else◌, Option, Some, None, unwrap_or, option_and_then, option_map, List, [], ◌∷◌, ◌++◌, position, slice_get}
 use Rattle.std.specs.List.{list_all}
 use Rattle.cache_maker.specs.Independent.{widen}
 use Rattle.ctrl_msg.specs.declared.message.Body.TheVariants.{CacheRule}
@@ -138,9 +138,9 @@ cache_rule found ingress header = record {
 -- the switch tells it to another ingress than itself
 unfoldable pub cache_items : Setting → ℕ → ℕ → AuthorityRule → List Item → List Item
 cache_items setting i s found journal =
-    elim (setting.caches && not (is_at s (ingress_of journal i))) [
-      | false ↦ []
-      | true ↦ sends journal
+    elim (is_at s (ingress_of journal i)) [
+      | true ↦ []
+      | false ↦ sends journal
           (cache_rule found (unwrap_or (ingress_of journal i) 0) (header_at journal i) ∷ [])
     ]
 

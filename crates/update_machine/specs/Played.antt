@@ -1,5 +1,6 @@
--- What is played today: packets that come in, move on and are lost, on a network whose switches all
--- serve and whose links all work.
+-- What is played today: packets that come in, move on and are lost, and cache rules that are
+-- delivered, forgotten and time out, on a network whose switches all serve and whose links all
+-- work.
 use Rattle.std.specs.Prelude.{⊤, ◌≡◌, is_some, IsOk, IsTrue, List, [], length, All}
 use Rattle.net_file.specs.Net.{IsNet, owner_of}
 use Rattle.policy_rules.specs.Policy.{IsPolicy}
@@ -10,7 +11,7 @@ use Rattle.steps.specs.Steps.{IsStep}
 use Rattle.steps.specs.declared.step.Event.{Event}
 use Rattle.steps.specs.declared.step.Event.TheVariants.{One, Flush, Drain}
 use Rattle.steps.specs.declared.step.Step.{Step}
-use Rattle.steps.specs.declared.step.Step.TheVariants.{Packet, Hop, Lose}
+use Rattle.steps.specs.declared.step.Step.TheVariants.{Packet, Hop, Lose, Deliver, Forget, Expire}
 use Rattle.update_machine.specs.Answers.{StepOfRow, after_steps}
 use Rattle.update_machine.specs.Setting.{Setting, plan_of_file, setting_of}
 
@@ -32,22 +33,26 @@ pub record IsSetting (setting : Setting) : Type 0 where
 
 -- ---- steps
 
--- a packet comes in, moves on or is lost
-abbrev pub IsPacketStep : Step → Type 0
-IsPacketStep (Packet switch header) = ⊤
-IsPacketStep (Hop packet) = ⊤
-IsPacketStep (Lose packet) = ⊤
-IsPacketStep _ = ⊥
+-- a packet comes in, moves on or is lost; a message is delivered or forgotten; a cache rule times
+-- out
+abbrev pub IsPlayedKind : Step → Type 0
+IsPlayedKind (Packet switch header) = ⊤
+IsPlayedKind (Hop packet) = ⊤
+IsPlayedKind (Lose packet) = ⊤
+IsPlayedKind (Deliver message) = ⊤
+IsPlayedKind (Forget message) = ⊤
+IsPlayedKind (Expire switch place) = ⊤
+IsPlayedKind _ = ⊥
 
 -- a step of the network that is played
 pub record MayPlay (setting : Setting) (step : Step) : Type 0 where
-  pub kind : IsPacketStep step
+  pub kind : IsPlayedKind step
   pub own : IsStep setting.net (length setting.policies) step
 
 -- an event whose steps are played
 abbrev pub MayHappen : Setting → Event → Type 0
 MayHappen setting (One step) = MayPlay setting step
-MayHappen setting Flush = ⊥
+MayHappen setting Flush = ⊤
 MayHappen setting Drain = ⊤
 
 -- the journal is the pieces of steps that are played, one after another

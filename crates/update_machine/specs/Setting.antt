@@ -1,18 +1,16 @@
 -- What a journal is read against.
-use Rattle.std.specs.Prelude.{ℕ, ◌-◌, Bool, false, Result, Ok, Err, List, [], length, map, slice_index_or}
+use Rattle.std.specs.Prelude.{ℕ, ◌-◌, Result, Ok, Err, List, [], length, map, slice_index_or}
 use Rattle.std.specs.List.{range_with_len}
 use Rattle.net_file.specs.declared.net.Net.{Net}
 use Rattle.partition.specs.Plan.{NoPlan, Placed, TooManyLeaves, plan_of}
 use Rattle.policy_rules.specs.declared.policy.Row.{Row}
 
--- the network; the policies of the files, in order; the plan of each on the network, if there is
--- one; and whether authority switches tell others what to cache, which they don't as long as no row
--- of a schedule delivers a message
+-- the network; the policies of the files, in order; and the plan of each on the network, if there
+-- is one
 pub record Setting : Type 0 where
   pub net : Net
   pub policies : List (List Row)
   pub plans : List (Result (List Placed) NoPlan)
-  pub caches : Bool
 
 -- the setting of these policies on this network
 abbrev pub setting_of : Net → List (List Row) → Setting
@@ -20,7 +18,6 @@ setting_of net policies = record {
   net = net;
   policies = policies;
   plans = map (λ rows. plan_of rows net) policies;
-  caches = false;
 }
 
 -- the numbers of the switches, ascending

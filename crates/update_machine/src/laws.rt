@@ -1,15 +1,18 @@
 //! Laws on journals: functions without a body, whose contracts are facts of the definitions alone.
-ghost use Rattle.std.specs.Prelude.{◌≡◌, ◌+◌, ◌++◌, ◌↔◌, ℕ, Bool, Option, List, [], ◌∷◌, length, map};
+ghost use Rattle.std.specs.Prelude.{◌≡◌, ◌+◌, ◌++◌, ◌↔◌, ◌≤◌, ℕ, Bool, Option, List, [], ◌∷◌, length, map};
 ghost use Rattle.std.specs.Option.{option_or};
 ghost use Rattle.journal.specs.declared.item.Item.{Item};
 ghost use Rattle.steps.specs.declared.step.Event.{Event};
 ghost use Rattle.steps.specs.declared.step.Event.TheVariants.{One};
 ghost use Rattle.steps.specs.declared.step.Step.{Step};
 ghost use Rattle.update_machine.specs.Answers.{Answers, AnswersSoFar, AreAnswered, AreStepsOf, BeginsAnswer, HaveSteps, StepOfRow, after_steps};
+ghost use Rattle.update_machine.specs.Full.{HasPlay, IsFull, IsPlay, StopsFull};
 ghost use Rattle.update_machine.specs.Laws.{ConcernLaws, KnownLinkLaws, StartLaws};
+ghost use Rattle.update_machine.specs.Messages.{is_sending};
 ghost use Rattle.update_machine.specs.Numbers.{AreNumbered};
 ghost use Rattle.update_machine.specs.Setting.{Setting};
 ghost use Rattle.update_machine.specs.Folds.{all_given, count_of, folded, folded_from, last_told};
+ghost use Rattle.update_machine.specs.declared.full.TheConstants.{FULL_AT};
 
 /// What a journal says, once more items stand behind it: a law for each of the four folds, over
 /// whatever an item tells.
@@ -52,6 +55,22 @@ pub fn answers_exist()
         (journal : List Item) (steps : List StepOfRow) → Answers setting events journal
         → AreStepsOf setting (length events + 1) event journal steps
         → Answers setting (events ++ event ∷ []) (after_steps setting journal steps) }
+{}
+
+/// A schedule has at most one play, and one if it has an answer: where a play stops full, no other
+/// one goes on or stops elsewhere. What it leaves answers as far as it goes, and so begins an
+/// answer. A journal is full exactly where so many of its items are messages that were sent.
+pub fn plays_are_one()
+    ensures one { (setting : Setting) (events : List Event) (one other : List Item)
+        (stop halt : Option ℕ) → IsPlay setting events one stop → IsPlay setting events other halt
+        → (one ≡ other) × (stop ≡ halt) }
+    ensures some { (setting : Setting) (events : List Event)
+        → AreAnswered setting events → HasPlay setting events }
+    ensures so_far { (setting : Setting) (events : List Event) (journal : List Item) (row : ℕ)
+        → StopsFull setting events journal row → AnswersSoFar setting events journal }
+    ensures begins { (setting : Setting) (events : List Event) (journal : List Item) (row : ℕ)
+        → StopsFull setting events journal row → BeginsAnswer setting events journal }
+    ensures full { (journal : List Item) → IsFull journal ↔ FULL_AT ≤ count_of is_sending journal }
 {}
 
 /// In an answer, and in each beginning of one, packets and messages are numbered from 1 without a

@@ -1,0 +1,12 @@
+use Rattle.update_machine.proofs.OnePlay.{full_by_count, one_play}
+use Rattle.update_machine.proofs.SomePlay.{play_exists, stop_begins, stop_so_far}
+use Rattle.update_machine.proofs.laws.plays_are_one.Goals as goal
+
+pub returns : goal.returns
+returns c = record {
+  one = one_play;
+  some = play_exists;
+  so_far = stop_so_far;
+  begins = stop_begins;
+  full = full_by_count;
+}
