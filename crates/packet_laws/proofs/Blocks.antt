@@ -1,10 +1,14 @@
 -- The blocks of a packet's items have their causes, and leave it on its way or at its end.
-use Rattle.std.proofs.Common.{ℕ, ◌≡◌, ◌≢◌, ◌+◌, ◌-◌, ◌<◌, ◌≤◌, ◌==◌, Bool, true, false, if◌then◌else◌, Option, Some, None, List, [], ◌∷◌, ◌++◌, length, refl, ap, sym, subst, ◌∙◌, append-nil, append_assoc, arith, get_or, inl, inr, ◌⊎◌}
-use Rattle.std.specs.Prelude.{⊤, IsFalse, IsTrue, find, is_some, nat_eq, option_and_then, option_map, position, slice_get, unwrap_or}
+use Rattle.std.proofs.Common.{ℕ, ◌≡◌, ◌≢◌, ◌+◌, ◌-◌, ◌<◌, ◌≤◌, ◌==◌, ◌&&◌, Bool, true, false, if◌then◌else◌, Option, Some, None, List, [], ◌∷◌, ◌++◌, length, refl, ap, sym, subst, ◌∙◌, append-nil, append_assoc, arith, get_or, inl, inr, ◌⊎◌}
+use Rattle.std.specs.Prelude.{⊤, Contains, IsFalse, IsTrue, find, is_some, nat_eq, option_and_then, option_map, position, slice_get, unwrap_or}
 use Rattle.std.specs.List.{list_any}
-use Rattle.std.proofs.lemmas.Bool.{cases_lt, eqb-true}
+use Rattle.std.specs.Option.{option_map_or}
+use Rattle.std.proofs.lemmas.Bool.{and_parts, cases_lt, eqb-true}
 use Rattle.std.proofs.lemmas.Bool.Decides.{nat_tests}
+use Rattle.std.proofs.lemmas.List.Elements.{All-contains}
 use Rattle.std.proofs.lemmas.Option.{slice_get_within, slice_get-get_or}
+use Rattle.cache_maker.specs.Independent.{widen}
+use Rattle.ctrl_msg.specs.declared.message.Message.{Message}
 use Rattle.failover.specs.Masks.{has}
 use Rattle.five_tuple.specs.Header.{IsHeader, number_of}
 use Rattle.five_tuple.specs.declared.header.Header.{Header}
@@ -12,33 +16,40 @@ use Rattle.net_file.specs.Net.{links_of, owner_of}
 use Rattle.policy_rules.specs.Partitions.{is_in}
 use Rattle.policy_rules.specs.Policy.{scan}
 use Rattle.policy_rules.specs.Rules.{is_held}
+use Rattle.policy_rules.specs.declared.packet.How.{How}
 use Rattle.policy_rules.specs.declared.packet.How.TheVariants as how
 use Rattle.policy_rules.specs.declared.packet.Leg.{Leg}
 use Rattle.policy_rules.specs.declared.packet.Leg.TheVariants.{Seek, Exit}
 use Rattle.policy_rules.specs.declared.policy.Action.{Action}
 use Rattle.policy_rules.specs.declared.policy.Action.TheVariants as action
 use Rattle.policy_rules.specs.declared.rules.Rule.{Rule}
-use Rattle.switch_table.specs.Lookup.{authority_of, lookup_in}
-use Rattle.switch_table.specs.Tables.{Placed, has_target, part_of}
+use Rattle.switch_table.specs.Cache.{first_entry}
+use Rattle.switch_table.specs.Lookup.{authority_of, lookup_of, table_lookup}
+use Rattle.switch_table.specs.Tables.{Placed, has_target, part_of, tables_of}
+use Rattle.switch_table.specs.declared.cache.CacheEntry.{CacheEntry}
 use Rattle.switch_table.specs.declared.search.Found.TheVariants as found
+use Rattle.switch_table.proofs.TableLemmas.{find-there}
+use Rattle.ternary.specs.Word.{holds}
 use Rattle.journal.specs.declared.item.Item.{Item}
 use Rattle.journal.specs.declared.item.Item.TheVariants as item
-use Rattle.update_machine.specs.Caches.{lookup_at}
+use Rattle.update_machine.specs.Caches.{cache_of, lookup_at}
 use Rattle.update_machine.specs.Causes.{HaveCauses}
 use Rattle.update_machine.specs.Links.{near}
-use Rattle.update_machine.specs.Marks.{retired_mark}
-use Rattle.update_machine.specs.Moves.{AuthorityRule, arrive_by, arrive_items, authority_items, authority_rule, cache_items, end_items, first_place, found_items, header_at, in_turn, leaves, leg_items, lookup_items, move_items, put, reroute_items, route_for, stuck_on, takes_route}
-use Rattle.update_machine.specs.Packets.{Decision, decision_of, found_down, header_in, leg_of, next_switch, no_switch, owner, standing, targets_of, travels}
+use Rattle.update_machine.specs.Marks.{current_mark, retired_mark}
+use Rattle.update_machine.specs.Messages.{next_message, sends, sent_from}
+use Rattle.update_machine.specs.Moves.{AuthorityRule, arrive_by, arrive_items, authority_items, authority_rule, cache_items, cache_rule, end_items, first_place, found_items, header_at, in_turn, leaves, leg_items, lookup_items, move_items, put, reroute_items, route_for, stuck_on, takes_route}
+use Rattle.update_machine.specs.Packets.{Decision, decision_of, found_down, header_in, ingress_of, is_at, leg_of, next_switch, no_switch, owner, standing, targets_of, travels}
 use Rattle.update_machine.specs.Played.{IsSetting, NamesOwnPort}
 use Rattle.update_machine.specs.Setting.{Setting}
-use Rattle.update_machine.specs.Versions.{holds_version, plan_at, stamp_of}
+use Rattle.update_machine.specs.Versions.{holds_version, plan_at, policy_at, stamp_of}
 use Rattle.update_machine.proofs.CallerLemmas.{have_append}
-use Rattle.packet_laws.specs.Calm.{HasPacketsAlone, IsCalm}
+use Rattle.packet_laws.specs.Calm.{HasPacketsAlone, IsCalm, IsOfPackets, IsRightEntry, IsRightRule, first_plan}
 use Rattle.packet_laws.specs.OnWay.{FollowsLinks, IsFirst, IsOnLeg, IsOnWay, IsPartitionOf, LeadsTo}
 use Rattle.packet_laws.specs.PacketCauses.{IsPlayedItem, Stands}
 use Rattle.packet_laws.specs.Words.{PacketWords, names, told_by, words_of}
-use Rattle.packet_laws.proofs.Calm.{Alone, calm}
-use Rattle.packet_laws.proofs.Plans.{Finds, LooksUp, begun, in_plan, looks_up, scan_named}
+use Rattle.packet_laws.proofs.CacheRules.{authority_right}
+use Rattle.packet_laws.proofs.Calm.{calm}
+use Rattle.packet_laws.proofs.Plans.{Finds, LooksUp, in_plan, looks_up, scan_named}
 use Rattle.packet_laws.proofs.Routes.{route_leads}
 use Rattle.packet_laws.proofs.Words.{words_grow}
 
@@ -127,10 +138,12 @@ first_writes setting i journal item rest others played writes = record {
 -- a packet that stands at a switch of the network, whose switches are as they began
 pub record IsHere (setting : Setting) (journal : List Item) (i s : ℕ) (header : Header) : Type 0
   where
-    pub alone : HasPacketsAlone journal
+    pub alone : HasPacketsAlone setting journal
     pub stands : Stands setting (words_of journal i) header s
     pub sound : IsHeader header
     pub there : s < length setting.net.switches
+    -- it came in at one, too
+    pub came : unwrap_or (words_of journal i).ingress 0 < length setting.net.switches
 
 -- and that is undecided
 pub record IsReady (setting : Setting) (journal : List Item) (i s : ℕ) (header : Header) : Type 0
@@ -143,6 +156,12 @@ header_is : (setting : Setting) (journal : List Item) (i s : ℕ) (header : Head
     → IsHere setting journal i s header → header_in journal i ≡ Some header
 unfolding words_of
 header_is setting journal i s header here = here.stands.entered
+
+came_at : (setting : Setting) (journal : List Item) (i s : ℕ) (header : Header)
+    → IsHere setting journal i s header
+    → unwrap_or (ingress_of journal i) 0 < length setting.net.switches
+unfolding words_of
+came_at setting journal i s header here = here.came
 
 place_is : (setting : Setting) (journal : List Item) (i s : ℕ) (header : Header)
     → IsHere setting journal i s header → standing journal i ≡ Some s
@@ -367,27 +386,97 @@ end_writes setting journal i s header decision (action.Out port) is here decided
 
 -- ---- decisions
 
-pub in_turn_none : (first second : List Item → List Item) (journal : List Item) → first journal ≡ []
-    → in_turn (first ∷ second ∷ []) journal ≡ second journal
-in_turn_none first second journal none =
-    ap (λ js. put js (in_turn (second ∷ [])) journal) none ∙ append-nil (second (journal ++ []))
-    ∙ ap second (append-nil journal)
+-- the packet is here still behind an item that leaves it where it is
+here_on : (setting : Setting) (journal : List Item) (i s : ℕ) (header : Header) (item : Item)
+    → IsHere setting journal i s header → IsOfPackets setting journal item →
+    Stands setting (words_of (journal ++ item ∷ []) i) header s
+    → (words_of (journal ++ item ∷ []) i).ingress ≡ (words_of journal i).ingress
+    → IsHere setting (journal ++ item ∷ []) i s header
+here_on setting journal i s header item here of stands came = record {
+  alone = have_append (IsOfPackets setting) [] journal (item ∷ []) here.alone (of, tt);
+  stands = stands;
+  sound = here.sound;
+  there = here.there;
+  came = subst (λ o. unwrap_or o 0 < length setting.net.switches) (sym came) here.came;
+}
 
-pub no_cache_items : (setting : Setting) (i s : ℕ) (found : AuthorityRule) (journal : List Item)
-    → setting.caches ≡ false → cache_items setting i s found journal ≡ []
-unfolding cache_items
-no_cache_items setting i s found journal none = rw none refl
+-- what decides the packet is the first match of a version's policy that is current
+record IsFirstMatch (setting : Setting) (journal : List Item) (header : Header) (version : ℕ)
+    (rule : Option ℕ) (action : Action) : Type 0 where
+  known : 1 ≤ version
+  current : version ≤ current_mark journal
+  first_match : scan (policy_at setting journal version) header
+      ≡ record { rule = rule; action = action }
 
--- the rule by which a version's partition decides the header
+decision_writes : (setting : Setting) (journal : List Item) (i s : ℕ) (header : Header)
+    (version : ℕ) (rule : Option ℕ) (action : Action) (how : How) (rest : List Item → List Item)
+    → IsSetting setting → IsReady setting journal i s header →
+    IsFirstMatch setting journal header version rule action
+    → ((after : List Item) → IsHere setting after i s header →
+    (words_of after i).decision ≡ Some
+    (record { version = version; rule = rule; action = action })
+    → NamesOwnPort setting action → Writes setting i after (rest after))
+    → Writes setting i journal (put (item.Decided i version rule action how ∷ []) rest journal)
+decision_writes setting journal i s header version rule action how rest is ready match writes =
+    first_writes setting i journal decided _ (λ j apart. other_number i j apart)
+    (record {
+      of_packets = tt;
+      cause = record {
+        header = header;
+        switch = s;
+        at = ready.here.stands;
+        undecided = ready.undecided;
+        not_retired = omega (arith, ready.mark, calm_here.retired, match.known);
+        submitted = omega (arith, calm_here.count, calm_here.current, match.current);
+        first_match = match.first_match;
+      };
+      end = tt;
+    })
+    (writes (journal ++ decided ∷ [])
+    (here_on setting journal i s header decided ready.here tt
+    (subst (λ words. Stands setting words header s) (sym after)
+    (record {
+      travels = ready.here.stands.travels;
+      entered = ready.here.stands.entered;
+      stands = ready.here.stands.stands;
+    })) (ap (λ (w : PacketWords). w.ingress) after)) (ap (λ (w : PacketWords). w.decision) after)
+    named)
+  where
+    decided : Item
+    decided = item.Decided i version rule action how
+
+    calm_here : IsCalm setting journal
+    calm_here = calm setting journal is.net ready.here.alone
+
+    after : words_of (journal ++ decided ∷ []) i ≡ told_by (retired_mark journal) decided
+        (words_of journal i)
+    after = words_named i journal decided (own_number i)
+
+    named : NamesOwnPort setting action
+    named = subst (λ hit. NamesOwnPort setting hit.action)
+        (sym (ap (λ rows. scan rows header) (calm_here.policy version)) ∙ match.first_match)
+        (scan_named setting header is)
+
+-- two blocks, one behind the other
+pub in_turn_both : (first second : List Item → List Item) (journal : List Item)
+    → in_turn (first ∷ second ∷ []) journal ≡ first journal ++ second (journal ++ first journal)
+in_turn_both first second journal =
+    ap (λ items. first journal ++ items) (append-nil (second (journal ++ first journal)))
+
+-- the rule by which a partition of a version's plan decides the header
+abbrev pub deciding : {setting : Setting} {header : Header} {placed : Placed} → ℕ
+    → Finds setting header placed → AuthorityRule
+deciding {placed = placed} version finds = record {
+  version = version;
+  part = part_of placed;
+  place = finds.place;
+  rule = finds.rule;
+}
+
 pub rule_is : (setting : Setting) (journal : List Item) (header : Header) (placed : Placed)
     (version partition : ℕ) (finds : Finds setting header placed)
     → slice_get (plan_at setting journal version) partition ≡ Some placed
-    → authority_rule setting journal version partition finds.place ≡ Some (record {
-      version = version;
-      part = part_of placed;
-      place = finds.place;
-      rule = finds.rule;
-    })
+    → authority_rule setting journal version partition finds.place ≡ Some (deciding version finds)
 rule_is setting journal header placed version partition finds at =
     let rule_of : Placed → Rule → AuthorityRule = λ p rule.
     record { version = version; part = part_of p; place = finds.place; rule = rule } in
@@ -396,6 +485,63 @@ rule_is setting journal header placed version partition finds at =
       | Some p ↦ option_map (rule_of p) (slice_get p.0.rules finds.place)
     ]) at
     ∙ ap (option_map (rule_of placed)) finds.ruled
+
+-- the ingress is told the cache rule, and the packet ends as its action says
+cache_writes : (setting : Setting) (journal : List Item) (i s : ℕ) (header : Header)
+    (placed : Placed) (finds : Finds setting header placed) → IsSetting setting
+    → IsHere setting journal i s header → (words_of journal i).decision ≡ Some (record {
+      version = 1;
+      rule = finds.rule.rule;
+      action = finds.rule.action;
+    }) → NamesOwnPort setting finds.rule.action →
+    Writes setting i journal
+    (in_turn (cache_items setting i s (deciding 1 finds) ∷ end_items setting i s
+    finds.rule.action ∷ []) journal)
+unfolding cache_items sent_from
+cache_writes setting journal i s header placed finds is here decided named =
+    subst (Writes setting i journal)
+    (sym (in_turn_both (cache_items setting i s (deciding 1 finds))
+    (end_items setting i s finds.rule.action) journal))
+    (by_ingress (is_at s (ingress_of journal i)))
+  where
+    decision : Decision
+    decision = record { version = 1; rule = finds.rule.rule; action = finds.rule.action }
+
+    message : Message
+    message = cache_rule (deciding 1 finds) (unwrap_or (ingress_of journal i) 0)
+        (header_at journal i)
+
+    sent : Item
+    sent = item.Sent (next_message journal) message
+
+    same : words_of (journal ++ sent ∷ []) i ≡ words_of journal i
+    same = words_other i journal sent refl
+
+    right : IsOfPackets setting journal sent
+    right = (
+      came_at setting journal i s header here,
+      subst (λ h. IsRightRule setting journal 1
+          (widen (number_of h) placed.0.region placed.0.rules finds.place) finds.rule.rule
+          finds.rule.action) (sym (header_at_is setting journal i s header here))
+          (authority_right setting journal header placed finds is here.sound here.alone),
+    )
+
+    by_ingress : (b : Bool) → (let items : List Item =
+        elim b [ true ↦ [] | false ↦ sends journal (message ∷ []) ] in
+        Writes setting i journal
+        (items ++ end_items setting i s finds.rule.action (journal ++ items)))
+    by_ingress true = subst (λ js. Writes setting i journal
+        (end_items setting i s finds.rule.action js)) (sym (append-nil journal))
+        (end_writes setting journal i s header decision finds.rule.action is here decided refl
+        named)
+    by_ingress false =
+        first_writes setting i journal sent _ (λ j apart. refl)
+        (record { of_packets = right; cause = tt; end = tt })
+        (end_writes setting (journal ++ sent ∷ []) i s header decision finds.rule.action is
+        (here_on setting journal i s header sent here right
+        (subst (λ words. Stands setting words header s) (sym same) here.stands)
+        (ap (λ (w : PacketWords). w.ingress) same))
+        (ap (λ (w : PacketWords). w.decision) same ∙ decided) refl named)
 
 authority_writes : (setting : Setting) (journal : List Item) (i s : ℕ) (header : Header)
     (placed : Placed) (finds : Finds setting header placed) → IsSetting setting
@@ -406,71 +552,55 @@ authority_writes : (setting : Setting) (journal : List Item) (i s : ℕ) (header
 unfolding authority_items
 authority_writes setting journal i s header placed finds is ready =
     let calm_here : IsCalm setting journal = calm setting journal is.net ready.here.alone in
-    let rule : AuthorityRule =
-    record { version = 1; part = part_of placed; place = finds.place; rule = finds.rule } in
-    let found_rule : authority_rule setting journal 1 placed.0.number finds.place ≡ Some rule =
-    rule_is setting journal header placed 1 placed.0.number finds
-    (ap (λ plan. slice_get plan placed.0.number) (calm_here.plan 1) ∙ finds.at) in
-    let decided : Item = item.Decided i 1 finds.rule.rule finds.rule.action
-    (how.Authority s placed.0.number) in
-    let decision : Decision =
-    record { version = 1; rule = finds.rule.rule; action = finds.rule.action } in
-    let after : words_of (journal ++ decided ∷ []) i ≡ told_by (retired_mark journal) decided
-    (words_of journal i) = words_named i journal decided (own_number i) in
-    let more : HasPacketsAlone (journal ++ decided ∷ []) = have_append Alone [] journal
-    (decided ∷ []) ready.here.alone (tt, tt) in
-    let here : IsHere setting (journal ++ decided ∷ []) i s header = record {
-      alone = more;
-      stands = subst (λ words. Stands setting words header s) (sym after)
-          (record {
-            travels = ready.here.stands.travels;
-            entered = ready.here.stands.entered;
-            stands = ready.here.stands.stands;
-          });
-      sound = ready.here.sound;
-      there = ready.here.there;
-    } in
-    let named : NamesOwnPort setting finds.rule.action =
-    subst (λ hit. NamesOwnPort setting hit.action) (sym finds.decides)
-    (scan_named setting header is) in
-    let ends : Writes setting i (journal ++ decided ∷ [])
-    (end_items setting i s finds.rule.action (journal ++ decided ∷ [])) =
-    end_writes setting (journal ++ decided ∷ []) i s header decision finds.rule.action is here
-    (ap (λ (w : PacketWords). w.decision) after) refl named in
-    let turned : in_turn (cache_items setting i s rule ∷ end_items setting i s
-    finds.rule.action ∷ []) (journal ++ decided ∷ []) ≡ end_items setting i s finds.rule.action
-    (journal ++ decided ∷ []) =
-    in_turn_none (cache_items setting i s rule) (end_items setting i s finds.rule.action)
-    (journal ++ decided ∷ [])
-    (no_cache_items setting i s rule (journal ++ decided ∷ []) (begun setting is).no_caches) in
-    subst (λ o. Writes setting i journal (authority_items setting i s o journal)) (sym found_rule)
-    (first_writes setting i journal decided _ (λ j apart. other_number i j apart)
+    subst (λ o. Writes setting i journal (authority_items setting i s o journal))
+    (sym (rule_is setting journal header placed 1 placed.0.number finds
+    (ap (λ plan. slice_get plan placed.0.number) (calm_here.plan 1) ∙ finds.at)))
+    (decision_writes setting journal i s header 1 finds.rule.rule finds.rule.action
+    (how.Authority s placed.0.number)
+    (in_turn (cache_items setting i s (deciding 1 finds) ∷ end_items setting i s
+    finds.rule.action ∷ [])) is ready
     (record {
-      of_packets = tt;
-      cause = record {
-        header = header;
-        switch = s;
-        at = ready.here.stands;
-        undecided = ready.undecided;
-        not_retired = omega (arith, ready.mark, calm_here.retired);
-        submitted = omega (arith, calm_here.count);
-        first_match = ap (λ rows. scan rows header) (calm_here.policy 1) ∙ sym finds.decides;
-      };
-      end = tt;
+      known = omega arith;
+      current = omega (arith, calm_here.current);
+      first_match = ap (λ rows. scan rows header) (calm_here.policy 1) ∙ sym finds.decides;
     })
-    (subst (Writes setting i (journal ++ decided ∷ [])) (sym turned) ends))
+    (λ after here decided named.
+    cache_writes setting after i s header placed finds is here decided named))
+
+-- a cached rule decides the packet
+cached_writes : (setting : Setting) (journal : List Item) (i s : ℕ) (header : Header)
+    (entry : CacheEntry) → IsSetting setting → IsReady setting journal i s header →
+    first_entry 1 (number_of header) (cache_of setting journal s).entries ≡ Some entry
+    → Writes setting i journal (found_items setting i s (found.Cached entry) journal)
+cached_writes setting journal i s header entry is ready e =
+    let there : Contains (cache_of setting journal s).entries entry
+    × (((entry.version == 1) && holds entry.word (number_of header)) ≡ true) =
+    find-there (λ (x : CacheEntry). (x.version == 1) && holds x.word (number_of header))
+    (cache_of setting journal s).entries entry e in
+    let right : IsRightEntry setting journal entry =
+    All-contains (IsRightEntry setting journal) (cache_of setting journal s).entries entry
+    ((calm setting journal is.net ready.here.alone).cached s) there.0 in
+    decision_writes setting journal i s header entry.version entry.rule entry.action
+    (how.Cached entry.message) (end_items setting i s entry.action) is ready
+    (record {
+      known = right.known;
+      current = right.current;
+      first_match = right.decides header ready.here.sound (and_parts _ _ there.1).1;
+    })
+    (λ after here decided named.
+    end_writes setting after i s header _ entry.action is here decided refl named)
 
 pub lookup_writes : (setting : Setting) (journal : List Item) (i s : ℕ) (header : Header)
     → IsSetting setting → IsReady setting journal i s header
     → Writes setting i journal (lookup_items setting i s journal)
 unfolding lookup_items
 lookup_writes setting journal i s header is ready =
-    let own : LooksUp setting s header = looks_up setting s header is ready.here.sound in
-    let said : lookup_at setting journal s (header_at journal i) ≡ lookup_in s header own.placed =
+    let said : lookup_at setting journal s (header_at journal i)
+    ≡ lookup_of (cache_of setting journal s).entries (tables_of (first_plan setting) 1 s) header =
     ap (lookup_at setting journal s) (header_at_is setting journal i s header ready.here)
-    ∙ (calm setting journal is.net ready.here.alone).lookup s header ∙ own.says in
+    ∙ (calm setting journal is.net ready.here.alone).lookup s header in
     subst (λ what. Writes setting i journal (found_items setting i s what journal)) (sym said)
-    (by_target own.placed own.finds (has_target s own.placed))
+    (by_entry (first_entry 1 (number_of header) (cache_of setting journal s).entries) refl)
   where
     stamp : stamp_of journal s ≡ 1
     stamp = (calm setting journal is.net ready.here.alone).stamp s
@@ -494,6 +624,18 @@ lookup_writes setting journal i s header is ready =
         subst (λ v. Writes setting i journal
         (leg_items setting journal i s (Seek v placed.0.number))) (sym stamp)
         (seek_writes setting journal i s header placed is ready finds)
+
+    by_entry : (o : Option CacheEntry)
+        → first_entry 1 (number_of header) (cache_of setting journal s).entries ≡ o →
+        Writes setting i journal
+        (found_items setting i s
+        (option_map_or found.Cached o
+        (table_lookup (tables_of (first_plan setting) 1 s) header)) journal)
+    by_entry None e =
+        let own : LooksUp setting s header = looks_up setting s header is ready.here.sound in
+        subst (λ what. Writes setting i journal (found_items setting i s what journal))
+        (sym own.says) (by_target own.placed own.finds (has_target s own.placed))
+    by_entry (Some entry) e = cached_writes setting journal i s header entry is ready e
 
 -- ---- on the way
 
@@ -520,7 +662,7 @@ one_target : (target home : ℕ) → IsTrue (list_any (nat_eq target) (home ∷ 
 one_target target home own = grind (arith, nat_tests)
 
 here_on_way : (setting : Setting) (journal : List Item) (i : ℕ)
-    (way : IsOnWay setting journal (words_of journal i)) → HasPacketsAlone journal
+    (way : IsOnWay setting journal (words_of journal i)) → HasPacketsAlone setting journal
     → IsTrue (words_of journal i).travels →
     IsHere setting journal i way.under_way.place way.under_way.header
 here_on_way setting journal i way alone travels = record {
@@ -533,6 +675,8 @@ here_on_way setting journal i way alone travels = record {
   };
   sound = way.under_way.sound;
   there = way.under_way.now;
+  came = subst (λ o. unwrap_or o 0 < length setting.net.switches) (sym way.under_way.came)
+      way.under_way.at_first;
 }
 
 arrive_writes : (setting : Setting) (journal : List Item) (i s : ℕ) (header : Header) (leg : Leg)
@@ -605,7 +749,7 @@ next_is journal i = refl
 
 pub move_writes : (setting : Setting) (journal : List Item) (i : ℕ)
     (way : IsOnWay setting journal (words_of journal i)) → IsSetting setting
-    → HasPacketsAlone journal → IsTrue (words_of journal i).travels →
+    → HasPacketsAlone setting journal → IsTrue (words_of journal i).travels →
     Writes setting i journal (move_items setting i way.under_way.place journal)
 unfolding move_items arrive_items
 move_writes setting journal i way is alone travels = by_next (next_switch journal i)

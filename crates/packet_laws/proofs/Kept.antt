@@ -17,17 +17,15 @@ use Rattle.journal.specs.declared.item.Item.{Item}
 use Rattle.journal.specs.declared.item.Item.TheVariants as item
 use Rattle.update_machine.specs.Causes.{HaveCauses}
 use Rattle.update_machine.specs.Folds.{count_of}
-use Rattle.update_machine.specs.Laws.{ControllerKeeps}
 use Rattle.update_machine.specs.Marks.{retired_mark}
 use Rattle.update_machine.specs.Packets.{decision_of, found_down, header_in, is_packet, leg_of, next_packet, travels}
 use Rattle.update_machine.specs.Setting.{Setting}
-use Rattle.update_machine.specs.Versions.{plan_at}
-use Rattle.update_machine.proofs.CallerLemmas.{controller_keeps, count_of_append, have_append}
+use Rattle.update_machine.proofs.CallerLemmas.{count_of_append}
 use Rattle.packet_laws.specs.Calm.{HasPacketsAlone, IsOfPackets}
 use Rattle.packet_laws.specs.OnWay.{IsExiting, IsKept, IsOnLeg, IsOnWay, IsPartitionOf, IsSeeking, IsUnderWay, IsUnknown}
 use Rattle.packet_laws.specs.PacketCauses.{ComesIn, IsPlayedItem, MovesOn, Seeks, TakesExit}
 use Rattle.packet_laws.specs.Words.{PacketWords, names, port_of, told_by, words_of}
-use Rattle.packet_laws.proofs.Calm.{Alone, apart_controller, file_more, near_calm}
+use Rattle.packet_laws.proofs.Calm.{alone_more, current_more, file_more, near_calm, retired_more}
 use Rattle.packet_laws.proofs.Words.{words_grow}
 
 -- ---- links
@@ -60,49 +58,40 @@ link_there setting one two net linked = elim (cases_lt two 64) [
 
 -- ---- what an item of packets leaves as it was
 
-marks_same : (before : List Item) (item : Item) → IsOfPackets item
-    → ControllerKeeps before (before ++ item ∷ [])
-marks_same before item of = controller_keeps before (item ∷ [])
-    (apart_controller before item of, tt)
-
-plan_same : (setting : Setting) (before : List Item) (item : Item) (version : ℕ) → IsOfPackets item
-    → plan_at setting (before ++ item ∷ []) version ≡ plan_at setting before version
-plan_same setting before item version of = rw (file_more before item version of) refl
-
 -- the same of a word of packets that a longer journal reads in the same way
 partition_on : (setting : Setting) (before : List Item) (item : Item) (header : Header)
-    (version partition : ℕ) (placed : Placed) → IsOfPackets item →
+    (version partition : ℕ) (placed : Placed) → IsOfPackets setting before item →
     IsPartitionOf setting before header version partition placed
     → IsPartitionOf setting (before ++ item ∷ []) header version partition placed
 partition_on setting before item header version partition placed of own = record {
-  found = rw (file_more before item version of) own.found;
+  found = rw (file_more setting before item version of) own.found;
   number = own.number;
-  first = rw (file_more before item version of) own.first;
+  first = rw (file_more setting before item version of) own.first;
   holds = own.holds;
 }
 
 seeking_on : (setting : Setting) (before : List Item) (item : Item) (words : PacketWords)
-    (header : Header) (version partition : ℕ) → IsOfPackets item →
+    (header : Header) (version partition : ℕ) → IsOfPackets setting before item →
     IsSeeking setting before words header version partition
     → IsSeeking setting (before ++ item ∷ []) words header version partition
 seeking_on setting before item words header version partition of seeks = record {
   undecided = seeks.undecided;
   not_retired = seeks.not_retired;
-  current = rw ((marks_same before item of).current) seeks.current;
+  current = rw (current_more setting before item of) seeks.current;
   placed = seeks.placed;
   own = partition_on setting before item header version partition seeks.placed of seeks.own;
   leads = seeks.leads;
 }
 
 leg_on : (setting : Setting) (before : List Item) (item : Item) (words : PacketWords)
-    (header : Header) (leg : Leg) → IsOfPackets item →
+    (header : Header) (leg : Leg) → IsOfPackets setting before item →
     IsOnLeg setting before words header leg → IsOnLeg setting (before ++ item ∷ []) words header leg
 leg_on setting before item words header (Seek version partition) of on = seeking_on setting before
     item words header version partition of on
 leg_on setting before item words header (Exit port) of on = on
 
 under_on : (setting : Setting) (before : List Item) (item : Item) (words : PacketWords)
-    → IsOfPackets item →
+    → IsOfPackets setting before item →
     IsUnderWay setting before words → IsUnderWay setting (before ++ item ∷ []) words
 under_on setting before item words of under = record {
   header = under.header;
@@ -114,11 +103,11 @@ under_on setting before item words of under = record {
   at_first = under.at_first;
   stands = under.stands;
   now = under.now;
-  mark = rw ((marks_same before item of).retired) under.mark;
+  mark = rw (retired_more setting before item of) under.mark;
 }
 
 way_on : (setting : Setting) (before : List Item) (item : Item) (words : PacketWords)
-    → IsOfPackets item →
+    → IsOfPackets setting before item →
     IsOnWay setting before words → IsOnWay setting (before ++ item ∷ []) words
 unfolding under_on
 way_on setting before item words of way = record {
@@ -130,7 +119,7 @@ way_on setting before item words of way = record {
 }
 
 kept_on : (setting : Setting) (before : List Item) (item : Item) (words : PacketWords)
-    → IsOfPackets item →
+    → IsOfPackets setting before item →
     IsKept setting before words → IsKept setting (before ++ item ∷ []) words
 kept_on setting before item words of kept = record {
   under_way = λ travels. under_on setting before item words of (kept.under_way travels);
@@ -247,7 +236,7 @@ leg_moved setting before mark packet next words header (Exit port) on = record {
 }
 
 moved_after : (setting : Setting) (before : List Item) (mark packet next : ℕ) (words : PacketWords)
-    → IsNet setting.net → HasPacketsAlone before →
+    → IsNet setting.net → HasPacketsAlone setting before →
     MovesOn setting before words next
     → IsKept setting before (told_by mark (item.Hopped packet next) words)
 moved_after setting before mark packet next words net alone moves =
@@ -334,7 +323,7 @@ same_packet : (packet i : ℕ) → (packet == i) ≡ true → packet ≡ i
 same_packet packet i e = eqb-true packet i e
 
 named_after : (setting : Setting) (before : List Item) (item : Item) (i : ℕ) → IsNet setting.net
-    → HasPacketsAlone before → IsPlayedItem setting before item → names i item ≡ true →
+    → HasPacketsAlone setting before → IsPlayedItem setting before item → names i item ≡ true →
     IsKept setting before (words_of before i)
     → IsKept setting before (told_by (retired_mark before) item (words_of before i))
 named_after setting before (item.Entered packet switch header) i net alone played named kept =
@@ -374,7 +363,7 @@ named_after setting before other i net alone played named kept = absurd cc
 -- ---- each item keeps each packet
 
 kept_more : (setting : Setting) (before : List Item) (item : Item) (i : ℕ) → IsNet setting.net
-    → HasPacketsAlone before → IsPlayedItem setting before item →
+    → HasPacketsAlone setting before → IsPlayedItem setting before item →
     IsKept setting before (words_of before i) → IsKept setting (before ++ item ∷ [])
     (words_of (before ++ item ∷ []) i)
 kept_more setting before item i net alone played kept = subst (IsKept setting (before ++ item ∷ []))
@@ -387,14 +376,14 @@ kept_more setting before item i net alone played kept = subst (IsKept setting (b
     by_name false e = kept_on setting before item _ played.of_packets kept
 
 kept_from : (setting : Setting) (before items : List Item) (i : ℕ) → IsNet setting.net
-    → HasPacketsAlone before → HaveCauses (IsPlayedItem setting) before items →
+    → HasPacketsAlone setting before → HaveCauses (IsPlayedItem setting) before items →
     IsKept setting before (words_of before i) → IsKept setting (before ++ items)
     (words_of (before ++ items) i)
 kept_from setting before [] i net alone causes kept =
     subst (λ js. IsKept setting js (words_of js i)) (sym (append-nil before)) kept
 kept_from setting before (item ∷ items) i net alone causes kept =
-    let more : HasPacketsAlone (before ++ item ∷ []) = have_append Alone [] before (item ∷ []) alone
-    (causes.0.of_packets, tt) in
+    let more : HasPacketsAlone setting (before ++ item ∷ []) = alone_more setting before item alone
+    causes.0.of_packets in
     subst (λ js. IsKept setting js (words_of js i)) (append_assoc before (item ∷ []) items)
     (kept_from setting (before ++ item ∷ []) items i net more causes.1
     (kept_more setting before item i net alone causes.0 kept))

@@ -3,6 +3,7 @@ pub mod Words
 pub mod Kept
 pub mod Routes
 pub mod Plans
+pub mod CacheRules
 pub mod Blocks
 pub mod Played
 pub mod Runs

@@ -1,6 +1,6 @@
 -- What the first plan says of a header: the partition whose region holds it, and the rule there
 -- that decides it as the policy does.
-use Rattle.std.proofs.Common.{ℕ, ◌≡◌, ◌<◌, true, false, Option, Some, None, List, [], ◌∷◌, length, map, get_or, refl, ap, sym, subst, ◌∙◌, arith}
+use Rattle.std.proofs.Common.{ℕ, ◌≡◌, ◌<◌, true, Option, Some, None, List, [], ◌∷◌, length, map, get_or, refl, ap, sym, subst, ◌∙◌, arith}
 use Rattle.std.specs.Prelude.{All, Contains, Err, IsOk, IsTrue, Ok, Result, filter, find, option_and_then, option_map, position, slice_get, slice_index_or, unwrap_or}
 use Rattle.std.proofs.lemmas.List.Elements.{All-filter}
 use Rattle.std.proofs.lemmas.List.{get_or-map, length-map}
@@ -45,7 +45,6 @@ pub record IsBegun (setting : Setting) : Type 0 where
   pub some : 0 < length setting.policies
   pub policy : IsPolicy (first_policy setting)
   pub plan : IsPlan (first_policy setting) setting.net (first_plan setting)
-  pub no_caches : setting.caches ≡ false
 
 pub begun : (setting : Setting) → IsSetting setting → IsBegun setting
 begun setting is =
@@ -68,7 +67,6 @@ begun setting is =
       policy = policy;
       plan = plan_holds (first_policy setting) setting.net (first_plan setting) policy is.net
           planned;
-      no_caches = ap (λ (s : Setting). s.caches) is.made;
     }
 
 -- ---- ports of actions

@@ -1,34 +1,43 @@
 -- Each item of a played journal has its cause, and each piece leaves its packets on their way or at
 -- their end.
-use Rattle.std.proofs.Common.{ℕ, suc, ◌≡◌, ◌<◌, Bool, true, false, Some, List, [], ◌∷◌, ◌++◌, length, refl, ap, sym, subst, ◌∙◌, append_assoc, arith, inl, inr}
-use Rattle.std.specs.Prelude.{⊤, ◌==◌, All, IsFalse, IsTrue, unwrap_or}
+use Rattle.std.proofs.Common.{ℕ, suc, ◌≡◌, ◌<◌, Bool, true, false, Option, Some, None, List, [], ◌∷◌, ◌++◌, length, refl, ap, sym, subst, ◌∙◌, append_assoc, arith, inl, inr}
+use Rattle.std.specs.Prelude.{⊤, ◌==◌, All, IsFalse, IsTrue, slice_get, unwrap_or}
 use Rattle.std.proofs.lemmas.Bool.{cases_eq}
+use Rattle.ctrl_msg.specs.declared.message.Body.{Body}
+use Rattle.ctrl_msg.specs.declared.message.Body.TheVariants.{CacheRule}
+use Rattle.ctrl_msg.specs.declared.message.Message.{Message}
+use Rattle.ctrl_msg.specs.declared.message.Place.{Place}
+use Rattle.ctrl_msg.specs.declared.message.Place.TheVariants as place
 use Rattle.failover.specs.DownSet.{no_links}
 use Rattle.five_tuple.specs.Header.{IsHeader}
 use Rattle.five_tuple.specs.declared.header.Header.{Header}
+use Rattle.switch_table.specs.declared.cache.CacheEntry.{CacheEntry}
 use Rattle.journal.specs.declared.item.Item.{Item}
 use Rattle.journal.specs.declared.item.Item.TheVariants as item
 use Rattle.steps.specs.declared.step.Step.{Step}
-use Rattle.steps.specs.declared.step.Step.TheVariants.{Packet, Hop, Lose}
+use Rattle.steps.specs.declared.step.Step.TheVariants.{Packet, Hop, Lose, Deliver, Forget, Expire}
 use Rattle.update_machine.specs.Answers.{StepOfRow, after_steps}
-use Rattle.update_machine.specs.Boots.{serves}
-use Rattle.update_machine.specs.Causes.{HaveCauses}
+use Rattle.update_machine.specs.Boots.{said_to, serves}
+use Rattle.update_machine.specs.Caches.{cache_of}
+use Rattle.update_machine.specs.Causes.{HasCause, HaveCauses}
+use Rattle.update_machine.specs.Deliveries.{controller_items, delivery_items, received_items, switch_items}
 use Rattle.update_machine.specs.Marks.{retired_mark}
+use Rattle.update_machine.specs.Messages.{is_deliverable, is_to_controller, message_of}
 use Rattle.update_machine.specs.Moves.{lookup_items, move_items, put}
 use Rattle.update_machine.specs.Packets.{changes_found, found_down, next_packet, standing, travels}
-use Rattle.update_machine.specs.Pieces.{hop_items, lose_items, nothing, packet_items, piece, step_items}
-use Rattle.update_machine.specs.Played.{IsPacketStep, IsPlayed, IsSetting, MayPlay}
+use Rattle.update_machine.specs.Pieces.{deliver_items, expire_items, forget_items, hop_items, lose_items, nothing, packet_items, piece, step_items}
+use Rattle.update_machine.specs.Played.{IsPlayedKind, IsPlayed, IsSetting, MayPlay}
 use Rattle.update_machine.specs.Setting.{Setting}
 use Rattle.update_machine.specs.Steps.{present_step, tells_step}
 use Rattle.update_machine.proofs.CallerLemmas.{folded_stays, have_append, last_told_append}
-use Rattle.packet_laws.specs.Calm.{HasPacketsAlone, IsOfPackets}
+use Rattle.packet_laws.specs.Calm.{HasPacketsAlone, IsCacheBody, IsOfPackets}
 use Rattle.policy_rules.specs.declared.packet.Leg.{Leg}
 use Rattle.policy_rules.specs.declared.packet.Leg.TheVariants.{Seek}
 use Rattle.packet_laws.specs.OnWay.{IsOnLeg, IsOnWay, IsSeeking, IsServed, IsUnknown}
-use Rattle.packet_laws.specs.PacketCauses.{IsPlayedItem, Stands}
+use Rattle.packet_laws.specs.PacketCauses.{IsPlayedItem, PacketCause, Stands}
 use Rattle.packet_laws.specs.Words.{PacketWords, names, told_by, words_of}
 use Rattle.packet_laws.proofs.Blocks.{IsDone, IsReady, Writes, ended, first_writes, lookup_writes, move_writes, one_writes, other_number, own_number, words_named, words_other}
-use Rattle.packet_laws.proofs.Calm.{Alone, calm, have_map}
+use Rattle.packet_laws.proofs.Calm.{Alone, alone_more, brings_cache, calm, have_map, not_to_controller, said_brings, sent_brings}
 use Rattle.packet_laws.proofs.Kept.{kept, next_more, unknown}
 
 -- each item has its cause, and no packet is left in the middle of what its switch makes of it
@@ -37,28 +46,30 @@ pub record IsSettled (setting : Setting) (journal : List Item) : Type 0 where
   pub done : (i : ℕ) → IsDone (words_of journal i)
 
 pub alone_of : (setting : Setting) (journal : List Item) → HaveCauses (IsPlayedItem setting) []
-    journal → HasPacketsAlone journal
-alone_of setting journal causes = have_map (IsPlayedItem setting) Alone
+    journal → HasPacketsAlone setting journal
+alone_of setting journal causes = have_map (IsPlayedItem setting) (Alone setting)
     (λ before item played. played.of_packets) [] journal causes
 
 -- an item that names no packet
-quiet_settled : (setting : Setting) (journal : List Item) (item : Item)
-    → ((i : ℕ) → names i item ≡ false) → IsPlayedItem setting journal item →
-    IsSettled setting journal → IsSettled setting (journal ++ item ∷ [])
-quiet_settled setting journal item quiet played settled = record {
-  causes = have_append (IsPlayedItem setting) [] journal (item ∷ []) settled.causes (played, tt);
-  done = λ i. subst IsDone (sym (words_other i journal item (quiet i))) (settled.done i);
+plain_settled : (setting : Setting) (journal : List Item) (item : Item)
+    → ((i : ℕ) → names i item ≡ false) → IsOfPackets setting journal item
+    → PacketCause setting journal item → HasCause setting journal item
+    → IsSettled setting journal → IsSettled setting (journal ++ item ∷ [])
+plain_settled setting journal item apart of cause end settled = record {
+  causes = have_append (IsPlayedItem setting) [] journal (item ∷ []) settled.causes
+      (record { of_packets = of; cause = cause; end = end }, tt);
+  done = λ i. subst IsDone (sym (words_other i journal item (apart i))) (settled.done i);
 }
 
-row_settled : (setting : Setting) (journal : List Item) (row : ℕ) (step : Step) → IsPacketStep step
+row_settled : (setting : Setting) (journal : List Item) (row : ℕ) (step : Step) → IsPlayedKind step
     → IsSettled setting journal → IsSettled setting (journal ++ item.Row row step ∷ [])
-row_settled setting journal row step kind settled = quiet_settled setting journal
-    (item.Row row step) (λ i. refl) (record { of_packets = kind; cause = tt; end = tt }) settled
+row_settled setting journal row step kind settled =
+    plain_settled setting journal (item.Row row step) (λ i. refl) kind tt tt settled
 
 nothing_settled : (setting : Setting) (journal : List Item) → IsSettled setting journal
     → IsSettled setting (journal ++ nothing)
-nothing_settled setting journal settled = quiet_settled setting journal item.Nothing (λ i. refl)
-    (record { of_packets = tt; cause = tt; end = tt }) settled
+nothing_settled setting journal settled =
+    plain_settled setting journal item.Nothing (λ i. refl) tt tt tt settled
 
 writes_settled : (setting : Setting) (i : ℕ) (journal items : List Item)
     → Writes setting i journal items → IsSettled setting journal
@@ -79,11 +90,11 @@ packet_writes : (setting : Setting) (journal : List Item) (i s : ℕ) (header : 
     → Writes setting i journal (packet_items setting i s header journal)
 unfolding packet_items
 packet_writes setting journal i s header is settled number there sound =
-    let alone : HasPacketsAlone journal = alone_of setting journal settled.causes in
+    let alone : HasPacketsAlone setting journal = alone_of setting journal settled.causes in
     let serving : serves journal s ≡ true = (calm setting journal is.net alone).serving s in
     let entered : Item = item.Entered i s header in
-    let more : HasPacketsAlone (journal ++ entered ∷ []) = have_append Alone [] journal
-    (entered ∷ []) alone (tt, tt) in
+    let more : HasPacketsAlone setting (journal ++ entered ∷ []) =
+    alone_more setting journal entered alone tt in
     let after : words_of (journal ++ entered ∷ []) i ≡ told_by (retired_mark journal) entered
     (words_of journal i) = words_named i journal entered (own_number i) in
     let none : IsUnknown (words_of journal i) = unknown setting journal settled.causes i
@@ -98,6 +109,8 @@ packet_writes setting journal i s header is settled number there sound =
             (record { travels = refl; entered = refl; stands = refl });
         sound = sound;
         there = there;
+        came = subst (λ o. unwrap_or o 0 < length setting.net.switches)
+            (sym (ap (λ (w : PacketWords). w.ingress) after)) there;
       };
       undecided = ap (λ (w : PacketWords). w.decision) after ∙ none.decision;
       mark = omega (arith, marked, before);
@@ -167,6 +180,102 @@ lose_settled setting journal i settled lost = by_travel (travels journal i) refl
         (λ j apart. other_number i j apart)
         (record { of_packets = tt; cause = travels_is journal i true e; end = inl lost })) settled
 
+-- ---- a message is delivered or forgotten, a cache rule times out
+
+abbrev IsEmpty : List Item → Type 0
+IsEmpty items = items ≡ []
+
+silent_switch : (setting : Setting) (before : List Item) (s : ℕ) (body : Body) (journal : List Item)
+    → IsCacheBody body → IsEmpty (switch_items setting before s body journal)
+unfolding switch_items
+silent_switch setting before s (CacheRule version word rule action) journal is = refl
+silent_switch setting before s _ journal is = absurd is
+
+received_none : (setting : Setting) (before : List Item) (number : ℕ) (message : Message)
+    (journal : List Item) → HasPacketsAlone setting before → message_of before number ≡ Some message
+    → IsEmpty (received_items setting before number message journal)
+received_none setting before number message journal alone sent =
+    by_place message.to
+    (not_to_controller setting before message.to message.body
+    (sent_brings setting before alone number message sent))
+  where
+    by_said : (s : ℕ) (o : Option Body) → said_to before s number ≡ o → IsEmpty (elim o [
+      | None ↦ []
+      | Some body ↦ switch_items setting before s body journal
+    ])
+    by_said s None e = refl
+    by_said s (Some body) e = silent_switch setting before s body journal
+        (brings_cache setting before (place.Switch s) body
+        (said_brings setting before s number body alone e))
+
+    by_place : (to : Place) → IsFalse (is_to_controller to) → IsEmpty (elim to [
+      | place.Controller ↦ controller_items setting before message.body journal
+      | place.Switch s ↦ elim (said_to before s number) [
+        | None ↦ []
+        | Some body ↦ switch_items setting before s body journal
+      ]
+    ])
+    by_place (place.Switch s) apart = by_said s (said_to before s number) refl
+    by_place place.Controller apart = absurd cc
+
+-- a cache rule causes no more
+pub delivery_none : (setting : Setting) (before : List Item) (number : ℕ) (journal : List Item)
+    → HasPacketsAlone setting before → IsEmpty (delivery_items setting before number journal)
+unfolding delivery_items
+delivery_none setting before number journal alone = by_message (message_of before number) refl
+  where
+    by_message : (o : Option Message) → message_of before number ≡ o → IsEmpty (elim o [
+      | None ↦ []
+      | Some message ↦ received_items setting before number message journal
+    ])
+    by_message None e = refl
+    by_message (Some message) e = received_none setting before number message journal alone e
+
+deliver_settled : (setting : Setting) (before journal : List Item) (number : ℕ)
+    → HasPacketsAlone setting before → IsSettled setting journal
+    → IsSettled setting (journal ++ deliver_items setting before number journal)
+unfolding deliver_items
+deliver_settled setting before journal number alone settled =
+    by_test (is_deliverable before number)
+  where
+    by_test : (b : Bool) → IsSettled setting (journal ++ elim b [
+      | false ↦ nothing
+      | true ↦ put (item.Delivered number ∷ []) (delivery_items setting before number) journal
+    ])
+    by_test false = nothing_settled setting journal settled
+    by_test true = subst (λ items. IsSettled setting (journal ++ item.Delivered number ∷ items))
+        (sym (delivery_none setting before number (journal ++ item.Delivered number ∷ []) alone))
+        (plain_settled setting journal (item.Delivered number) (λ i. refl) tt tt tt settled)
+
+forget_settled : (setting : Setting) (journal : List Item) (number : ℕ)
+    → IsSettled setting journal → IsSettled setting (journal ++ forget_items number journal)
+unfolding forget_items
+forget_settled setting journal number settled = by_test (is_deliverable journal number)
+  where
+    by_test : (b : Bool) → IsSettled setting (journal ++ elim b [
+      | false ↦ nothing
+      | true ↦ item.Forgotten number ∷ []
+    ])
+    by_test false = nothing_settled setting journal settled
+    by_test true =
+        plain_settled setting journal (item.Forgotten number) (λ i. refl) tt tt tt settled
+
+expire_settled : (setting : Setting) (journal : List Item) (s place : ℕ)
+    → IsSettled setting journal
+    → IsSettled setting (journal ++ expire_items setting s place journal)
+unfolding expire_items
+expire_settled setting journal s place settled =
+    by_entry (slice_get (cache_of setting journal s).entries place)
+  where
+    by_entry : (o : Option CacheEntry) → IsSettled setting (journal ++ elim o [
+      | None ↦ nothing
+      | Some entry ↦ item.Expired s place entry.message ∷ []
+    ])
+    by_entry None = nothing_settled setting journal settled
+    by_entry (Some entry) =
+        plain_settled setting journal (item.Expired s place entry.message) (λ i. refl) tt tt tt
+        settled
+
 -- ---- pieces and steps
 
 -- a step that is played, whatever number it names
@@ -174,12 +283,18 @@ abbrev pub IsPlayable : Setting → Step → Type 0
 IsPlayable setting (Packet s header) = (s < length setting.net.switches) × IsHeader header
 IsPlayable setting (Hop i) = ⊤
 IsPlayable setting (Lose i) = ⊤
+IsPlayable setting (Deliver number) = ⊤
+IsPlayable setting (Forget number) = ⊤
+IsPlayable setting (Expire s place) = ⊤
 IsPlayable setting _ = ⊥
 
 pub may_play : (setting : Setting) (step : Step) → MayPlay setting step → IsPlayable setting step
 may_play setting (Packet s header) may = may.own
 may_play setting (Hop i) may = tt
 may_play setting (Lose i) may = tt
+may_play setting (Deliver number) may = tt
+may_play setting (Forget number) may = tt
+may_play setting (Expire s place) may = tt
 may_play setting _ may = absurd may.kind
 
 abbrev pub ArePlayable : Setting → List StepOfRow → Type 0
@@ -212,6 +327,16 @@ stepped setting journal row (Hop i) is may settled = hop_settled setting
 stepped setting journal row (Lose i) is may settled =
     lose_settled setting (journal ++ item.Row row (Lose i) ∷ []) i
     (row_settled setting journal row (Lose i) tt settled) (step_is journal row (Lose i))
+stepped setting journal row (Deliver number) is may settled =
+    deliver_settled setting journal (journal ++ item.Row row (Deliver number) ∷ []) number
+    (alone_of setting journal settled.causes)
+    (row_settled setting journal row (Deliver number) tt settled)
+stepped setting journal row (Forget number) is may settled =
+    forget_settled setting (journal ++ item.Row row (Forget number) ∷ []) number
+    (row_settled setting journal row (Forget number) tt settled)
+stepped setting journal row (Expire s place) is may settled =
+    expire_settled setting (journal ++ item.Row row (Expire s place) ∷ []) s place
+    (row_settled setting journal row (Expire s place) tt settled)
 stepped setting journal row other is may settled = absurd may
 
 pub piece_settled : (setting : Setting) (journal : List Item) (row : ℕ) (step : Step)
@@ -248,21 +373,23 @@ abbrev finds : List Item → Item → Bool
 finds before (item.FoundDown packet one two) = true
 finds before _ = false
 
-apart_finds : (before : List Item) (item : Item) → IsOfPackets item → IsFalse (finds before item)
-apart_finds before (item.FoundDown packet one two) of = absurd of
-apart_finds before _ of = refl
+apart_finds : (setting : Setting) (before : List Item) (item : Item)
+    → IsOfPackets setting before item → IsFalse (finds before item)
+apart_finds setting before (item.FoundDown packet one two) of = absurd of
+apart_finds setting before _ of = refl
 
 silent_found : (i : ℕ) (before : List Item) (links : List ℕ) (item : Item)
     → IsFalse (finds before item) → changes_found i before links item ≡ links
 silent_found i before links (item.FoundDown packet one two) apart = cc
 silent_found i before links _ apart = refl
 
-found_none : (journal : List Item) (i : ℕ) → HasPacketsAlone journal → (words_of journal i).found
-    ≡ no_links
+found_none : (setting : Setting) (journal : List Item) (i : ℕ) → HasPacketsAlone setting journal
+    → (words_of journal i).found ≡ no_links
 unfolding words_of found_down
-found_none journal i alone =
+found_none setting journal i alone =
     folded_stays (changes_found i) no_links finds (silent_found i) [] journal
-    (have_map Alone (λ before item. IsFalse (finds before item)) apart_finds [] journal alone)
+    (have_map (Alone setting) (λ before item. IsFalse (finds before item)) (apart_finds setting) []
+    journal alone)
 
 -- ---- the laws
 
@@ -271,7 +398,7 @@ pub played_causes : (setting : Setting) (journal : List Item) → IsSetting sett
 played_causes setting journal is played = (played_settled setting journal is played).causes
 
 pub played_alone : (setting : Setting) (journal : List Item) → IsSetting setting
-    → IsPlayed setting journal → HasPacketsAlone journal
+    → IsPlayed setting journal → HasPacketsAlone setting journal
 played_alone setting journal is played = alone_of setting journal
     (played_causes setting journal is played)
 
@@ -327,4 +454,5 @@ served setting journal is played =
 
 pub found : (setting : Setting) (journal : List Item) → IsSetting setting → IsPlayed setting journal
     → (i : ℕ) → (words_of journal i).found ≡ no_links
-found setting journal is played i = found_none journal i (played_alone setting journal is played)
+found setting journal is played i = found_none setting journal i
+    (played_alone setting journal is played)

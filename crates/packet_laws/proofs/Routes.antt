@@ -193,7 +193,7 @@ is_route_leads setting at down (target ∷ targets) route net fits (inr later) =
     )
 
 pub route_leads : (setting : Setting) (journal : List Item) (at : ℕ) (targets down route : List ℕ)
-    → IsNet setting.net → HasPacketsAlone journal → at < length setting.net.switches →
+    → IsNet setting.net → HasPacketsAlone setting journal → at < length setting.net.switches →
     route_from setting journal at targets down ≡ Some route → LeadsTo setting targets route
     × IsFirst at route
 route_leads setting journal at targets down route net alone there is =

@@ -76,6 +76,10 @@ IsUnseen (item.Row row step) = ⊤
 IsUnseen (item.Seeking packet version partition route) = ⊤
 IsUnseen (item.Exiting packet route) = ⊤
 IsUnseen (item.Hopped packet switch) = ⊤
+IsUnseen (item.Sent number message) = ⊤
+IsUnseen (item.Delivered number) = ⊤
+IsUnseen (item.Forgotten number) = ⊤
+IsUnseen (item.Expired switch place message) = ⊤
 IsUnseen item.Nothing = ⊤
 IsUnseen _ = ⊥
 
@@ -88,6 +92,10 @@ unseen_words mark (item.Exiting packet route) words o is seen = seen_same o word
     (told_by mark (item.Exiting packet route) words) refl refl refl refl seen
 unseen_words mark (item.Hopped packet switch) words o is seen = seen_same o words
     (told_by mark (item.Hopped packet switch) words) refl refl refl refl seen
+unseen_words mark (item.Sent number message) words o is seen = seen
+unseen_words mark (item.Delivered number) words o is seen = seen
+unseen_words mark (item.Forgotten number) words o is seen = seen
+unseen_words mark (item.Expired switch place message) words o is seen = seen
 unseen_words mark item.Nothing words o is seen = seen
 unseen_words mark _ words o is seen = absurd is
 
@@ -138,6 +146,15 @@ record Goes (setting : Setting) (machine : Machine) (journal : List Item) (item 
     takes : Takes setting machine item new
     matches : Matches setting new (journal ++ item ∷ [])
 
+goes_unseen : (setting : Setting) (machine : Machine) (journal : List Item) (item : Item)
+    → IsUnseen item → Takes setting machine item machine → Matches setting machine journal
+    → Goes setting machine journal item
+goes_unseen setting machine journal item is takes matches = record {
+  new = machine;
+  takes = takes;
+  matches = unseen_matches setting machine journal item is matches;
+}
+
 ended_seen : (packet : Packet) (words after : PacketWords) (end : End)
     → after ≡ record words { travels = false } → IsSeen packet words
     → IsSeen (record packet { end = Some end }) after
@@ -166,41 +183,25 @@ goes : (setting : Setting) (machine : Machine) (journal : List Item) (item : Ite
     → IsPlayedItem setting journal item →
     Matches setting machine journal → Goes setting machine journal item
 goes setting machine journal (item.Row row step) net causes played matches =
-    record {
-      new = machine;
-      takes = refl;
-      matches = unseen_matches setting machine journal
-          (item.Row row step) tt matches;
-    }
+    goes_unseen setting machine journal (item.Row row step) tt refl matches
 goes setting machine journal (item.Seeking packet version partition route) net causes played
     matches =
-    record {
-      new = machine;
-      takes = refl;
-      matches = unseen_matches setting machine journal
-          (item.Seeking packet version partition route) tt matches;
-    }
+    goes_unseen setting machine journal (item.Seeking packet version partition route) tt refl
+    matches
 goes setting machine journal (item.Exiting packet route) net causes played matches =
-    record {
-      new = machine;
-      takes = refl;
-      matches = unseen_matches setting machine journal
-          (item.Exiting packet route) tt matches;
-    }
+    goes_unseen setting machine journal (item.Exiting packet route) tt refl matches
 goes setting machine journal (item.Hopped packet switch) net causes played matches =
-    record {
-      new = machine;
-      takes = refl;
-      matches = unseen_matches setting machine journal
-          (item.Hopped packet switch) tt matches;
-    }
+    goes_unseen setting machine journal (item.Hopped packet switch) tt refl matches
+goes setting machine journal (item.Sent number message) net causes played matches =
+    goes_unseen setting machine journal (item.Sent number message) tt refl matches
+goes setting machine journal (item.Delivered number) net causes played matches =
+    goes_unseen setting machine journal (item.Delivered number) tt refl matches
+goes setting machine journal (item.Forgotten number) net causes played matches =
+    goes_unseen setting machine journal (item.Forgotten number) tt refl matches
+goes setting machine journal (item.Expired switch place message) net causes played matches =
+    goes_unseen setting machine journal (item.Expired switch place message) tt refl matches
 goes setting machine journal item.Nothing net causes played matches =
-    record {
-      new = machine;
-      takes = refl;
-      matches = unseen_matches setting machine journal
-          item.Nothing tt matches;
-    }
+    goes_unseen setting machine journal item.Nothing tt refl matches
 goes setting machine journal (item.Entered i switch header) net causes played matches =
     let entered : Item = item.Entered i switch header in
     let packet : Packet = record {

@@ -114,6 +114,6 @@ PacketCause setting before _ = ⊤
 
 -- an item that is played today: of packets alone, with its cause, that of an end included
 pub record IsPlayedItem (setting : Setting) (before : List Item) (item : Item) : Type 0 where
-  pub of_packets : IsOfPackets item
+  pub of_packets : IsOfPackets setting before item
   pub cause : PacketCause setting before item
   pub end : HasCause setting before item

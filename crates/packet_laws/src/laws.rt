@@ -1,25 +1,29 @@
 //! The laws.
-ghost use Rattle.std.specs.Prelude.{All, ◌≡◌, ◌++◌, ◌≤◌, IsTrue, if◌then◌else◌, ℕ, List, [], ◌∷◌};
+ghost use Rattle.std.specs.Prelude.{All, ◌≡◌, ◌++◌, ◌≤◌, IsTrue, if◌then◌else◌, ℕ, Some, List, [], ◌∷◌};
+ghost use Rattle.ctrl_msg.specs.declared.message.Message.{Message};
 ghost use Rattle.failover.specs.DownSet.{no_links};
 ghost use Rattle.net_file.specs.Net.{IsNet};
 ghost use Rattle.journal.specs.declared.item.Item.{Item};
 ghost use Rattle.steps.specs.declared.step.Event.{Event};
-ghost use Rattle.update_machine.specs.Answers.{Answers, BeginsAnswer};
+ghost use Rattle.update_machine.specs.Answers.{Answers, AnswersSoFar, BeginsAnswer};
+ghost use Rattle.update_machine.specs.Caches.{cache_of};
 ghost use Rattle.update_machine.specs.Causes.{EndsHaveCauses, HaveCauses};
 ghost use Rattle.update_machine.specs.Machine.{IsRun};
 ghost use Rattle.update_machine.specs.Marks.{retired_mark};
+ghost use Rattle.update_machine.specs.Messages.{message_of};
 ghost use Rattle.update_machine.specs.Packets.{next_packet, travels};
 ghost use Rattle.update_machine.specs.Played.{IsPlayed, IsSetting, MayHappen};
 ghost use Rattle.update_machine.specs.Setting.{Setting};
-ghost use Rattle.packet_laws.specs.Calm.{HasPacketsAlone, IsCalm};
+ghost use Rattle.packet_laws.specs.Calm.{BringsRule, HasPacketsAlone, IsCalm, IsRightEntry};
 ghost use Rattle.packet_laws.specs.OnWay.{IsKept, IsOnWay, IsServed, IsUnknown};
 ghost use Rattle.packet_laws.specs.PacketCauses.{IsPlayedItem};
 ghost use Rattle.packet_laws.specs.Words.{names, told_by, words_of};
 
-/// Packets alone leave switches, links and the controller as they began.
+/// Packets and cache rules change caches alone, whose entries decide as the policy does; all else
+/// of switches, links and the controller stays as it began.
 pub fn packets_change_nothing_else()
     ensures { (setting : Setting) (journal : List Item)
-        → IsNet setting.net → HasPacketsAlone journal → IsCalm setting journal }
+        → IsNet setting.net → HasPacketsAlone setting journal → IsCalm setting journal }
 {}
 
 /// What an item makes of the words of a packet: nothing where it names another.
@@ -47,23 +51,47 @@ pub fn played_journals_have_causes()
         → IsSetting setting → IsPlayed setting journal
         → HaveCauses (IsPlayedItem setting) [] journal }
     ensures alone { (setting : Setting) (journal : List Item)
-        → IsSetting setting → IsPlayed setting journal → HasPacketsAlone journal }
+        → IsSetting setting → IsPlayed setting journal → HasPacketsAlone setting journal }
 {}
 
-/// Behind each whole piece, and so in each answer, a travelling packet is on its way at a switch
-/// that serves, and found no link down.
+/// Behind each whole piece, and so in each answer, as far as it goes, each cache rule that was
+/// sent, and each that a switch caches, is of a version that is at most the current one, and this
+/// version's policy decides each header of its word so.
+pub fn cache_rules_are_right()
+    ensures sent { (setting : Setting) (journal : List Item)
+        → IsSetting setting → IsPlayed setting journal → (n : ℕ) (message : Message)
+        → message_of journal n ≡ Some message
+        → BringsRule setting journal message.to message.body }
+    ensures cached { (setting : Setting) (journal : List Item)
+        → IsSetting setting → IsPlayed setting journal → (s : ℕ)
+        → All (IsRightEntry setting journal) (cache_of setting journal s).entries }
+    ensures sent_in_answers { (setting : Setting) (events : List Event) (journal : List Item)
+        → IsSetting setting → All (MayHappen setting) events
+        → AnswersSoFar setting events journal
+        → (n : ℕ) (message : Message) → message_of journal n ≡ Some message
+        → BringsRule setting journal message.to message.body }
+    ensures cached_in_answers { (setting : Setting) (events : List Event) (journal : List Item)
+        → IsSetting setting → All (MayHappen setting) events
+        → AnswersSoFar setting events journal
+        → (s : ℕ) → All (IsRightEntry setting journal) (cache_of setting journal s).entries }
+{}
+
+/// Behind each whole piece, and so in each answer, as far as it goes, a travelling packet is on its
+/// way at a switch that serves; and behind each whole piece no packet found a link down.
 pub fn packets_travel()
     ensures on_way { (setting : Setting) (journal : List Item)
         → IsSetting setting → IsPlayed setting journal
         → (i : ℕ) → IsTrue (travels journal i) → IsOnWay setting journal (words_of journal i) }
-    ensures answered { (setting : Setting) (events : List Event) (journal : List Item)
-        → IsSetting setting → All (MayHappen setting) events → Answers setting events journal
+    ensures on_way_in_answers { (setting : Setting) (events : List Event) (journal : List Item)
+        → IsSetting setting → All (MayHappen setting) events
+        → AnswersSoFar setting events journal
         → (i : ℕ) → IsTrue (travels journal i) → IsOnWay setting journal (words_of journal i) }
     ensures served { (setting : Setting) (journal : List Item)
         → IsSetting setting → IsPlayed setting journal
         → (i : ℕ) → IsTrue (travels journal i) → IsServed journal (words_of journal i) }
     ensures served_in_answers { (setting : Setting) (events : List Event) (journal : List Item)
-        → IsSetting setting → All (MayHappen setting) events → Answers setting events journal
+        → IsSetting setting → All (MayHappen setting) events
+        → AnswersSoFar setting events journal
         → (i : ℕ) → IsTrue (travels journal i) → IsServed journal (words_of journal i) }
     ensures found { (setting : Setting) (journal : List Item)
         → IsSetting setting → IsPlayed setting journal

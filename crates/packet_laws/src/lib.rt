@@ -1,4 +1,5 @@
-//! Laws over journals of packets: what holds of each journal of the steps that are played today.
+//! Laws over journals of packets and of the cache rules that they bring: what holds of each journal
+//! of the steps that are played today.
 //!
 //! No code: each function stands for the law that it ensures.
 #![tactic(auto)]
@@ -6,6 +7,7 @@
 mod laws;
 
 pub use laws::{
-    answers_are_runs, ends_have_causes, items_keep_packets, items_tell_of_packets,
-    packets_change_nothing_else, packets_travel, played_journals_have_causes,
+    answers_are_runs, cache_rules_are_right, ends_have_causes, items_keep_packets,
+    items_tell_of_packets, packets_change_nothing_else, packets_travel,
+    played_journals_have_causes,
 };
