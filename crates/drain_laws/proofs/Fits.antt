@@ -6,7 +6,7 @@ use Rattle.update_machine.specs.Packets.{Decision}
 use Rattle.packet_laws.proofs.Blocks.{own_number}
 use Rattle.drain_laws.specs.Hops.{most_switches}
 use Rattle.drain_laws.proofs.Shapes.{IsDecision, IsEnd}
-use Rattle.drain_laws.proofs.Ways.{Way, told, told_all}
+use Rattle.drain_laws.proofs.Ways.{AreSilent, Way, told, told_all, told_past}
 
 -- the hops that its routes have at most
 abbrev pub hops_for : Way → ℕ
@@ -87,19 +87,21 @@ decided_as i before (item.Decided packet version rule action how) way is =
     (record { version = version; rule = rule; action = action }, rw is refl)
 decided_as i before _ way is = absurd is
 
-pub decided_ended_fits : (i : ℕ) (before : List Item) (decision end : Item) (way : Way)
-    → IsDecision i decision → IsEnd i end → Stands way
-    → Fits (told_all i before (decision ∷ end ∷ []) way)
-decided_ended_fits i before decision end way is ends stands =
+pub decided_ended_fits : (i : ℕ) (before : List Item) (decision : Item) (sent : List Item)
+    (end : Item) (way : Way) → IsDecision i decision → AreSilent sent → IsEnd i end → Stands way
+    → Fits (told_all i before (decision ∷ sent ++ end ∷ []) way)
+decided_ended_fits i before decision sent end way is are ends stands =
     let as_told = decided_as i before decision way is in
-    subst (λ now. Fits (told i (before ++ decision ∷ []) end now)) (sym as_told.1)
-    (ended_fits i (before ++ decision ∷ []) end (record way { decision = Some as_told.0 }) ends
+    let decided : List Item = before ++ decision ∷ [] in
+    subst Fits (sym (told_past i decided sent (end ∷ []) (told i before decision way) are))
+    (subst (λ now. Fits (told i (decided ++ sent) end now)) (sym as_told.1)
+    (ended_fits i (decided ++ sent) end (record way { decision = Some as_told.0 }) ends
     (record {
       searches = stands.searches;
       exits = stands.exits;
       undecided = λ none. absurd cc;
       taken = stands.taken;
-    }))
+    })))
 
 -- ---- routes
 
@@ -108,17 +110,19 @@ exiting_as : (i : ℕ) (before : List Item) (route : List ℕ) (way : Way)
     ≡ record way { route = route; place = 0; exits = way.exits + 1 }
 exiting_as i before route way = rw (own_number i) refl
 
-pub decided_exiting_fits : (i : ℕ) (before : List Item) (decision : Item) (route : List ℕ)
-    (way : Way) → IsDecision i decision → way.decision ≡ None → length route ≤ most_switches
-    → Stands way
-    → Fits (told_all i before (decision ∷ item.Exiting i route ∷ []) way)
-decided_exiting_fits i before decision route way is undecided few stands =
+pub decided_exiting_fits : (i : ℕ) (before : List Item) (decision : Item) (sent : List Item)
+    (route : List ℕ) (way : Way) → IsDecision i decision → AreSilent sent → way.decision ≡ None
+    → length route ≤ most_switches → Stands way
+    → Fits (told_all i before (decision ∷ sent ++ item.Exiting i route ∷ []) way)
+decided_exiting_fits i before decision sent route way is are undecided few stands =
     let as_told = decided_as i before decision way is in
     let none : way.exits ≡ 0 = stands.undecided undecided in
-    subst (λ now. Fits (told i (before ++ decision ∷ []) (item.Exiting i route) now))
-    (sym as_told.1)
+    let decided : List Item = before ++ decision ∷ [] in
+    subst Fits
+    (sym (told_past i decided sent (item.Exiting i route ∷ []) (told i before decision way) are))
+    (subst (λ now. Fits (told i (decided ++ sent) (item.Exiting i route) now)) (sym as_told.1)
     (subst Fits
-    (sym (exiting_as i (before ++ decision ∷ []) route (record way { decision = Some as_told.0 })))
+    (sym (exiting_as i (decided ++ sent) route (record way { decision = Some as_told.0 })))
     (record {
       stands = record {
         searches = stands.searches;
@@ -127,7 +131,7 @@ decided_exiting_fits i before decision route way is undecided few stands =
         taken = omega (arith, none, stands.taken);
       };
       left = λ travels. omega (arith, none, stands.taken, few);
-    }))
+    })))
 
 seeking_as : (i : ℕ) (before : List Item) (version partition : ℕ) (route : List ℕ) (way : Way)
     → told i before (item.Seeking i version partition route) way

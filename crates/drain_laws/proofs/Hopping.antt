@@ -24,7 +24,7 @@ use Rattle.packet_laws.specs.OnWay.{IsNext, IsOnLeg, IsOnWay}
 use Rattle.packet_laws.specs.Words.{words_of}
 use Rattle.packet_laws.proofs.Blocks.{joined_on, own_number, rule_is}
 use Rattle.packet_laws.proofs.Calm.{calm}
-use Rattle.packet_laws.proofs.Plans.{Finds, begun, in_plan}
+use Rattle.packet_laws.proofs.Plans.{Finds, in_plan}
 use Rattle.drain_laws.proofs.Fits.{Hops}
 use Rattle.drain_laws.proofs.Shapes.{DecidedForms, authority_form}
 use Rattle.drain_laws.proofs.Tells.{Tells, decided_tells, end_tells, hopped_tells}
@@ -35,7 +35,7 @@ use Rattle.drain_laws.proofs.Ways.{way_of}
 -- a switch that holds the version decides the packet
 arrive_form : (setting : Setting) (journal : List Item) (i s : ℕ)
     (way : IsOnWay setting journal (words_of journal i)) (leg : Leg) → IsSetting setting
-    → HasPacketsAlone journal
+    → HasPacketsAlone setting journal
     → IsOnLeg setting journal (words_of journal i) way.under_way.header leg
     → header_at journal i ≡ way.under_way.header → (Holds : List Item → Type 0)
     → ((port : ℕ) → Holds (leaves journal i port ∷ [])) → DecidedForms i Holds
@@ -69,7 +69,7 @@ arrive_form setting journal i s way (Seek version partition) is alone on headed 
           (first_place setting journal version partition (header_at journal i))) journal
     ])) (sym holds)
     (subst (λ o. Holds (authority_items setting i s o journal)) (sym rule)
-    (authority_form setting i s _ journal Holds (begun setting is).no_caches decides))
+    (authority_form setting i s _ journal Holds decides))
 
 -- ---- hops
 
@@ -98,7 +98,7 @@ next_is journal i next is = is
 
 pub hop_tells : (setting : Setting) (journal : List Item) (i : ℕ)
     (way : IsOnWay setting journal (words_of journal i)) → IsSetting setting
-    → HasPacketsAlone journal → Hops (way_of journal i)
+    → HasPacketsAlone setting journal → Hops (way_of journal i)
     → Tells setting i journal (move_items setting i way.under_way.place journal)
 unfolding move_items arrive_items
 hop_tells setting journal i way is alone hops = by_next (next_switch journal i) refl

@@ -1,8 +1,12 @@
+mod Loops
 mod Ways
+mod Deliveries
 mod Shapes
 mod Fits
 mod Tells
 mod Hopping
 mod Steps
 mod Counts
+mod Flushes
+mod Schedules
 mod Trials

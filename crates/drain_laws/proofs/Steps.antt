@@ -7,7 +7,7 @@ use Rattle.five_tuple.specs.declared.header.Header.{Header}
 use Rattle.journal.specs.declared.item.Item.{Item}
 use Rattle.journal.specs.declared.item.Item.TheVariants as item
 use Rattle.steps.specs.declared.step.Step.{Step}
-use Rattle.steps.specs.declared.step.Step.TheVariants.{Packet, Hop, Lose}
+use Rattle.steps.specs.declared.step.Step.TheVariants.{Packet, Hop, Lose, Deliver, Forget, Expire}
 use Rattle.update_machine.specs.Answers.{StepOfRow, after_steps}
 use Rattle.update_machine.specs.Boots.{serves}
 use Rattle.update_machine.specs.Causes.{HaveCauses}
@@ -24,14 +24,14 @@ use Rattle.packet_laws.specs.Words.{words_of}
 use Rattle.packet_laws.proofs.Blocks.{IsDone, other_number, own_number, words_other}
 use Rattle.packet_laws.proofs.Calm.{calm}
 use Rattle.packet_laws.proofs.Kept.{kept, unknown}
-use Rattle.packet_laws.proofs.Plans.{begun}
 use Rattle.packet_laws.proofs.Played.{IsPlayable, IsSettled, alone_of, may_play, piece_settled, settled_at_first}
 use Rattle.drain_laws.specs.Hops.{exits, hops_taken, searches}
+use Rattle.drain_laws.proofs.Deliveries.{deliver_silent, expire_silent, forget_silent}
 use Rattle.drain_laws.proofs.Fits.{Fits, Hops, IsFresh, Stands, begins_hop, entered_fits, fresh_fits}
 use Rattle.drain_laws.proofs.Hopping.{hop_tells}
 use Rattle.drain_laws.proofs.Shapes.{lookup_form}
-use Rattle.drain_laws.proofs.Tells.{Tells, end_tells, lookup_tells}
-use Rattle.drain_laws.proofs.Ways.{Way, told, way_more, way_of}
+use Rattle.drain_laws.proofs.Tells.{Tells, end_tells, have_rest, lookup_tells}
+use Rattle.drain_laws.proofs.Ways.{AreSilent, Way, silent_count, silent_way, told, way_more, way_of}
 
 -- the hops of each packet fit, and one that didn't come in took none
 pub record IsCounted (setting : Setting) (journal : List Item) : Type 0 where
@@ -46,14 +46,6 @@ have_first : (cause : List Item → Item → Type 0) (before xs ys : List Item)
 have_first cause before [] ys have = tt
 have_first cause before (x ∷ xs) ys have =
     (have.0, have_first cause (before ++ x ∷ []) xs ys have.1)
-
-have_rest : (cause : List Item → Item → Type 0) (before xs ys : List Item)
-    → HaveCauses cause before (xs ++ ys) → HaveCauses cause (before ++ xs) ys
-have_rest cause before [] ys have =
-    subst (λ js. HaveCauses cause js ys) (sym (append-nil before)) have
-have_rest cause before (x ∷ xs) ys have =
-    subst (λ js. HaveCauses cause js ys) (append_assoc before (x ∷ []) xs)
-    (have_rest cause (before ++ x ∷ []) xs ys have.1)
 
 pub silent_more : (before items : List Item) → count_of is_packet items ≡ 0
     → next_packet (before ++ items) ≡ next_packet before
@@ -218,14 +210,17 @@ came_in setting journal i settled on = elim (cases_lt i (next_packet journal)) [
       let clash : false ≡ true = sym still ∙ on in absurd cc
 ]
 
--- a hop of a packet that doesn't travel, or its loss, is nothing
-nothing_counted : (setting : Setting) (journal base : List Item) → IsCounted setting journal
-    → ((j : ℕ) → way_of base j ≡ way_of journal j) → next_packet base ≡ next_packet journal
-    → IsSettled setting (base ++ nothing) → IsCounted setting (base ++ nothing)
-nothing_counted setting journal base counted same next settled =
-    quiet setting journal (base ++ nothing) counted
-    (λ j. way_more j base nothing ∙ same j)
-    (omega (arith, next, silent_more base nothing refl)) settled
+-- items that tell nothing, as those of a hop of a packet that doesn't travel
+silent_counted : (setting : Setting) (journal base items : List Item) → AreSilent items
+    → IsCounted setting journal → ((j : ℕ) → way_of base j ≡ way_of journal j)
+    → next_packet base ≡ next_packet journal → IsSettled setting (base ++ items)
+    → IsCounted setting (base ++ items)
+silent_counted setting journal base items are counted same next settled =
+    let none : count_of is_packet items ≡ 0 =
+    ap (count_of is_packet) (sym (append-nil items)) ∙ silent_count items [] are in
+    quiet setting journal (base ++ items) counted
+    (λ j. silent_way j base items are ∙ same j)
+    (omega (arith, next, silent_more base items none)) settled
 
 hop_counted : (setting : Setting) (journal : List Item) (row i : ℕ) → IsSetting setting
     → IsCounted setting journal → (b : Bool) → travels journal i ≡ b
@@ -245,8 +240,8 @@ hop_counted setting journal row i is counted false still settled =
     ap (λ (w : Way). w.travels) (hop_row_still journal row i i still) ∙ still in
     let none : hop_items setting i base ≡ nothing = still_hop setting base i stays in
     subst (λ items. IsCounted setting (base ++ items)) (sym none)
-    (nothing_counted setting journal base counted (λ j. hop_row_still journal row i j still)
-    (row_next journal row (Hop i))
+    (silent_counted setting journal base nothing (tt, tt) counted
+    (λ j. hop_row_still journal row i j still) (row_next journal row (Hop i))
     (subst (λ items. IsSettled setting (base ++ items)) none settled))
 
 -- ---- losses
@@ -277,7 +272,8 @@ lose_counted setting journal row i counted false still settled =
     let still_base : travels base i ≡ false = ap (λ (w : Way). w.travels) (same i) ∙ still in
     let none : lose_items i base ≡ nothing = lose_still base i still_base in
     subst (λ items. IsCounted setting (base ++ items)) (sym none)
-    (nothing_counted setting journal base counted same (row_next journal row (Lose i))
+    (silent_counted setting journal base nothing (tt, tt) counted same
+    (row_next journal row (Lose i))
     (subst (λ items. IsSettled setting (base ++ items)) none settled))
 
 -- ---- packets that come in
@@ -349,9 +345,21 @@ packet_counted setting journal row s header is counted settled =
     (behind setting journal base (lookup_items setting i s base) i counted
     (λ j apart. entered_other journal row i j s header apart)
     (omega (arith, next)) (omega (arith, next))
-    (lookup_form setting i s base (Tells setting i base) (begun setting is).no_caches
+    (lookup_form setting i s base (Tells setting i base)
     (lookup_tells setting i base fits none))
     (subst (IsSettled setting) whole settled))
+
+-- ---- messages and cache rules
+
+-- what is written behind a row that tells of no packet, and tells of none itself
+behind_row : (setting : Setting) (journal : List Item) (row : ℕ) (step : Step) (items : List Item)
+    → ((j : ℕ) → way_of (journal ++ item.Row row step ∷ []) j ≡ way_of journal j)
+    → AreSilent items → IsCounted setting journal
+    → IsSettled setting ((journal ++ item.Row row step ∷ []) ++ items)
+    → IsCounted setting ((journal ++ item.Row row step ∷ []) ++ items)
+behind_row setting journal row step items same are counted settled =
+    silent_counted setting journal (journal ++ item.Row row step ∷ []) items are counted same
+    (row_next journal row step) settled
 
 -- ---- pieces
 
@@ -367,6 +375,19 @@ step_counted setting journal row (Hop i) is may counted settled =
     hop_counted setting journal row i is counted (travels journal i) refl settled
 step_counted setting journal row (Lose i) is may counted settled =
     lose_counted setting journal row i counted (travels journal i) refl settled
+step_counted setting journal row (Deliver n) is may counted settled =
+    behind_row setting journal row (Deliver n) _
+    (λ j. way_more j journal (item.Row row (Deliver n) ∷ []))
+    (deliver_silent setting journal n (journal ++ item.Row row (Deliver n) ∷ [])
+    (alone_of setting journal counted.settled.causes)) counted settled
+step_counted setting journal row (Forget n) is may counted settled =
+    behind_row setting journal row (Forget n) _
+    (λ j. way_more j journal (item.Row row (Forget n) ∷ []))
+    (forget_silent n (journal ++ item.Row row (Forget n) ∷ [])) counted settled
+step_counted setting journal row (Expire s place) is may counted settled =
+    behind_row setting journal row (Expire s place) _
+    (λ j. way_more j journal (item.Row row (Expire s place) ∷ []))
+    (expire_silent setting s place (journal ++ item.Row row (Expire s place) ∷ [])) counted settled
 step_counted setting journal row _ is may counted settled = absurd may
 
 pub piece_counted : (setting : Setting) (journal : List Item) (row : ℕ) (step : Step)

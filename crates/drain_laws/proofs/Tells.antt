@@ -1,5 +1,5 @@
 -- What the items of a step tell of its packet and of others.
-use Rattle.std.proofs.Common.{ℕ, ◌≡◌, ◌≢◌, ◌+◌, ◌<◌, true, false, ◌==◌, None, List, [], ◌∷◌, ◌++◌, length, refl, subst, ◌∙◌, arith}
+use Rattle.std.proofs.Common.{ℕ, ◌≡◌, ◌≢◌, ◌+◌, ◌<◌, true, false, ◌==◌, None, List, [], ◌∷◌, ◌++◌, length, refl, ap, sym, subst, ◌∙◌, append-nil, append_assoc, arith}
 use Rattle.std.proofs.lemmas.Bool.Decides.{nat_tests}
 use Rattle.journal.specs.declared.item.Item.{Item}
 use Rattle.journal.specs.declared.item.Item.TheVariants as item
@@ -7,13 +7,14 @@ use Rattle.update_machine.specs.Causes.{HaveCauses}
 use Rattle.update_machine.specs.Folds.{count_of}
 use Rattle.update_machine.specs.Packets.{decision_of, is_packet}
 use Rattle.update_machine.specs.Setting.{Setting}
+use Rattle.update_machine.proofs.CallerLemmas.{count_of_append}
 use Rattle.packet_laws.specs.PacketCauses.{GetsDecision, IsPlayedItem}
 use Rattle.packet_laws.specs.Words.{words_of}
 use Rattle.packet_laws.proofs.Blocks.{other_number}
 use Rattle.drain_laws.specs.Hops.{hops_taken}
 use Rattle.drain_laws.proofs.Fits.{Fits, Hops, Stands, decided_ended_fits, decided_exiting_fits, ended_fits, hopped_fits, seeking_fits}
 use Rattle.drain_laws.proofs.Shapes.{DecidedForms, IsDecision, IsEnd, LookupForms}
-use Rattle.drain_laws.proofs.Ways.{Way, told, told_all, way_of}
+use Rattle.drain_laws.proofs.Ways.{AreSilent, Way, silent_count, told, told_all, told_past, way_of}
 
 -- the hops of the packet fit once the items have their causes, none of which is a hop; other
 -- packets and their number stay
@@ -23,6 +24,16 @@ pub record Tells (setting : Setting) (i : ℕ) (journal items : List Item) : Typ
   pub taken : (told_all i journal items (way_of journal i)).taken ≡ hops_taken journal i
   pub others : (j : ℕ) (way : Way) → j ≢ i → told_all j journal items way ≡ way
   pub silent : count_of is_packet items ≡ 0
+
+-- ---- causes of what stands behind items
+
+pub have_rest : (cause : List Item → Item → Type 0) (before xs ys : List Item)
+    → HaveCauses cause before (xs ++ ys) → HaveCauses cause (before ++ xs) ys
+have_rest cause before [] ys have =
+    subst (λ js. HaveCauses cause js ys) (sym (append-nil before)) have
+have_rest cause before (x ∷ xs) ys have =
+    subst (λ js. HaveCauses cause js ys) (append_assoc before (x ∷ []) xs)
+    (have_rest cause (before ++ x ∷ []) xs ys have.1)
 
 -- ---- items that name another packet
 
@@ -93,28 +104,57 @@ end_tells setting i journal stands end is = record {
   silent = rw (end_silent i end is) refl;
 }
 
+-- what a packet's switch sends as it decides it tells nothing of packets
+decided_silent : (i : ℕ) (decision : Item) (sent : List Item) (last : Item) → IsDecision i decision
+    → AreSilent sent → is_packet last ≡ false
+    → count_of is_packet (decision ∷ sent ++ last ∷ []) ≡ 0
+decided_silent i decision sent last is are silent =
+    let first : count_of is_packet (decision ∷ []) ≡ 0 =
+    rw (decision_silent i decision is) refl in
+    let at_last : count_of is_packet (last ∷ []) ≡ 0 = rw silent refl in
+    omega (
+      arith,
+      count_of_append is_packet (decision ∷ []) (sent ++ last ∷ []),
+      silent_count sent (last ∷ []) are,
+      first,
+      at_last,
+    )
+
 pub decided_tells : (setting : Setting) (i : ℕ) (journal : List Item) → Stands (way_of journal i)
     → DecidedForms i (Tells setting i journal)
 decided_tells setting i journal stands = record {
-  ended = λ decision end is ends. record {
-    fits = λ causes. decided_ended_fits i journal decision end (way_of journal i) is ends stands;
-    taken = end_taken i i (journal ++ decision ∷ []) end
-        (told i journal decision (way_of journal i)) ends
-        ∙ decision_taken i i journal decision (way_of journal i) is;
-    others = λ j way apart.
-        end_other i j (journal ++ decision ∷ []) end (told j journal decision way) ends apart
-        ∙ decision_other i j journal decision way is apart;
-    silent = rw (decision_silent i decision is, end_silent i end ends) refl;
-  };
-  exiting = λ decision route is. record {
-    fits = λ causes.
-        decided_exiting_fits i journal decision route (way_of journal i) is
-        (undecided setting i journal decision is causes.0) causes.1.0.cause.leads.list.few stands;
-    taken = decision_taken i i journal decision (way_of journal i) is;
-    others = λ j way apart.
-        rw (other_number i j apart) refl ∙ decision_other i j journal decision way is apart;
-    silent = rw (decision_silent i decision is) refl;
-  };
+  ended = λ decision sent end is are ends.
+      let decided : List Item = journal ++ decision ∷ [] in
+      record {
+        fits = λ causes.
+            decided_ended_fits i journal decision sent end (way_of journal i) is are ends stands;
+        taken = ap (λ (w : Way). w.taken)
+            (told_past i decided sent (end ∷ []) (told i journal decision (way_of journal i)) are)
+            ∙ end_taken i i (decided ++ sent) end (told i journal decision (way_of journal i)) ends
+            ∙ decision_taken i i journal decision (way_of journal i) is;
+        others = λ j way apart.
+            told_past j decided sent (end ∷ []) (told j journal decision way) are
+            ∙ end_other i j (decided ++ sent) end (told j journal decision way) ends apart
+            ∙ decision_other i j journal decision way is apart;
+        silent = decided_silent i decision sent end is are (end_silent i end ends);
+      };
+  exiting = λ decision sent route is are.
+      let decided : List Item = journal ++ decision ∷ [] in
+      let exit : Item = item.Exiting i route in
+      record {
+        fits = λ causes.
+            let cause : HaveCauses (IsPlayedItem setting) (decided ++ sent) (exit ∷ []) =
+            have_rest (IsPlayedItem setting) decided sent (exit ∷ []) causes.1 in
+            decided_exiting_fits i journal decision sent route (way_of journal i) is are
+            (undecided setting i journal decision is causes.0) cause.0.cause.leads.list.few stands;
+        taken = ap (λ (w : Way). w.taken)
+            (told_past i decided sent (exit ∷ []) (told i journal decision (way_of journal i)) are)
+            ∙ decision_taken i i journal decision (way_of journal i) is;
+        others = λ j way apart.
+            told_past j decided sent (exit ∷ []) (told j journal decision way) are
+            ∙ rw (other_number i j apart) refl ∙ decision_other i j journal decision way is apart;
+        silent = decided_silent i decision sent exit is are refl;
+      };
 }
 
 pub lookup_tells : (setting : Setting) (i : ℕ) (journal : List Item) → Fits (way_of journal i)

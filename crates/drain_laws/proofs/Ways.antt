@@ -1,10 +1,11 @@
 -- What a journal says of a packet's routes and hops, as one value, and what each item makes of it.
-use Rattle.std.proofs.Common.{ℕ, ◌≡◌, ◌+◌, Bool, true, false, Option, Some, None, List, [], ◌∷◌, ◌++◌, if◌then◌else◌, refl, ap, sym, ◌∙◌, add-zero, append_assoc, append-nil}
-use Rattle.std.specs.Prelude.{unwrap_or}
+use Rattle.std.proofs.Common.{ℕ, ◌≡◌, ◌+◌, Bool, true, false, Option, Some, None, List, [], ◌∷◌, ◌++◌, if◌then◌else◌, refl, ap, sym, ◌∙◌, add-zero, append_assoc, append-nil, arith}
+use Rattle.std.specs.Prelude.{⊤, unwrap_or}
 use Rattle.std.specs.Option.{option_or}
 use Rattle.journal.specs.declared.item.Item.{Item}
+use Rattle.journal.specs.declared.item.Item.TheVariants as item
 use Rattle.update_machine.specs.Folds.{count_of, last_told}
-use Rattle.update_machine.specs.Packets.{Decision, changes_hops, decision_of, route_in, route_place, tells_decision, tells_route, tells_travelling, travels}
+use Rattle.update_machine.specs.Packets.{Decision, changes_hops, decision_of, is_packet, route_in, route_place, tells_decision, tells_route, tells_travelling, travels}
 use Rattle.update_machine.proofs.CallerLemmas.{count_of_append, folded_append, last_told_append}
 use Rattle.drain_laws.specs.Hops.{changes_taken, exits, hops_taken, is_exit, is_search, searches}
 
@@ -84,3 +85,64 @@ way_more i before (item ∷ items) =
     ap (λ js. way_of js i) (sym (append_assoc before (item ∷ []) items))
     ∙ way_more i (before ++ item ∷ []) items
     ∙ ap (told_all i (before ++ item ∷ []) items) (one_more i before item)
+
+-- ---- items that tell nothing of the way of a packet
+
+abbrev pub IsSilent : Item → Type 0
+IsSilent (item.Sent number message) = ⊤
+IsSilent (item.Delivered number) = ⊤
+IsSilent (item.Forgotten number) = ⊤
+IsSilent (item.Expired switch place message) = ⊤
+IsSilent item.Nothing = ⊤
+IsSilent _ = ⊥
+
+abbrev pub AreSilent : List Item → Type 0
+AreSilent [] = ⊤
+AreSilent (item ∷ items) = IsSilent item × AreSilent items
+
+silent_one : (i : ℕ) (before : List Item) (item : Item) (way : Way) → IsSilent item
+    → told i before item way ≡ way
+silent_one i before (item.Sent number message) way silent = refl
+silent_one i before (item.Delivered number) way silent = refl
+silent_one i before (item.Forgotten number) way silent = refl
+silent_one i before (item.Expired switch place message) way silent = refl
+silent_one i before item.Nothing way silent = refl
+silent_one i before _ way silent = absurd silent
+
+-- what stands behind them tells what it would without them
+pub told_past : (i : ℕ) (before silent items : List Item) (way : Way) → AreSilent silent
+    → told_all i before (silent ++ items) way ≡ told_all i (before ++ silent) items way
+told_past i before [] items way are =
+    ap (λ js. told_all i js items way) (sym (append-nil before))
+told_past i before (item ∷ silent) items way are =
+    told_past i (before ++ item ∷ []) silent items (told i before item way) are.1
+    ∙ ap (λ js. told_all i js items (told i before item way))
+    (append_assoc before (item ∷ []) silent)
+    ∙ ap (told_all i (before ++ item ∷ silent) items) (silent_one i before item way are.0)
+
+pub silent_way : (i : ℕ) (before silent : List Item) → AreSilent silent
+    → way_of (before ++ silent) i ≡ way_of before i
+silent_way i before silent are =
+    way_more i before silent
+    ∙ ap (λ items. told_all i before items (way_of before i)) (sym (append-nil silent))
+    ∙ told_past i before silent [] (way_of before i) are
+
+no_packet : (item : Item) → IsSilent item → is_packet item ≡ false
+no_packet (item.Sent number message) silent = refl
+no_packet (item.Delivered number) silent = refl
+no_packet (item.Forgotten number) silent = refl
+no_packet (item.Expired switch place message) silent = refl
+no_packet item.Nothing silent = refl
+no_packet _ silent = absurd silent
+
+pub silent_count : (silent items : List Item) → AreSilent silent
+    → count_of is_packet (silent ++ items) ≡ count_of is_packet items
+silent_count [] items are = refl
+silent_count (item ∷ silent) items are =
+    let none : count_of is_packet (item ∷ []) ≡ 0 = rw (no_packet item are.0) refl in
+    omega (
+      arith,
+      count_of_append is_packet (item ∷ []) (silent ++ items),
+      none,
+      silent_count silent items are.1,
+    )

@@ -1,5 +1,5 @@
 -- What a drain has yet to do.
-use Rattle.std.specs.Prelude.{ℕ, ◌-◌, List, map, sum}
+use Rattle.std.specs.Prelude.{ℕ, ◌-◌, List, sum_by}
 use Rattle.journal.specs.declared.item.Item.{Item}
 use Rattle.update_machine.specs.Packets.{packets_in}
 use Rattle.drain_laws.specs.Hops.{hops_taken, most_hops}
@@ -10,4 +10,4 @@ hops_left journal i = most_hops - hops_taken journal i
 
 -- and all packets of the journal
 unfoldable pub drain_left : List Item → ℕ
-drain_left journal = sum (map (hops_left journal) (packets_in journal))
+drain_left journal = sum_by (hops_left journal) (packets_in journal)

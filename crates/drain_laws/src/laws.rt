@@ -2,13 +2,15 @@
 ghost use Rattle.std.specs.Prelude.{All, ◌≡◌, ◌++◌, ◌+◌, ◌*◌, ◌-◌, ◌<◌, ◌≤◌, false, Some, length, ℕ, List};
 ghost use Rattle.journal.specs.declared.item.Item.{Item};
 ghost use Rattle.steps.specs.declared.step.Event.{Event};
-ghost use Rattle.steps.specs.declared.step.Step.TheVariants.{Hop};
-ghost use Rattle.update_machine.specs.Answers.{AreAll, AreAnswered, AreSome, StepOfRow, next_hop};
+ghost use Rattle.steps.specs.declared.step.Step.TheVariants.{Deliver, Hop};
+ghost use Rattle.update_machine.specs.Answers.{AreAll, AreAnswered, AreSome, StepOfRow, next_delivery, next_hop};
+ghost use Rattle.update_machine.specs.Messages.{next_message, next_waiting};
 ghost use Rattle.update_machine.specs.Packets.{next_packet, next_travelling, travels};
 ghost use Rattle.update_machine.specs.Pieces.{piece};
 ghost use Rattle.update_machine.specs.Played.{IsPlayed, IsSetting, MayHappen};
 ghost use Rattle.update_machine.specs.Setting.{Setting};
 ghost use Rattle.drain_laws.specs.Drains.{drain_left};
+ghost use Rattle.drain_laws.specs.Flushes.{waiting_left};
 ghost use Rattle.drain_laws.specs.Hops.{HasFewRoutes, hops_taken, most_hops, most_switches, routes_taken};
 
 /// A packet that didn't come in doesn't travel.
@@ -44,6 +46,22 @@ pub fn drains_end()
         → IsSetting setting → IsPlayed setting journal
         → AreSome setting next_hop row journal steps
         → length steps ≤ most_hops * (next_packet journal - 1) }
+{}
+
+/// A flush ends: each delivery of the least waiting message leaves fewer that wait, since a cache
+/// rule is delivered without reply. So there are all of its deliveries, and they are at most as
+/// many as messages were sent.
+pub fn flushes_end()
+    ensures fewer { (setting : Setting) (journal : List Item) (row n : ℕ)
+        → IsSetting setting → IsPlayed setting journal → next_waiting journal ≡ Some n
+        → waiting_left (journal ++ piece setting journal row (Deliver n)) < waiting_left journal }
+    ensures ends { (setting : Setting) (journal : List Item) (row : ℕ)
+        → IsSetting setting → IsPlayed setting journal
+        → (steps : List StepOfRow) × AreAll setting next_delivery row journal steps }
+    ensures short { (setting : Setting) (journal : List Item) (row : ℕ) (steps : List StepOfRow)
+        → IsSetting setting → IsPlayed setting journal
+        → AreSome setting next_delivery row journal steps
+        → length steps ≤ next_message journal - 1 }
 {}
 
 /// A schedule of events that are played has an answer.

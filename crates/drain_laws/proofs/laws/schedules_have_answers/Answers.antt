@@ -1,4 +1,4 @@
-use Rattle.drain_laws.proofs.Counts.{answer_of}
+use Rattle.drain_laws.proofs.Schedules.{answer_of}
 use Rattle.drain_laws.proofs.laws.schedules_have_answers.Goals as goal
 
 pub returns : goal.returns
