@@ -3,7 +3,8 @@
 use Rattle.std.proofs.Common.{ℕ, ◌≡◌, ◌<◌, ◌==◌, true, false, Option, Some, None, List, [], ◌∷◌, refl, ap, sym, subst, ◌∙◌, length, get_or, position, eq-eqb}
 use Rattle.std.specs.Prelude.{unwrap_or, option_map, option_and_then, slice_get}
 use Rattle.std.proofs.lemmas.Option.{slice_get_within, slice_get-get_or}
-use Rattle.five_tuple.specs.Header.{header_of, number_of}
+use Rattle.ctrl_msg.specs.declared.message.Message.{Message}
+use Rattle.five_tuple.specs.Header.{number_of}
 use Rattle.five_tuple.specs.declared.header.Header.{Header}
 use Rattle.net_file.specs.Net.{IsNet}
 use Rattle.net_file.specs.Owners.{AreOwners}
@@ -22,7 +23,9 @@ use Rattle.switch_core.specs.declared.answers.Arrived.{Arrived}
 use Rattle.switch_core.specs.declared.answers.Arrived.TheVariants as arrived
 use Rattle.switch_core.specs.declared.answers.Decision.{Decision}
 use Rattle.switch_core.specs.declared.packet.Packet.{Packet}
+use Rattle.switch_table.specs.Cache.{CacheValue}
 use Rattle.switch_table.specs.Tables.{Placed, part_of}
+use Rattle.update_machine.specs.Messages.{next_message, sent_from}
 use Rattle.update_machine.specs.Moves.{AuthorityRule, arrive_by, arrive_items, authority_items, authority_rule, header_at, lookup_items}
 use Rattle.update_machine.specs.Moves.{first_place as first_place_in}
 use Rattle.update_machine.specs.Packets.{decision_of}
@@ -30,15 +33,17 @@ use Rattle.update_machine.specs.Setting.{Setting}
 use Rattle.packet_laws.specs.Calm.{HasPacketsAlone, IsCalm, first_plan}
 use Rattle.packet_laws.specs.Words.{PacketWords, words_of}
 use Rattle.world.specs.Packets.{arrival, arrival_items, standing_at}
-use Rattle.world.specs.Writing.{arrived_items, arrived_traveller}
+use Rattle.world.specs.Writing.{arrived_items, arrived_traveller, cache_message, messages_in}
 use Rattle.world.specs.declared.travelling.Traveller.{Traveller}
 use Rattle.world.proofs.AtEnd.{IsAtEnd, IsOurs}
 use Rattle.world.proofs.Calmness.{calm_switch}
-use Rattle.world.proofs.Deciding.{IsPacket, authority_law}
+use Rattle.world.proofs.Deciding.{IsOwnRule, IsPacket, authority_law, header_is}
 use Rattle.world.proofs.Ends.{at_switch}
+use Rattle.world.proofs.Entering.{rule_of, ruled}
 use Rattle.world.proofs.Goings.{next_goes}
 use Rattle.world.proofs.Legs.{near_of}
 use Rattle.world.proofs.OnWay.{on_leg, some_same}
+use Rattle.world.proofs.Others.{sends_unnamed}
 use Rattle.world.proofs.Own.{decided_goes}
 use Rattle.world.proofs.Words.{traveller_by, words_along}
 
@@ -59,29 +64,30 @@ packet_on setting i words header ingress = record {
 
 -- ---- what the switch answers
 
-pub answers_out : (setting : Setting) (s handled i near port ingress : ℕ) (ports : Ports)
-    (words : PacketWords) (header : Header)
-    → arrived (calm_switch setting handled s) (around near ports)
+pub answers_out : (setting : Setting) (cache : CacheValue)
+    (s handled i near port ingress : ℕ) (ports : Ports) (words : PacketWords) (header : Header)
+    → arrived (calm_switch setting cache handled s) (around near ports)
     (on_leg setting i words header ingress (Exit port)).tunnel
     ≡ arrived.Out port
 unfolding arrived
-answers_out setting s handled i near port ingress ports words header = refl
+answers_out setting cache s handled i near port ingress ports words header = refl
 
-pub answers_rule : (setting : Setting) (s handled i near partition ingress : ℕ) (ports : Ports)
-    (words : PacketWords) (header : Header) (placed : Placed)
+pub answers_rule : (setting : Setting) (cache : CacheValue)
+    (s handled i near partition ingress : ℕ) (ports : Ports) (words : PacketWords)
+    (header : Header) (placed : Placed)
     → (ours : IsOurs setting s header partition placed)
-    → arrived (calm_switch setting handled s) (around near ports)
+    → arrived (calm_switch setting cache handled s) (around near ports)
     (on_leg setting i words header ingress (Seek 1 partition)).tunnel
     ≡ arrived.Decided (by_rule s 1 placed.0.number ours.rule)
     (cache_rule s (packet_on setting i words header ingress) 1 (part_of placed) ours.place)
-    (next_of (calm_switch setting handled s) (around near ports)
+    (next_of (calm_switch setting cache handled s) (around near ports)
     (packet_on setting i words header ingress) ours.rule.action)
 unfolding arrived sought_in arrived_at
-answers_rule setting s handled i near partition ingress ports words header placed ours =
+answers_rule setting cache s handled i near partition ingress ports words header placed ours =
     let answer : Partition → ℕ → Rule → Arrived =
     λ part place rule. arrived.Decided (by_rule s 1 part.number rule)
     (cache_rule s (packet_on setting i words header ingress) 1 part place)
-    (next_of (calm_switch setting handled s) (around near ports)
+    (next_of (calm_switch setting cache handled s) (around near ports)
     (packet_on setting i words header ingress) rule.action) in
     ap (λ part. answer part (first_place header part) (rule_in part (first_place header part)))
     ours.facts.own
@@ -90,24 +96,6 @@ answers_rule setting s handled i near partition ingress ports words header place
     (got_or placed.0.rules ours.place ours.rule no_rule ours.facts.there)
 
 -- ---- what the journal's definitions say
-
-rule_is : (setting : Setting) (journal : List Item) (calm : IsCalm setting journal)
-    → (s partition place : ℕ) (rule : Rule) (placed : Placed)
-    → slice_get (first_plan setting) partition ≡ Some placed
-    → slice_get placed.0.rules place ≡ Some rule
-    → authority_rule setting journal 1 partition place
-    ≡ Some (record { version = 1; part = part_of placed; place = place; rule = rule })
-rule_is setting journal calm s partition place rule placed at there =
-    let of : Option Placed → Option AuthorityRule = λ o. elim o [
-      | None ↦ None
-      | Some placed ↦ option_map
-          (λ rule. record { version = 1; part = part_of placed; place = place; rule = rule })
-          (slice_get placed.0.rules place)
-    ] in
-    ap (λ plan. of (slice_get plan partition)) (calm.plan 1)
-    ∙ ap of at
-    ∙ ap (option_map (λ (rule : Rule).
-    record { version = 1; part = part_of placed; place = place; rule = rule })) there
 
 place_is : (setting : Setting) (journal : List Item) (calm : IsCalm setting journal)
     → (partition place : ℕ) (header at : Header) (placed : Placed) → at ≡ header
@@ -122,27 +110,16 @@ place_is setting journal calm partition place header at placed its there first =
     ∙ ap of there
     ∙ first
 
-header_is : (journal : List Item) (i : ℕ) (header : Header)
-    → (words_of journal i).header ≡ Some header → header_at journal i ≡ header
-unfolding words_of
-header_is journal i header entered =
-    ap (λ h. unwrap_or h (header_of (record {
-      src = 0;
-      dst = 0;
-      sport = 0;
-      dport = 0;
-      proto = 0;
-    }))) entered
-
 -- it leaves by its port
-leaves_law : (setting : Setting) (journal : List Item) (s handled i near port ingress : ℕ)
-    (ports : Ports) (header : Header) → (words_of journal i).header ≡ Some header
+leaves_law : (setting : Setting) (journal : List Item) (cache : CacheValue)
+    (number s handled i near port ingress : ℕ) (ports : Ports) (header : Header)
+    → (words_of journal i).header ≡ Some header
     → (words_of journal i).leg ≡ Some (Exit port)
     → arrive_items setting i s journal
-    ≡ arrival_items (calm_switch setting handled s) near ports
+    ≡ arrival_items number (calm_switch setting cache handled s) near ports
     (on_leg setting i (words_of journal i) header ingress (Exit port))
 unfolding arrive_items arrival_items words_of
-leaves_law setting journal s handled i near port ingress ports header entered takes =
+leaves_law setting journal cache number s handled i near port ingress ports header entered takes =
     let t : Traveller = on_leg setting i (words_of journal i) header ingress (Exit port) in
     ap (λ leg. arrive_by setting i s leg journal) takes
     ∙ ap (λ (h : Header). item.Left i port (record {
@@ -151,28 +128,36 @@ leaves_law setting journal s handled i near port ingress ports header entered ta
       version = unwrap_or (option_map (λ decision. decision.version) (decision_of journal i)) 0;
       rule = unwrap_or (option_map (λ decision. decision.rule) (decision_of journal i)) None;
     }) ∷ []) (header_is journal i header entered)
-    ∙ ap (arrived_items (standing_at s t) t)
-    (sym (answers_out setting s handled i near port ingress ports (words_of journal i) header))
+    ∙ ap (arrived_items number (standing_at s t) t)
+    (sym (answers_out setting cache s handled i near port ingress ports (words_of journal i)
+    header))
 
--- a rule of the partition decides it
+-- a rule of the partition decides it, and its ingress is told
 decides_law : (setting : Setting) (journal : List Item) → IsNet setting.net
-    → setting.caches ≡ false → HasPacketsAlone journal → IsCalm setting journal
-    → (s handled i partition ingress : ℕ) → s < length setting.net.switches
+    → HasPacketsAlone setting journal → IsCalm setting journal
+    → (cache : CacheValue) (s handled i partition ingress : ℕ)
+    → s < length setting.net.switches
     → (ports : Ports) → AreOwners setting.net.switches ports
     → (header : Header) (placed : Placed) → (words_of journal i).header ≡ Some header
+    → (words_of journal i).ingress ≡ Some ingress → ingress < length setting.net.switches
     → (words_of journal i).leg ≡ Some (Seek 1 partition)
     → IsOurs setting s header partition placed
     → arrive_items setting i s journal
-    ≡ arrival_items (calm_switch setting handled s) (near_of setting s) ports
+    ≡ arrival_items (next_message journal) (calm_switch setting cache handled s)
+    (near_of setting s) ports
     (on_leg setting i (words_of journal i) header ingress (Seek 1 partition))
 unfolding arrive_items arrival_items words_of
-decides_law setting journal net off alone calm s handled i partition ingress there ports owners
-    header placed entered takes ours =
+decides_law setting journal net alone calm cache s handled i partition ingress there ports owners
+    header placed entered came known takes ours =
     let t : Traveller = on_leg setting i (words_of journal i) header ingress (Seek 1 partition) in
     let packet : Packet = packet_on setting i (words_of journal i) header ingress in
-    let is : IsPacket journal packet = record { entered = entered; found = refl } in
-    let found : AuthorityRule =
-    record { version = 1; part = part_of placed; place = ours.place; rule = ours.rule } in
+    let is : IsPacket journal packet = record { entered = entered; came = came; found = refl } in
+    let found : AuthorityRule = ruled 1 placed ours.place ours.rule in
+    let own : IsOwnRule setting s packet found = record {
+      there = ours.facts.there;
+      owner = ours.facts.owner;
+      right = λ other before quiet. ours.right before ingress known quiet;
+    } in
     ap (λ leg. arrive_by setting i s leg journal) takes
     ∙ ap (λ b. elim b [
       | false ↦ lookup_items setting i s journal
@@ -184,73 +169,79 @@ decides_law setting journal net off alone calm s handled i partition ingress the
     (place_is setting journal calm partition ours.place header (header_at journal i) placed
     (header_is journal i header entered) ours.facts.at ours.first)
     ∙ ap (λ rule. authority_items setting i s rule journal)
-    (rule_is setting journal calm s partition ours.place ours.rule placed ours.facts.at
-    ours.facts.there)
-    ∙ authority_law setting journal net off alone s handled there ports owners packet is found
-    ours.facts.owner
-    ∙ ap (arrived_items (standing_at s t) t)
-    (sym (answers_rule setting s handled i (near_of setting s) partition ingress ports
+    (rule_of setting journal calm s 1 partition ours.place ours.rule placed ours.facts)
+    ∙ authority_law setting journal net alone cache s handled there ports owners packet is found own
+    ∙ ap (arrived_items (next_message journal) (standing_at s t) t)
+    (sym (answers_rule setting cache s handled i (near_of setting s) partition ingress ports
     (words_of journal i) header placed ours))
 
 pub arrive_law : (setting : Setting) (journal : List Item) → IsNet setting.net
-    → setting.caches ≡ false → HasPacketsAlone journal → IsCalm setting journal
-    → (s handled i ingress : ℕ) → s < length setting.net.switches
+    → HasPacketsAlone setting journal → IsCalm setting journal
+    → (cache : CacheValue) (s handled i ingress : ℕ) → s < length setting.net.switches
     → (ports : Ports) → AreOwners setting.net.switches ports
     → (header : Header) (leg : Leg) → (words_of journal i).header ≡ Some header
+    → (words_of journal i).ingress ≡ Some ingress → ingress < length setting.net.switches
     → (words_of journal i).leg ≡ Some leg → IsAtEnd setting s (words_of journal i) header leg
     → arrive_items setting i s journal
-    ≡ arrival_items (calm_switch setting handled s) (near_of setting s) ports
-    (on_leg setting i (words_of journal i) header ingress leg)
-arrive_law setting journal net off alone calm s handled i ingress there ports owners header
-    (Exit port) entered takes end =
-    leaves_law setting journal s handled i (near_of setting s) port ingress ports header entered
-    takes
-arrive_law setting journal net off alone calm s handled i ingress there ports owners header
-    (Seek version partition) entered takes end =
+    ≡ arrival_items (next_message journal) (calm_switch setting cache handled s)
+    (near_of setting s) ports (on_leg setting i (words_of journal i) header ingress leg)
+arrive_law setting journal net alone calm cache s handled i ingress there ports owners header
+    (Exit port) entered came known takes end =
+    leaves_law setting journal cache (next_message journal) s handled i (near_of setting s) port
+    ingress ports header entered takes
+arrive_law setting journal net alone calm cache s handled i ingress there ports owners header
+    (Seek version partition) entered came known takes end =
     subst (λ v. arrive_items setting i s journal
-    ≡ arrival_items (calm_switch setting handled s) (near_of setting s) ports
+    ≡ arrival_items (next_message journal) (calm_switch setting cache handled s)
+    (near_of setting s) ports
     (on_leg setting i (words_of journal i) header ingress (Seek v partition))) (sym end.first)
-    (decides_law setting journal net off alone calm s handled i partition ingress there ports
-    owners header end.placed entered (takes ∙ ap (λ v. Some (Seek v partition)) end.first)
-    end.ours)
+    (decides_law setting journal net alone calm cache s handled i partition ingress there ports
+    owners header end.placed entered came known
+    (takes ∙ ap (λ v. Some (Seek v partition)) end.first) end.ours)
 
 -- ---- what becomes of the packet
 
-pub arrival_goes : (setting : Setting) (before : List Item) (s handled i near ingress : ℕ)
+pub arrival_goes : (setting : Setting) (before : List Item) (cache : CacheValue)
+    (number s handled i near ingress : ℕ)
     (ports : Ports) (words : PacketWords) (header : Header) (leg : Leg)
     → AreOwners setting.net.switches ports
     → words.travels ≡ true → words.header ≡ Some header → words.ingress ≡ Some ingress
     → IsAtEnd setting s words header leg
-    → arrival (calm_switch setting handled s) near ports
+    → arrival (calm_switch setting cache handled s) near ports
     (on_leg setting i words header ingress leg)
     ≡ traveller_by setting i (words_along i before
-    (arrival_items (calm_switch setting handled s) near ports
+    (arrival_items number (calm_switch setting cache handled s) near ports
     (on_leg setting i words header ingress leg)) words)
 unfolding arrival arrival_items
-arrival_goes setting before s handled i near ingress ports words header (Exit port) owners on its
-    came end =
+arrival_goes setting before cache number s handled i near ingress ports words header (Exit port)
+    owners on its came end =
     let t : Traveller = on_leg setting i words header ingress (Exit port) in
     let own : (i == i) ≡ true = eq-eqb i i refl in
     subst (λ answer. arrived_traveller t answer ≡ traveller_by setting i
-    (words_along i before (arrived_items (standing_at s t) t answer) words))
-    (sym (answers_out setting s handled i near port ingress ports words header))
+    (words_along i before (arrived_items number (standing_at s t) t answer) words))
+    (sym (answers_out setting cache s handled i near port ingress ports words header))
     (rw own refl)
-arrival_goes setting before s handled i near ingress ports words header (Seek version partition)
-    owners on its came end =
+arrival_goes setting before cache number s handled i near ingress ports words header
+    (Seek version partition) owners on its came end =
     let t : ℕ → Traveller = λ v. on_leg setting i words header ingress (Seek v partition) in
     let packet : Packet = packet_on setting i words header ingress in
     let decision : Decision = by_rule s 1 end.placed.0.number end.ours.rule in
+    let message : Option Message = cache_message ingress
+    (cache_rule s packet 1 (part_of end.placed) end.ours.place) in
     subst (λ v. arrived_traveller (t v)
-    (arrived (calm_switch setting handled s) (around near ports) (t v).tunnel)
-    ≡ traveller_by setting i (words_along i before (arrived_items (standing_at s (t v)) (t v)
-    (arrived (calm_switch setting handled s) (around near ports) (t v).tunnel)) words))
+    (arrived (calm_switch setting cache handled s) (around near ports) (t v).tunnel)
+    ≡ traveller_by setting i (words_along i before
+    (arrived_items number (standing_at s (t v)) (t v)
+    (arrived (calm_switch setting cache handled s) (around near ports) (t v).tunnel)) words))
     (sym end.first)
     (subst (λ answer. arrived_traveller (t 1) answer ≡ traveller_by setting i
-    (words_along i before (arrived_items (standing_at s (t 1)) (t 1) answer) words))
-    (sym (answers_rule setting s handled i near partition ingress ports words header end.placed
-    end.ours))
-    (decided_goes setting before (at_switch s packet) ingress decision
-    (next_of (calm_switch setting handled s) (around near ports) packet end.ours.rule.action)
-    words (record { on = on; header = its; came = came; found = refl })
-    (next_goes setting (calm_switch setting handled s) near ports packet s decision
+    (words_along i before (arrived_items number (standing_at s (t 1)) (t 1) answer) words))
+    (sym (answers_rule setting cache s handled i near partition ingress ports words header
+    end.placed end.ours))
+    (decided_goes setting before (sent_from number (messages_in message)) (at_switch s packet)
+    ingress decision
+    (next_of (calm_switch setting cache handled s) (around near ports) packet end.ours.rule.action)
+    words (sends_unnamed i number message)
+    (record { on = on; header = its; came = came; found = refl })
+    (next_goes setting (calm_switch setting cache handled s) near ports packet s decision
     end.ours.rule.action owners refl)))

@@ -14,22 +14,27 @@ use Rattle.policy_rules.specs.declared.packet.Leg.TheVariants.{Seek, Exit}
 use Rattle.policy_rules.specs.declared.rules.Partition.{Partition}
 use Rattle.policy_rules.specs.declared.rules.Rule.{Rule}
 use Rattle.journal.specs.declared.item.Item.{Item}
+use Rattle.journal.specs.declared.item.Item.TheVariants as item
 use Rattle.switch_core.specs.Arriving.{IsAtAuthority}
 use Rattle.switch_core.specs.Deciding.{no_part, own_part}
+use Rattle.switch_table.specs.Cache.{CacheValue}
 use Rattle.switch_table.specs.Lookup.{authority_of, lookup_in, table_lookup}
 use Rattle.switch_table.specs.Tables.{Placed, has_target, part_of, tables_of}
+use Rattle.update_machine.specs.Messages.{next_message}
+use Rattle.update_machine.specs.Moves.{cache_rule}
 use Rattle.update_machine.specs.Played.{IsSetting}
 use Rattle.update_machine.specs.Setting.{Setting}
-use Rattle.packet_laws.specs.Calm.{IsCalm, first_plan}
+use Rattle.packet_laws.specs.Calm.{HasPacketsAlone, IsCalm, IsOfPackets, first_plan}
 use Rattle.packet_laws.specs.OnWay.{IsOnLeg}
 use Rattle.packet_laws.specs.Words.{PacketWords}
+use Rattle.packet_laws.proofs.CacheRules.{authority_right}
 use Rattle.packet_laws.proofs.Plans.{Finds, LooksUp, in_plan, looks_up}
 use Rattle.world.proofs.Calmness.{calm_switch}
-use Rattle.world.proofs.Entering.{IsRuleOf, IsSaid}
+use Rattle.world.proofs.Entering.{IsRuleOf, IsSaid, ruled}
 use Rattle.world.proofs.OnWay.{some_same}
 use Rattle.world.proofs.Owners.{said_law}
 
--- a partition of the switch's own, and its rule that decides the header
+-- a partition of the switch's own, and its rule that decides the header, whose cache rule is right
 pub record IsOurs (setting : Setting) (s : ℕ) (header : Header) (partition : ℕ) (placed : Placed)
     : Type 0 where
   pub place : ℕ
@@ -38,6 +43,9 @@ pub record IsOurs (setting : Setting) (s : ℕ) (header : Header) (partition : �
   pub holds : IsTrue (is_in header (part_of placed))
   pub facts : IsRuleOf setting s 1 partition place rule placed
   pub mine : own_part (tables_of (first_plan setting) 1 s) partition ≡ Some (part_of placed)
+  pub right : (journal : List Item) (ingress : ℕ) → ingress < length setting.net.switches
+      → HasPacketsAlone setting journal → IsOfPackets setting journal
+      (item.Sent (next_message journal) (cache_rule (ruled 1 placed place rule) ingress header))
 
 mine_of : (own : Option Partition) (placed : Placed) (place : ℕ) (rule : Rule)
     → unwrap_or own no_part ≡ part_of placed → slice_get placed.0.rules place ≡ Some rule
@@ -66,16 +74,23 @@ ours setting s header placed is sound found target =
     subst (IsSaid setting s) says (said_law setting s header is sound) in
     let other : said.1 ≡ placed = some_same (slice_get (first_plan setting) placed.0.number)
     said.1 placed said.2.at finds.at in
-    let facts : IsRuleOf setting s 1 placed.0.number place said.0 placed =
+    let at_place : IsRuleOf setting s 1 placed.0.number place said.0 placed =
     subst (IsRuleOf setting s 1 placed.0.number place said.0) other said.2 in
+    let rule : said.0 ≡ finds.rule = some_same (slice_get placed.0.rules place) said.0 finds.rule
+    at_place.there (ap (slice_get placed.0.rules) finds.position ∙ finds.ruled) in
+    let facts : IsRuleOf setting s 1 placed.0.number finds.place finds.rule placed =
+    subst (λ at. IsRuleOf setting s 1 placed.0.number at finds.rule placed) finds.position
+    (subst (λ rule. IsRuleOf setting s 1 placed.0.number place rule placed) rule at_place) in
     record {
-      place = place;
-      rule = said.0;
-      first = refl;
+      place = finds.place;
+      rule = finds.rule;
+      first = finds.position;
       holds = finds.holds;
       facts = facts;
-      mine = mine_of (own_part (tables_of (first_plan setting) 1 s) placed.0.number) placed place
-          said.0 facts.own facts.there;
+      mine = mine_of (own_part (tables_of (first_plan setting) 1 s) placed.0.number) placed
+          finds.place finds.rule facts.own facts.there;
+      right = λ journal ingress known alone.
+          (known, authority_right setting journal header placed finds is sound alone);
     }
 
 -- where a route doesn't go on, the packet stands at its last switch
@@ -131,12 +146,12 @@ at_end setting journal s words header (Seek version partition) is calm sound on 
           (ours setting s header on.placed is sound found own);
     }
 
-pub at_authority : (setting : Setting) (s handled : ℕ) (words : PacketWords) (header : Header)
-    (leg : Leg) → IsAtEnd setting s words header leg
-    → IsAtAuthority (calm_switch setting handled s) header leg
-at_authority setting s handled words header (Exit port) end = tt
-at_authority setting s handled words header (Seek version partition) end =
-    subst (λ v. IsAtAuthority (calm_switch setting handled s) header (Seek v partition))
+pub at_authority : (setting : Setting) (cache : CacheValue) (s handled : ℕ) (words : PacketWords)
+    (header : Header) (leg : Leg) → IsAtEnd setting s words header leg
+    → IsAtAuthority (calm_switch setting cache handled s) header leg
+at_authority setting cache s handled words header (Exit port) end = tt
+at_authority setting cache s handled words header (Seek version partition) end =
+    subst (λ v. IsAtAuthority (calm_switch setting cache handled s) header (Seek v partition))
     (sym end.first)
     (subst (λ own. IsSomeAnd own (λ part. IsTrue (is_in header part))) (sym end.ours.mine)
     end.ours.holds)

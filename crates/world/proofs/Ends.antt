@@ -16,6 +16,7 @@ use Rattle.switch_core.specs.declared.answers.Next.TheVariants as next
 use Rattle.switch_core.specs.declared.packet.Packet.{Packet}
 use Rattle.tunnel.specs.Tunnel.{TunnelValue}
 use Rattle.policy_rules.specs.declared.packet.Cause.{Cause}
+use Rattle.switch_table.specs.Cache.{CacheValue}
 use Rattle.update_machine.specs.Moves.{end_items, leaves as left, leg_items}
 use Rattle.update_machine.specs.Packets.{decision_of, found_down, header_in, no_switch, owner}
 use Rattle.update_machine.specs.Setting.{Setting}
@@ -52,17 +53,18 @@ exit_item at decision port (Err cause) is = rw is refl
 
 -- out by a port of this switch, or on the way to another one's
 out_law : (setting : Setting) (journal : List Item) → IsCalm setting journal
-    → (s handled : ℕ) → s < length setting.net.switches
+    → (cache : CacheValue) (s handled : ℕ) → s < length setting.net.switches
     → (packet : Packet) (decision : Decided) → IsDecided journal packet decision
     → (port its : ℕ) → decision.action ≡ action.Out port → owner setting port ≡ its
     → (b : Bool) → (its == s) ≡ b
     → end_items setting packet.number s (action.Out port) journal
     ≡ end_of (at_switch s packet) decision
-    (leave_by (calm_switch setting handled s) (near_of setting s) packet port (Some its)) ∷ []
+    (leave_by (calm_switch setting cache handled s) (near_of setting s) packet port (Some its)) ∷ []
 unfolding end_items leave_by
-out_law setting journal calm s handled there packet decision said port its acts owns true here =
+out_law setting journal calm cache s handled there packet decision said port its acts owns
+    true here =
     let at : Standing = at_switch s packet in
-    let switch : SwitchValue = calm_switch setting handled s in
+    let switch : SwitchValue = calm_switch setting cache handled s in
     let i : ℕ = packet.number in
     let way : Result TunnelValue Cause =
     set_out switch (near_of setting s) packet (Exit port) (its ∷ []) in
@@ -74,9 +76,10 @@ out_law setting journal calm s handled there packet decision said port its acts 
     ]) (ap (λ o. o == s) owns ∙ here)
     ∙ ap (λ one. one ∷ []) out
     ∙ sym (ap (λ b. end_of at decision (if b then next.Out port else exit_by way) ∷ []) here)
-out_law setting journal calm s handled there packet decision said port its acts owns false here =
+out_law setting journal calm cache s handled there packet decision said port its acts owns
+    false here =
     let at : Standing = at_switch s packet in
-    let switch : SwitchValue = calm_switch setting handled s in
+    let switch : SwitchValue = calm_switch setting cache handled s in
     let i : ℕ = packet.number in
     let near : ℕ = near_of setting s in
     let way : Result TunnelValue Cause = set_out switch near packet (Exit port) (its ∷ []) in
@@ -84,7 +87,7 @@ out_law setting journal calm s handled there packet decision said port its acts 
       | true ↦ left journal i port ∷ []
       | false ↦ leg_items setting journal i s (Exit port)
     ]) (ap (λ o. o == s) owns ∙ here)
-    ∙ leg_law setting journal calm s handled there packet said.found (Exit port)
+    ∙ leg_law setting journal calm cache s handled there packet said.found (Exit port)
     ∙ ap (λ o. set_item at (Exit port) (set_out switch near packet (Exit port) (o ∷ [])) ∷ [])
     owns
     ∙ ap (λ one. one ∷ []) (exit_item at decision port way acts)
@@ -97,19 +100,20 @@ HasOwner setting (action.Out port) =
     (its : ℕ) × (owner_of setting.net.switches port ≡ Some its)
 
 pub end_law : (setting : Setting) (journal : List Item) → IsCalm setting journal
-    → (s handled : ℕ) → s < length setting.net.switches
+    → (cache : CacheValue) (s handled : ℕ) → s < length setting.net.switches
     → (ports : Ports) → AreOwners setting.net.switches ports
     → (packet : Packet) (decision : Decided) → IsDecided journal packet decision
     → (what : Action) → decision.action ≡ what → HasOwner setting what
     → end_items setting packet.number s what journal
     ≡ end_of (at_switch s packet) decision
-    (next_of (calm_switch setting handled s) (around (near_of setting s) ports) packet what) ∷ []
+    (next_of (calm_switch setting cache handled s) (around (near_of setting s) ports) packet
+    what) ∷ []
 unfolding end_items next_of
-end_law setting journal calm s handled there ports owners packet decision said action.Drop acts
-    own =
-    refl
-end_law setting journal calm s handled there ports owners packet decision said (action.Out port)
+end_law setting journal calm cache s handled there ports owners packet decision said action.Drop
     acts own =
+    refl
+end_law setting journal calm cache s handled there ports owners packet decision said
+    (action.Out port) acts own =
     rw (owners port, own.1)
-    (out_law setting journal calm s handled there packet decision said port own.0 acts
+    (out_law setting journal calm cache s handled there packet decision said port own.0 acts
     (ap (λ o. unwrap_or o no_switch) own.1) (own.0 == s) refl)

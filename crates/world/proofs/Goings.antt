@@ -13,7 +13,7 @@ use Rattle.policy_rules.specs.declared.policy.Action.{Action}
 use Rattle.policy_rules.specs.declared.policy.Action.TheVariants as action
 use Rattle.journal.specs.declared.item.Item.{Item}
 use Rattle.journal.specs.declared.item.Item.TheVariants as item
-use Rattle.switch_core.specs.Deciding.{by_rule, part_numbered, rule_in}
+use Rattle.switch_core.specs.Deciding.{by_entry, by_rule, part_numbered, rule_in}
 use Rattle.switch_core.specs.Ends.{around, cause_of, exit_by, leave_by, next_of, set_out}
 use Rattle.switch_core.specs.Entering.{enter_seeking, entered_by, seek_by}
 use Rattle.switch_core.specs.State.{SwitchValue}
@@ -27,6 +27,7 @@ use Rattle.switch_table.specs.declared.search.Found.{Found}
 use Rattle.switch_table.specs.declared.search.Found.TheVariants as found
 use Rattle.tunnel.specs.Moves.{begun}
 use Rattle.tunnel.specs.Tunnel.{TunnelValue}
+use Rattle.switch_table.specs.Cache.{CacheValue}
 use Rattle.update_machine.specs.Marks.{retired_mark}
 use Rattle.update_machine.specs.Packets.{no_switch, owner, targets_in}
 use Rattle.update_machine.specs.Setting.{Setting}
@@ -126,22 +127,26 @@ seek_goes setting packet partition targets cause (Some route) is = record {
       packet.down) (sym is);
 }
 
-pub found_goes : (setting : Setting) (handled : ℕ) (ports : Ports) (packet : Packet)
-    (what : Found) → AreOwners setting.net.switches ports → IsSaid setting packet.ingress what
+pub found_goes : (setting : Setting) (cache : CacheValue) (handled : ℕ) (ports : Ports)
+    (packet : Packet) (what : Found) → AreOwners setting.net.switches ports
+    → IsSaid setting packet.ingress what
     → IsComing setting (at_switch packet.ingress packet)
-    (entered_by (calm_switch setting handled packet.ingress)
+    (entered_by (calm_switch setting cache handled packet.ingress)
     (around (near_of setting packet.ingress) ports) packet
     (tables_of (first_plan setting) 1 packet.ingress) what)
 unfolding entered_by enter_seeking set_out
-found_goes setting handled ports packet (found.Cached entry) owners said = absurd said
-found_goes setting handled ports packet (found.Authority partition place) owners said =
+found_goes setting cache handled ports packet (found.Cached entry) owners said =
+    let s : ℕ = packet.ingress in
+    next_goes setting (calm_switch setting cache handled s) (near_of setting s) ports packet s
+    (by_entry entry) entry.action owners refl
+found_goes setting cache handled ports packet (found.Authority partition place) owners said =
     let s : ℕ = packet.ingress in
     let rule = rule_in (part_numbered (tables_of (first_plan setting) 1 s) partition) place in
-    next_goes setting (calm_switch setting handled s) (near_of setting s) ports packet s
+    next_goes setting (calm_switch setting cache handled s) (near_of setting s) ports packet s
     (by_rule s 1 partition rule) rule.action owners refl
-found_goes setting handled ports packet (found.Redirect partition targets) owners said =
+found_goes setting cache handled ports packet (found.Redirect partition targets) owners said =
     let s : ℕ = packet.ingress in
-    let switch : SwitchValue = calm_switch setting handled s in
+    let switch : SwitchValue = calm_switch setting cache handled s in
     let leads : targets_in (first_plan setting) partition ≡ targets =
     ap (λ held. unwrap_or (option_map (λ placed. placed.1) held) []) said.1 ∙ said.2 in
     seek_goes setting packet partition targets
@@ -173,11 +178,11 @@ entered_goes setting before at (entered.Decided decision onward) words unknown u
     let came : Item = item.Entered at.packet at.switch at.header in
     let P : Bool → Type 0 = λ b. decided_traveller decision onward
     ≡ traveller_by setting at.packet (words_along at.packet (before ++ came ∷ [])
-    (decided_items at decision onward)
+    (decided_items at decision [] onward)
     (if b then told_by (retired_mark before) came words else words)) in
     subst P (sym own)
-    (decided_goes setting (before ++ came ∷ []) at at.switch decision onward
-    (told_by (retired_mark before) came words)
+    (decided_goes setting (before ++ came ∷ []) [] at at.switch decision onward
+    (told_by (retired_mark before) came words) tt
     (record { on = refl; header = refl; came = refl; found = unmarked }) comes)
 entered_goes setting before at (entered.Seek tunnel) words unknown unmarked comes =
     let P : TunnelValue → Type 0 = λ t. entered_traveller (entered.Seek t)

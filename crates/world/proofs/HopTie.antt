@@ -1,15 +1,16 @@
 -- A hop of a packet on its way: what it writes, and how it keeps the tie of a world to its journal.
-use Rattle.std.proofs.Common.{ℕ, ◌≡◌, ◌≢◌, ◌+◌, ◌-◌, ◌^◌, ◌<◌, ◌==◌, Bool, true, false, ◌&&◌, if◌then◌else◌, Option, Some, None, List, [], ◌∷◌, ◌++◌, refl, ap, sym, subst, ◌∙◌, append_assoc, length, get_or, set, min, arith, eq-eqb, eqb-true}
+use Rattle.std.proofs.Common.{ℕ, ◌≡◌, ◌≢◌, ◌+◌, ◌-◌, ◌^◌, ◌<◌, ◌==◌, Bool, true, false, ◌&&◌, if◌then◌else◌, Option, Some, None, List, [], ◌∷◌, ◌++◌, refl, ap, sym, subst, ◌∙◌, append_assoc, length, get_or, set, min, cond, arith, eq-eqb, eqb-true}
 use Rattle.std.specs.Prelude.{is_some, unwrap_or, slice_get}
 use Rattle.std.proofs.lemmas.Bool.Decides.{nat_tests}
+use Rattle.std.proofs.lemmas.List.Sums.{sum_by-cons}
 use Rattle.std.proofs.lemmas.List.{get_or-set_same, get_or-set_other, length-set}
+use Rattle.bag.specs.Posts.{Post}
 use Rattle.failover.specs.Masks.{has}
 use Rattle.five_tuple.specs.declared.header.Header.{Header}
 use Rattle.net_file.specs.Net.{links_of}
 use Rattle.net_file.specs.Owners.{AreOwners}
 use Rattle.net_file.specs.declared.ports.Ports.{Ports}
 use Rattle.policy_rules.specs.declared.packet.Leg.{Leg}
-use Rattle.policy_rules.specs.declared.packet.Leg.TheVariants.{Seek, Exit}
 use Rattle.journal.specs.declared.item.Item.{Item}
 use Rattle.journal.specs.declared.item.Item.TheVariants as item
 use Rattle.steps.specs.declared.step.Step.TheVariants.{Hop}
@@ -17,47 +18,46 @@ use Rattle.switch_core.specs.Ends.{around}
 use Rattle.switch_core.specs.Arriving.{arrived}
 use Rattle.switch_core.specs.State.{SwitchValue, counted}
 use Rattle.switch_core.specs.declared.answers.Arrived.{Arrived}
-use Rattle.switch_core.specs.declared.answers.Arrived.TheVariants as arrived
-use Rattle.switch_core.specs.declared.answers.Decision.{Decision}
-use Rattle.switch_core.specs.declared.answers.Next.{Next}
-use Rattle.switch_core.specs.declared.answers.Next.TheVariants as onward
 use Rattle.tunnel.specs.Moves.{advanced, here, next}
+use Rattle.update_machine.specs.Caches.{cache_of}
 use Rattle.update_machine.specs.Folds.{count_of}
 use Rattle.update_machine.specs.Handled.{handled_count, hop_calls, is_entry_at, most_handled, stays_on_way}
 use Rattle.update_machine.specs.Links.{near}
 use Rattle.update_machine.specs.Marks.{retired_mark}
-use Rattle.update_machine.specs.Moves.{arrive_items, move_items, put, reroute_items, takes_route}
+use Rattle.update_machine.specs.Messages.{is_sending, next_message}
+use Rattle.update_machine.specs.Moves.{arrive_items, move_items, put, reroute_items}
 use Rattle.update_machine.specs.Packets.{is_at, is_packet, next_switch, travels, travels_at}
 use Rattle.update_machine.specs.Packets.{standing as place_of}
 use Rattle.update_machine.specs.Pieces.{nothing, piece}
 use Rattle.update_machine.specs.Pieces.{hop_items as hop_items_of}
 use Rattle.update_machine.specs.Played.{IsSetting, MayPlay}
 use Rattle.update_machine.specs.Setting.{Setting}
-use Rattle.version_update.specs.Marks.{MarksValue}
 use Rattle.packet_laws.specs.Calm.{HasPacketsAlone, IsCalm}
 use Rattle.packet_laws.specs.OnWay.{IsOnWay}
 use Rattle.packet_laws.specs.Words.{PacketWords, told_by, words_of}
 use Rattle.packet_laws.proofs.Blocks.{joined_on}
-use Rattle.packet_laws.proofs.Calm.{calm}
+use Rattle.update_machine.proofs.CallerLemmas.{count_of_append}
+use Rattle.packet_laws.proofs.Calm.{alone_more, calm}
 use Rattle.packet_laws.proofs.Words.{words_grow}
-use Rattle.world.specs.Packets.{arrival, arrival_items, hop_items, hop_traveller, hopped_switch, standing_at}
-use Rattle.world.specs.State.{AreTied}
+use Rattle.world.specs.Packets.{arrival, arrival_items, hop_items, hop_posts, hop_traveller, hopped_switch, standing_at}
+use Rattle.world.specs.State.{AreTied, Control}
 use Rattle.world.specs.Travelling.{Travellers, WithOne, traveller}
-use Rattle.world.specs.Writing.{arrived_items, decided_items}
+use Rattle.world.specs.Writing.{arrived_items}
 use Rattle.world.specs.declared.log.Standing.{Standing}
 use Rattle.world.specs.declared.travelling.Traveller.{Traveller}
 use Rattle.world.proofs.Arrivals.{arrival_goes, arrive_law}
 use Rattle.world.proofs.AtEnd.{IsAtEnd}
 use Rattle.world.proofs.Asking.{ends_here, switch_here}
-use Rattle.world.proofs.Calmness.{calm_switch, calm_switch_of}
-use Rattle.world.proofs.Deciding.{alone_more}
+use Rattle.world.proofs.Calmness.{calm_at, calm_switch_of}
+use Rattle.world.proofs.Later.{AreLater, arrived_later, arrived_still, hop_sends, later_entries, later_packets, later_rows}
 use Rattle.world.proofs.Legs.{near_of}
 use Rattle.world.proofs.Losing.{travels_as}
 use Rattle.world.proofs.OnWay.{IsStanding, known, next_of_words, on_leg, standing_of, stands_at}
 use Rattle.world.proofs.Others.{NoneName, arrived_other, unnamed}
 use Rattle.world.proofs.Played.{played_alone, played_calm}
+use Rattle.world.proofs.Posting.{posts_in}
 use Rattle.world.proofs.Steps.{NoRows, calls_in}
-use Rattle.world.proofs.Tying.{Steps, idle, tied_more, with_calls}
+use Rattle.world.proofs.Tying.{Steps, idle, tied_more, tied_silent, with_calls}
 use Rattle.world.proofs.Words.{calm_traveller, traveller_by, words_along}
 
 -- ---- what it writes
@@ -74,20 +74,24 @@ same_words journal row i q = words_grow q journal (item.Row row (Hop i))
 pub record IsAsked (setting : Setting) (journal : List Item) (i : ℕ) (t : Traveller)
     (switch : SwitchValue) (near : ℕ) (ports : Ports) : Type 0 where
   pub sound : IsSetting setting
-  pub alone : HasPacketsAlone journal
+  pub alone : HasPacketsAlone setting journal
   pub standing : IsStanding setting journal i t
   pub owners : AreOwners setting.net.switches ports
   pub own : switch
-      ≡ calm_switch setting (handled_count journal standing.way.under_way.place)
+      ≡ calm_at setting journal (handled_count journal standing.way.under_way.place)
       standing.way.under_way.place
   pub told : near ≡ near_of setting standing.way.under_way.place
   pub ends : next t.tunnel ≡ None
       → IsAtEnd setting standing.way.under_way.place (words_of journal i)
       standing.way.under_way.header standing.way.leg
 
--- switches send no cache rules yet
-caches_off : (setting : Setting) → IsSetting setting → setting.caches ≡ false
-caches_off setting is = ap (λ (s : Setting). s.caches) is.made
+-- the row is no message
+same_number : (journal : List Item) (row i : ℕ)
+    → next_message (begun journal row i) ≡ next_message journal
+unfolding next_message
+same_number journal row i =
+    let sum = count_of_append is_sending journal (item.Row row (Hop i) ∷ []) in
+    omega (arith, sum)
 
 -- it moves over the next link, which is usable
 moves_law : (setting : Setting) (journal : List Item) (row i : ℕ) (t : Traveller)
@@ -95,7 +99,7 @@ moves_law : (setting : Setting) (journal : List Item) (row i : ℕ) (t : Travell
     → (asked : IsAsked setting journal i t switch near_it ports)
     → next t.tunnel ≡ Some two
     → move_items setting i asked.standing.way.under_way.place (begun journal row i)
-    ≡ hop_items (counted switch) near_it ports t (Some two)
+    ≡ hop_items (next_message journal) (counted switch) near_it ports t (Some two)
 unfolding move_items next_switch words_of
 moves_law setting journal row i t switch near_it ports two asked goes =
     let new : List Item = begun journal row i in
@@ -105,7 +109,8 @@ moves_law setting journal row i t switch near_it ports two asked goes =
     ap (λ (words : PacketWords). slice_get words.route (words.hops + 1))
     (same_words journal row i i)
     ∙ sym (next_of_words setting journal i t asked.standing) ∙ goes in
-    let alone : HasPacketsAlone new = alone_more journal (item.Row row (Hop i)) asked.alone tt in
+    let alone : HasPacketsAlone setting new =
+    alone_more setting journal (item.Row row (Hop i)) asked.alone tt in
     let joined : has (links_of setting.net.links place) two ≡ true =
     joined_on setting journal (words_of journal i) way.under_way.header way.leg way.on_leg
     (words_of journal i).hops place two way.stands
@@ -131,7 +136,7 @@ arrives_law : (setting : Setting) (journal : List Item) (row i : ℕ) (t : Trave
     → (asked : IsAsked setting journal i t switch near_it ports)
     → next t.tunnel ≡ None
     → move_items setting i asked.standing.way.under_way.place (begun journal row i)
-    ≡ hop_items (counted switch) near_it ports t None
+    ≡ hop_items (next_message journal) (counted switch) near_it ports t None
 unfolding move_items next_switch words_of
 arrives_law setting journal row i t switch near_it ports asked last =
     let new : List Item = begun journal row i in
@@ -141,9 +146,12 @@ arrives_law setting journal row i t switch near_it ports asked last =
     let at : next_switch new i ≡ None =
     ap (λ (words : PacketWords). slice_get words.route (words.hops + 1)) same
     ∙ sym (next_of_words setting journal i t asked.standing) ∙ last in
-    let alone : HasPacketsAlone new = alone_more journal (item.Row row (Hop i)) asked.alone tt in
+    let alone : HasPacketsAlone setting new =
+    alone_more setting journal (item.Row row (Hop i)) asked.alone tt in
     let calm_new : IsCalm setting new = calm setting new asked.sound.net alone in
-    let as_calm : SwitchValue = counted (calm_switch setting (handled_count journal place) place) in
+    let as_calm : SwitchValue =
+    counted (calm_at setting journal (handled_count journal place) place) in
+    let number : ℕ = next_message journal in
     ap (λ o. elim o [
       | None ↦ arrive_items setting i place new
       | Some next ↦ elim (has (near setting new place) next) [
@@ -151,25 +159,29 @@ arrives_law setting journal row i t switch near_it ports asked last =
         | false ↦ put (item.FoundDown i place next ∷ []) (reroute_items setting i place) new
       ]
     ]) at
-    ∙ arrive_law setting new asked.sound.net (caches_off setting asked.sound) alone calm_new
-    place as_calm.handled i way.under_way.ingress
+    ∙ arrive_law setting new asked.sound.net alone calm_new
+    (cache_of setting journal place) place as_calm.handled i way.under_way.ingress
     way.under_way.now ports asked.owners way.under_way.header way.leg
     (ap (λ (words : PacketWords). words.header) same ∙ way.under_way.entered)
+    (ap (λ (words : PacketWords). words.ingress) same ∙ way.under_way.came) way.under_way.at_first
     (ap (λ (words : PacketWords). words.leg) same ∙ way.takes)
     (subst (λ words. IsAtEnd setting place words way.under_way.header way.leg) (sym same)
     (asked.ends last))
-    ∙ ap (λ words. arrival_items as_calm (near_of setting place) ports
+    ∙ ap (λ n. arrival_items n as_calm (near_of setting place) ports
+    (on_leg setting i (words_of new i) way.under_way.header way.under_way.ingress way.leg))
+    (same_number journal row i)
+    ∙ ap (λ words. arrival_items number as_calm (near_of setting place) ports
     (on_leg setting i words way.under_way.header way.under_way.ingress way.leg)) same
-    ∙ ap (arrival_items as_calm (near_of setting place) ports) (sym asked.standing.is)
-    ∙ ap (λ near. arrival_items as_calm near ports t) (sym asked.told)
-    ∙ ap (λ w. arrival_items (counted w) near_it ports t) (sym asked.own)
+    ∙ ap (arrival_items number as_calm (near_of setting place) ports) (sym asked.standing.is)
+    ∙ ap (λ near. arrival_items number as_calm near ports t) (sym asked.told)
+    ∙ ap (λ w. arrival_items number (counted w) near_it ports t) (sym asked.own)
 
 move_law : (setting : Setting) (journal : List Item) (row i : ℕ) (t : Traveller)
     (switch : SwitchValue) (near_it : ℕ) (ports : Ports)
     → (asked : IsAsked setting journal i t switch near_it ports)
     → (goes_on : Option ℕ) → next t.tunnel ≡ goes_on
     → move_items setting i asked.standing.way.under_way.place (begun journal row i)
-    ≡ hop_items (counted switch) near_it ports t goes_on
+    ≡ hop_items (next_message journal) (counted switch) near_it ports t goes_on
 move_law setting journal row i t switch near_it ports asked None is =
     arrives_law setting journal row i t switch near_it ports asked is
 move_law setting journal row i t switch near_it ports asked (Some two) is =
@@ -180,7 +192,8 @@ pub hop_piece : (setting : Setting) (journal : List Item) (row i : ℕ) (t : Tra
     → (asked : IsAsked setting journal i t switch near_it ports)
     → (goes_on : Option ℕ) → next t.tunnel ≡ goes_on
     → piece setting journal row (Hop i)
-    ≡ item.Row row (Hop i) ∷ hop_items (counted switch) near_it ports t goes_on
+    ≡ item.Row row (Hop i)
+    ∷ hop_items (next_message journal) (counted switch) near_it ports t goes_on
 unfolding piece hop_items_of words_of
 hop_piece setting journal row i t switch near_it ports asked goes_on is =
     let new : List Item = begun journal row i in
@@ -203,57 +216,34 @@ pub record IsOfHop (row i : ℕ) (stays : Bool) (items : List Item) : Type 0 whe
   pub packets : count_of is_packet (item.Row row (Hop i) ∷ items) ≡ 0
   pub moves : stays_on_way items ≡ stays
 
-route_of_hop : (row i packet : ℕ) (leg : Leg) (route : List ℕ)
-    → IsOfHop row i false (takes_route packet leg route ∷ [])
-route_of_hop row i packet (Seek version partition) route =
-    record { rows = (tt, tt); entries = λ k. refl; packets = refl; moves = refl }
-route_of_hop row i packet (Exit port) route =
-    record { rows = (tt, tt); entries = λ k. refl; packets = refl; moves = refl }
-
-exit_of_hop : (row i : ℕ) (at : Standing) (decision : Decision) (leg : Leg)
-    (route : List ℕ) → IsOfHop row i false
-    (item.Decided at.packet decision.version decision.rule decision.action decision.how
-    ∷ takes_route at.packet leg route ∷ [])
-exit_of_hop row i at decision (Seek version partition) route =
-    record { rows = (tt, (tt, tt)); entries = λ k. refl; packets = refl; moves = refl }
-exit_of_hop row i at decision (Exit port) route =
-    record { rows = (tt, (tt, tt)); entries = λ k. refl; packets = refl; moves = refl }
-
-decided_of_hop : (row i : ℕ) (at : Standing) (decision : Decision) (answer : Next)
-    → IsOfHop row i false (decided_items at decision answer)
-decided_of_hop row i at decision onward.Dropped =
-    record { rows = (tt, (tt, tt)); entries = λ k. refl; packets = refl; moves = refl }
-decided_of_hop row i at decision (onward.Out port) =
-    record { rows = (tt, (tt, tt)); entries = λ k. refl; packets = refl; moves = refl }
-decided_of_hop row i at decision (onward.Stuck cause) =
-    record { rows = (tt, (tt, tt)); entries = λ k. refl; packets = refl; moves = refl }
-decided_of_hop row i at decision (onward.Exit tunnel) =
-    exit_of_hop row i at decision tunnel.leg tunnel.route
-
-arrived_of_hop : (row i : ℕ) (at : Standing) (t : Traveller) (answer : Arrived)
-    → IsOfHop row i false (arrived_items at t answer)
-arrived_of_hop row i at t (arrived.Out port) =
-    record { rows = (tt, tt); entries = λ k. refl; packets = refl; moves = refl }
-arrived_of_hop row i at t (arrived.Decided decision cache answer) =
-    decided_of_hop row i at decision answer
-arrived_of_hop row i at t (arrived.Seek tunnel) =
-    route_of_hop row i at.packet tunnel.leg tunnel.route
-arrived_of_hop row i at t (arrived.Stuck cause leg) =
-    record { rows = (tt, tt); entries = λ k. refl; packets = refl; moves = refl }
+later_of_hop : (row i : ℕ) (stays : Bool) (items : List Item) → AreLater items
+    → stays_on_way items ≡ stays → IsOfHop row i stays items
+later_of_hop row i stays items later still = record {
+  rows = later_rows items later;
+  entries = λ k.
+      let sum = sum_by-cons (λ x. cond (is_entry_at k x) 1 0) (item.Row row (Hop i)) items in
+      omega (arith, sum, later_entries k items later);
+  packets =
+      let sum = sum_by-cons (λ x. cond (is_packet x) 1 0) (item.Row row (Hop i)) items in
+      omega (arith, sum, later_packets items later);
+  moves = still;
+}
 
 -- the packet moves on
 abbrev goes_further : Option ℕ → Bool
 goes_further None = false
 goes_further (Some two) = true
 
-items_of_hop : (row i : ℕ) (switch : SwitchValue) (near_it : ℕ) (ports : Ports) (t : Traveller)
-    (goes_on : Option ℕ)
-    → IsOfHop row i (goes_further goes_on) (hop_items switch near_it ports t goes_on)
+items_of_hop : (row i number : ℕ) (switch : SwitchValue) (near_it : ℕ) (ports : Ports)
+    (t : Traveller) (goes_on : Option ℕ)
+    → IsOfHop row i (goes_further goes_on) (hop_items number switch near_it ports t goes_on)
 unfolding arrival_items
-items_of_hop row i switch near_it ports t None =
-    arrived_of_hop row i (standing_at switch.number t) t
-    (arrived switch (around near_it ports) t.tunnel)
-items_of_hop row i switch near_it ports t (Some two) =
+items_of_hop row i number switch near_it ports t None =
+    let at : Standing = standing_at switch.number t in
+    let answer : Arrived = arrived switch (around near_it ports) t.tunnel in
+    later_of_hop row i false (arrived_items number at t answer) (arrived_later number at t answer)
+    (arrived_still number at t answer)
+items_of_hop row i number switch near_it ports t (Some two) =
     record { rows = (tt, tt); entries = λ k. refl; packets = refl; moves = refl }
 
 calls_of_hop : (journal items : List Item) (row i place k : ℕ) (stays b : Bool)
@@ -297,27 +287,28 @@ moved_goes setting before i two ingress words header leg on its came takes =
     sym (ap (λ b. traveller_by setting i (if b then after else words)) (eq-eqb i i refl)
     ∙ known setting i after header ingress leg on its came takes)
 
-hop_goes : (setting : Setting) (journal before : List Item) (i : ℕ) (t : Traveller)
+hop_goes : (setting : Setting) (journal before : List Item) (number i : ℕ) (t : Traveller)
     (switch : SwitchValue) (near_it : ℕ) (ports : Ports)
     → (asked : IsAsked setting journal i t switch near_it ports)
     → (goes_on : Option ℕ) → next t.tunnel ≡ goes_on
     → hop_traveller (counted switch) near_it ports t goes_on
     ≡ traveller_by setting i (words_along i before
-    (hop_items (counted switch) near_it ports t goes_on) (words_of journal i))
-hop_goes setting journal before i t switch near_it ports asked None last =
+    (hop_items number (counted switch) near_it ports t goes_on) (words_of journal i))
+hop_goes setting journal before number i t switch near_it ports asked None last =
     let words : PacketWords = words_of journal i in
     let way : IsOnWay setting journal words = asked.standing.way in
     let place : ℕ = way.under_way.place in
     let as_calm : SwitchValue =
-    counted (calm_switch setting (handled_count journal place) place) in
+    counted (calm_at setting journal (handled_count journal place) place) in
     let Goes : SwitchValue → Traveller → Type 0 = λ w u. arrival w near_it ports u
-    ≡ traveller_by setting i (words_along i before (arrival_items w near_it ports u) words) in
+    ≡ traveller_by setting i
+    (words_along i before (arrival_items number w near_it ports u) words) in
     subst (λ w. Goes (counted w) t) (sym asked.own)
     (subst (Goes as_calm) (sym asked.standing.is)
-    (arrival_goes setting before place as_calm.handled i near_it
-    way.under_way.ingress ports words way.under_way.header way.leg asked.owners
+    (arrival_goes setting before (cache_of setting journal place) number place as_calm.handled i
+    near_it way.under_way.ingress ports words way.under_way.header way.leg asked.owners
     asked.standing.on way.under_way.entered way.under_way.came (asked.ends last)))
-hop_goes setting journal before i t switch near_it ports asked (Some two) goes =
+hop_goes setting journal before number i t switch near_it ports asked (Some two) goes =
     let words : PacketWords = words_of journal i in
     let way : IsOnWay setting journal words = asked.standing.way in
     subst (λ (u : Traveller). Some (record u { tunnel = advanced u.tunnel })
@@ -327,14 +318,14 @@ hop_goes setting journal before i t switch near_it ports asked (Some two) goes =
     (moved_goes setting before i two way.under_way.ingress words way.under_way.header way.leg
     asked.standing.on way.under_way.entered way.under_way.came way.takes)
 
-hop_other : (q : ℕ) (switch : SwitchValue) (near_it : ℕ) (ports : Ports) (t : Traveller)
+hop_other : (q number : ℕ) (switch : SwitchValue) (near_it : ℕ) (ports : Ports) (t : Traveller)
     (goes_on : Option ℕ) → (t.tunnel.packet == q) ≡ false
-    → NoneName q (hop_items switch near_it ports t goes_on)
+    → NoneName q (hop_items number switch near_it ports t goes_on)
 unfolding arrival_items
-hop_other q switch near_it ports t None other =
-    arrived_other q (standing_at switch.number t) t
+hop_other q number switch near_it ports t None other =
+    arrived_other q number (standing_at switch.number t) t
     (arrived switch (around near_it ports) t.tunnel) other
-hop_other q switch near_it ports t (Some two) other = (other, tt)
+hop_other q number switch near_it ports t (Some two) other = (other, tt)
 
 -- ---- the tie
 
@@ -383,25 +374,27 @@ calls_go setting journal items switches row i place k d switch after stays false
     ∙ idle_there
     ∙ ap (λ calls. with_calls calls (get_or switches k d)) (sym count)
 
-hop_steps : (marks : MarksValue) (setting : Setting) (journal : List Item)
+hop_steps : (control : Control) (setting : Setting) (journal : List Item)
     (switches : List SwitchValue)
     (before after : Travellers) (count row i : ℕ) (t : Traveller) (switch : SwitchValue)
     (near_it : ℕ) (ports : Ports)
-    → AreTied setting journal switches before count marks → MayPlay setting (Hop i)
+    → AreTied setting journal switches before count control → MayPlay setting (Hop i)
     → (asked : IsAsked setting journal i t switch near_it ports)
     → (goes_on : Option ℕ) → next t.tunnel ≡ goes_on
     → WithOne before i (hop_traveller (counted switch) near_it ports t goes_on) after
-    → Steps setting journal row (Hop i) (hop_items (counted switch) near_it ports t goes_on)
+    → Steps setting journal row (Hop i)
+    (hop_items (next_message journal) (counted switch) near_it ports t goes_on)
     switches (set switches asked.standing.way.under_way.place (hopped_switch switch goes_on))
     after
 unfolding AreTied words_of
-hop_steps marks setting journal switches before after count row i t switch near_it ports tied may
+hop_steps control setting journal switches before after count row i t switch near_it ports tied may
     asked goes_on is without =
     let place : ℕ = asked.standing.way.under_way.place in
-    let items : List Item = hop_items (counted switch) near_it ports t goes_on in
+    let number : ℕ = next_message journal in
+    let items : List Item = hop_items number (counted switch) near_it ports t goes_on in
     let calm_now : IsCalm setting journal = played_calm setting journal tied.sound tied.played in
     let of : IsOfHop row i (goes_further goes_on) items =
-    items_of_hop row i (counted switch) near_it ports t goes_on in
+    items_of_hop row i number (counted switch) near_it ports t goes_on in
     let there : place < length switches =
     omega (arith, tied.many, asked.standing.way.under_way.now) in
     record {
@@ -409,6 +402,7 @@ hop_steps marks setting journal switches before after count row i t switch near_
       piece_is = hop_piece setting journal row i t switch near_it ports asked
           goes_on is;
       one_row = of.rows;
+      sends = (hop_sends number (counted switch) near_it ports t goes_on).0;
       as_many = length-set switches place (hopped_switch switch goes_on);
       calls = λ k d within.
           calls_go setting journal items switches row i place k d switch
@@ -423,25 +417,25 @@ hop_steps marks setting journal switches before after count row i t switch near_
           ∙ others_go setting journal (begun journal row i) items i q
           (hop_traveller (counted switch) near_it ports t goes_on) (traveller before q) (q == i)
           refl
-          (hop_goes setting journal (begun journal row i) i t switch near_it ports asked
+          (hop_goes setting journal (begun journal row i) number i t switch near_it ports asked
           goes_on is)
           (tied.packet q ∙ calm_traveller setting journal calm_now q)
-          (λ apart. hop_other q (counted switch) near_it ports t goes_on
+          (λ apart. hop_other q number (counted switch) near_it ports t goes_on
           (ap (λ (u : Traveller). u.tunnel.packet == q) asked.standing.is ∙ apart));
     }
 
 -- ---- the step
 
-pub asked_of : (marks : MarksValue) (setting : Setting) (journal : List Item)
+pub asked_of : (control : Control) (setting : Setting) (journal : List Item)
     (switches : List SwitchValue)
     (before : Travellers) (count i : ℕ) (t : Traveller) (s : ℕ) (switch : SwitchValue)
     (near_it : ℕ) (ports : Ports)
-    → (tied : AreTied setting journal switches before count marks) → traveller before i ≡ Some t
+    → (tied : AreTied setting journal switches before count control) → traveller before i ≡ Some t
     → AreOwners setting.net.switches ports → s ≡ here t.tunnel
     → switch ≡ get_or switches s switch → near_it ≡ near_of setting s
     → IsStanding setting journal i t → IsAsked setting journal i t switch near_it ports
 unfolding AreTied
-asked_of marks setting journal switches before count i t s switch near_it ports tied its owners at
+asked_of control setting journal switches before count i t s switch near_it ports tied its owners at
     own told standing_it =
     let place : ℕ = standing_it.way.under_way.place in
     let same : s ≡ place = at ∙ stands_at setting journal i t standing_it in
@@ -451,69 +445,94 @@ asked_of marks setting journal switches before count i t s switch near_it ports 
       standing = standing_it;
       owners = owners;
       own = own ∙ ap (λ p. get_or switches p switch) same
-          ∙ switch_here marks setting journal switches before count i t tied standing_it switch;
+          ∙ switch_here control setting journal switches before count i t tied standing_it switch;
       told = told ∙ ap (near_of setting) same;
-      ends = λ last. ends_here marks setting journal switches before count i t tied standing_it
+      ends = λ last. ends_here control setting journal switches before count i t tied standing_it
           last;
     }
 
-pub hop_written : (marks : MarksValue) (setting : Setting) (journal new : List Item)
+-- the number of the next message
+numbered : (control : Control) (setting : Setting) (journal : List Item)
+    (switches : List SwitchValue) (before : Travellers) (count : ℕ)
+    → AreTied setting journal switches before count control
+    → next_message journal ≡ length control.posts + 1
+unfolding AreTied
+numbered control setting journal switches before count tied = tied.bag.many
+
+pub hop_written : (control : Control) (setting : Setting) (journal new : List Item)
     (switches : List SwitchValue)
     (before after : Travellers) (count row i : ℕ) (t : Traveller) (s : ℕ)
     (switch other : SwitchValue) (near_it : ℕ) (ports : Ports)
-    → AreTied setting journal switches before count marks → MayPlay setting (Hop i)
+    → AreTied setting journal switches before count control → MayPlay setting (Hop i)
     → traveller before i ≡ Some t → AreOwners setting.net.switches ports → s ≡ here t.tunnel
     → switch ≡ get_or switches s switch → near_it ≡ near_of setting s
     → other ≡ hopped_switch switch (next t.tunnel)
     → WithOne before i (hop_traveller (counted switch) near_it ports t (next t.tunnel)) after
     → new ≡ journal ++ item.Row row (Hop i) ∷ []
-    ++ hop_items (counted switch) near_it ports t (next t.tunnel)
-    → AreTied setting new (set switches s other) after count marks
-hop_written marks setting journal new switches before after count row i t s switch other near_it
+    ++ hop_items (length control.posts + 1) (counted switch) near_it ports t (next t.tunnel)
+    → AreTied setting new (set switches s other) after count (record control {
+      posts = control.posts ++ hop_posts (counted switch) near_it ports t (next t.tunnel);
+    })
+hop_written control setting journal new switches before after count row i t s switch other near_it
     ports tied may its owners at own told answered without is =
     let standing_it : IsStanding setting journal i t =
-    standing_of marks setting journal switches before count i t tied its in
+    standing_of control setting journal switches before count i t tied its in
     let asked : IsAsked setting journal i t switch near_it ports =
-    asked_of marks setting journal switches before count i t s switch near_it ports tied its owners
-    at own told standing_it in
+    asked_of control setting journal switches before count i t s switch near_it ports tied its
+    owners at own told standing_it in
     let place : ℕ = asked.standing.way.under_way.place in
     let same : s ≡ place = at ∙ stands_at setting journal i t asked.standing in
-    let items : List Item = hop_items (counted switch) near_it ports t (next t.tunnel) in
+    let number : ℕ = next_message journal in
+    let items : List Item = hop_items number (counted switch) near_it ports t (next t.tunnel) in
     let all : new ≡ journal ++ item.Row row (Hop i) ∷ items =
-    is ∙ append_assoc journal (item.Row row (Hop i) ∷ []) items in
+    is ∙ ap (λ n. journal ++ item.Row row (Hop i) ∷ []
+    ++ hop_items n (counted switch) near_it ports t (next t.tunnel))
+    (sym (numbered control setting journal switches before count tied))
+    ∙ append_assoc journal (item.Row row (Hop i) ∷ []) items in
     let of : IsOfHop row i (goes_further (next t.tunnel)) items =
-    items_of_hop row i (counted switch) near_it ports t (next t.tunnel) in
+    items_of_hop row i number (counted switch) near_it ports t (next t.tunnel) in
+    let last : SwitchValue = hopped_switch switch (next t.tunnel) in
+    let posts : List Post =
+    control.posts ++ hop_posts (counted switch) near_it ports t (next t.tunnel) in
     let kept : AreTied setting (journal ++ item.Row row (Hop i) ∷ items)
-    (set switches place (hopped_switch switch (next t.tunnel))) after count marks =
-    tied_more marks setting journal switches
-    (set switches place (hopped_switch switch (next t.tunnel))) before after count count row
-    (Hop i) items tied
-    (hop_steps marks setting journal switches before after count row i t switch near_it ports tied
+    (set switches place last) after count
+    (record control { posts = control.posts ++ posts_in items }) =
+    tied_more control setting journal switches (set switches place last) before after count count
+    row (Hop i) items tied
+    (hop_steps control setting journal switches before after count row i t switch near_it ports tied
     may asked (next t.tunnel) refl without)
     (omega (arith, of.packets)) in
-    subst (λ js. AreTied setting js (set switches s other) after count marks) (sym all)
+    subst (λ js. AreTied setting js (set switches s other) after count
+    (record control { posts = posts })) (sym all)
     (subst (λ w. AreTied setting (journal ++ item.Row row (Hop i) ∷ items) (set switches s w)
-    after count marks) (sym answered)
-    (subst (λ p. AreTied setting (journal ++ item.Row row (Hop i) ∷ items)
-    (set switches p (hopped_switch switch (next t.tunnel))) after count marks) (sym same) kept))
+    after count (record control { posts = posts })) (sym answered)
+    (subst (λ p. AreTied setting (journal ++ item.Row row (Hop i) ∷ items) (set switches p last)
+    after count (record control { posts = posts })) (sym same)
+    (subst (λ more. AreTied setting (journal ++ item.Row row (Hop i) ∷ items)
+    (set switches place last) after count (record control { posts = control.posts ++ more }))
+    (hop_sends number (counted switch) near_it ports t (next t.tunnel)).1 kept)))
 
 -- the piece of a hop, by what its switch is told
-pub hop_piece_of : (marks : MarksValue) (setting : Setting) (journal : List Item)
+pub hop_piece_of : (control : Control) (setting : Setting) (journal : List Item)
     (switches : List SwitchValue)
     (before : Travellers) (count row i : ℕ) (t : Traveller) (s : ℕ) (switch : SwitchValue)
     (near_it : ℕ) (ports : Ports)
-    → (tied : AreTied setting journal switches before count marks) → traveller before i ≡ Some t
+    → (tied : AreTied setting journal switches before count control) → traveller before i ≡ Some t
     → AreOwners setting.net.switches ports → s ≡ here t.tunnel
     → switch ≡ get_or switches s switch → near_it ≡ near_of setting s
     → piece setting journal row (Hop i)
-    ≡ item.Row row (Hop i) ∷ hop_items (counted switch) near_it ports t (next t.tunnel)
-hop_piece_of marks setting journal switches before count row i t s switch near_it ports tied its
+    ≡ item.Row row (Hop i)
+    ∷ hop_items (length control.posts + 1) (counted switch) near_it ports t (next t.tunnel)
+hop_piece_of control setting journal switches before count row i t s switch near_it ports tied its
     owners at own told =
     let standing_it : IsStanding setting journal i t =
-    standing_of marks setting journal switches before count i t tied its in
+    standing_of control setting journal switches before count i t tied its in
     hop_piece setting journal row i t switch near_it ports
-    (asked_of marks setting journal switches before count i t s switch near_it ports tied its
+    (asked_of control setting journal switches before count i t s switch near_it ports tied its
     owners at own told standing_it) (next t.tunnel) refl
+    ∙ ap (λ n. item.Row row (Hop i)
+    ∷ hop_items n (counted switch) near_it ports t (next t.tunnel))
+    (numbered control setting journal switches before count tied)
 
 -- ---- a packet that doesn't travel
 
@@ -527,15 +546,15 @@ left_piece setting journal row i off =
       | true ↦ move_items setting i (unwrap_or (place_of new i) 0) new
     ]) (ap (λ (words : PacketWords). words.travels) (same_words journal row i i) ∙ off)
 
-pub hop_left : (marks : MarksValue) (setting : Setting) (journal new : List Item)
+pub hop_left : (control : Control) (setting : Setting) (journal new : List Item)
     (switches : List SwitchValue) (before : Travellers) (count row i : ℕ)
-    → AreTied setting journal switches before count marks → MayPlay setting (Hop i)
+    → AreTied setting journal switches before count control → MayPlay setting (Hop i)
     → is_some (traveller before i) ≡ false
     → new ≡ journal ++ item.Row row (Hop i) ∷ [] ++ item.Nothing ∷ []
     → (new ≡ journal ++ piece setting journal row (Hop i))
-    × AreTied setting new switches before count marks
+    × AreTied setting new switches before count control
 unfolding AreTied
-hop_left marks setting journal new switches before count row i tied may resting is =
+hop_left control setting journal new switches before count row i tied may resting is =
     let calm_now : IsCalm setting journal = played_calm setting journal tied.sound tied.played in
     let off : travels journal i ≡ false =
     sym (ap is_some (tied.packet i) ∙ travels_as setting journal i) ∙ resting in
@@ -544,21 +563,22 @@ hop_left marks setting journal new switches before count row i tied may resting 
     let all : new ≡ journal ++ item.Row row (Hop i) ∷ item.Nothing ∷ [] =
     is ∙ append_assoc journal (item.Row row (Hop i) ∷ []) (item.Nothing ∷ []) in
     let kept : AreTied setting (journal ++ item.Row row (Hop i) ∷ item.Nothing ∷ []) switches
-    before count marks =
-    tied_more marks setting journal switches switches before before count count row (Hop i)
+    before count control =
+    tied_silent control setting journal switches switches before before count count row (Hop i)
     (item.Nothing ∷ []) tied (record {
       may = may;
       piece_is = piece_is;
       one_row = (tt, tt);
+      sends = tt;
       as_many = refl;
       calls = λ s d there.
           idle setting journal switches s d (tied.each s d there)
           ∙ ap (λ calls. with_calls calls (get_or switches s d))
           (sym (no_calls journal row i s off));
       travels = λ q. tied.packet q ∙ calm_traveller setting journal calm_now q;
-    }) (omega arith) in (
+    }) (omega arith) refl in (
       all ∙ ap (λ items. journal ++ items) (sym piece_is),
-      subst (λ js. AreTied setting js switches before count marks) (sym all) kept,
+      subst (λ js. AreTied setting js switches before count control) (sym all) kept,
     )
   where
     no_calls : (journal : List Item) (row i s : ℕ) → travels journal i ≡ false

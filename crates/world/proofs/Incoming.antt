@@ -1,95 +1,53 @@
 -- A packet that comes in: its whole step keeps the tie.
 use Rattle.std.proofs.Common.{ℕ, ◌≡◌, ◌≢◌, ◌+◌, ◌-◌, ◌^◌, ◌<◌, ◌≤◌, ◌==◌, Bool, true, false, if◌then◌else◌, cond, List, [], ◌∷◌, ◌++◌, refl, ap, sym, subst, ◌∙◌, length, get_or, set, min, eqb-true, eq-eqb, arith}
-use Rattle.std.specs.Prelude.{⊤, OnOk, Result}
+use Rattle.std.specs.Prelude.{OnOk, Result}
 use Rattle.std.proofs.lemmas.List.{get_or-set_other, get_or-set_same, get_or_default, length-set}
 use Rattle.std.proofs.lemmas.List.Sums.{sum_by-cons}
 use Rattle.failover.specs.DownSet.{no_links}
+use Rattle.five_tuple.specs.Header.{IsHeader}
 use Rattle.five_tuple.specs.declared.header.Header.{Header}
 use Rattle.net_file.specs.Owners.{AreOwners}
 use Rattle.net_file.specs.declared.ports.Ports.{Ports}
-use Rattle.policy_rules.specs.declared.packet.Leg.{Leg}
-use Rattle.policy_rules.specs.declared.packet.Leg.TheVariants.{Seek, Exit}
 use Rattle.journal.specs.declared.item.Item.{Item}
 use Rattle.journal.specs.declared.item.Item.TheVariants as item
 use Rattle.steps.specs.declared.step.Step.TheVariants.{Packet as PacketStep}
 use Rattle.switch_core.specs.Entering.{CanLookUp, entered, incoming}
 use Rattle.switch_core.specs.State.{SwitchValue, counted}
-use Rattle.switch_core.specs.declared.answers.Decision.{Decision}
 use Rattle.switch_core.specs.declared.answers.Entered.{Entered}
 use Rattle.switch_core.specs.declared.answers.Entered.TheVariants as entered
-use Rattle.switch_core.specs.declared.answers.Next.{Next}
-use Rattle.switch_core.specs.declared.answers.Next.TheVariants as next
-use Rattle.switch_table.specs.Lookup.{table_lookup}
+use Rattle.switch_table.specs.Lookup.{lookup_of}
 use Rattle.switch_table.specs.Tables.{tables_of}
+use Rattle.update_machine.specs.Caches.{cache_of}
 use Rattle.update_machine.specs.Folds.{count_of}
 use Rattle.update_machine.specs.Handled.{handled_count, is_entry_at, most_handled}
+use Rattle.update_machine.specs.Messages.{next_message}
 use Rattle.update_machine.specs.Moves.{takes_route}
 use Rattle.update_machine.specs.Packets.{is_packet, next_packet}
 use Rattle.update_machine.specs.Pieces.{packet_items, piece}
-use Rattle.update_machine.specs.Played.{MayPlay}
+use Rattle.update_machine.specs.Played.{IsPlayed, IsSetting, MayPlay}
 use Rattle.update_machine.specs.Setting.{Setting}
-use Rattle.version_update.specs.Marks.{MarksValue}
 use Rattle.packet_laws.specs.Calm.{IsCalm, first_plan}
 use Rattle.packet_laws.specs.OnWay.{IsUnknown}
 use Rattle.packet_laws.specs.Words.{words_of}
 use Rattle.packet_laws.proofs.Plans.{begun}
 use Rattle.world.specs.Packets.{coming_in, entry}
-use Rattle.world.specs.State.{AreTied, switch_of}
+use Rattle.world.specs.State.{AreTied, Control, switch_of}
 use Rattle.world.specs.Travelling.{Travellers, WithOne, traveller}
 use Rattle.world.specs.Writing.{end_of, entered_items, entered_traveller}
 use Rattle.world.specs.declared.log.Standing.{Standing}
-use Rattle.world.proofs.Calmness.{calm_switch, calm_switch_of}
+use Rattle.world.proofs.Calmness.{calm_at, calm_switch_of}
 use Rattle.world.proofs.Coming.{come_law}
+use Rattle.world.proofs.Entering.{IsSaid}
 use Rattle.world.proofs.Goings.{IsComing, entered_goes, found_goes}
+use Rattle.world.proofs.Later.{AreLater, end_later, entered_sends, later_entries, later_packets, later_rows, route_later}
 use Rattle.world.proofs.Legs.{near_of}
 use Rattle.world.proofs.Others.{entered_other, unnamed}
 use Rattle.world.proofs.Played.{played_alone, played_calm, played_found, played_unknown}
-use Rattle.world.proofs.Owners.{said_law}
+use Rattle.world.proofs.Owners.{looked_law}
 use Rattle.world.proofs.Steps.{NoRow, NoRows, calls_in}
-use Rattle.world.proofs.Tying.{idle, tied_more, with_calls}
+use Rattle.world.proofs.Tying.{idle, tied_silent, with_calls}
 use Rattle.world.proofs.Writing.{both_ok, grown_more}
 use Rattle.world.proofs.Words.{calm_traveller, traveller_by, words_along}
-
--- ---- the items behind the first
-
--- an item that begins no step, and brings no packet in
-abbrev pub IsLater : Item → Type 0
-IsLater one = NoRow one × (is_packet one ≡ false) × ((q : ℕ) → is_entry_at q one ≡ false)
-
-abbrev pub AreLater : List Item → Type 0
-AreLater [] = ⊤
-AreLater (first ∷ items) = IsLater first × AreLater items
-
-pub later_rows : (items : List Item) → AreLater items → NoRows items
-later_rows [] later = tt
-later_rows (first ∷ items) later = (later.0.0, later_rows items later.1)
-
-pub later_packets : (items : List Item) → AreLater items → count_of is_packet items ≡ 0
-later_packets [] later = refl
-later_packets (first ∷ items) later =
-    let sum = sum_by-cons (λ x. cond (is_packet x) 1 0) first items in
-    let none : ◌≡◌ {A = ℕ} (cond (is_packet first) 1 0) 0 = ap (λ b. cond b 1 0) later.0.1 in
-    omega (arith, sum, none, later_packets items later.1)
-
-pub later_entries : (q : ℕ) (items : List Item) → AreLater items
-    → count_of (is_entry_at q) items ≡ 0
-later_entries q [] later = refl
-later_entries q (first ∷ items) later =
-    let sum = sum_by-cons (λ x. cond (is_entry_at q x) 1 0) first items in
-    let none : ◌≡◌ {A = ℕ} (cond (is_entry_at q first) 1 0) 0 = ap (λ b. cond b 1 0)
-    (later.0.2 q) in
-    omega (arith, sum, none, later_entries q items later.1)
-
-pub route_later : (i : ℕ) (leg : Leg) (route : List ℕ) → IsLater (takes_route i leg route)
-route_later i (Seek version partition) route = (tt, refl, λ q. refl)
-route_later i (Exit port) route = (tt, refl, λ q. refl)
-
-pub end_later : (at : Standing) (decision : Decision) (onward : Next)
-    → IsLater (end_of at decision onward)
-end_later at decision next.Dropped = (tt, refl, λ q. refl)
-end_later at decision (next.Out port) = (tt, refl, λ q. refl)
-end_later at decision (next.Exit tunnel) = route_later at.packet tunnel.leg tunnel.route
-end_later at decision (next.Stuck cause) = (tt, refl, λ q. refl)
 
 -- ---- one packet comes in, and then none
 
@@ -201,53 +159,63 @@ along setting journal row header at answer before q false is unknown unmarked co
 -- ---- the step
 
 -- what the step writes, and the tie behind it
-abbrev pub Comes : MarksValue → Setting → List Item → List SwitchValue → Travellers → ℕ → ℕ → ℕ →
+abbrev pub Comes : Control → Setting → List Item → List SwitchValue → Travellers → ℕ → ℕ → ℕ →
     Header
     → Ports → SwitchValue → ℕ → Type 0
-Comes marks setting journal switches after count row s header ports own near =
+Comes control setting journal switches after count row s header ports own near =
     (piece setting journal row (PacketStep s header)
     ≡ item.Row row (PacketStep s header) ∷ entered_items (coming_in (count + 1) header own.number)
     (entry own near ports (count + 1) header))
     × AreTied setting (journal ++ item.Row row (PacketStep s header)
     ∷ entered_items (coming_in (count + 1) header own.number)
     (entry own near ports (count + 1) header)) (set switches s (counted own)) after (count +
-    1) marks
+    1) control
+
+-- what a switch finds for the packet
+said_by : (setting : Setting) (journal : List Item) (s : ℕ) (header : Header)
+    → IsSetting setting → IsPlayed setting journal → IsHeader header
+    → IsSaid setting s (lookup_of (cache_of setting journal s).entries
+    (tables_of (first_plan setting) 1 s) header)
+said_by setting journal s header sound played fits =
+    let calm : IsCalm setting journal = played_calm setting journal sound played in
+    looked_law setting journal s header (cache_of setting journal s).entries sound fits calm
+    (calm.cached s)
 
 -- what the switch answers is what the journal's definitions say
-piece_calm : (marks : MarksValue) (setting : Setting) (journal : List Item)
+piece_calm : (control : Control) (setting : Setting) (journal : List Item)
     (switches : List SwitchValue)
     (before : Travellers) (count row s handled : ℕ) (header : Header) (ports : Ports)
-    → AreTied setting journal switches before count marks → MayPlay setting (PacketStep s header)
+    → AreTied setting journal switches before count control → MayPlay setting (PacketStep s header)
     → AreOwners setting.net.switches ports
     → piece setting journal row (PacketStep s header)
     ≡ item.Row row (PacketStep s header) ∷ entered_items (coming_in (count + 1) header s)
-    (entry (calm_switch setting handled s) (near_of setting s) ports (count + 1) header)
+    (entry (calm_at setting journal handled s) (near_of setting s) ports (count + 1) header)
 unfolding AreTied piece
-piece_calm marks setting journal switches before count row s handled header ports tied may owners =
+piece_calm control setting journal switches before count row s handled header ports tied may
+    owners =
     let i : ℕ = count + 1 in
     let first : Item = item.Row row (PacketStep s header) in
     ap (λ n. first ∷ packet_items setting n s header (journal ++ first ∷ [])) tied.counted
     ∙ ap (λ more. first ∷ more) (come_law setting journal row i s handled header ports
-    tied.sound.net (begun setting tied.sound).no_caches
-    (played_alone setting journal tied.sound tied.played)
+    tied.sound.net (played_alone setting journal tied.sound tied.played)
     (played_found setting journal tied.sound tied.played i) may.own.0 owners
-    (said_law setting s header tied.sound may.own.1))
+    (said_by setting journal s header tied.sound tied.played may.own.1))
 
-come_calm : (marks : MarksValue) (setting : Setting) (journal : List Item)
+come_calm : (control : Control) (setting : Setting) (journal : List Item)
     (switches : List SwitchValue)
     (before after : Travellers) (count row s handled : ℕ) (header : Header) (ports : Ports)
-    → AreTied setting journal switches before count marks → MayPlay setting (PacketStep s header)
+    → AreTied setting journal switches before count control → MayPlay setting (PacketStep s header)
     → AreOwners setting.net.switches ports → s < length switches
-    → get_or switches s (calm_switch setting handled s) ≡ calm_switch setting handled s
+    → get_or switches s (calm_at setting journal handled s) ≡ calm_at setting journal handled s
     → WithOne before (count + 1) (entered_traveller
-    (entry (calm_switch setting handled s) (near_of setting s) ports (count + 1) header)) after
-    → Comes marks setting journal switches after count row s header ports
-    (calm_switch setting handled s) (near_of setting s)
+    (entry (calm_at setting journal handled s) (near_of setting s) ports (count + 1) header)) after
+    → Comes control setting journal switches after count row s header ports
+    (calm_at setting journal handled s) (near_of setting s)
 unfolding AreTied entered
-come_calm marks setting journal switches before after count row s handled header ports tied may
+come_calm control setting journal switches before after count row s handled header ports tied may
     owners there its with =
     let i : ℕ = count + 1 in
-    let own : SwitchValue = calm_switch setting handled s in
+    let own : SwitchValue = calm_at setting journal handled s in
     let at : Standing = coming_in i header s in
     let answer : Entered = entry own (near_of setting s) ports i header in
     let first : Item = item.Row row (PacketStep s header) in
@@ -257,21 +225,23 @@ come_calm marks setting journal switches before after count row s handled header
     played_found setting journal tied.sound tied.played i in
     let unknown : IsUnknown (words_of journal i) =
     played_unknown setting journal tied.sound tied.played i (omega (arith, tied.counted)) in
-    let said = said_law setting s header tied.sound may.own.1 in
+    let said = said_by setting journal s header tied.sound tied.played may.own.1 in
     let comes : IsComing setting at answer =
-    found_goes setting handled ports (incoming own i header)
-    (table_lookup (tables_of (first_plan setting) 1 s) header) owners said in
+    found_goes setting (cache_of setting journal s) handled ports (incoming own i header)
+    (lookup_of (cache_of setting journal s).entries (tables_of (first_plan setting) 1 s) header)
+    owners said in
     let is : piece setting journal row (PacketStep s header) ≡ first ∷ items =
-    piece_calm marks setting journal switches before count row s handled header ports tied may
+    piece_calm control setting journal switches before count row s handled header ports tied may
     owners in
     let once : ComesOnce s items = entered_once at answer in
     let sum = sum_by-cons (λ x. cond (is_packet x) 1 0) first items in (
       is,
-      tied_more marks setting journal switches (set switches s (counted own)) before after count
+      tied_silent control setting journal switches (set switches s (counted own)) before after count
           (count + 1) row (PacketStep s header) items tied (record {
             may = may;
             piece_is = is;
             one_row = once.rows;
+            sends = (entered_sends (next_message journal) at answer).0;
             as_many = length-set switches s (counted own);
             calls = λ q d below.
                 answered setting journal switches s q own d (s == q) refl there its
@@ -281,100 +251,100 @@ come_calm marks setting journal switches before after count row s handled header
             travels = λ q. with q
                 ∙ along setting journal row header at answer before q (q == i) refl unknown
                 unmarked comes (tied.packet q ∙ calm_traveller setting journal calm q);
-          }) (omega (arith, sum, once.one)),
+          }) (omega (arith, sum, once.one)) (entered_sends (next_message journal) at answer).1,
     )
 
 -- its switch is there, and can be asked
-pub come_ready : (marks : MarksValue) (setting : Setting) (journal : List Item)
+pub come_ready : (control : Control) (setting : Setting) (journal : List Item)
     (switches : List SwitchValue) (before : Travellers) (count s : ℕ) (header : Header)
-    → AreTied setting journal switches before count marks → MayPlay setting (PacketStep s header)
+    → AreTied setting journal switches before count control → MayPlay setting (PacketStep s header)
     → s < length switches
 unfolding AreTied
-come_ready marks setting journal switches before count s header tied may =
+come_ready control setting journal switches before count s header tied may =
     omega (arith, may.own.0, tied.many)
 
-own_calm : (marks : MarksValue) (setting : Setting) (journal : List Item)
+own_calm : (control : Control) (setting : Setting) (journal : List Item)
     (switches : List SwitchValue)
     (before : Travellers) (count s : ℕ) (header : Header) (own : SwitchValue)
-    → AreTied setting journal switches before count marks → MayPlay setting (PacketStep s header)
-    → own ≡ get_or switches s own → own ≡ calm_switch setting (handled_count journal s) s
+    → AreTied setting journal switches before count control → MayPlay setting (PacketStep s header)
+    → own ≡ get_or switches s own → own ≡ calm_at setting journal (handled_count journal s) s
 unfolding AreTied
-own_calm marks setting journal switches before count s header own tied may its =
+own_calm control setting journal switches before count s header own tied may its =
     let there : s < length switches = omega (arith, may.own.0, tied.many) in
     its ∙ tied.each s own there
     ∙ calm_switch_of setting journal (played_calm setting journal tied.sound tied.played) s
     may.own.0
 
-pub come_asked : (marks : MarksValue) (setting : Setting) (journal : List Item)
+pub come_asked : (control : Control) (setting : Setting) (journal : List Item)
     (switches : List SwitchValue)
     (before : Travellers) (count s : ℕ) (header : Header) (own : SwitchValue)
-    → AreTied setting journal switches before count marks → MayPlay setting (PacketStep s header)
+    → AreTied setting journal switches before count control → MayPlay setting (PacketStep s header)
     → own ≡ get_or switches s own → CanLookUp own
-come_asked marks setting journal switches before count s header own tied may its =
+come_asked control setting journal switches before count s header own tied may its =
     subst CanLookUp
-    (sym (own_calm marks setting journal switches before count s header own tied may its))
+    (sym (own_calm control setting journal switches before count s header own tied may its))
     (λ serving. refl)
 
 -- its number has 32 bits
-pub come_fits : (marks : MarksValue) (setting : Setting) (journal : List Item)
+pub come_fits : (control : Control) (setting : Setting) (journal : List Item)
     (switches : List SwitchValue)
-    (before : Travellers) (count : ℕ) → AreTied setting journal switches before count marks
+    (before : Travellers) (count : ℕ) → AreTied setting journal switches before count control
     → next_packet journal ≤ 4000000000 → count + 1 ≤ 4000000000
 unfolding AreTied
-come_fits marks setting journal switches before count tied few = omega (arith, tied.counted, few)
+come_fits control setting journal switches before count tied few = omega (arith, tied.counted, few)
 
-pub come_piece : (marks : MarksValue) (setting : Setting) (journal : List Item)
+pub come_piece : (control : Control) (setting : Setting) (journal : List Item)
     (switches : List SwitchValue)
     (before : Travellers) (count row s : ℕ) (header : Header) (ports : Ports)
     (own : SwitchValue) (near : ℕ)
-    → AreTied setting journal switches before count marks → MayPlay setting (PacketStep s header)
+    → AreTied setting journal switches before count control → MayPlay setting (PacketStep s header)
     → AreOwners setting.net.switches ports → near ≡ near_of setting s
     → own ≡ get_or switches s own
     → piece setting journal row (PacketStep s header)
     ≡ item.Row row (PacketStep s header) ∷ entered_items (coming_in (count + 1) header own.number)
     (entry own near ports (count + 1) header)
-come_piece marks setting journal switches before count row s header ports own near tied may owners
+come_piece control setting journal switches before count row s header ports own near tied may owners
     masks its =
     let handled : ℕ = handled_count journal s in
     let P : SwitchValue → ℕ → Type 0 = λ own near. piece setting journal row (PacketStep s header)
     ≡ item.Row row (PacketStep s header) ∷ entered_items (coming_in (count + 1) header own.number)
     (entry own near ports (count + 1) header) in
     subst (λ own. P own near)
-    (sym (own_calm marks setting journal switches before count s header own tied may its))
-    (subst (λ near. P (calm_switch setting handled s) near) (sym masks)
-    (piece_calm marks setting journal switches before count row s handled header ports tied may
+    (sym (own_calm control setting journal switches before count s header own tied may its))
+    (subst (λ near. P (calm_at setting journal handled s) near) (sym masks)
+    (piece_calm control setting journal switches before count row s handled header ports tied may
     owners))
 
-pub come_tied : (marks : MarksValue) (setting : Setting) (journal : List Item)
+pub come_tied : (control : Control) (setting : Setting) (journal : List Item)
     (switches : List SwitchValue)
     (before after : Travellers) (count row s : ℕ) (header : Header) (ports : Ports)
     (own : SwitchValue) (near : ℕ)
-    → AreTied setting journal switches before count marks → MayPlay setting (PacketStep s header)
+    → AreTied setting journal switches before count control → MayPlay setting (PacketStep s header)
     → AreOwners setting.net.switches ports → near ≡ near_of setting s
     → own ≡ get_or switches s own
     → WithOne before (count + 1) (entered_traveller (entry own near ports (count + 1) header)) after
-    → Comes marks setting journal switches after count row s header ports own near
-come_tied marks setting journal switches before after count row s header ports own near tied may
+    → Comes control setting journal switches after count row s header ports own near
+come_tied control setting journal switches before after count row s header ports own near tied may
     owners masks its with =
     let there : s < length switches =
-    come_ready marks setting journal switches before count s header tied may in
+    come_ready control setting journal switches before count s header tied may in
     let handled : ℕ = handled_count journal s in
-    let is : own ≡ calm_switch setting handled s =
-    own_calm marks setting journal switches before count s header own tied may its in
+    let is : own ≡ calm_at setting journal handled s =
+    own_calm control setting journal switches before count s header own tied may its in
     let P : SwitchValue → ℕ → Type 0 = λ own near. get_or switches s own ≡ own
     → WithOne before (count + 1) (entered_traveller (entry own near ports (count + 1) header)) after
-    → Comes marks setting journal switches after count row s header ports own near in
+    → Comes control setting journal switches after count row s header ports own near in
     subst (λ own. P own near) (sym is)
-    (subst (λ near. P (calm_switch setting handled s) near) (sym masks)
-    (come_calm marks setting journal switches before after count row s handled header ports tied may
-    owners there))
+    (subst (λ near. P (calm_at setting journal handled s) near) (sym masks)
+    (come_calm control setting journal switches before after count row s handled header ports tied
+    may owners there))
     (sym its) with
 
-pub come_kept : {T E : Type 0} (r : Result T E) (marks : MarksValue) (setting : Setting)
+pub come_kept : {T E : Type 0} (r : Result T E) (control : Control) (setting : Setting)
     (journal begun new : List Item)
     (switches : List SwitchValue) (before after : Travellers) (count row s : ℕ) (header : Header)
     (ports : Ports) (own changed : SwitchValue) (near : ℕ)
-    → AreTied setting journal switches before count marks → MayPlay setting (PacketStep s header)
+    → AreTied setting journal switches before count control → MayPlay setting (PacketStep s header)
     → AreOwners setting.net.switches ports → near ≡ near_of setting s
     → own ≡ get_or switches s own → changed ≡ counted own
     → begun ≡ journal ++ item.Row row (PacketStep s header) ∷ []
@@ -382,17 +352,17 @@ pub come_kept : {T E : Type 0} (r : Result T E) (marks : MarksValue) (setting : 
     (entry own near ports (count + 1) header))
     → OnOk r (WithOne before (count + 1)
     (entered_traveller (entry own near ports (count + 1) header)) after)
-    → OnOk r (AreTied setting new (set switches s changed) after (count + 1) marks)
-come_kept r marks setting journal begun new switches before after count row s header ports own
+    → OnOk r (AreTied setting new (set switches s changed) after (count + 1) control)
+come_kept r control setting journal begun new switches before after count row s header ports own
     changed near tied may owners masks its changed_is row_is written travels =
     let first : Item = item.Row row (PacketStep s header) in
     let items : List Item = entered_items (coming_in (count + 1) header own.number)
     (entry own near ports (count + 1) header) in
     both_ok r (λ grown with.
-    subst (λ js. AreTied setting js (set switches s changed) after (count + 1) marks)
+    subst (λ js. AreTied setting js (set switches s changed) after (count + 1) control)
     (sym (grown_more journal begun new items first row_is grown))
     (subst (λ one. AreTied setting (journal ++ first ∷ items) (set switches s one) after
-    (count + 1) marks)
+    (count + 1) control)
     (sym changed_is)
-    (come_tied marks setting journal switches before after count row s header ports own near tied
+    (come_tied control setting journal switches before after count row s header ports own near tied
     may owners masks its with).1)) written travels

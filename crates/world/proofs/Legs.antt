@@ -16,6 +16,7 @@ use Rattle.switch_core.specs.Ends.{are_isolated, cause_of, set_out}
 use Rattle.switch_core.specs.declared.packet.Packet.{Packet}
 use Rattle.tunnel.specs.Moves.{begun}
 use Rattle.tunnel.specs.Tunnel.{TunnelValue}
+use Rattle.switch_table.specs.Cache.{CacheValue}
 use Rattle.update_machine.specs.Adverts.{is_cut_off, route_from}
 use Rattle.update_machine.specs.Links.{near}
 use Rattle.update_machine.specs.Moves.{cause_at, leg_items, takes_route}
@@ -35,12 +36,13 @@ abbrev pub near_of : Setting → ℕ → ℕ
 near_of setting s = links_of setting.net.links s
 
 cause_law : (setting : Setting) (journal : List Item) (calm : IsCalm setting journal)
-    → (s handled : ℕ) → s < length setting.net.switches → (down : List ℕ) (leg : Leg)
+    → (cache : CacheValue) (s handled : ℕ) → s < length setting.net.switches
+    → (down : List ℕ) (leg : Leg)
     → cause_at setting journal s down leg
-    ≡ cause_of (calm_switch setting handled s) (near_of setting s) down leg
+    ≡ cause_of (calm_switch setting cache handled s) (near_of setting s) down leg
     (first_targets setting leg)
 unfolding cause_of are_isolated is_cut_off
-cause_law setting journal calm s handled there down (Seek version partition) =
+cause_law setting journal calm cache s handled there down (Seek version partition) =
     let leg : Leg = Seek version partition in
     let why : Bool → Cause = λ b. if b then NoAuthority else NoRoute in
     ap (λ targets. why (list_all (is_cut_off setting journal s down) targets))
@@ -51,10 +53,10 @@ cause_law setting journal calm s handled there down (Seek version partition) =
     ∙ ap (λ mask. why (list_all
     (λ target. is_isolated (adverts_at_first setting) s target mask down)
     (first_targets setting leg))) (calm.near s)
-cause_law setting journal calm s handled there down (Exit port) = refl
+cause_law setting journal calm cache s handled there down (Exit port) = refl
 
 pub leg_law : (setting : Setting) (journal : List Item) → IsCalm setting journal
-    → (s handled : ℕ) → s < length setting.net.switches
+    → (cache : CacheValue) (s handled : ℕ) → s < length setting.net.switches
     → (packet : Packet) → found_down journal packet.number ≡ packet.down → (leg : Leg)
     → leg_items setting journal packet.number s leg
     ≡ set_item (record {
@@ -62,10 +64,10 @@ pub leg_law : (setting : Setting) (journal : List Item) → IsCalm setting journ
       header = packet.header;
       switch = s;
       down = packet.down;
-    }) leg (set_out (calm_switch setting handled s) (near_of setting s) packet leg
+    }) leg (set_out (calm_switch setting cache handled s) (near_of setting s) packet leg
     (first_targets setting leg)) ∷ []
 unfolding leg_items set_out
-leg_law setting journal calm s handled there packet found leg =
+leg_law setting journal calm cache s handled there packet found leg =
     let by : Cause → List ℕ → Option (List ℕ) → List Item = λ cause down route. elim route [
       | None ↦ item.Stuck packet.number s cause leg down ∷ []
       | Some way ↦ takes_route packet.number leg way ∷ []
@@ -78,8 +80,8 @@ leg_law setting journal calm s handled there packet found leg =
     (calm.route s (first_targets setting leg) packet.down there)
     ∙ ap (λ cause. by cause packet.down (route_of (adverts_at_first setting) s
     (first_targets setting leg) (near_of setting s) packet.down))
-    (cause_law setting journal calm s handled there packet.down leg)
-    ∙ by_route (cause_of (calm_switch setting handled s) (near_of setting s) packet.down leg
+    (cause_law setting journal calm cache s handled there packet.down leg)
+    ∙ by_route (cause_of (calm_switch setting cache handled s) (near_of setting s) packet.down leg
     (first_targets setting leg))
     (route_of (adverts_at_first setting) s (first_targets setting leg)
     (near_of setting s) packet.down)

@@ -24,8 +24,16 @@ pub mod Asking
 pub mod Arrivals
 pub mod HopTie
 pub mod Goings
+pub mod Later
 pub mod Incoming
 pub mod OverParts
 pub mod TestWorlds
 pub mod Marked
+pub mod Posting
+pub mod OneItem
+pub mod Delivering
+pub mod Expiring
 pub mod Tables
+pub mod Filling
+pub mod LeastHops
+pub mod LeastWaiting

@@ -11,14 +11,13 @@ use Rattle.update_machine.specs.Packets.{travels}
 use Rattle.update_machine.specs.Pieces.{lose_items, nothing, piece}
 use Rattle.update_machine.specs.Played.{MayPlay}
 use Rattle.update_machine.specs.Setting.{Setting}
-use Rattle.version_update.specs.Marks.{MarksValue}
 use Rattle.packet_laws.specs.Calm.{IsCalm}
 use Rattle.packet_laws.specs.Words.{words_of}
 use Rattle.packet_laws.proofs.Words.{words_grow}
-use Rattle.world.specs.State.{AreTied, traveller_in}
+use Rattle.world.specs.State.{AreTied, Control, traveller_in}
 use Rattle.world.specs.Travelling.{Travellers, WithOne, traveller}
 use Rattle.world.proofs.Played.{played_calm}
-use Rattle.world.proofs.Tying.{idle, tied_more}
+use Rattle.world.proofs.Tying.{idle, tied_silent}
 use Rattle.world.proofs.Words.{calm_traveller, traveller_by, words_along}
 
 -- a row tells nothing of a packet
@@ -64,15 +63,15 @@ gone setting journal row i q true is = let same : (i == q) ≡ true = grind (ari
 gone setting journal row i q false is = let other : (i == q) ≡ false = grind (arith, nat_tests) in
     rw other refl
 
-pub lost : (marks : MarksValue) (setting : Setting) (journal : List Item)
+pub lost : (control : Control) (setting : Setting) (journal : List Item)
     (switches : List SwitchValue) (before after : Travellers) (count row i : ℕ)
-    → AreTied setting journal switches before count marks → MayPlay setting (Lose i)
+    → AreTied setting journal switches before count control → MayPlay setting (Lose i)
     → is_some (traveller before i) ≡ true → WithOne before i None after
     → (piece setting journal row (Lose i) ≡ item.Row row (Lose i) ∷ item.Lost i ∷ [])
     × AreTied setting (journal ++ item.Row row (Lose i) ∷ item.Lost i ∷ []) switches after count
-    marks
+    control
 unfolding AreTied
-lost marks setting journal switches before after count row i tied may travelling without =
+lost control setting journal switches before after count row i tied may travelling without =
     let calm : IsCalm setting journal = played_calm setting journal tied.sound tied.played in
     let on : travels journal i ≡ true =
     sym (ap is_some (tied.packet i) ∙ travels_as setting journal i) ∙ travelling in
@@ -80,18 +79,19 @@ lost marks setting journal switches before after count row i tied may travelling
     lose_piece setting journal row i
     ∙ ap (λ b. item.Row row (Lose i) ∷ (if b then item.Lost i ∷ [] else nothing)) on in (
       is,
-      tied_more marks setting journal switches switches before after count count row (Lose i)
+      tied_silent control setting journal switches switches before after count count row (Lose i)
           (item.Lost i ∷ []) tied (record {
             may = may;
             piece_is = is;
             one_row = (tt, tt);
+            sends = tt;
             as_many = refl;
             calls = λ s d there. idle setting journal switches s d (tied.each s d there);
             travels = λ q. without q
                 ∙ ap (λ x. if q == i then None else x)
                 (tied.packet q ∙ calm_traveller setting journal calm q)
                 ∙ gone setting journal row i q (q == i) refl;
-          }) (omega arith),
+          }) (omega arith) refl,
     )
 
 -- of a packet that didn't travel, nothing changes
@@ -105,15 +105,15 @@ stayed setting journal row i q true is off = let same : travels journal q ≡ fa
     ap (travels journal) (eqb-true _ _ is) ∙ off in rw same refl
 stayed setting journal row i q false is off = refl
 
-pub not_lost : (marks : MarksValue) (setting : Setting) (journal : List Item)
+pub not_lost : (control : Control) (setting : Setting) (journal : List Item)
     (switches : List SwitchValue) (before after : Travellers) (count row i : ℕ)
-    → AreTied setting journal switches before count marks → MayPlay setting (Lose i)
+    → AreTied setting journal switches before count control → MayPlay setting (Lose i)
     → is_some (traveller before i) ≡ false → WithOne before i None after
     → (piece setting journal row (Lose i) ≡ item.Row row (Lose i) ∷ item.Nothing ∷ [])
     × AreTied setting (journal ++ item.Row row (Lose i) ∷ item.Nothing ∷ []) switches after count
-    marks
+    control
 unfolding AreTied
-not_lost marks setting journal switches before after count row i tied may resting without =
+not_lost control setting journal switches before after count row i tied may resting without =
     let calm : IsCalm setting journal = played_calm setting journal tied.sound tied.played in
     let off : travels journal i ≡ false =
     sym (ap is_some (tied.packet i) ∙ travels_as setting journal i) ∙ resting in
@@ -121,50 +121,52 @@ not_lost marks setting journal switches before after count row i tied may restin
     lose_piece setting journal row i
     ∙ ap (λ b. item.Row row (Lose i) ∷ (if b then item.Lost i ∷ [] else nothing)) off in (
       is,
-      tied_more marks setting journal switches switches before after count count row (Lose i)
+      tied_silent control setting journal switches switches before after count count row (Lose i)
           (item.Nothing ∷ []) tied (record {
             may = may;
             piece_is = is;
             one_row = (tt, tt);
+            sends = tt;
             as_many = refl;
             calls = λ s d there. idle setting journal switches s d (tied.each s d there);
             travels = λ q. without q
                 ∙ ap (λ x. if q == i then None else x)
                 (tied.packet q ∙ calm_traveller setting journal calm q)
                 ∙ stayed setting journal row i q (q == i) refl off;
-          }) (omega arith),
+          }) (omega arith) refl,
     )
 
 -- ---- the step
 
-pub lost_written : (marks : MarksValue) (setting : Setting) (journal new : List Item)
+pub lost_written : (control : Control) (setting : Setting) (journal new : List Item)
     (switches : List SwitchValue) (before after : Travellers) (count row i : ℕ)
-    → AreTied setting journal switches before count marks → MayPlay setting (Lose i)
+    → AreTied setting journal switches before count control → MayPlay setting (Lose i)
     → is_some (traveller before i) ≡ true → WithOne before i None after
     → new ≡ journal ++ item.Row row (Lose i) ∷ [] ++ item.Lost i ∷ []
     → (new ≡ journal ++ piece setting journal row (Lose i))
-    × AreTied setting new switches after count marks
-lost_written marks setting journal new switches before after count row i tied may travelling without
+    × AreTied setting new switches after count control
+lost_written control setting journal new switches before after count row i tied may travelling
+    without
     is =
-    let both = lost marks setting journal switches before after count row i tied may travelling
+    let both = lost control setting journal switches before after count row i tied may travelling
     without in
     let all : new ≡ journal ++ item.Row row (Lose i) ∷ item.Lost i ∷ [] =
     is ∙ append_assoc journal (item.Row row (Lose i) ∷ []) (item.Lost i ∷ []) in
-    let P : List Item → Type 0 = λ js. AreTied setting js switches after count marks in
+    let P : List Item → Type 0 = λ js. AreTied setting js switches after count control in
     (all ∙ ap (λ items. journal ++ items) (sym both.0), subst P (sym all) both.1)
 
-pub not_lost_written : (marks : MarksValue) (setting : Setting) (journal new : List Item)
+pub not_lost_written : (control : Control) (setting : Setting) (journal new : List Item)
     (switches : List SwitchValue) (before after : Travellers) (count row i : ℕ)
-    → AreTied setting journal switches before count marks → MayPlay setting (Lose i)
+    → AreTied setting journal switches before count control → MayPlay setting (Lose i)
     → is_some (traveller before i) ≡ false → WithOne before i None after
     → new ≡ journal ++ item.Row row (Lose i) ∷ [] ++ item.Nothing ∷ []
     → (new ≡ journal ++ piece setting journal row (Lose i))
-    × AreTied setting new switches after count marks
-not_lost_written marks setting journal new switches before after count row i tied may resting
+    × AreTied setting new switches after count control
+not_lost_written control setting journal new switches before after count row i tied may resting
     without is =
-    let both = not_lost marks setting journal switches before after count row i tied may resting
+    let both = not_lost control setting journal switches before after count row i tied may resting
     without in
     let all : new ≡ journal ++ item.Row row (Lose i) ∷ item.Nothing ∷ [] =
     is ∙ append_assoc journal (item.Row row (Lose i) ∷ []) (item.Nothing ∷ []) in
-    let P : List Item → Type 0 = λ js. AreTied setting js switches after count marks in
+    let P : List Item → Type 0 = λ js. AreTied setting js switches after count control in
     (all ∙ ap (λ items. journal ++ items) (sym both.0), subst P (sym all) both.1)

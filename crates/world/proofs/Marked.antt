@@ -15,7 +15,7 @@ use Rattle.update_machine.proofs.CallerLemmas.{controller_keeps, start_laws}
 use Rattle.version_update.specs.Marks.{MarksValue, first_marks, record_of}
 use Rattle.version_update.specs.Record.{first_record, has_acked, no_switch}
 use Rattle.version_update.specs.declared.record.SwitchRecord.{SwitchRecord}
-use Rattle.packet_laws.proofs.Calm.{Alone, apart_controller, have_map}
+use Rattle.packet_laws.proofs.Calm.{Alone, alone_map, apart_controller}
 use Rattle.world.specs.Marks.{AreMarksOf, IsKnown}
 use Rattle.world.proofs.Played.{played_alone}
 
@@ -60,11 +60,13 @@ have_rest cause before (x ∷ xs) ys have =
 
 -- what such a step writes doesn't concern the controller
 pub apart_played : (setting : Setting) (journal items : List Item) → IsSetting setting
-    → IsPlayed setting (journal ++ items) → NoneConcern concerns_controller journal items
-apart_played setting journal items sound played =
-    have_map Alone (λ before item. IsFalse (concerns_controller before item)) apart_controller
-    journal items
-    (have_rest Alone [] journal items (played_alone setting (journal ++ items) sound played))
+    → IsPlayed setting journal → IsPlayed setting (journal ++ items)
+    → NoneConcern concerns_controller journal items
+apart_played setting journal items sound before played =
+    alone_map setting (λ before item. IsFalse (concerns_controller before item))
+    (apart_controller setting) journal items (played_alone setting journal sound before)
+    (have_rest (Alone setting) [] journal items (played_alone setting (journal ++ items) sound
+    played))
 
 -- ---- the start
 

@@ -11,12 +11,11 @@ use Rattle.switch_core.specs.Moving.{found_down}
 use Rattle.switch_core.specs.State.{SwitchValue}
 use Rattle.tunnel.specs.Moves.{here, next}
 use Rattle.update_machine.specs.Setting.{Setting}
-use Rattle.version_update.specs.Marks.{MarksValue}
 use Rattle.packet_laws.specs.Calm.{IsCalm}
 use Rattle.packet_laws.specs.OnWay.{IsOnWay}
 use Rattle.packet_laws.specs.Words.{PacketWords, words_of}
 use Rattle.packet_laws.proofs.Blocks.{joined_on}
-use Rattle.world.specs.State.{AreTied}
+use Rattle.world.specs.State.{AreTied, Control}
 use Rattle.world.specs.Travelling.{Travellers, traveller}
 use Rattle.world.specs.declared.travelling.Traveller.{Traveller}
 use Rattle.world.proofs.Legs.{near_of}
@@ -73,12 +72,12 @@ pub record IsStanding (setting : Setting) (journal : List Item) (i : ℕ) (t : T
     pub is : t ≡ on_leg setting i (words_of journal i) way.under_way.header
         way.under_way.ingress way.leg
 
-pub standing_of : (marks : MarksValue) (setting : Setting) (journal : List Item)
+pub standing_of : (control : Control) (setting : Setting) (journal : List Item)
     (switches : List SwitchValue) (before : Travellers) (count i : ℕ) (t : Traveller)
-    → AreTied setting journal switches before count marks → traveller before i ≡ Some t
+    → AreTied setting journal switches before count control → traveller before i ≡ Some t
     → IsStanding setting journal i t
 unfolding AreTied words_of
-standing_of marks setting journal switches before count i t tied its =
+standing_of control setting journal switches before count i t tied its =
     let calm : IsCalm setting journal = played_calm setting journal tied.sound tied.played in
     let by : traveller_by setting i (words_of journal i) ≡ Some t =
     sym (tied.packet i ∙ calm_traveller setting journal calm i) ∙ its in
@@ -130,10 +129,10 @@ usable_here setting journal i t near standing is =
     way.under_way.place two way.stands
     (sym (next_of_words setting journal i t standing) ∙ goes)))
 
-pub number_of_packet : (marks : MarksValue) (setting : Setting) (journal : List Item)
+pub number_of_packet : (control : Control) (setting : Setting) (journal : List Item)
     (switches : List SwitchValue) (before : Travellers) (count i : ℕ) (t : Traveller)
-    → AreTied setting journal switches before count marks → traveller before i ≡ Some t
+    → AreTied setting journal switches before count control → traveller before i ≡ Some t
     → t.tunnel.packet ≡ i
-number_of_packet marks setting journal switches before count i t tied its =
+number_of_packet control setting journal switches before count i t tied its =
     ap (λ (u : Traveller). u.tunnel.packet)
-    (standing_of marks setting journal switches before count i t tied its).is
+    (standing_of control setting journal switches before count i t tied its).is

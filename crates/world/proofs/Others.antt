@@ -1,6 +1,7 @@
 -- What a switch's answer to one packet says of all others: nothing.
 use Rattle.std.specs.Prelude.{⊤}
-use Rattle.std.proofs.Common.{ℕ, ◌≡◌, ◌==◌, false, List, [], ◌∷◌, ◌++◌, refl}
+use Rattle.std.proofs.Common.{ℕ, ◌≡◌, ◌==◌, false, if◌then◌else◌, Option, Some, None, List, [], ◌∷◌, ◌++◌, refl, ap, sym, ◌∙◌, append-nil, append_assoc}
+use Rattle.ctrl_msg.specs.declared.message.Message.{Message}
 use Rattle.policy_rules.specs.declared.packet.Leg.{Leg}
 use Rattle.policy_rules.specs.declared.packet.Leg.TheVariants.{Seek, Exit}
 use Rattle.journal.specs.declared.item.Item.{Item}
@@ -11,9 +12,11 @@ use Rattle.switch_core.specs.declared.answers.Entered.{Entered}
 use Rattle.switch_core.specs.declared.answers.Entered.TheVariants as entered
 use Rattle.switch_core.specs.declared.answers.Next.{Next}
 use Rattle.switch_core.specs.declared.answers.Next.TheVariants as next
+use Rattle.update_machine.specs.Marks.{retired_mark}
+use Rattle.update_machine.specs.Messages.{sent_from}
 use Rattle.update_machine.specs.Moves.{takes_route}
-use Rattle.packet_laws.specs.Words.{PacketWords, names}
-use Rattle.world.specs.Writing.{arrived_items, end_of, entered_items}
+use Rattle.packet_laws.specs.Words.{PacketWords, names, told_by}
+use Rattle.world.specs.Writing.{arrived_items, cache_message, end_of, entered_items, messages_in}
 use Rattle.world.specs.declared.log.Standing.{Standing}
 use Rattle.world.specs.declared.travelling.Traveller.{Traveller}
 use Rattle.world.proofs.Words.{words_along}
@@ -28,6 +31,30 @@ pub unnamed : (i : ℕ) (before items : List Item) (words : PacketWords) → Non
 unnamed i before [] words none = refl
 unnamed i before (first ∷ items) words none =
     rw none.0 (unnamed i (before ++ first ∷ []) items words none.1)
+
+-- so what stands behind them says what it says right away
+pub unnamed_first : (i : ℕ) (before first items : List Item) (words : PacketWords)
+    → NoneName i first
+    → words_along i before (first ++ items) words ≡ words_along i (before ++ first) items words
+unnamed_first i before [] items words none =
+    ap (λ js. words_along i js items words) (sym (append-nil before))
+unnamed_first i before (one ∷ first) items words none =
+    ap (λ b. words_along i (before ++ one ∷ []) (first ++ items)
+    (if b then told_by (retired_mark before) one words else words)) none.0
+    ∙ unnamed_first i (before ++ one ∷ []) first items words none.1
+    ∙ ap (λ js. words_along i js items words) (append_assoc before (one ∷ []) first)
+
+none_more : (i : ℕ) (first items : List Item) → NoneName i first → NoneName i items
+    → NoneName i (first ++ items)
+none_more i [] items none more = more
+none_more i (one ∷ first) items none more = (none.0, none_more i first items none.1 more)
+
+-- messages name no packet
+pub sends_unnamed : (i number : ℕ) (message : Option Message)
+    → NoneName i (sent_from number (messages_in message))
+unfolding sent_from
+sends_unnamed i number None = tt
+sends_unnamed i number (Some message) = (refl, tt)
 
 route_other : (q i : ℕ) (leg : Leg) (route : List ℕ) → (i == q) ≡ false
     → names q (takes_route i leg route) ≡ false
@@ -51,11 +78,17 @@ entered_other q at (entered.Seek tunnel) other =
     (other, (route_other q at.packet tunnel.leg tunnel.route other, tt))
 entered_other q at (entered.Stuck cause leg) other = (other, (other, tt))
 
-pub arrived_other : (q : ℕ) (at : Standing) (traveller : Traveller) (answer : Arrived)
-    → (at.packet == q) ≡ false → NoneName q (arrived_items at traveller answer)
-arrived_other q at traveller (arrived.Out port) other = (other, tt)
-arrived_other q at traveller (arrived.Decided decision cache onward) other =
-    (other, (end_other q at decision onward other, tt))
-arrived_other q at traveller (arrived.Seek tunnel) other =
+pub arrived_other : (q number : ℕ) (at : Standing) (traveller : Traveller) (answer : Arrived)
+    → (at.packet == q) ≡ false → NoneName q (arrived_items number at traveller answer)
+arrived_other q number at traveller (arrived.Out port) other = (other, tt)
+arrived_other q number at traveller (arrived.Decided decision cache onward) other = (
+  other,
+  none_more q
+      (sent_from number (messages_in (cache_message traveller.tunnel.ingress cache)))
+      (end_of at decision onward ∷ [])
+      (sends_unnamed q number (cache_message traveller.tunnel.ingress cache))
+      (end_other q at decision onward other, tt),
+)
+arrived_other q number at traveller (arrived.Seek tunnel) other =
     (route_other q at.packet tunnel.leg tunnel.route other, tt)
-arrived_other q at traveller (arrived.Stuck cause leg) other = (other, tt)
+arrived_other q number at traveller (arrived.Stuck cause leg) other = (other, tt)

@@ -1,10 +1,11 @@
 -- The actions of the first plan's rules name ports that switches have.
-use Rattle.std.proofs.Common.{ℕ, ◌≡◌, ◌<◌, ◌^◌, Option, Some, None, List, [], ◌∷◌, refl, subst, length, map, find, filter, get_or, arith, All}
-use Rattle.std.specs.Prelude.{is_some, option_map}
+use Rattle.std.proofs.Common.{ℕ, ◌≡◌, ◌<◌, ◌^◌, ◌==◌, Option, Some, None, List, [], ◌∷◌, refl, ap, sym, subst, ◌∙◌, length, map, find, filter, get_or, arith, All}
+use Rattle.std.specs.Prelude.{◌&&◌, is_some, option_map}
 use Rattle.std.specs.Bool.{IsTrue}
-use Rattle.std.specs.Option.{IsSomeAnd}
+use Rattle.std.specs.Option.{IsSomeAnd, option_map_or}
+use Rattle.std.proofs.lemmas.Bool.{and_parts}
 use Rattle.std.proofs.lemmas.List.Elements.{All-contains, All-filter, All-nil}
-use Rattle.five_tuple.specs.Header.{IsHeader, fields_of}
+use Rattle.five_tuple.specs.Header.{IsHeader, fields_of, number_of}
 use Rattle.five_tuple.specs.declared.header.Header.{Header}
 use Rattle.net_file.specs.Net.{owner_of}
 use Rattle.policy_rules.specs.Policy.{hit_of, is_highest, row_matches, scan}
@@ -19,14 +20,18 @@ use Rattle.policy_rules.specs.Partitions.{is_in}
 use Rattle.policy_rules.specs.declared.rules.Partition.{Partition}
 use Rattle.switch_core.specs.Deciding.{IsFirstHit, IsFound, own_part}
 use Rattle.switch_core.proofs.Held.{lookup_is_found}
-use Rattle.switch_table.specs.Lookup.{Leads, plan_lookup, rule_at, table_lookup}
+use Rattle.switch_table.specs.Cache.{first_entry}
+use Rattle.switch_table.specs.Lookup.{Leads, lookup_of, plan_lookup, rule_at, table_lookup}
 use Rattle.switch_table.specs.Tables.{AreSoundTables, Placed, part_of, tables_of}
+use Rattle.switch_table.specs.declared.cache.CacheEntry.{CacheEntry}
 use Rattle.switch_table.specs.declared.search.Found.{Found}
 use Rattle.switch_table.specs.declared.search.Found.TheVariants as found
 use Rattle.switch_table.proofs.TableLemmas.{find-there, tables_are_sound, tables_lead, tables_planned}
+use Rattle.ternary.specs.Word.{holds}
+use Rattle.journal.specs.declared.item.Item.{Item}
 use Rattle.update_machine.specs.Played.{IsSetting, NamesOwnPort}
 use Rattle.update_machine.specs.Setting.{Setting, policy_of_file}
-use Rattle.packet_laws.specs.Calm.{first_plan}
+use Rattle.packet_laws.specs.Calm.{IsCalm, IsRightEntry, first_plan}
 use Rattle.world.proofs.Ends.{HasOwner}
 use Rattle.world.proofs.Entering.{IsSaid}
 use Rattle.world.proofs.Plans.{first_plan_holds, has_targets}
@@ -130,3 +135,26 @@ said_law setting s header is sound =
     (tables_lead rows plan 1 s header holds.sound (has_targets rows setting.net plan holds) sound)
     (lookup_is_found [] (tables_of plan 1 s) header good sound)
     (tables_planned rows plan 1 s header holds.sound sound)
+
+-- or a cached rule, whose action is that of a row of the first policy
+pub looked_law : (setting : Setting) (journal : List Item) (s : ℕ) (header : Header)
+    (entries : List CacheEntry) → IsSetting setting → IsHeader header → IsCalm setting journal
+    → All (IsRightEntry setting journal) entries
+    → IsSaid setting s (lookup_of entries (tables_of (first_plan setting) 1 s) header)
+looked_law setting journal s header entries is sound calm right =
+    by_entry (first_entry 1 (number_of header) entries) refl
+  where
+    by_entry : (held : Option CacheEntry) → first_entry 1 (number_of header) entries ≡ held
+        → IsSaid setting s (option_map_or found.Cached held
+        (table_lookup (tables_of (first_plan setting) 1 s) header))
+    by_entry None none = said_law setting s header is sound
+    by_entry (Some entry) first =
+        let there = find-there (λ (entry : CacheEntry).
+        (entry.version == 1) && holds entry.word (number_of header)) entries entry first in
+        let rule : IsRightEntry setting journal entry =
+        All-contains (IsRightEntry setting journal) entries entry right there.0 in
+        subst (λ (hit : Hit). HasOwner setting hit.action)
+        (sym (ap (λ rows. scan rows header) (calm.policy entry.version))
+        ∙ rule.decides header sound (and_parts _ _ there.1).1)
+        (scan_named setting (policy_of_file setting 1) header
+        (first_names setting setting.policies is.ports))

@@ -14,7 +14,7 @@ use Rattle.packet_laws.proofs.Kept.{unknown}
 use Rattle.packet_laws.proofs.Played as laws
 
 pub played_alone : (setting : Setting) (journal : List Item) → IsSetting setting
-    → IsPlayed setting journal → HasPacketsAlone journal
+    → IsPlayed setting journal → HasPacketsAlone setting journal
 played_alone setting journal sound played = laws.played_alone setting journal sound played
 
 pub played_on_way : (setting : Setting) (journal : List Item) → IsSetting setting

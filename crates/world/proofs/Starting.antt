@@ -20,6 +20,8 @@ use Rattle.packet_laws.specs.Calm.{IsCalm, first_plan}
 use Rattle.packet_laws.proofs.Calm.{calm}
 use Rattle.world.specs.Marks.{AreMarksOf}
 use Rattle.world.specs.State.{AreTied, switch_begun, traveller_in}
+use Rattle.update_machine.proofs.CallerLemmas.{start_laws}
+use Rattle.world.proofs.Posting.{bag_begun}
 use Rattle.world.proofs.Calmness.{calm_switch_of}
 use Rattle.world.proofs.Marked.{marks_begun}
 
@@ -54,7 +56,8 @@ pub begun_tied : (net : Net) (policies : List (List Row)) (plan : List Placed)
     → plan_of (get_or policies 0 []) net ≡ Ok plan
     → switches ≡ map (switch_begun net plan) (range_with_len 0 (length net.switches))
     → marks ≡ first_marks (length net.switches)
-    → AreTied (setting_of net policies) [] switches [] 0 marks
+    → AreTied (setting_of net policies) [] switches [] 0
+    (record { marks = marks; posts = [] })
 unfolding AreTied traveller_in travels next_packet
 begun_tied net policies plan switches marks sound some rows ports is made marked =
     let setting : Setting = setting_of net policies in
@@ -76,8 +79,13 @@ begun_tied net policies plan switches marks sound some rows ports is made marked
           ap (λ all. get_or all s d) made
           ∙ get_or-map-range_with_len (switch_begun net plan) 0 (length net.switches) s s d own
           (omega arith)
-          ∙ sym (calm_switch_of setting [] quiet s own ∙ rw (none_handled s, first) refl);
+          ∙ sym (calm_switch_of setting [] quiet s own ∙ rw (
+            start_laws.cache setting s,
+            none_handled s,
+            first,
+          ) refl);
       packet = λ i. refl;
       counted = refl;
       marks = subst (AreMarksOf setting []) (sym marked) (marks_begun setting);
+      bag = bag_begun;
     }

@@ -1,5 +1,6 @@
 -- What becomes of the journal and of the packets on their way as a packet comes in or moves on.
 use Rattle.std.specs.Prelude.{ℕ, Option, Some, None, List, [], ◌∷◌}
+use Rattle.bag.specs.Posts.{Post}
 use Rattle.failover.specs.DownSet.{no_links}
 use Rattle.five_tuple.specs.declared.header.Header.{Header}
 use Rattle.journal.specs.declared.item.Item.{Item}
@@ -11,7 +12,7 @@ use Rattle.switch_core.specs.Entering.{entered, incoming}
 use Rattle.switch_core.specs.State.{SwitchValue, counted}
 use Rattle.switch_core.specs.declared.answers.Entered.{Entered}
 use Rattle.world.specs.Travelling.{moved_on}
-use Rattle.world.specs.Writing.{arrived_items, arrived_traveller}
+use Rattle.world.specs.Writing.{arrived_items, arrived_posts, arrived_traveller}
 use Rattle.world.specs.declared.log.Standing.{Standing}
 use Rattle.world.specs.declared.travelling.Traveller.{Traveller}
 
@@ -38,20 +39,30 @@ standing_at switch traveller = record {
   down = traveller.tunnel.down;
 }
 
--- what its arrival writes, and where it is then
-unfoldable pub arrival_items : SwitchValue → ℕ → Ports → Traveller → List Item
-arrival_items s near ports traveller =
-    arrived_items (standing_at s.number traveller) traveller
+-- what its arrival writes where the next message has this number, what it posts, and where the
+-- packet is then
+unfoldable pub arrival_items : ℕ → SwitchValue → ℕ → Ports → Traveller → List Item
+arrival_items number s near ports traveller =
+    arrived_items number (standing_at s.number traveller) traveller
     (arrived s (around near ports) traveller.tunnel)
+
+unfoldable pub arrival_posts : SwitchValue → ℕ → Ports → Traveller → List Post
+arrival_posts s near ports traveller =
+    arrived_posts traveller (arrived s (around near ports) traveller.tunnel)
 
 unfoldable pub arrival : SwitchValue → ℕ → Ports → Traveller → Option Traveller
 arrival s near ports traveller =
     arrived_traveller traveller (arrived s (around near ports) traveller.tunnel)
 
 -- over a link that is usable, or at the end of its route
-abbrev pub hop_items : SwitchValue → ℕ → Ports → Traveller → Option ℕ → List Item
-hop_items s near ports traveller None = arrival_items s near ports traveller
-hop_items s near ports traveller (Some other) = item.Hopped traveller.tunnel.packet other ∷ []
+abbrev pub hop_items : ℕ → SwitchValue → ℕ → Ports → Traveller → Option ℕ → List Item
+hop_items number s near ports traveller None = arrival_items number s near ports traveller
+hop_items number s near ports traveller (Some other) =
+    item.Hopped traveller.tunnel.packet other ∷ []
+
+abbrev pub hop_posts : SwitchValue → ℕ → Ports → Traveller → Option ℕ → List Post
+hop_posts s near ports traveller None = arrival_posts s near ports traveller
+hop_posts s near ports traveller (Some other) = []
 
 abbrev pub hop_traveller : SwitchValue → ℕ → Ports → Traveller → Option ℕ → Option Traveller
 hop_traveller s near ports traveller None = arrival s near ports traveller

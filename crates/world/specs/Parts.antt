@@ -3,7 +3,7 @@ use Rattle.std.specs.Prelude.{◌≡◌, Bool, false}
 use Rattle.net_file.specs.Net.{IsNet}
 use Rattle.net_file.specs.Owners.{AreOwners}
 use Rattle.update_machine.specs.Setting.{Setting, setting_of}
-use Rattle.world.specs.State.{AreNear, AreTied, WorldValue}
+use Rattle.world.specs.State.{AreNear, AreTied, Control, WorldValue}
 use Rattle.world.specs.declared.parts.Parts.{Parts}
 
 abbrev pub setting_in : Parts → Setting
@@ -15,11 +15,14 @@ pub record AreSound (parts : Parts) : Type 0 where
   pub owners : AreOwners parts.net.switches parts.ports
   pub masks : AreNear parts.net parts.near
 
+abbrev pub control_in : Parts → Control
+control_in parts = record { marks = parts.controller.marks; posts = parts.log.bag }
+
 -- the parts are as their journal says
 abbrev pub AreTiedIn : Parts → Type 0
 AreTiedIn parts =
     AreTied (setting_in parts) parts.log.journal parts.switches.items parts.log.travelling
-    parts.packets parts.controller.marks
+    parts.packets (control_in parts)
 
 -- the network, the policies and the controller stay, and what is told of them
 pub record KeepNet (before after : Parts) : Type 0 where
@@ -36,6 +39,7 @@ value_of parts is_spent = record {
   journal = parts.log.journal;
   switches = parts.switches.items;
   travelling = parts.log.travelling;
+  bag = parts.log.bag;
   packets = parts.packets;
   controller = parts.controller;
   is_spent = is_spent;

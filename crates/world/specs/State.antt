@@ -2,6 +2,7 @@
 -- packet that travels is on its way.
 use Rattle.std.specs.Prelude.{ℕ, ◌≡◌, ◌+◌, ◌<◌, Bool, false, map, slice_index, ◌==◌, if◌then◌else◌, Option, Some, None, option_map, unwrap_or, List, [], ◌∷◌, ◌++◌, filter, filter_map, fold, length, slice_index_or}
 use Rattle.std.specs.List.{list_any, range_with_len}
+use Rattle.bag.specs.Posts.{Post, post_of}
 use Rattle.controller.specs.Controller.{ControllerValue}
 use Rattle.ctrl_msg.specs.declared.message.Body.{Body}
 use Rattle.ctrl_msg.specs.declared.message.Body.TheVariants.{Install, Collect}
@@ -21,6 +22,7 @@ use Rattle.update_machine.specs.Adverts.{adverts_known, own_seq}
 use Rattle.update_machine.specs.Boots.{boot_of, heard, is_in_first_boot, is_up, serves}
 use Rattle.update_machine.specs.Caches.{cache_of}
 use Rattle.update_machine.specs.Handled.{handled_count}
+use Rattle.update_machine.specs.Messages.{is_forgotten, message_of, next_message, was_delivered}
 use Rattle.update_machine.specs.Moves.{header_at}
 use Rattle.update_machine.specs.Packets.{decision_of, found_down, ingress_of, leg_of, next_packet, route_in, route_place, targets_of, travels}
 use Rattle.update_machine.specs.Played.{IsPlayed, IsSetting}
@@ -37,6 +39,8 @@ pub record WorldValue : Type 0 where
   pub journal : List Item
   pub switches : List SwitchValue
   pub travelling : Travellers
+  -- the messages that were sent
+  pub bag : List Post
   -- how many packets came in or were refused
   pub packets : ℕ
   pub controller : ControllerValue
@@ -121,12 +125,35 @@ unfoldable pub traveller_in : Setting → List Item → ℕ → Option Traveller
 traveller_in setting journal i =
     if travels journal i then Some (traveller_of setting journal i) else None
 
+-- ---- messages
+
+-- what the journal says of the message of a number, if it was sent
+unfoldable pub post_in : List Item → ℕ → Option Post
+post_in journal n = option_map (λ message. record {
+  message = message;
+  delivered = was_delivered journal n;
+  forgotten = is_forgotten journal n;
+}) (message_of journal n)
+
+-- the posts are the messages that the journal says, and of no number behind them does it tell a
+-- delivery or that it is forgotten
+pub record IsBagOf (journal : List Item) (posts : List Post) : Type 0 where
+  pub many : next_message journal ≡ length posts + 1
+  pub each : (n : ℕ) → post_of posts n ≡ post_in journal n
+  pub undelivered : (n : ℕ) → length posts < n → was_delivered journal n ≡ false
+  pub remembered : (n : ℕ) → length posts < n → is_forgotten journal n ≡ false
+
 -- ---- the tie
 
--- the journal is played, and the switches, the packets on their way and the controller's marks are
--- as it says
+-- what is known in the control plane: the controller's marks, and the messages that were sent
+pub record Control : Type 0 where
+  pub marks : MarksValue
+  pub posts : List Post
+
+-- the journal is played, and the switches, the packets on their way, the controller's marks and the
+-- messages are as it says
 pub record Tied (setting : Setting) (journal : List Item) (switches : List SwitchValue)
-    (travelling : Travellers) (count : ℕ) (known : MarksValue) : Type 0 where
+    (travelling : Travellers) (count : ℕ) (control : Control) : Type 0 where
   pub sound : IsSetting setting
   pub played : IsPlayed setting journal
   pub many : length switches ≡ length setting.net.switches
@@ -134,14 +161,23 @@ pub record Tied (setting : Setting) (journal : List Item) (switches : List Switc
       slice_index_or switches s d ≡ switch_of setting journal s
   pub packet : (i : ℕ) → traveller travelling i ≡ traveller_in setting journal i
   pub counted : next_packet journal ≡ count + 1
-  pub marks : AreMarksOf setting journal known
+  pub marks : AreMarksOf setting journal control.marks
+  pub bag : IsBagOf journal control.posts
 
-unfoldable pub AreTied : Setting → List Item → List SwitchValue → Travellers → ℕ → MarksValue
+unfoldable pub AreTied : Setting → List Item → List SwitchValue → Travellers → ℕ → Control
     → Type 0
-AreTied setting journal switches travelling count known =
-    Tied setting journal switches travelling count known
+AreTied setting journal switches travelling count control =
+    Tied setting journal switches travelling count control
 
 -- ---- a world
+
+-- a world is as its journal says
+abbrev pub IsTied : WorldValue → Type 0
+IsTied world =
+    AreTied world.setting world.journal world.switches world.travelling world.packets (record {
+      marks = world.controller.marks;
+      posts = world.bag;
+    })
 
 -- the neighbours of each switch as masks, by its number
 abbrev pub AreNear : Net → List ℕ → Type 0

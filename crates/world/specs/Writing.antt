@@ -1,5 +1,9 @@
 -- What the answers of a switch to a packet make of the journal and of the packet.
-use Rattle.std.specs.Prelude.{ℕ, ◌≡◌, Option, Some, None, List, [], ◌∷◌, ◌++◌}
+use Rattle.std.specs.Prelude.{ℕ, ◌≡◌, Option, Some, None, option_map, List, [], ◌∷◌, ◌++◌, map}
+use Rattle.bag.specs.Posts.{Post, posted}
+use Rattle.ctrl_msg.specs.declared.message.Body.{Body}
+use Rattle.ctrl_msg.specs.declared.message.Message.{Message}
+use Rattle.ctrl_msg.specs.declared.message.Place.TheVariants as place
 use Rattle.policy_rules.specs.declared.packet.Leg.{Leg}
 use Rattle.policy_rules.specs.declared.packet.Leg.TheVariants.{Exit as ExitLeg}
 use Rattle.policy_rules.specs.declared.policy.Action.{Action}
@@ -13,6 +17,7 @@ use Rattle.switch_core.specs.declared.answers.Entered.{Entered}
 use Rattle.switch_core.specs.declared.answers.Entered.TheVariants as entered
 use Rattle.switch_core.specs.declared.answers.Next.{Next}
 use Rattle.switch_core.specs.declared.answers.Next.TheVariants as next
+use Rattle.update_machine.specs.Messages.{sent_from}
 use Rattle.update_machine.specs.Moves.{takes_route}
 use Rattle.world.specs.declared.log.Standing.{Standing}
 use Rattle.world.specs.declared.travelling.Traveller.{Traveller}
@@ -46,11 +51,11 @@ end_of at decision (next.Exit tunnel) = takes_route at.packet tunnel.leg tunnel.
 end_of at decision (next.Stuck cause) =
     item.Stuck at.packet at.switch cause (exit_leg decision.action) at.down
 
--- its decision, and what becomes of it then
-abbrev pub decided_items : Standing → Decision → Next → List Item
-decided_items at decision onward =
+-- its decision, what is sent then, and what becomes of it
+abbrev pub decided_items : Standing → Decision → List Item → Next → List Item
+decided_items at decision sends onward =
     item.Decided at.packet decision.version decision.rule decision.action decision.how
-    ∷ end_of at decision onward ∷ []
+    ∷ sends ++ end_of at decision onward ∷ []
 
 -- it travels on where it is to exit elsewhere
 abbrev pub decided_traveller : Decision → Next → Option Traveller
@@ -63,7 +68,7 @@ decided_traveller decision _ = None
 abbrev pub entered_items : Standing → Entered → List Item
 entered_items at entered.Closed = item.Closed at.packet at.switch ∷ []
 entered_items at (entered.Decided decision onward) =
-    item.Entered at.packet at.switch at.header ∷ decided_items at decision onward
+    item.Entered at.packet at.switch at.header ∷ decided_items at decision [] onward
 entered_items at (entered.Seek tunnel) =
     item.Entered at.packet at.switch at.header
     ∷ takes_route at.packet tunnel.leg tunnel.route ∷ []
@@ -78,17 +83,41 @@ entered_traveller (entered.Seek tunnel) =
     Some (record { tunnel = tunnel; version = 0; rule = None })
 entered_traveller (entered.Stuck cause leg) = None
 
+-- ---- messages
+
+-- one message or none, as a list
+abbrev pub messages_in : Option Message → List Message
+messages_in None = []
+messages_in (Some message) = message ∷ []
+
+-- a cache rule goes to the switch where the packet came in
+abbrev pub cache_message : ℕ → Option Body → Option Message
+cache_message ingress cache =
+    option_map (λ body. record { to = place.Switch ingress; body = body }) cache
+
 -- ---- at the end of its route
 
-abbrev pub arrived_items : Standing → Traveller → Arrived → List Item
-arrived_items at traveller (arrived.Out port) =
+-- the message of the answer, if there is one
+abbrev pub arrived_message : Traveller → Arrived → Option Message
+arrived_message traveller (arrived.Decided decision cache onward) =
+    cache_message traveller.tunnel.ingress cache
+arrived_message traveller _ = None
+
+-- where the next message has this number
+abbrev pub arrived_items : ℕ → Standing → Traveller → Arrived → List Item
+arrived_items number at traveller (arrived.Out port) =
     leaves at traveller.version traveller.rule port ∷ []
-arrived_items at traveller (arrived.Decided decision cache onward) =
-    decided_items at decision onward
-arrived_items at traveller (arrived.Seek tunnel) =
+arrived_items number at traveller (arrived.Decided decision cache onward) =
+    decided_items at decision
+    (sent_from number (messages_in (cache_message traveller.tunnel.ingress cache))) onward
+arrived_items number at traveller (arrived.Seek tunnel) =
     takes_route at.packet tunnel.leg tunnel.route ∷ []
-arrived_items at traveller (arrived.Stuck cause leg) =
+arrived_items number at traveller (arrived.Stuck cause leg) =
     item.Stuck at.packet at.switch cause leg at.down ∷ []
+
+-- what it posts
+abbrev pub arrived_posts : Traveller → Arrived → List Post
+arrived_posts traveller answer = map posted (messages_in (arrived_message traveller answer))
 
 abbrev pub arrived_traveller : Traveller → Arrived → Option Traveller
 arrived_traveller traveller (arrived.Out port) = None

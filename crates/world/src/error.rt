@@ -4,11 +4,13 @@ ghost use Rattle.world.specs.declared.error.StepError.TheVariants.{NoMemory};
 use std::alloc::AllocError;
 use thiserror::Error;
 
-/// Why a step isn't taken whole.
+/// Why a step isn't taken, or isn't taken whole.
 #[derive(Clone, Copy, Debug, PartialEq, Eq, Error)]
 pub enum StepError {
     #[error("no memory")]
     NoMemory,
+    #[error("so many messages were sent that no step begins")]
+    Full,
 }
 
 impl From<AllocError> for StepError {

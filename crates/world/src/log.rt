@@ -1,22 +1,26 @@
-ghost use Rattle.std.specs.Prelude.{◌≡◌, [], ◌∷◌, ◌++◌, Some, None, OnOk, OnErr};
-ghost use Rattle.journal.specs.declared.item.Item.TheVariants.{Stuck as StuckItem};
+ghost use Rattle.std.specs.Prelude.{◌≡◌, ◌+◌, ◌-◌, ◌^◌, ◌<◌, [], ◌∷◌, ◌++◌, Some, None, IfSome, OnOk, OnErr, length, map};
+ghost use Rattle.bag.specs.Posts.{posted};
+ghost use Rattle.journal.specs.declared.item.Item.TheVariants.{Sent as SentItem, Stuck as StuckItem};
+ghost use Rattle.update_machine.specs.Messages.{sent_from};
 ghost use Rattle.update_machine.specs.Moves.{takes_route};
 ghost use Rattle.world.specs.Travelling.{WithOne};
-ghost use Rattle.world.specs.Writing.{IsPart, decided_items, decided_traveller, exit_leg, leaves};
+ghost use Rattle.world.specs.Writing.{IsPart, decided_items, decided_traveller, end_of, exit_leg, leaves, messages_in};
 
 use crate::kept::Kept;
 use crate::travelling::{Traveller, Travelling};
+use bag::Bag;
 use five_tuple::Header;
-use journal::{DownSet, Item, Journal, Leaving, SharedLinks, SharedRoute};
+use journal::{DownSet, Item, Journal, Leaving, Message, SharedLinks, SharedMessage, SharedRoute};
 use policy_rules::{Action, Cause, Leg};
 use std::alloc::{AllocError, Global};
 use switch_core::{Decision, Next};
 
-/// What happened so far, and the packets that are on their way.
+/// What happened so far, the packets that are on their way, and the messages that were sent.
 #[derive(Drop)]
 pub struct Log {
     pub journal: Journal,
     pub travelling: Travelling,
+    pub bag: Bag,
 }
 
 /// A packet where it stands.
@@ -63,6 +67,7 @@ impl Log {
         ensures travels { OnOk result
             (WithOne self.old.travelling packet (Some traveller.now) self.new.travelling) }
         ensures unwritten { OnErr result (self.new.journal ≡ self.old.journal) }
+        ensures unsent { self.new.bag ≡ self.old.bag }
     {
         let route = SharedRoute::new(alloc, traveller.tunnel.route)?;
         let kept = Kept::new(alloc, traveller, route.clone()?)?;
@@ -79,6 +84,7 @@ impl Log {
         ensures written { OnOk result (self.new.journal ≡ self.old.journal ++ item ∷ []) }
         ensures ended { WithOne self.old.travelling packet None self.new.travelling }
         ensures unwritten { OnErr result (self.new.journal ≡ self.old.journal) }
+        ensures unsent { self.new.bag ≡ self.old.bag }
     {
         let _ = self.travelling.remove(packet);
         self.journal.push(item)
@@ -100,6 +106,7 @@ impl Log {
         ensures ended { OnOk result
             (WithOne self.old.travelling at.now.packet None self.new.travelling) }
         ensures unwritten { OnErr result (self.new.journal ≡ self.old.journal) }
+        ensures unsent { self.new.bag ≡ self.old.bag }
     {
         let down = SharedLinks::new(alloc, at.down)?;
         self.end(
@@ -114,7 +121,41 @@ impl Log {
         )
     }
 
-    /// The packet is decided, and ends or travels on.
+    /// The message is sent, under the next number.
+    ///
+    /// # Errors
+    /// Want of memory alone; nothing is written then.
+    pub fn send(&mut self, alloc: Global, message: Message) -> Result<(), AllocError>
+        requires few { length self.old.bag < 2 ^ 32 - 1 }
+        ensures written { OnOk result (self.new.journal
+            ≡ self.old.journal ++ SentItem (length self.old.bag + 1) message ∷ []) }
+        ensures posted { OnOk result (self.new.bag ≡ self.old.bag ++ posted message ∷ []) }
+        ensures unwritten { OnErr result (self.new.journal ≡ self.old.journal) }
+        ensures travelling { self.new.travelling ≡ self.old.travelling }
+    {
+        let message = SharedMessage::new(alloc, message)?;
+        let number = self.bag.post(message.clone()?)?;
+        self.journal.push(Item::Sent { number, message })
+    }
+
+    // The message is sent, if there is one.
+    fn send_if(&mut self, alloc: Global, message: Option<Message>) -> Result<(), AllocError>
+        requires few { IfSome message (λ message. length self.old.bag < 2 ^ 32 - 1) }
+        ensures written { OnOk result (self.new.journal ≡ self.old.journal
+            ++ sent_from (length self.old.bag + 1) (messages_in message)) }
+        ensures posted { OnOk result (self.new.bag
+            ≡ self.old.bag ++ map posted (messages_in message)) }
+        ensures unwritten { OnErr result (self.new.journal ≡ self.old.journal) }
+        ensures travelling { self.new.travelling ≡ self.old.travelling }
+    {
+        match message {
+            Some(message) => self.send(alloc, message),
+            None => Ok(()),
+        }
+    }
+
+    /// The packet is decided, the message is sent, if there is one, and the packet ends or travels
+    /// on.
     ///
     /// # Errors
     /// Want of memory alone; a part of the items is written then.
@@ -123,14 +164,19 @@ impl Log {
         alloc: Global,
         at: &Standing,
         decision: Decision,
+        message: Option<Message>,
         next: Next,
     ) -> Result<(), AllocError>
-        ensures written { OnOk result (self.new.journal
-            ≡ self.old.journal ++ decided_items at.now decision next) }
+        requires few { IfSome message (λ message. length self.old.bag < 2 ^ 32 - 1) }
+        ensures written { OnOk result (self.new.journal ≡ self.old.journal
+            ++ decided_items at.now decision
+            (sent_from (length self.old.bag + 1) (messages_in message)) next) }
+        ensures posted { OnOk result (self.new.bag
+            ≡ self.old.bag ++ map posted (messages_in message)) }
         ensures travels { OnOk result (WithOne self.old.travelling at.now.packet
             (decided_traveller decision next) self.new.travelling) }
-        ensures part { OnErr result (IsPart self.old.journal
-            (decided_items at.now decision next) self.new.journal) }
+        ensures part { OnErr result (IsPart self.old.journal (decided_items at.now decision
+            (sent_from (length self.old.bag + 1) (messages_in message)) next) self.new.journal) }
     {
         self.journal.push(Item::Decided {
             packet: at.packet,
@@ -139,6 +185,25 @@ impl Log {
             action: decision.action,
             how: decision.how,
         })?;
+        self.send_if(alloc, message)?;
+        self.onward(alloc, at, decision, next)
+    }
+
+    // The packet ends or travels on by its decision.
+    fn onward(
+        &mut self,
+        alloc: Global,
+        at: &Standing,
+        decision: Decision,
+        next: Next,
+    ) -> Result<(), AllocError>
+        ensures written { OnOk result (self.new.journal
+            ≡ self.old.journal ++ end_of at.now decision next ∷ []) }
+        ensures travels { OnOk result (WithOne self.old.travelling at.now.packet
+            (decided_traveller decision next) self.new.travelling) }
+        ensures unwritten { OnErr result (self.new.journal ≡ self.old.journal) }
+        ensures unsent { self.new.bag ≡ self.old.bag }
+    {
         match next {
             Next::Dropped => self.end(at.packet, Item::Dropped { packet: at.packet }),
             Next::Out(port) => {

@@ -1,17 +1,17 @@
-ghost use Rattle.std.specs.Prelude.{◌≡◌, ◌++◌, Some, None, IsTrue, OnOk, OnErr};
+ghost use Rattle.std.specs.Prelude.{◌≡◌, ◌+◌, ◌-◌, ◌^◌, ◌<◌, ◌++◌, Some, None, IsTrue, OnOk, OnErr, length};
 ghost use Rattle.switch_core.specs.Arriving.{IsAtAuthority};
 ghost use Rattle.switch_core.specs.Entering.{CanLookUp};
 ghost use Rattle.switch_core.specs.Moving.{found_down};
 ghost use Rattle.switch_core.specs.State.{counted, serves};
 ghost use Rattle.tunnel.specs.Moves.{next};
-ghost use Rattle.world.specs.Packets.{arrival, arrival_items, coming_in, entry, hop_items, hop_traveller, hopped_switch};
+ghost use Rattle.world.specs.Packets.{arrival, arrival_items, arrival_posts, coming_in, entry, hop_items, hop_posts, hop_traveller, hopped_switch};
 ghost use Rattle.world.specs.Travelling.{WithOne, traveller as traveller_of};
-ghost use Rattle.world.specs.Writing.{IsPart, arrived_items, arrived_traveller, entered_items, entered_traveller};
+ghost use Rattle.world.specs.Writing.{IsPart, arrived_items, arrived_posts, arrived_traveller, cache_message, entered_items, entered_traveller};
 
 use crate::log::{Log, Standing};
 use crate::travelling::Traveller;
 use five_tuple::Header;
-use journal::{DownSet, Item};
+use journal::{Body, DownSet, Item, Message, Place};
 use net_file::Ports;
 use std::alloc::{AllocError, Global};
 use switch_core::{Arrived, Entered, HopEnd, Switch};
@@ -39,6 +39,7 @@ pub fn enter(
     ensures part { OnErr result (IsPart log.old.journal
         (entered_items (coming_in packet header.now switch.old.number)
         (entry switch.old near ports.now packet header.now)) log.new.journal) }
+    ensures unsent { OnOk result (log.new.bag ≡ log.old.bag) }
     ensures counted { switch.new ≡ counted switch.old }
 {
     let at = Standing {
@@ -52,6 +53,7 @@ pub fn enter(
 }
 
 // The packet came in, and the switch gave this answer.
+#[tactic(auto, unfolding(update_machine::specs::Messages::sent_from))]
 fn note_entered(
     alloc: Global,
     log: &mut Log,
@@ -64,6 +66,7 @@ fn note_entered(
         (entered_traveller entered) log.new.travelling) }
     ensures part { OnErr result (IsPart log.old.journal
         (entered_items at.now entered) log.new.journal) }
+    ensures unsent { OnOk result (log.new.bag ≡ log.old.bag) }
 {
     if let Entered::Closed = entered {
         return log.end(
@@ -81,7 +84,7 @@ fn note_entered(
     })?;
     match entered {
         Entered::Closed => Ok(()),
-        Entered::Decided { decision, next } => log.decided(alloc, at, decision, next),
+        Entered::Decided { decision, next } => log.decided(alloc, at, decision, None, next),
         Entered::Seek(tunnel) => {
             let traveller = Traveller {
                 tunnel,
@@ -114,14 +117,18 @@ pub fn hop(
     requires stamped { CanLookUp switch.old }
     requires authority { next traveller.now.tunnel ≡ None →
         IsAtAuthority switch.old traveller.now.tunnel.header traveller.now.tunnel.leg }
+    requires few { length log.old.bag < 2 ^ 32 - 1 }
     ensures written { OnOk result (log.new.journal
-        ≡ log.old.journal ++ hop_items (counted switch.old) near ports.now traveller.now
+        ≡ log.old.journal ++ hop_items (length log.old.bag + 1) (counted switch.old) near
+        ports.now traveller.now (next traveller.now.tunnel)) }
+    ensures posted { OnOk result (log.new.bag
+        ≡ log.old.bag ++ hop_posts (counted switch.old) near ports.now traveller.now
         (next traveller.now.tunnel)) }
     ensures travels { OnOk result (WithOne log.old.travelling traveller.now.tunnel.packet
         (hop_traveller (counted switch.old) near ports.now traveller.now
         (next traveller.now.tunnel)) log.new.travelling) }
     ensures part { OnErr result (IsPart log.old.journal
-        (hop_items (counted switch.old) near ports.now traveller.now
+        (hop_items (length log.old.bag + 1) (counted switch.old) near ports.now traveller.now
         (next traveller.now.tunnel)) log.new.journal) }
     ensures counted { switch.new ≡ hopped_switch switch.old (next traveller.now.tunnel) }
 {
@@ -146,7 +153,7 @@ pub fn hop(
 ///
 /// # Errors
 /// Want of memory alone; a part of the items is written then.
-#[tactic(auto, unfolding(crate::specs::Packets::arrival_items, crate::specs::Packets::arrival))]
+#[tactic(auto, unfolding(crate::specs::Packets::arrival_items, crate::specs::Packets::arrival_posts, crate::specs::Packets::arrival))]
 fn arrive(
     alloc: Global,
     log: &mut Log,
@@ -159,12 +166,16 @@ fn arrive(
     requires stamped { CanLookUp switch.old }
     requires authority { IsAtAuthority switch.old traveller.now.tunnel.header
         traveller.now.tunnel.leg }
-    ensures written { OnOk result (log.new.journal
-        ≡ log.old.journal ++ arrival_items switch.old near ports.now traveller.now) }
+    requires few { length log.old.bag < 2 ^ 32 - 1 }
+    ensures written { OnOk result (log.new.journal ≡ log.old.journal
+        ++ arrival_items (length log.old.bag + 1) switch.old near ports.now traveller.now) }
+    ensures posted { OnOk result (log.new.bag
+        ≡ log.old.bag ++ arrival_posts switch.old near ports.now traveller.now) }
     ensures travels { OnOk result (WithOne log.old.travelling traveller.now.tunnel.packet
         (arrival switch.old near ports.now traveller.now) log.new.travelling) }
     ensures part { OnErr result (IsPart log.old.journal
-        (arrival_items switch.old near ports.now traveller.now) log.new.journal) }
+        (arrival_items (length log.old.bag + 1) switch.old near ports.now traveller.now)
+        log.new.journal) }
     ensures counted { switch.new ≡ counted switch.old }
 {
     let at = Standing {
@@ -185,12 +196,15 @@ fn note_arrived(
     traveller: &Traveller,
     arrived: Arrived,
 ) -> Result<(), AllocError>
-    ensures written { OnOk result (log.new.journal
-        ≡ log.old.journal ++ arrived_items at.now traveller.now arrived) }
+    requires few { length log.old.bag < 2 ^ 32 - 1 }
+    ensures written { OnOk result (log.new.journal ≡ log.old.journal
+        ++ arrived_items (length log.old.bag + 1) at.now traveller.now arrived) }
+    ensures posted { OnOk result (log.new.bag
+        ≡ log.old.bag ++ arrived_posts traveller.now arrived) }
     ensures travels { OnOk result (WithOne log.old.travelling at.now.packet
         (arrived_traveller traveller.now arrived) log.new.travelling) }
     ensures part { OnErr result (IsPart log.old.journal
-        (arrived_items at.now traveller.now arrived) log.new.journal) }
+        (arrived_items (length log.old.bag + 1) at.now traveller.now arrived) log.new.journal) }
 {
     match arrived {
         Arrived::Out(port) => {
@@ -199,12 +213,14 @@ fn note_arrived(
                 at.leaves(traveller.version, traveller.rule, port),
             )
         }
-        // No message is sent yet.
         Arrived::Decided {
             decision,
-            cache: _unsent,
+            cache,
             next,
-        } => log.decided(alloc, at, decision, next),
+        } => {
+            let message = cache_message(traveller.tunnel.ingress, cache);
+            log.decided(alloc, at, decision, message, next)
+        }
         Arrived::Seek(tunnel) => {
             let onward = Traveller {
                 tunnel,
@@ -214,5 +230,18 @@ fn note_arrived(
             log.set_out(alloc, at.packet, &onward)
         }
         Arrived::Stuck { cause, leg } => log.stuck(alloc, at, cause, leg),
+    }
+}
+
+// The message that brings a cache rule to the switch where its packet came in.
+fn cache_message(ingress: u32, cache: Option<Body>) -> Option<Message>
+    ensures { result ≡ cache_message ingress cache }
+{
+    match cache {
+        Some(body) => Some(Message {
+            to: Place::Switch(ingress),
+            body,
+        }),
+        None => None,
     }
 }

@@ -1,8 +1,8 @@
-ghost use Rattle.std.specs.Prelude.{◌≡◌, ◌+◌, ◌++◌, ◌≤◌, OnOk, OnErr};
+ghost use Rattle.std.specs.Prelude.{◌≡◌, ◌+◌, ◌-◌, ◌^◌, ◌++◌, ◌<◌, ◌≤◌, length, OnOk, OnErr};
 ghost use Rattle.update_machine.specs.Packets.{next_packet};
 ghost use Rattle.update_machine.specs.Pieces.{piece};
 ghost use Rattle.update_machine.specs.Played.{MayPlay};
-ghost use Rattle.steps.specs.declared.step.Step.TheVariants.{Hop as HopStep, Lose as LoseStep, Packet as PacketStep};
+ghost use Rattle.steps.specs.declared.step.Step.TheVariants.{Deliver as DeliverStep, Expire as ExpireStep, Forget as ForgetStep, Hop as HopStep, Lose as LoseStep, Packet as PacketStep};
 ghost use Rattle.world.specs.Parts.{AreSound, AreTiedIn, KeepNet, setting_in};
 ghost use Rattle.world.specs.State.{comes_in};
 ghost use Rattle.world.specs.Writing.{IsPart};
@@ -10,6 +10,7 @@ ghost use Rattle.world.specs.Writing.{IsPart};
 use crate::log::Log;
 use crate::packets::{enter, hop};
 use controller::Controller;
+use ctrl_msg::Place;
 use five_tuple::Header;
 use journal::Item;
 use net_file::{Net, Ports};
@@ -43,6 +44,7 @@ impl Parts {
         requires tied { AreTiedIn self.old }
         requires may { MayPlay (setting_in self.old) step.now }
         requires few { next_packet self.old.log.journal ≤ 4_000_000_000 }
+        requires room { length self.old.log.bag < 2 ^ 32 - 1 }
         ensures net { KeepNet self.old self.new }
         ensures counted { OnOk result (self.new.packets ≡ self.old.packets + comes_in step.now) }
         ensures written { OnOk result (self.new.log.journal ≡ self.old.log.journal
@@ -56,6 +58,9 @@ impl Parts {
             Step::Packet { switch, header } => self.packet(alloc, row, *switch, header),
             Step::Hop { packet } => self.hop(alloc, row, *packet),
             Step::Lose { packet } => self.lose(row, *packet),
+            Step::Deliver { message } => self.deliver(alloc, row, *message),
+            Step::Forget { message } => self.forget(row, *message),
+            Step::Expire { switch, place } => self.expire(row, *switch, *place),
             _ => unreachable!(),
         }
     }
@@ -106,6 +111,7 @@ impl Parts {
         requires sound { AreSound self.old }
         requires tied { AreTiedIn self.old }
         requires may { MayPlay (setting_in self.old) (HopStep packet) }
+        requires room { length self.old.log.bag < 2 ^ 32 - 1 }
         ensures net { KeepNet self.old self.new }
         ensures counted { self.new.packets ≡ self.old.packets }
         ensures written { OnOk result (self.new.log.journal ≡ self.old.log.journal
@@ -156,6 +162,90 @@ impl Parts {
             self.log.journal.push(Item::Lost { packet })
         } else {
             self.log.journal.push(Item::Nothing)
+        }
+    }
+
+    // A message is delivered to its switch, which hears it.
+    fn deliver(&mut self, alloc: Global, row: u32, number: u32) -> Result<(), AllocError>
+        requires tied { AreTiedIn self.old }
+        requires may { MayPlay (setting_in self.old) (DeliverStep number) }
+        ensures net { KeepNet self.old self.new }
+        ensures counted { self.new.packets ≡ self.old.packets }
+        ensures written { OnOk result (self.new.log.journal ≡ self.old.log.journal
+            ++ piece (setting_in self.old) self.old.log.journal row (DeliverStep number)) }
+        ensures tied { OnOk result (AreTiedIn self.new) }
+        ensures part { OnErr result (IsPart self.old.log.journal
+            (piece (setting_in self.old) self.old.log.journal row (DeliverStep number))
+            self.new.log.journal) }
+    {
+        self.log.journal.push(Item::Row {
+            row,
+            step: Step::Deliver { message: number },
+        })?;
+        let message = match self.log.bag.get(number) {
+            None => return self.log.journal.push(Item::Nothing),
+            Some(message) => message,
+        };
+        let here = match message.to {
+            Place::Switch(switch) => switch as usize,
+            // Cache rules alone are sent so far, and those go to switches.
+            Place::Controller => unreachable!(),
+        };
+        let near = self.near[here];
+        // A switch answers a cache rule by nothing, and doesn't open.
+        let _ = self.switches[here].hear(alloc, number, &message.body, near)?;
+        self.log.bag.deliver(number);
+        self.log.journal.push(Item::Delivered { number })
+    }
+
+    // A message is never delivered again.
+    fn forget(&mut self, row: u32, number: u32) -> Result<(), AllocError>
+        requires tied { AreTiedIn self.old }
+        requires may { MayPlay (setting_in self.old) (ForgetStep number) }
+        ensures net { KeepNet self.old self.new }
+        ensures counted { self.new.packets ≡ self.old.packets }
+        ensures written { OnOk result (self.new.log.journal ≡ self.old.log.journal
+            ++ piece (setting_in self.old) self.old.log.journal row (ForgetStep number)) }
+        ensures tied { OnOk result (AreTiedIn self.new) }
+        ensures part { OnErr result (IsPart self.old.log.journal
+            (piece (setting_in self.old) self.old.log.journal row (ForgetStep number))
+            self.new.log.journal) }
+    {
+        self.log.journal.push(Item::Row {
+            row,
+            step: Step::Forget { message: number },
+        })?;
+        if self.log.bag.get(number).is_none() {
+            return self.log.journal.push(Item::Nothing);
+        }
+        self.log.bag.forget(number);
+        self.log.journal.push(Item::Forgotten { number })
+    }
+
+    // A cached rule times out.
+    fn expire(&mut self, row: u32, switch: u32, place: u32) -> Result<(), AllocError>
+        requires tied { AreTiedIn self.old }
+        requires may { MayPlay (setting_in self.old) (ExpireStep switch place) }
+        ensures net { KeepNet self.old self.new }
+        ensures counted { self.new.packets ≡ self.old.packets }
+        ensures written { OnOk result (self.new.log.journal ≡ self.old.log.journal
+            ++ piece (setting_in self.old) self.old.log.journal row (ExpireStep switch place)) }
+        ensures tied { OnOk result (AreTiedIn self.new) }
+        ensures part { OnErr result (IsPart self.old.log.journal
+            (piece (setting_in self.old) self.old.log.journal row (ExpireStep switch place))
+            self.new.log.journal) }
+    {
+        self.log.journal.push(Item::Row {
+            row,
+            step: Step::Expire { switch, place },
+        })?;
+        match self.switches[switch as usize].expire(place) {
+            None => self.log.journal.push(Item::Nothing),
+            Some(message) => self.log.journal.push(Item::Expired {
+                switch,
+                place,
+                message,
+            }),
         }
     }
 }

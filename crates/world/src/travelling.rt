@@ -1,10 +1,10 @@
 //! The packets on their way: a table by their numbers, which grows as the journal does.
 //!
-//! A slot has at most 128 bytes, and a packet takes it when it first travels: slots are pushed, so n
-//! packets take O(n) in all. The packet's route is that of the journal's item, and a hop writes the
-//! place on it alone, so a hop takes no memory. The first number moves on over the slots of packets
-//! that ended, so that a drain behind each of n packets passes each slot once, O(n) in all. No slot
-//! is given back before the end, as in a journal.
+//! A slot has at most 128 bytes, and a packet takes it when it first travels: slots are pushed, so
+//! n packets take O(n) in all. The packet's route is that of the journal's item, and a hop writes
+//! the place on it alone, so a hop takes no memory. The first number moves on over the slots of
+//! packets that ended, so that a drain behind each of n packets passes each slot once, O(n) in all.
+//! No slot is given back before the end, as in a journal.
 ghost use Rattle.std.specs.Prelude.{◌≡◌, ◌+◌, ◌<◌, ◌≤◌, ℕ, max, [], Some, None, is_some, option_map, length, IsSome, OnOk};
 ghost use Rattle.std.specs.Option.{IsSomeAnd};
 ghost use Rattle.world.specs.Travelling.{GoesOn, IsNextFrom, WithOne, moved_on, traveller};

@@ -1,12 +1,16 @@
-ghost use Rattle.std.specs.Prelude.{◌≡◌, ◌+◌, ◌++◌, ◌<◌, ◌≤◌, ℕ, false, [], length, slice_index_or, All, OnOk, OnErr, IfOk, IfErr, is_some};
+ghost use Rattle.std.specs.Prelude.{◌≡◌, ◌+◌, ◌-◌, ◌^◌, ◌++◌, ◌<◌, ◌≤◌, ℕ, false, true, [], length, slice_index_or, All, OnOk, OnErr, IfOk, IfErr, IsErrOf, is_some};
+ghost use Rattle.bag.specs.Posts.{next_waiting as next_waiting_in};
 ghost use Rattle.controller.specs.Plan.{RefusesPlan};
 ghost use Rattle.net_file.specs.Net.{IsNet};
 ghost use Rattle.policy_rules.specs.Policy.{IsPolicy};
-ghost use Rattle.update_machine.specs.Packets.{next_packet, travels};
+ghost use Rattle.update_machine.specs.Full.{HasRoom, IsFull};
+ghost use Rattle.update_machine.specs.Messages.{next_waiting};
+ghost use Rattle.update_machine.specs.Packets.{next_packet, next_travelling, travels};
 ghost use Rattle.update_machine.specs.Pieces.{piece};
 ghost use Rattle.update_machine.specs.Played.{MayPlay, NamesOwnPort};
 ghost use Rattle.update_machine.specs.Setting.{setting_of};
-ghost use Rattle.world.specs.State.{AreTied, IsBegun, comes_in};
+ghost use Rattle.world.specs.declared.error.StepError.TheVariants.{Full, NoMemory};
+ghost use Rattle.world.specs.State.{IsBegun, IsTied, comes_in};
 ghost use Rattle.world.specs.Travelling.{IsNextFrom, traveller};
 ghost use Rattle.world.specs.Writing.{IsPart};
 
@@ -15,6 +19,7 @@ use crate::error::StepError;
 use crate::log::Log;
 use crate::parts::Parts;
 use crate::travelling::Travelling;
+use bag::Bag;
 use controller::{Controller, PlanError, compile};
 use journal::Journal;
 use net_file::Net;
@@ -23,12 +28,13 @@ use std::alloc::{AllocError, Global};
 use std::marker::Model;
 use steps::Step;
 use switch_core::Switch;
+use update_machine::FULL_AT;
 
 /// A network of switches with its controller, the packets on their way in it, and the journal of
 /// what happened.
 ///
-/// Contracts see the setting, the journal, the switches, the packets on their way, how many packets
-/// there were, the controller, and whether memory ran out within a step.
+/// Contracts see the setting, the journal, the switches, the packets on their way, the messages,
+/// how many packets there were, the controller, and whether memory ran out within a step.
 #[derive(Drop)]
 pub struct World {
     parts: Parts,
@@ -76,6 +82,7 @@ impl World {
             log: Log {
                 journal: Journal::new(alloc),
                 travelling: Travelling::new(alloc),
+                bag: Bag::new(alloc),
             },
             packets: 0,
             controller,
@@ -86,13 +93,15 @@ impl World {
         })
     }
 
-    /// Takes the step of this row of a schedule, and writes what happens into the journal.
+    /// Takes the step of this row of a schedule, and writes what happens into the journal. Where
+    /// there is no room for a step any may be asked for, as a flush does by a great number.
     ///
     /// # Errors
-    /// Want of memory alone. The journal has a part of the step's items then, and no further step
-    /// is taken.
+    /// `Full` exactly where so many messages were sent that no step begins; nothing changes then.
+    /// Otherwise want of memory alone: the journal has a part of the step's items then, and each
+    /// further step is answered so at once, full or not, and changes nothing.
     pub fn step(&mut self, alloc: Global, row: u32, step: &Step) -> Result<(), StepError>
-        requires may { MayPlay self.old.setting step.now }
+        requires may { HasRoom self.old.journal → MayPlay self.old.setting step.now }
         requires few { next_packet self.old.journal ≤ 4_000_000_000 }
         ensures setting { self.new.setting ≡ self.old.setting }
         ensures written { OnOk result (self.new.journal ≡ self.old.journal
@@ -101,9 +110,20 @@ impl World {
         ensures goes_on { OnOk result (self.new.is_spent ≡ false) }
         ensures part { OnErr result (IsPart self.old.journal
             (piece self.old.setting self.old.journal row step.now) self.new.journal) }
+        ensures room { OnOk result (HasRoom self.old.journal) }
+        ensures full { IsErrOf result Full → IsFull self.old.journal }
+        ensures refused { self.old.is_spent ≡ false → IsFull self.old.journal
+            → IsErrOf result Full }
+        ensures unchanged { IsErrOf result Full → self.new ≡ self.old }
+        ensures lost { IsErrOf result NoMemory → self.new.is_spent ≡ true }
+        ensures spent { self.old.is_spent ≡ true
+            → (IsErrOf result NoMemory) × (self.new ≡ self.old) }
     {
         if self.is_spent {
             return Err(StepError::NoMemory);
+        }
+        if self.parts.log.bag.sent() >= FULL_AT {
+            return Err(StepError::Full);
         }
         self.is_spent = true;
         self.parts.play(alloc, row, step)?;
@@ -114,9 +134,21 @@ impl World {
     /// The least number at or above `from` of a packet that travels; `None` exactly where there is
     /// none.
     pub fn next_travelling(&self, from: u32) -> Option<u32>
-        ensures { IsNextFrom self.now.travelling from result }
+        ensures next { IsNextFrom self.now.travelling from result }
+        ensures first { self.now.is_spent ≡ false → from ≡ 1
+            → result ≡ next_travelling self.now.journal }
     {
         self.parts.log.travelling.next(from)
+    }
+
+    /// The least number at or above `from` of a message that was never delivered and isn't
+    /// forgotten; `None` exactly where there is none.
+    pub fn next_waiting(&self, from: u32) -> Option<u32>
+        ensures next { result ≡ next_waiting_in self.now.bag from }
+        ensures first { self.now.is_spent ≡ false → from ≡ 1
+            → result ≡ next_waiting self.now.journal }
+    {
+        self.parts.log.bag.next_waiting(from)
     }
 
     /// Whether the packet of this number travels.
@@ -170,11 +202,10 @@ impl World {
         self.is_spent
     }
 
-    /// As long as memory didn't run out within a step, the switches, the packets on their way and
-    /// the controller's marks are as the journal says.
+    /// As long as memory didn't run out within a step, the switches, the packets on their way, the
+    /// messages and the controller's marks are as the journal says.
     pub fn tied(&self)
-        ensures { self.now.is_spent ≡ false → AreTied self.now.setting self.now.journal
-            self.now.switches self.now.travelling self.now.packets self.now.controller.marks }
+        ensures { self.now.is_spent ≡ false → IsTied self.now }
     {
         let _spent = self.is_spent;
     }

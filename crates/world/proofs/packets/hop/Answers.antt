@@ -1,5 +1,5 @@
 -- Where a hop ends is said by the next switch of the route.
-use Rattle.std.proofs.Common.{ℕ, ◌≡◌, ◌+◌, ◌++◌, Option, Some, None, ap, sym, subst, ◌∙◌}
+use Rattle.std.proofs.Common.{ℕ, ◌≡◌, ◌+◌, ◌++◌, Option, Some, None, length, append-nil, ap, sym, subst, ◌∙◌}
 use Rattle.std.specs.Prelude.{⊤, [], ◌∷◌, OnOk, OnErr, Result, Ok, Err, option_map}
 use Rattle.std.specs.Option.{IsSomeAnd}
 use Rattle.std.specs.declared.alloc.AllocError.{AllocError}
@@ -9,7 +9,7 @@ use Rattle.switch_core.specs.Arriving.{IsAtAuthority}
 use Rattle.switch_core.specs.State.{SwitchValue, counted}
 use Rattle.tunnel.specs.Moves.{next}
 use Rattle.tunnel.specs.Tunnel.{TunnelValue}
-use Rattle.world.specs.Packets.{hop_items, hop_traveller, hopped_switch}
+use Rattle.world.specs.Packets.{hop_items, hop_posts, hop_traveller, hopped_switch}
 use Rattle.world.specs.Travelling.{GoesOn, WithOne, moved_on, traveller}
 use Rattle.world.specs.declared.travelling.Traveller.{Traveller}
 use Rattle.world.specs.Writing.{IsPart}
@@ -35,12 +35,24 @@ returns-in-Arrive-clause-written c =
     let none : next c.args.traveller.now.tunnel ≡ None =
     arrives _ _ _ c.requires.usable (sym c.hop-hop.ensures.end ∙ c.in-Arrive.is) in
     let P : SwitchValue → Type 0 = λ s. OnOk c.arrive.result (c.arrive.new.log.journal
-    ≡ c.args.log.now.journal ++ hop_items s c.args.near c.args.ports.now
-    c.args.traveller.now None) in
+    ≡ c.args.log.now.journal ++ hop_items (length c.args.log.now.bag + 1) s c.args.near
+    c.args.ports.now c.args.traveller.now None) in
     let Q : Option ℕ → Type 0 = λ onward. OnOk c.arrive.result (c.arrive.new.log.journal
-    ≡ c.args.log.now.journal ++ hop_items (counted c.args.switch.now) c.args.near
-    c.args.ports.now c.args.traveller.now onward) in
+    ≡ c.args.log.now.journal ++ hop_items (length c.args.log.now.bag + 1)
+    (counted c.args.switch.now) c.args.near c.args.ports.now c.args.traveller.now onward) in
     subst Q (sym none) (subst P c.hop-hop.ensures.after c.arrive.ensures.written)
+
+pub returns-in-Arrive-clause-posted : goal.returns-in-Arrive-clause-posted
+returns-in-Arrive-clause-posted c =
+    let none : next c.args.traveller.now.tunnel ≡ None =
+    arrives _ _ _ c.requires.usable (sym c.hop-hop.ensures.end ∙ c.in-Arrive.is) in
+    let P : SwitchValue → Type 0 = λ s. OnOk c.arrive.result (c.arrive.new.log.bag
+    ≡ c.args.log.now.bag ++ hop_posts s c.args.near c.args.ports.now
+    c.args.traveller.now None) in
+    let Q : Option ℕ → Type 0 = λ onward. OnOk c.arrive.result (c.arrive.new.log.bag
+    ≡ c.args.log.now.bag ++ hop_posts (counted c.args.switch.now) c.args.near
+    c.args.ports.now c.args.traveller.now onward) in
+    subst Q (sym none) (subst P c.hop-hop.ensures.after c.arrive.ensures.posted)
 
 pub returns-in-Arrive-clause-travels : goal.returns-in-Arrive-clause-travels
 returns-in-Arrive-clause-travels c =
@@ -61,11 +73,13 @@ returns-in-Arrive-clause-part c =
     let none : next c.args.traveller.now.tunnel ≡ None =
     arrives _ _ _ c.requires.usable (sym c.hop-hop.ensures.end ∙ c.in-Arrive.is) in
     let P : SwitchValue → Type 0 = λ s. OnErr c.arrive.result (IsPart c.args.log.now.journal
-    (hop_items s c.args.near c.args.ports.now c.args.traveller.now None)
+    (hop_items (length c.args.log.now.bag + 1) s c.args.near c.args.ports.now
+    c.args.traveller.now None)
     c.arrive.new.log.journal) in
     let Q : Option ℕ → Type 0 = λ onward. OnErr c.arrive.result (IsPart
     c.args.log.now.journal
-    (hop_items (counted c.args.switch.now) c.args.near c.args.ports.now
+    (hop_items (length c.args.log.now.bag + 1) (counted c.args.switch.now) c.args.near
+    c.args.ports.now
     c.args.traveller.now onward) c.arrive.new.log.journal) in
     subst Q (sym none) (subst P c.hop-hop.ensures.after c.arrive.ensures.part)
 
@@ -103,8 +117,8 @@ returns-in-Move-clause-written c =
     let P : ℕ → Type 0 = λ packet. OnOk c.push.result (c.push.new.self
     ≡ c.args.log.now.journal ++ Hopped packet c.in-Move.next ∷ []) in
     let Q : Option ℕ → Type 0 = λ onward. OnOk c.push.result (c.push.new.self
-    ≡ c.args.log.now.journal ++ hop_items (counted c.args.switch.now) c.args.near
-    c.args.ports.now c.args.traveller.now onward) in
+    ≡ c.args.log.now.journal ++ hop_items (length c.args.log.now.bag + 1)
+    (counted c.args.switch.now) c.args.near c.args.ports.now c.args.traveller.now onward) in
     subst Q (sym goes)
     (subst P (ap (λ (t : Traveller). t.tunnel.packet) c.traveller.view_is) c.push.ensures.pushed)
 
@@ -123,3 +137,12 @@ returns-in-Move-clause-travels c =
     (subst (λ o. WithOne c.args.log.now.travelling t.packet (option_map moved_on o)
     c.advance.new.self) c.requires.known
     (subst P (ap (λ (t : Traveller). t.tunnel.packet) c.traveller.view_is) c.advance.ensures)))
+
+pub returns-in-Move-clause-posted : goal.returns-in-Move-clause-posted
+returns-in-Move-clause-posted c =
+    let goes : next c.args.traveller.now.tunnel ≡ Some c.in-Move.next =
+    moves _ _ _ _ c.requires.usable (sym c.hop-hop.ensures.end ∙ c.in-Move.is) in
+    let Q : Option ℕ → Type 0 = λ onward. OnOk c.push.result (c.args.log.now.bag
+    ≡ c.args.log.now.bag ++ hop_posts (counted c.args.switch.now) c.args.near
+    c.args.ports.now c.args.traveller.now onward) in
+    subst Q (sym goes) (always c.push.result (sym (append-nil c.args.log.now.bag)))

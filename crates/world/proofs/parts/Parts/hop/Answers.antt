@@ -106,10 +106,10 @@ pub returns-clause-tied : goal.returns-clause-tied
 returns-clause-tied c =
     hop_ties c.hop.result c.args.self.now c.args.row c.args.packet c.in-Some.traveller
     c.here-here.result c.index_mut.result.now c.hop.new.switch c.push.new.self
-    c.hop.new.log.journal c.hop.new.log.travelling c.requires.sound c.requires.tied
-    c.requires.may (sym c.get.ensures ∙ c.in-Some.is) c.here-here.ensures.here
+    c.hop.new.log.journal c.hop.new.log.travelling c.hop.new.log.bag c.requires.sound
+    c.requires.tied c.requires.may (sym c.get.ensures ∙ c.in-Some.is) c.here-here.ensures.here
     c.index_mut.ensures.value c.hop.ensures.counted c.in_ok-push.ensures.pushed
-    c.hop.ensures.written c.hop.ensures.travels
+    c.hop.ensures.written c.hop.ensures.travels c.hop.ensures.posted
 
 pub returns-clause-part : goal.returns-clause-part
 returns-clause-part c =

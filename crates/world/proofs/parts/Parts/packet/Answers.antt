@@ -43,9 +43,9 @@ pub returns-clause-tied : goal.returns-clause-tied
 returns-clause-tied c =
     come_ties c.enter.result c.args.self.now c.args.row c.args.switch c.args.header.now
     c.index_mut.result.now c.enter.new.switch c.push.new.self c.enter.new.log.journal
-    c.enter.new.log.travelling c.requires.sound c.requires.tied c.requires.may
+    c.enter.new.log.travelling c.enter.new.log.bag c.requires.sound c.requires.tied c.requires.may
     c.index_mut.ensures.value c.enter.ensures.counted c.in_ok-push.ensures.pushed
-    c.enter.ensures.written c.enter.ensures.travels
+    c.enter.ensures.written c.enter.ensures.travels c.enter.ensures.unsent
 
 pub returns-clause-part : goal.returns-clause-part
 returns-clause-part c =

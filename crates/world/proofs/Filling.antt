@@ -1,0 +1,34 @@
+-- Whether a step may begin behind the journal, by the count of the messages that were sent.
+use Rattle.std.proofs.Common.{ℕ, ◌≡◌, ◌<◌, ◌≤◌, List, length, arith}
+use Rattle.std.specs.Prelude.{Err, IsErrAnd, IsErrOf, Ok, Result}
+use Rattle.journal.specs.declared.item.Item.{Item}
+use Rattle.switch_core.specs.State.{SwitchValue}
+use Rattle.update_machine.specs.Full.{HasRoom, IsFull}
+use Rattle.update_machine.specs.Setting.{Setting}
+use Rattle.update_machine.specs.declared.full.TheConstants.{FULL_AT}
+use Rattle.world.specs.declared.error.StepError.{StepError}
+use Rattle.world.specs.declared.error.StepError.TheVariants.{Full, NoMemory}
+use Rattle.world.specs.State.{AreTied, Control}
+use Rattle.world.specs.Travelling.{Travellers}
+
+pub is_full : (control : Control) (setting : Setting) (journal : List Item)
+    (switches : List SwitchValue) (before : Travellers) (count : ℕ)
+    → AreTied setting journal switches before count control → FULL_AT ≤ length control.posts
+    → IsFull journal
+unfolding AreTied
+is_full control setting journal switches before count tied many =
+    omega (arith, tied.bag.many, many)
+
+pub has_room : (control : Control) (setting : Setting) (journal : List Item)
+    (switches : List SwitchValue) (before : Travellers) (count : ℕ)
+    → AreTied setting journal switches before count control → length control.posts < FULL_AT
+    → HasRoom journal
+unfolding AreTied
+has_room control setting journal switches before count tied few =
+    omega (arith, tied.bag.many, few)
+
+-- want of memory is another error
+pub not_full : {T : Type 0} (r : Result T StepError) → IsErrAnd r (λ e. e ≡ NoMemory)
+    → IsErrOf r Full → ⊥
+not_full (Ok x) none full = absurd cc
+not_full (Err e) none full = absurd cc

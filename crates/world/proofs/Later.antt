@@ -1,0 +1,179 @@
+-- The items that a switch's answer to a packet writes: they begin no step and bring no other packet
+-- in, and what they send.
+use Rattle.std.proofs.Common.{ℕ, ◌≡◌, ◌+◌, false, Option, Some, None, cond, List, [], ◌∷◌, refl, ap, map, arith}
+use Rattle.std.specs.Prelude.{⊤}
+use Rattle.std.proofs.lemmas.List.Sums.{sum_by-cons}
+use Rattle.bag.specs.Posts.{posted}
+use Rattle.ctrl_msg.specs.declared.message.Message.{Message}
+use Rattle.net_file.specs.declared.ports.Ports.{Ports}
+use Rattle.policy_rules.specs.declared.packet.Leg.{Leg}
+use Rattle.policy_rules.specs.declared.packet.Leg.TheVariants.{Seek, Exit}
+use Rattle.journal.specs.declared.item.Item.{Item}
+use Rattle.switch_core.specs.Arriving.{arrived}
+use Rattle.switch_core.specs.Ends.{around}
+use Rattle.switch_core.specs.State.{SwitchValue}
+use Rattle.switch_core.specs.declared.answers.Arrived.{Arrived}
+use Rattle.switch_core.specs.declared.answers.Arrived.TheVariants as arrived
+use Rattle.switch_core.specs.declared.answers.Decision.{Decision}
+use Rattle.switch_core.specs.declared.answers.Entered.{Entered}
+use Rattle.switch_core.specs.declared.answers.Entered.TheVariants as entered
+use Rattle.switch_core.specs.declared.answers.Next.{Next}
+use Rattle.switch_core.specs.declared.answers.Next.TheVariants as next
+use Rattle.update_machine.specs.Folds.{count_of}
+use Rattle.update_machine.specs.Handled.{is_entry_at, stays_on_way}
+use Rattle.update_machine.specs.Messages.{sent_from}
+use Rattle.update_machine.specs.Moves.{takes_route}
+use Rattle.update_machine.specs.Packets.{is_packet}
+use Rattle.world.specs.Packets.{arrival_items, arrival_posts, hop_items, hop_posts, standing_at}
+use Rattle.world.specs.Writing.{arrived_items, arrived_posts, cache_message, decided_items, end_of, entered_items, messages_in}
+use Rattle.world.specs.declared.log.Standing.{Standing}
+use Rattle.world.specs.declared.travelling.Traveller.{Traveller}
+use Rattle.world.proofs.Posting.{SendFrom, posts_in}
+use Rattle.world.proofs.Steps.{NoRow, NoRows}
+
+-- an item that begins no step, and brings no packet in
+abbrev pub IsLater : Item → Type 0
+IsLater one = NoRow one × (is_packet one ≡ false) × ((q : ℕ) → is_entry_at q one ≡ false)
+
+abbrev pub AreLater : List Item → Type 0
+AreLater [] = ⊤
+AreLater (first ∷ items) = IsLater first × AreLater items
+
+pub later_rows : (items : List Item) → AreLater items → NoRows items
+later_rows [] later = tt
+later_rows (first ∷ items) later = (later.0.0, later_rows items later.1)
+
+pub later_packets : (items : List Item) → AreLater items → count_of is_packet items ≡ 0
+later_packets [] later = refl
+later_packets (first ∷ items) later =
+    let sum = sum_by-cons (λ x. cond (is_packet x) 1 0) first items in
+    let none : ◌≡◌ {A = ℕ} (cond (is_packet first) 1 0) 0 = ap (λ b. cond b 1 0) later.0.1 in
+    omega (arith, sum, none, later_packets items later.1)
+
+pub later_entries : (q : ℕ) (items : List Item) → AreLater items
+    → count_of (is_entry_at q) items ≡ 0
+later_entries q [] later = refl
+later_entries q (first ∷ items) later =
+    let sum = sum_by-cons (λ x. cond (is_entry_at q x) 1 0) first items in
+    let none : ◌≡◌ {A = ℕ} (cond (is_entry_at q first) 1 0) 0 = ap (λ b. cond b 1 0)
+    (later.0.2 q) in
+    omega (arith, sum, none, later_entries q items later.1)
+
+pub route_later : (i : ℕ) (leg : Leg) (route : List ℕ) → IsLater (takes_route i leg route)
+route_later i (Seek version partition) route = (tt, refl, λ q. refl)
+route_later i (Exit port) route = (tt, refl, λ q. refl)
+
+pub end_later : (at : Standing) (decision : Decision) (onward : Next)
+    → IsLater (end_of at decision onward)
+end_later at decision next.Dropped = (tt, refl, λ q. refl)
+end_later at decision (next.Out port) = (tt, refl, λ q. refl)
+end_later at decision (next.Exit tunnel) = route_later at.packet tunnel.leg tunnel.route
+end_later at decision (next.Stuck cause) = (tt, refl, λ q. refl)
+
+pub decided_later : (number : ℕ) (at : Standing) (decision : Decision) (message : Option Message)
+    (onward : Next)
+    → AreLater (decided_items at decision (sent_from number (messages_in message)) onward)
+unfolding sent_from
+decided_later number at decision None onward =
+    ((tt, refl, λ q. refl), (end_later at decision onward, tt))
+decided_later number at decision (Some message) onward =
+    ((tt, refl, λ q. refl), ((tt, refl, λ q. refl), (end_later at decision onward, tt)))
+
+pub arrived_later : (number : ℕ) (at : Standing) (t : Traveller) (answer : Arrived)
+    → AreLater (arrived_items number at t answer)
+arrived_later number at t (arrived.Out port) = ((tt, refl, λ q. refl), tt)
+arrived_later number at t (arrived.Decided decision cache onward) =
+    decided_later number at decision (cache_message t.tunnel.ingress cache) onward
+arrived_later number at t (arrived.Seek tunnel) =
+    (route_later at.packet tunnel.leg tunnel.route, tt)
+arrived_later number at t (arrived.Stuck cause leg) = ((tt, refl, λ q. refl), tt)
+
+-- ---- none moves the packet on
+
+route_still : (i : ℕ) (leg : Leg) (route : List ℕ)
+    → stays_on_way (takes_route i leg route ∷ []) ≡ false
+route_still i (Seek version partition) route = refl
+route_still i (Exit port) route = refl
+
+end_still : (at : Standing) (decision : Decision) (onward : Next)
+    → stays_on_way (end_of at decision onward ∷ []) ≡ false
+end_still at decision next.Dropped = refl
+end_still at decision (next.Out port) = refl
+end_still at decision (next.Exit tunnel) = route_still at.packet tunnel.leg tunnel.route
+end_still at decision (next.Stuck cause) = refl
+
+decided_still : (number : ℕ) (at : Standing) (decision : Decision) (message : Option Message)
+    (onward : Next) → stays_on_way
+    (decided_items at decision (sent_from number (messages_in message)) onward) ≡ false
+unfolding sent_from
+decided_still number at decision None onward = end_still at decision onward
+decided_still number at decision (Some message) onward = end_still at decision onward
+
+pub arrived_still : (number : ℕ) (at : Standing) (t : Traveller) (answer : Arrived)
+    → stays_on_way (arrived_items number at t answer) ≡ false
+arrived_still number at t (arrived.Out port) = refl
+arrived_still number at t (arrived.Decided decision cache onward) =
+    decided_still number at decision (cache_message t.tunnel.ingress cache) onward
+arrived_still number at t (arrived.Seek tunnel) =
+    route_still at.packet tunnel.leg tunnel.route
+arrived_still number at t (arrived.Stuck cause leg) = refl
+
+-- ---- what is sent
+
+-- nothing, whatever the number of the next message is
+abbrev pub SendNone : ℕ → List Item → Type 0
+SendNone number items = SendFrom number items × (posts_in items ≡ [])
+
+route_sends : (number i : ℕ) (leg : Leg) (route : List ℕ)
+    → SendNone number (takes_route i leg route ∷ [])
+route_sends number i (Seek version partition) route = (tt, refl)
+route_sends number i (Exit port) route = (tt, refl)
+
+end_sends : (number : ℕ) (at : Standing) (decision : Decision) (onward : Next)
+    → SendNone number (end_of at decision onward ∷ [])
+end_sends number at decision next.Dropped = (tt, refl)
+end_sends number at decision (next.Out port) = (tt, refl)
+end_sends number at decision (next.Exit tunnel) =
+    route_sends number at.packet tunnel.leg tunnel.route
+end_sends number at decision (next.Stuck cause) = (tt, refl)
+
+pub entered_sends : (number : ℕ) (at : Standing) (answer : Entered)
+    → SendNone number (entered_items at answer)
+entered_sends number at entered.Closed = (tt, refl)
+entered_sends number at (entered.Decided decision onward) = end_sends number at decision onward
+entered_sends number at (entered.Seek tunnel) =
+    route_sends number at.packet tunnel.leg tunnel.route
+entered_sends number at (entered.Stuck cause leg) = (tt, refl)
+
+decided_sends : (number : ℕ) (at : Standing) (decision : Decision) (message : Option Message)
+    (onward : Next)
+    → (let items : List Item =
+    decided_items at decision (sent_from number (messages_in message)) onward in
+    SendFrom number items × (posts_in items ≡ map posted (messages_in message)))
+unfolding sent_from
+decided_sends number at decision None onward = end_sends number at decision onward
+decided_sends number at decision (Some message) onward =
+    let rest = end_sends (number + 1) at decision onward in
+    ((refl, rest.0), ap (λ posts. posted message ∷ posts) rest.1)
+
+-- the message of the answer, under this number
+pub arrived_sends : (number : ℕ) (at : Standing) (t : Traveller) (answer : Arrived)
+    → SendFrom number (arrived_items number at t answer)
+    × (posts_in (arrived_items number at t answer) ≡ arrived_posts t answer)
+arrived_sends number at t (arrived.Out port) = (tt, refl)
+arrived_sends number at t (arrived.Decided decision cache onward) =
+    decided_sends number at decision (cache_message t.tunnel.ingress cache) onward
+arrived_sends number at t (arrived.Seek tunnel) =
+    route_sends number at.packet tunnel.leg tunnel.route
+arrived_sends number at t (arrived.Stuck cause leg) = (tt, refl)
+
+pub hop_sends : (number : ℕ) (switch : SwitchValue) (near : ℕ) (ports : Ports) (t : Traveller)
+    (goes_on : Option ℕ)
+    → SendFrom number (hop_items number switch near ports t goes_on)
+    × (posts_in (hop_items number switch near ports t goes_on)
+    ≡ hop_posts switch near ports t goes_on)
+unfolding arrival_items arrival_posts
+hop_sends number switch near ports t None =
+    arrived_sends number (standing_at switch.number t) t
+    (arrived switch (around near ports) t.tunnel)
+hop_sends number switch near ports t (Some two) = (tt, refl)

@@ -1,0 +1,103 @@
+-- The least packet on its way is the least that travels.
+use Rattle.std.proofs.Common.{ℕ, zero, suc, ◌≡◌, ◌+◌, ◌<◌, ◌≤◌, inl, inr, Bool, true, false, cond, Option, Some, None, List, refl, ap, sym, subst, ◌∙◌, arith}
+use Rattle.std.specs.Prelude.{find, IsSome}
+use Rattle.std.specs.List.{range_with_len}
+use Rattle.std.proofs.lemmas.Bool.{cases_lt}
+use Rattle.journal.specs.declared.item.Item.{Item}
+use Rattle.update_machine.specs.Packets.{next_packet, next_travelling, travels}
+use Rattle.update_machine.specs.Setting.{Setting}
+use Rattle.packet_laws.specs.Words.{words_of}
+use Rattle.world.specs.State.{AreTied, IsTied, WorldValue, traveller_in, traveller_of}
+use Rattle.world.specs.Travelling.{IsNextFrom, Travellers, traveller}
+use Rattle.world.proofs.Played.{played_unknown}
+
+-- the least number from here on that satisfies the test
+abbrev IsLeast : (ℕ → Bool) → ℕ → Option ℕ → Type 0
+IsLeast test from None = (i : ℕ) → from ≤ i → test i ≡ false
+IsLeast test from (Some least) = (from ≤ least) × (test least ≡ true)
+    × ((i : ℕ) → from ≤ i → i < least → test i ≡ false)
+
+differ : {X : Type 0} (b : Bool) → b ≡ true → b ≡ false → X
+differ true holds fails = cc fails
+differ false holds fails = cc holds
+
+-- a test that fails at the first number has its least one behind it
+onward : (test : ℕ → Bool) (from : ℕ) (next : Option ℕ) → test from ≡ false
+    → IsLeast test from next → IsLeast test (from + 1) next
+onward test from None fails least = λ i behind. least i (omega (arith, behind))
+onward test from (Some i) fails least = (
+  elim (cases_lt from i) [
+    | inl below ↦ omega (arith, below)
+    | inr above ↦
+        let same : from ≡ i = omega (arith, above, least.0) in
+        differ (test i) least.1 (subst (λ k. test k ≡ false) same fails)
+  ],
+  least.1,
+  λ k behind below. least.2 k (omega (arith, behind)) below,
+)
+
+-- one that holds there has it there
+first : (test : ℕ → Bool) (from : ℕ) (next : Option ℕ) → test from ≡ true
+    → IsLeast test from next → next ≡ Some from
+first test from None holds least = differ (test from) holds (least from (omega arith))
+first test from (Some i) holds least = elim (cases_lt from i) [
+  | inl below ↦ differ (test from) holds (least.2 from (omega arith) below)
+  | inr above ↦
+      let same : i ≡ from = omega (arith, above, least.0) in
+      ap Some same
+]
+
+by_first : (test : ℕ → Bool) (from : ℕ) (next rest : Option ℕ) (b : Bool) → test from ≡ b
+    → IsLeast test from next → (IsLeast test (from + 1) next → next ≡ rest)
+    → next ≡ cond b (Some from) rest
+by_first test from next rest true holds least on = first test from next holds least
+by_first test from next rest false fails least on = on (onward test from next fails least)
+
+least_is_found : (test : ℕ → Bool) (from count : ℕ) (next : Option ℕ)
+    → ((i : ℕ) → from + count ≤ i → test i ≡ false) → IsLeast test from next
+    → next ≡ find test (range_with_len from count)
+least_is_found test from zero None over least = refl
+least_is_found test from zero (Some i) over least =
+    differ (test i) least.1 (over i (omega (arith, least.0)))
+least_is_found test from (suc count) next over least =
+    by_first test from next (find test (range_with_len (from + 1) count)) (test from) refl least
+    (least_is_found test (from + 1) count next (λ i behind. over i (omega (arith, behind))))
+
+none_travels : {X : Type 0} (b : Bool) (x : X) → cond b (Some x) None ≡ None → b ≡ false
+none_travels true x is = cc is
+none_travels false x is = refl
+
+some_travels : {X : Type 0} (b : Bool) (x : X) → IsSome (cond b (Some x) None) → b ≡ true
+some_travels true x is = refl
+some_travels false x is = cc is
+
+-- the least packet on its way is the least that travels
+least_travels : (setting : Setting) (journal : List Item) (travelling : Travellers)
+    (next : Option ℕ)
+    → ((i : ℕ) → traveller travelling i ≡ traveller_in setting journal i)
+    → ((i : ℕ) → next_packet journal ≤ i → travels journal i ≡ false)
+    → IsNextFrom travelling 1 next → next ≡ next_travelling journal
+unfolding traveller_in next_packet next_travelling
+least_travels setting journal travelling next tie over least =
+    least_is_found (travels journal) 1 _ next (λ i behind. over i (omega (arith, behind)))
+    (by next least)
+  where
+    none : (i : ℕ) → traveller travelling i ≡ None → travels journal i ≡ false
+    none i is = none_travels (travels journal i) (traveller_of setting journal i) (sym (tie i) ∙ is)
+
+    by : (b : Option ℕ) → IsNextFrom travelling 1 b → IsLeast (travels journal) 1 b
+    by None least = λ i behind. none i (least i behind)
+    by (Some i) least = (
+      least.0,
+      some_travels (travels journal i) (traveller_of setting journal i)
+          (subst IsSome (tie i) least.1),
+      λ k behind below. none k (least.2 k behind below),
+    )
+
+pub least_travels_in : (world : WorldValue) (next : Option ℕ) → IsTied world
+    → IsNextFrom world.travelling 1 next → next ≡ next_travelling world.journal
+unfolding AreTied words_of
+least_travels_in world next tied least =
+    least_travels world.setting world.journal world.travelling next tied.packet
+    (λ i new. (played_unknown world.setting world.journal tied.sound tied.played i new).travels)
+    least

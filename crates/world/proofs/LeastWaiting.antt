@@ -1,0 +1,53 @@
+-- The least message that waits in the bag is the least that the journal says to wait.
+use Rattle.std.proofs.Common.{ℕ, ◌≡◌, ◌+◌, ◌-◌, Bool, true, false, Option, Some, None, List, [], ◌∷◌, length, cond, refl, ap, ◌∙◌, arith}
+use Rattle.std.specs.Prelude.{find, not, ◌&&◌, is_some, option_map}
+use Rattle.std.specs.List.{range_with_len}
+use Rattle.std.specs.Option.{option_map_or}
+use Rattle.bag.specs.Posts as bag
+use Rattle.ctrl_msg.specs.declared.message.Message.{Message}
+use Rattle.journal.specs.declared.item.Item.{Item}
+use Rattle.update_machine.specs.Folds.{count_of}
+use Rattle.update_machine.specs.Messages.{is_deliverable, is_forgotten, is_sending, is_waiting, message_of, next_message, next_waiting, was_delivered}
+use Rattle.world.specs.State.{AreTied, IsBagOf, IsTied, WorldValue, post_in}
+
+find_same : (one other : ℕ → Bool) → ((n : ℕ) → one n ≡ other n) → (numbers : List ℕ)
+    → find one numbers ≡ find other numbers
+find_same one other same [] = refl
+find_same one other same (n ∷ numbers) =
+    ap (λ b. cond b (Some n) (find one numbers)) (same n)
+    ∙ ap (λ rest. cond (other n) (Some n) rest) (find_same one other same numbers)
+
+-- a post waits as the journal says of its message
+post_waits : (sent : Option Message) (delivered forgotten : Bool) →
+    option_map_or bag.waits (option_map (λ message. record {
+      message = message;
+      delivered = delivered;
+      forgotten = forgotten;
+    }) sent) false
+    ≡ ((is_some sent && not forgotten) && not delivered)
+post_waits None delivered forgotten = refl
+post_waits (Some message) true true = refl
+post_waits (Some message) true false = refl
+post_waits (Some message) false true = refl
+post_waits (Some message) false false = refl
+
+waits_same : (journal : List Item) (posts : List bag.Post) → IsBagOf journal posts → (n : ℕ)
+    → bag.is_waiting posts n ≡ is_waiting journal n
+unfolding post_in is_deliverable
+waits_same journal posts of n =
+    ap (λ post. option_map_or bag.waits post false) (of.each n)
+    ∙ post_waits (message_of journal n) (was_delivered journal n) (is_forgotten journal n)
+
+least_waits : (journal : List Item) (posts : List bag.Post) → IsBagOf journal posts
+    → bag.next_waiting posts 1 ≡ next_waiting journal
+unfolding next_waiting next_message
+least_waits journal posts of =
+    let many : length posts + 1 - 1 ≡ count_of is_sending journal = omega (arith, of.many) in
+    ap (λ count. find (bag.is_waiting posts) (range_with_len 1 count)) many
+    ∙ find_same (bag.is_waiting posts) (is_waiting journal) (waits_same journal posts of)
+    (range_with_len 1 (count_of is_sending journal))
+
+pub least_waits_in : (world : WorldValue) → IsTied world
+    → bag.next_waiting world.bag 1 ≡ next_waiting world.journal
+unfolding AreTied
+least_waits_in world tied = least_waits world.journal world.bag tied.bag
