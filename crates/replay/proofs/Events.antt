@@ -1,38 +1,64 @@
--- Journals that go on by the steps of events.
-use Rattle.std.proofs.Common.{ℕ, ◌≡◌, ◌+◌, ◌<◌, List, [], ◌∷◌, ◌++◌, length, drop, get_or, refl, ap, sym, subst, ◌∙◌, Result, Ok, Err, OnOk, drop-cons, add-one}
+-- Plays that go on by the steps of events.
+use Rattle.std.proofs.Common.{ℕ, ◌≡◌, ◌+◌, ◌<◌, inl, inr, Option, Some, None, List, [], ◌∷◌, ◌++◌, length, drop, get_or, refl, ap, sym, subst, ◌∙◌, append_assoc, drop-cons, add-one}
 use Rattle.std.specs.Prelude.{IsOk, slice_index_or}
 use Rattle.journal.specs.declared.item.Item.{Item}
 use Rattle.net_file.specs.declared.net.Net.{Net}
 use Rattle.partition.specs.Plan.{plan_of}
 use Rattle.policy_rules.specs.declared.policy.Row.{Row}
 use Rattle.steps.specs.declared.step.Event.{Event}
-use Rattle.steps.specs.declared.step.Event.TheVariants.{One}
-use Rattle.steps.specs.declared.step.Step.{Step}
-use Rattle.update_machine.specs.Answers.{Answers, AreSteps, StepOfRow, after_steps}
-use Rattle.update_machine.specs.Pieces.{piece}
+use Rattle.update_machine.specs.Answers.{AreFirstSteps, AreSteps, StepOfRow, after_steps}
+use Rattle.update_machine.specs.Full.{HaveRoom, IsFull, IsPlay}
 use Rattle.update_machine.specs.Setting.{Setting, plan_of_file, setting_of}
-use Rattle.replay.specs.Playing.{Happens}
+use Rattle.update_machine.proofs.CallerLemmas.{after_append, rooms_append}
+use Rattle.replay.specs.Playing.{Happens, StopsWithin}
 
--- the journal is what stood before and the pieces of the steps of these events, of which the first
--- has this row
+-- the journal is what stood before and the pieces of all steps of these events, of which the first
+-- has this row; each began with room
 pub record GoesOn (setting : Setting) (before : List Item) (row : ℕ) (events : List Event)
     (journal : List Item) : Type 0 where
   pub steps : List StepOfRow
   pub allowed : AreSteps setting row events before steps
+  pub room : HaveRoom setting before steps
   pub written : journal ≡ after_steps setting before steps
 
-pub after_both : (setting : Setting) (before : List Item) (mine rest : List StepOfRow)
-    → after_steps setting before (mine ++ rest)
-    ≡ after_steps setting (after_steps setting before mine) rest
-after_both setting before [] rest = refl
-after_both setting before (next ∷ mine) rest =
-    after_both setting (before ++ piece setting before next.row next.step) mine rest
+-- the same of first steps, in front of a step of a row that would begin full
+pub record StopsOn (setting : Setting) (before : List Item) (row : ℕ) (events : List Event)
+    (journal : List Item) (at : ℕ) : Type 0 where
+  pub steps : List StepOfRow
+  pub next : StepOfRow
+  pub allowed : AreFirstSteps setting row events before (steps ++ next ∷ [])
+  pub written : journal ≡ after_steps setting before steps
+  pub room : HaveRoom setting before steps
+  pub full : IsFull journal
+  pub of_row : next.row ≡ at
 
-goes_on : (setting : Setting) (before after whole : List Item) (row : ℕ) (event : Event)
-    (events : List Event) → Happens setting row event before after
-    → GoesOn setting after (row + 1) events whole
-    → GoesOn setting before row (event ∷ events) whole
-goes_on setting before after whole row event events happens rest = record {
+-- a play of these events goes on from this journal to that one
+abbrev pub PlaysOn : Setting → List Item → ℕ → List Event → List Item → Option ℕ → Type 0
+PlaysOn setting before row events journal None = GoesOn setting before row events journal
+PlaysOn setting before row events journal (Some at) =
+    StopsOn setting before row events journal at
+
+-- ---- one more event
+
+room_on : (setting : Setting) (before after : List Item) (mine rest : List StepOfRow)
+    → after ≡ after_steps setting before mine → HaveRoom setting before mine
+    → HaveRoom setting after rest → HaveRoom setting before (mine ++ rest)
+room_on setting before after mine rest written room more =
+    rooms_append setting before mine rest room
+    (subst (λ journal. HaveRoom setting journal rest) written more)
+
+written_on : (setting : Setting) (before after whole : List Item) (mine rest : List StepOfRow)
+    → after ≡ after_steps setting before mine → whole ≡ after_steps setting after rest
+    → whole ≡ after_steps setting before (mine ++ rest)
+written_on setting before after whole mine rest written more =
+    more ∙ ap (λ journal. after_steps setting journal rest) written
+    ∙ sym (after_append setting before mine rest)
+
+plays_on : (setting : Setting) (before after whole : List Item) (row : ℕ) (event : Event)
+    (events : List Event) (stop : Option ℕ) → Happens setting row event before after
+    → PlaysOn setting after (row + 1) events whole stop
+    → PlaysOn setting before row (event ∷ events) whole stop
+plays_on setting before after whole row event events None happens rest = record {
   steps = happens.steps ++ rest.steps;
   allowed = (
     happens.steps,
@@ -42,38 +68,83 @@ goes_on setting before after whole row event events happens rest = record {
     subst (λ journal. AreSteps setting (row + 1) events journal rest.steps) happens.written
         rest.allowed,
   );
-  written = rest.written ∙ ap (λ journal. after_steps setting journal rest.steps) happens.written
-      ∙ sym (after_both setting before happens.steps rest.steps);
+  room = room_on setting before after happens.steps rest.steps happens.written happens.room
+      rest.room;
+  written = written_on setting before after whole happens.steps rest.steps happens.written
+      rest.written;
+}
+plays_on setting before after whole row event events (Some at) happens rest = record {
+  steps = happens.steps ++ rest.steps;
+  next = rest.next;
+  allowed = inr (
+    happens.steps,
+    rest.steps ++ rest.next ∷ [],
+    record { split = append_assoc happens.steps rest.steps (rest.next ∷ []) },
+    happens.all,
+    subst (λ journal. AreFirstSteps setting (row + 1) events journal (rest.steps ++ rest.next ∷ []))
+        happens.written rest.allowed,
+  );
+  written = written_on setting before after whole happens.steps rest.steps happens.written
+      rest.written;
+  room = room_on setting before after happens.steps rest.steps happens.written happens.room
+      rest.room;
+  full = rest.full;
+  of_row = rest.of_row;
 }
 
 -- the next event stands in front of those that are left
-pub goes_on_by : (setting : Setting) (before after whole : List Item) (row : ℕ)
-    (events : List Event) (i : ℕ) (d : Event) → i < length events
+pub plays_on_by : (setting : Setting) (before after whole : List Item) (row : ℕ)
+    (events : List Event) (i : ℕ) (d : Event) (stop : Option ℕ) → i < length events
     → Happens setting row (get_or events i d) before after
-    → GoesOn setting after (row + 1) (drop (i + 1) events) whole
-    → GoesOn setting before row (drop i events) whole
-goes_on_by setting before after whole row events i d within happens rest =
-    let there = goes_on setting before after whole row (get_or events i d) (drop (i + 1) events)
-    happens rest in
+    → PlaysOn setting after (row + 1) (drop (i + 1) events) whole stop
+    → PlaysOn setting before row (drop i events) whole stop
+plays_on_by setting before after whole row events i d stop within happens rest =
+    let there = plays_on setting before after whole row (get_or events i d) (drop (i + 1) events)
+    stop happens rest in
     rw (drop-cons events i d within, ← add-one i) there
 
-pub goes_on_from_start : (setting : Setting) (events : List Event) (whole : List Item)
-    → GoesOn setting [] 1 events whole → Answers setting events whole
-goes_on_from_start setting events whole rest =
-    record { steps = rest.steps; allowed = rest.allowed; written = rest.written }
+-- ---- where a play ends
 
-pub goes_on_no_more : (setting : Setting) (journal : List Item) (row : ℕ)
-    → GoesOn setting journal row [] journal
-goes_on_no_more setting journal row = record { steps = []; allowed = refl; written = refl }
+pub plays_no_more : (setting : Setting) (journal : List Item) (row : ℕ)
+    → PlaysOn setting journal row [] journal None
+plays_no_more setting journal row =
+    record { steps = []; allowed = refl; room = tt; written = refl }
 
--- an event of one step happens by its piece
-pub one_happens : {T E : Type 0} (setting : Setting) (row : ℕ) (step : Step)
-    (before after : List Item) (result : Result T E)
-    → OnOk result (after ≡ before ++ piece setting before row step)
-    → OnOk result (Happens setting row (One step) before after)
-one_happens setting row step before after (Ok done) written =
-    record { steps = record { row = row; step = step } ∷ []; all = refl; written = written }
-one_happens setting row step before after (Err error) written = tt
+-- within the next event, of which a step would begin full
+pub stops_by : (setting : Setting) (before after : List Item) (row : ℕ) (events : List Event)
+    (i : ℕ) (d : Event) → i < length events
+    → StopsWithin setting row (get_or events i d) before after
+    → PlaysOn setting before row (drop i events) after (Some row)
+stops_by setting before after row events i d within stops =
+    let there : PlaysOn setting before row (get_or events i d ∷ drop (i + 1) events) after
+    (Some row) = record {
+      steps = stops.steps;
+      next = stops.next;
+      allowed = inl stops.first;
+      written = stops.written;
+      room = stops.room;
+      full = stops.full;
+      of_row = stops.of_row;
+    } in
+    rw (drop-cons events i d within, ← add-one i) there
+
+-- ---- from the start
+
+pub plays_from_start : (setting : Setting) (events : List Event) (whole : List Item)
+    (stop : Option ℕ) → PlaysOn setting [] 1 events whole stop → IsPlay setting events whole stop
+plays_from_start setting events whole None rest = record {
+  answers = record { steps = rest.steps; allowed = rest.allowed; written = rest.written };
+  room = rest.room;
+}
+plays_from_start setting events whole (Some at) rest = record {
+  steps = rest.steps;
+  next = rest.next;
+  allowed = rest.allowed;
+  written = rest.written;
+  room = rest.room;
+  full = rest.full;
+  of_row = rest.of_row;
+}
 
 -- the plan of the first file is that of the first policy
 pub first_planned : (net : Net) (policies : List (List Row))

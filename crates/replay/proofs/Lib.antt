@@ -1,3 +1,5 @@
+mod Continuing
 mod Events
-mod LeastHops
+mod Small
 mod TestEvents
+mod Ties

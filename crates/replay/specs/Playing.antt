@@ -1,5 +1,5 @@
 -- What a play makes of a journal, event by event.
-use Rattle.std.specs.Prelude.{⊤, ℕ, ◌≡◌, Result, Err, List, ◌++◌}
+use Rattle.std.specs.Prelude.{⊤, ℕ, ◌≡◌, Result, Err, List, [], ◌∷◌, ◌++◌}
 use Rattle.controller.specs.declared.plan_error.PlanError.{PlanError}
 use Rattle.controller.specs.declared.plan_error.PlanError.TheVariants as why
 use Rattle.journal.specs.declared.item.Item.{Item}
@@ -7,16 +7,30 @@ use Rattle.partition.specs.Plan.{NoPlan, Placed}
 use Rattle.partition.specs.Plan as no_plan
 use Rattle.steps.specs.declared.step.Event.{Event}
 use Rattle.update_machine.specs.Answers.{AreFirstStepsOf, AreStepsOf, StepOfRow, after_steps}
+use Rattle.update_machine.specs.Full.{HaveRoom, IsFull}
 use Rattle.update_machine.specs.Setting.{Setting}
 use Rattle.replay.specs.declared.error.ReplayError.{ReplayError}
 use Rattle.replay.specs.declared.error.ReplayError.TheVariants as replayed
 
--- behind this journal, the event of the row took all its steps
+-- behind this journal, the event of the row took all its steps, each of which began with room
 pub record Happens (setting : Setting) (row : ℕ) (event : Event) (before after : List Item)
     : Type 0 where
   pub steps : List StepOfRow
   pub all : AreStepsOf setting row event before steps
+  pub room : HaveRoom setting before steps
   pub written : after ≡ after_steps setting before steps
+
+-- behind this journal, the event of the row took the steps that began with room; there is a next
+-- one, which isn't taken, since the journal is full
+pub record StopsWithin (setting : Setting) (row : ℕ) (event : Event) (before after : List Item)
+    : Type 0 where
+  pub steps : List StepOfRow
+  pub next : StepOfRow
+  pub first : AreFirstStepsOf setting row event before (steps ++ next ∷ [])
+  pub of_row : next.row ≡ row
+  pub room : HaveRoom setting before steps
+  pub written : after ≡ after_steps setting before steps
+  pub full : IsFull after
 
 -- behind this journal, the event of the row took first steps, and items of the last one may lack
 pub record Begins (setting : Setting) (row : ℕ) (event : Event) (before after : List Item)

@@ -1,10 +1,11 @@
-ghost use Rattle.std.specs.Prelude.{◌≡◌, ◌≤◌, false, OnErr, OnOk};
+ghost use Rattle.std.specs.Prelude.{◌≡◌, ◌≤◌, false, IsErrOf, OnErr, OnOk};
 ghost use Rattle.steps.specs.declared.step.Event.TheVariants.{Drain};
 ghost use Rattle.steps.specs.declared.step.TheConstants.{MAX_EVENTS};
 ghost use Rattle.update_machine.specs.Packets.{next_travelling};
-ghost use Rattle.replay.specs.Playing.{Begins, Happens};
+ghost use Rattle.world.specs.declared.error.StepError.TheVariants.{Full};
+ghost use Rattle.replay.specs.Playing.{Begins, Happens, StopsWithin};
 
-use drain_laws::{drains_end, packets_come_in};
+use drain_laws::drains_end;
 use std::alloc::Global;
 use steps::Step;
 use world::{StepError, World};
@@ -12,7 +13,8 @@ use world::{StepError, World};
 /// The least packet that travels hops, until none travels.
 ///
 /// # Errors
-/// Want of memory alone. The journal has first steps of the drain then, and a part of the next one.
+/// `Full` where a hop would begin behind a full journal, which has the hops before it; otherwise
+/// want of memory alone, and the journal has first steps of the drain and a part of the next one.
 pub fn drain(alloc: Global, world: &mut World, row: u32) -> Result<(), StepError>
     requires able { world.old.is_spent ≡ false }
     requires few { world.old.packets ≤ MAX_EVENTS }
@@ -21,6 +23,8 @@ pub fn drain(alloc: Global, world: &mut World, row: u32) -> Result<(), StepError
     ensures packets { OnOk result (world.new.packets ≡ world.old.packets) }
     ensures happens { OnOk result (Happens world.old.setting row Drain world.old.journal
         world.new.journal) }
+    ensures stops { IsErrOf result Full → StopsWithin world.old.setting row Drain
+        world.old.journal world.new.journal }
     ensures part { OnErr result (Begins world.old.setting row Drain world.old.journal
         world.new.journal) }
 {
@@ -37,7 +41,5 @@ fn first_travelling(world: &World) -> Option<u32>
     requires { world.now.is_spent ≡ false }
     ensures { result ≡ next_travelling world.now.journal }
 {
-    packets_come_in();
-    world.tied();
     world.next_travelling(1)
 }

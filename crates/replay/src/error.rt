@@ -2,8 +2,9 @@ ghost use Rattle.std.specs.Prelude.{◌≡◌};
 ghost use Rattle.replay.specs.Playing.{error_of};
 ghost use Rattle.replay.specs.declared.error.ReplayError.TheVariants.{NoMemory};
 
+use std::alloc::AllocError;
 use thiserror::Error;
-use world::{PlanError, StepError};
+use world::PlanError;
 
 /// Why nothing is played.
 #[derive(Clone, Copy, Debug, PartialEq, Eq, Error)]
@@ -26,12 +27,10 @@ impl From<PlanError> for ReplayError {
     }
 }
 
-impl From<StepError> for ReplayError {
+impl From<AllocError> for ReplayError {
     ghost from_gives = { λ _ e. e ≡ NoMemory };
 
-    fn from(error: StepError) -> Self {
-        match error {
-            StepError::NoMemory => ReplayError::NoMemory,
-        }
+    fn from(_: AllocError) -> Self {
+        ReplayError::NoMemory
     }
 }

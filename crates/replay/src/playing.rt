@@ -1,20 +1,22 @@
-ghost use Rattle.std.specs.Prelude.{◌≡◌, ◌≤◌, ◌<◌, ◌+◌, false, All, IfErr, IfOk, IsOk, OnOk, length, slice_index_or, []};
+ghost use Rattle.std.specs.Prelude.{◌≡◌, ◌≤◌, ◌<◌, ◌+◌, false, All, IfErr, IfOk, IsErrOf, IsOk, OnOk, length, slice_index_or, []};
 ghost use Rattle.net_file.specs.Net.{IsNet};
 ghost use Rattle.partition.specs.Plan.{plan_of};
 ghost use Rattle.policy_rules.specs.Policy.{IsPolicy};
 ghost use Rattle.steps.specs.declared.step.TheConstants.{MAX_EVENTS};
-ghost use Rattle.update_machine.specs.Answers.{Answers};
+ghost use Rattle.update_machine.specs.Full.{IsPlay};
 ghost use Rattle.update_machine.specs.Played.{MayHappen, NamesOwnPort};
 ghost use Rattle.update_machine.specs.Setting.{setting_of};
 ghost use Rattle.world.specs.State.{IsBegun};
-ghost use Rattle.replay.specs.Playing.{Happens, IsRefusal};
+ghost use Rattle.world.specs.declared.error.StepError.TheVariants as step_error;
+ghost use Rattle.replay.specs.Playing.{Happens, IsRefusal, StopsWithin};
 
 use crate::draining::drain;
 use crate::error::ReplayError;
+use crate::flushing::flush;
 use journal::Journal;
 use net_file::Net;
 use policy_rules::Policy;
-use std::alloc::Global;
+use std::alloc::{AllocError, Global};
 use steps::Event;
 use world::{StepError, World};
 
@@ -22,11 +24,14 @@ use world::{StepError, World};
 #[derive(Drop)]
 pub struct Played {
     pub journal: Journal,
+    /// The row of the step that would have begun behind a full journal, where the play ended so.
+    pub full: Option<u32>,
 }
 
 /// Plays the events on the network, on which the first policy is in force as version 1: event k,
 /// from 1, is row k of the schedule. A drain is a hop of the least packet that travels, until none
-/// does.
+/// does; a flush is a delivery of the least message that waits, until none does. Where a step would
+/// begin behind a full journal, the play ends before it.
 ///
 /// # Errors
 /// `Plan` exactly where the first policy has no plan on the network, unless memory runs out.
@@ -43,8 +48,8 @@ pub fn replay(
         row.action)) policies.items }
     requires events { All (MayHappen (setting_of net.now policies.items)) events.now }
     requires few { length events.now ≤ MAX_EVENTS }
-    ensures answer { IfOk result (λ played.
-        Answers (setting_of net.now policies.items) events.now played.journal) }
+    ensures play { IfOk result (λ played.
+        IsPlay (setting_of net.now policies.items) events.now played.journal played.full) }
     ensures planned { OnOk result
         (IsOk (plan_of (slice_index_or policies.items 0 []) net.now)) }
     ensures refused { IfErr result
@@ -60,21 +65,32 @@ pub fn replay(
 ///
 /// # Errors
 /// Want of memory alone.
-pub fn play(alloc: Global, world: World, events: &[Event]) -> Result<Played, StepError>
+pub fn play(alloc: Global, world: World, events: &[Event]) -> Result<Played, AllocError>
     requires begun { IsBegun world.setting world }
     requires events { All (MayHappen world.setting) events.now }
     requires few { length events.now ≤ MAX_EVENTS }
-    ensures { IfOk result (λ played. Answers world.setting events.now played.journal) }
+    ensures { IfOk result (λ played.
+        IsPlay world.setting events.now played.journal played.full) }
 {
     world.tied();
     let mut world = world;
     let mut row = 0u32;
     for event in events {
         row += 1;
-        play_event(alloc, &mut world, row, event)?;
+        match play_event(alloc, &mut world, row, event) {
+            Ok(()) => {}
+            Err(StepError::Full) => {
+                return Ok(Played {
+                    journal: world.into_journal(),
+                    full: Some(row),
+                });
+            }
+            Err(StepError::NoMemory) => return Err(AllocError),
+        }
     }
     Ok(Played {
         journal: world.into_journal(),
+        full: None,
     })
 }
 
@@ -89,6 +105,8 @@ fn play_event(alloc: Global, world: &mut World, row: u32, event: &Event) -> Resu
     ensures few { OnOk result (world.new.packets ≤ row) }
     ensures happens { OnOk result (Happens world.old.setting row event.now world.old.journal
         world.new.journal) }
+    ensures stops { IsErrOf result step_error.Full → StopsWithin world.old.setting row event.now
+        world.old.journal world.new.journal }
 {
     match event {
         Event::One(step) => {
@@ -96,6 +114,6 @@ fn play_event(alloc: Global, world: &mut World, row: u32, event: &Event) -> Resu
             world.step(alloc, row, step)
         }
         Event::Drain => drain(alloc, world, row),
-        Event::Flush => unreachable!(),
+        Event::Flush => flush(alloc, world, row),
     }
 }

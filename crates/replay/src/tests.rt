@@ -1,4 +1,4 @@
-//! A row on two switches, and a first policy without a plan.
+//! A packet and its cache rule on two switches, and a first policy without a plan.
 ghost use Rattle.std.specs.Prelude.{◌≡◌, All, IfOk};
 ghost use Rattle.five_tuple.specs.Header.{IsHeader};
 ghost use Rattle.net_file.specs.Net.{IsNet};
@@ -56,9 +56,9 @@ fn pair(alloc: Global, room: &str) -> Result<Net, Fail>
     Ok(read_net(alloc, text.as_bytes())?)
 }
 
-// A packet comes in at `a`, and hops until it travels no more.
+// A packet comes in at `a`, and hops until it travels no more; then what was sent is delivered.
 #[tactic(auto, using(crate::proofs::TestEvents::may_happen))]
-fn play_drained(
+fn play_packet(
     rt: &impl Abort,
     alloc: Global,
     room: &str,
@@ -70,15 +70,17 @@ fn play_drained(
         header: header(),
     });
     let policies = vec![in alloc; policy(alloc)?]?;
-    Ok(replay(alloc, &net, policies, &[packet, Event::Drain]))
+    let events = [packet, Event::Drain, Event::Flush];
+    Ok(replay(alloc, &net, policies, &events))
 }
 
 #[test]
-fn drains_a_packet(rt: HostRuntime) -> Result<(), Fail> {
+fn drains_a_packet_and_flushes(rt: HostRuntime) -> Result<(), Fail> {
     let alloc = rt.alloc();
-    let played = play_drained(&rt, alloc, ", authority = 100")??;
+    let played = play_packet(&rt, alloc, ", authority = 100")??;
+    assert_eq!(rt; played.full, None);
     let items = played.journal.items();
-    assert_eq!(rt; items.len(), 8);
+    assert_eq!(rt; items.len(), 11);
     assert!(rt;
         matches!(
             items[2],
@@ -99,18 +101,10 @@ fn drains_a_packet(rt: HostRuntime) -> Result<(), Fail> {
             }
         )
     );
+    assert!(rt; matches!(items[7], Item::Sent { number: 1, .. }));
     assert!(rt;
         matches!(
-            items[5],
-            Item::Row {
-                row: 2,
-                step: Step::Hop { packet: 1 }
-            }
-        )
-    );
-    assert!(rt;
-        matches!(
-            items[7],
+            items[8],
             Item::Left {
                 packet: 1,
                 port: 2,
@@ -118,13 +112,23 @@ fn drains_a_packet(rt: HostRuntime) -> Result<(), Fail> {
             }
         )
     );
+    assert!(rt;
+        matches!(
+            items[9],
+            Item::Row {
+                row: 3,
+                step: Step::Deliver { message: 1 }
+            }
+        )
+    );
+    assert!(rt; matches!(items[10], Item::Delivered { number: 1 }));
     Ok(())
 }
 
 #[test]
 fn refuses_a_policy_without_room(rt: HostRuntime) -> Result<(), Fail> {
     let alloc = rt.alloc();
-    let why = play_drained(&rt, alloc, "")?.err();
+    let why = play_packet(&rt, alloc, "")?.err();
     assert_eq!(rt;
         why,
         Some(ReplayError::Plan(PlanError::NoRoom { partition: 0 }))

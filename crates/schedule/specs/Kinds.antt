@@ -34,6 +34,10 @@ abbrev pub is_built : Kind → Bool
 is_built kind.Packet = true
 is_built kind.Hop = true
 is_built kind.Lose = true
+is_built kind.Deliver = true
+is_built kind.Forget = true
+is_built kind.Expire = true
+is_built kind.Flush = true
 is_built kind.Drain = true
 is_built _ = false
 

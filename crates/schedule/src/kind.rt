@@ -68,7 +68,11 @@ impl Kind {
     pub fn is_built(self) -> bool
         ensures { result ≡ is_built self }
     {
-        matches!(self, Kind::Packet | Kind::Hop | Kind::Lose | Kind::Drain)
+        match self {
+            Kind::Packet | Kind::Hop | Kind::Lose | Kind::Drain => true,
+            Kind::Deliver | Kind::Forget | Kind::Expire | Kind::Flush => true,
+            _ => false,
+        }
     }
 }
 

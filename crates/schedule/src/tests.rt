@@ -12,7 +12,7 @@ use std::test::Fail;
 const NETWORK: &[u8] = b"switch = [{ name = 'a', ports = [1] }, { name = 'b' }, { name = 'c' }]
 link = [{ ends = ['b', 'a'] }]";
 
-// The rows of a whole run, of which the third cannot be played yet.
+// The rows of a whole run, of which the sixth cannot be played yet.
 const DAY: &str = "packet,a,10.0.1.5,10.0.2.10,40000,443,tcp
 drain
 flush
@@ -44,6 +44,10 @@ packet,b,10.0.1.5,10.0.2.10,40000,443,tcp
 \"hop\",1
 
 lose,999999999\r
+deliver,2
+forget,0
+expire,c,65536
+flush
 drain";
     let events = read_schedule(alloc, text, &net, 1)?;
     let header = Header::pack(&Fields {
@@ -61,6 +65,13 @@ drain";
                 Event::One(Step::Lose {
                     packet: 999_999_999
                 }),
+                Event::One(Step::Deliver { message: 2 }),
+                Event::One(Step::Forget { message: 0 }),
+                Event::One(Step::Expire {
+                    switch: 2,
+                    place: 65536
+                }),
+                Event::Flush,
                 Event::Drain,
             ]
             .as_slice()
@@ -78,7 +89,7 @@ fn refuses_with_code_and_row(rt: HostRuntime) -> Result<(), Fail> {
     let alloc = rt.alloc();
     let net = read_net(alloc, NETWORK)?;
     let day = under_heading(alloc, DAY)?;
-    assert_eq!(rt; refusal(read_schedule(alloc, &day, &net, 2)), Some((10, 3)));
+    assert_eq!(rt; refusal(read_schedule(alloc, &day, &net, 2)), Some((10, 6)));
     assert_eq!(rt; refusal(read_schedule(alloc, b"", &net, 1)), Some((1, 0)));
     assert_eq!(rt;
         refusal(read_schedule(alloc, b"event,arguments,\n", &net, 1)),
@@ -91,9 +102,14 @@ fn refuses_with_code_and_row(rt: HostRuntime) -> Result<(), Fail> {
         ("packet,z,1.2.3,10.2.0.1,5000,80,tcp", 4),
         ("hop,1000000000", 5),
         ("lose,01", 5),
+        ("deliver,1000000000", 5),
+        ("forget,", 5),
+        ("expire,a,-1", 5),
+        ("expire,0,a", 4),
+        ("expire,a", 2),
+        ("flush,1", 2),
         ("packet,a,1.2.3.4,10.2.0.1,any,80,tcp", 6),
         ("packet,a,1.2.3.4/32,10.2.0.1,5000,80,tcp", 6),
-        ("flush", 10),
         ("linkdown,a,z,a", 10),
     ] {
         let rows = format!(in alloc; "drain\n{row}\nskip\n")?;

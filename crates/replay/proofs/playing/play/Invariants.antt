@@ -1,6 +1,6 @@
-use Rattle.std.proofs.Common.{◌≡◌, ◌+◌, ◌≤◌, [], List, drop, false}
+use Rattle.std.proofs.Common.{ℕ, ◌≡◌, ◌+◌, ◌≤◌, Option, [], List, drop, false}
 use Rattle.journal.specs.declared.item.Item.{Item}
-use Rattle.replay.proofs.Events.{GoesOn}
+use Rattle.replay.proofs.Events.{PlaysOn}
 use Rattle.replay.proofs.playing.play.Given as goal
 
 abbrev pub invariant-loop-event : goal.invariant-loop-event
@@ -9,6 +9,7 @@ invariant-loop-event l = record {
   setting : l.world.setting ≡ l.fn.world.setting;
   able : l.world.is_spent ≡ false;
   packets : l.world.packets ≤ l.row;
-  goes_on : (whole : List Item) → GoesOn l.fn.world.setting l.world.journal (l.row + 1)
-      (drop l.event-index l.events) whole → GoesOn l.fn.world.setting [] 1 l.events whole;
+  plays_on : (whole : List Item) (stop : Option ℕ)
+      → PlaysOn l.fn.world.setting l.world.journal (l.row + 1) (drop l.event-index l.events) whole
+      stop → PlaysOn l.fn.world.setting [] 1 l.events whole stop;
 }

@@ -2,14 +2,12 @@ use Rattle.std.proofs.Common.{subst}
 use Rattle.std.specs.Prelude.{IsOk}
 use Rattle.update_machine.specs.Setting.{plan_of_file}
 use Rattle.replay.proofs.Events.{first_planned}
-use Rattle.replay.proofs.LeastHops.{tie_of}
+use Rattle.replay.proofs.Ties.{tie_of}
 use Rattle.replay.proofs.playing.replay.Goals as goal
 
 pub returns-clause-planned : goal.returns-clause-planned
 returns-clause-planned c =
-    let world = c.in_ok-world.world in
-    let tied = tie_of world.setting world.journal world.travelling world.packets world.switches
-    (c.tied.ensures c.in_ok-world.ensures.begun.able) in
+    let begun = c.in_ok-world.ensures.begun in
     first_planned c.args.net.now c.args.policies.items
-    (subst (λ setting. IsOk (plan_of_file setting 1)) c.in_ok-world.ensures.begun.own
-    tied.sound.planned)
+    (subst (λ setting. IsOk (plan_of_file setting 1)) begun.own
+    (tie_of c.in_ok-world.world (c.tied.ensures begun.able)).sound.planned)
