@@ -15,11 +15,11 @@ use Rattle.schedule.specs.Kinds.{IsBuiltEvent}
 use Rattle.schedule.specs.Reading.{AreSound}
 use Rattle.steps.specs.Steps.{IsEvent}
 use Rattle.steps.specs.declared.step.Event.{Event}
-use Rattle.steps.specs.declared.step.Event.TheVariants.{One, Drain}
+use Rattle.steps.specs.declared.step.Event.TheVariants.{One, Flush, Drain}
 use Rattle.steps.specs.declared.step.Step.TheVariants as step
 use Rattle.update_machine.specs.Played.{IsSetting, MayHappen, NamesOwnPort}
 use Rattle.update_machine.specs.Setting.{Setting, setting_of}
-use Rattle.world.specs.State.{AreTied, WorldValue}
+use Rattle.world.specs.State.{AreTied, IsTied, WorldValue}
 use Rattle.shelf.specs.Shelf.{Files}
 use Rattle.difane_cli.specs.Inputs.{StopsContent, and_then, first_plan, inputs_of, plan_from, plan_on, read_net, read_policy, read_schedule}
 use Rattle.difane_cli.specs.Run.{IsNetOf, IsReplayOf}
@@ -62,8 +62,7 @@ stops_first name net rows stop.NoMemory stops = tt
 stops_first name net rows stop.ReadFault stops = stops
 
 pub sound_by_tie : (world : WorldValue) → world.is_spent ≡ false
-    → (world.is_spent ≡ false → AreTied world.setting world.journal world.switches
-    world.travelling world.packets world.controller.marks) → IsSetting world.setting
+    → (world.is_spent ≡ false → IsTied world) → IsSetting world.setting
 unfolding AreTied
 sound_by_tie world able tied = (tied able).sound
 
@@ -80,6 +79,13 @@ may_happen net rows (One (step.Packet switch header)) own built =
     record { kind = tt; own = own }
 may_happen net rows (One (step.Hop packet)) own built = record { kind = tt; own = own }
 may_happen net rows (One (step.Lose packet)) own built = record { kind = tt; own = own }
+may_happen net rows (One (step.Deliver message)) own built =
+    record { kind = tt; own = own }
+may_happen net rows (One (step.Forget message)) own built =
+    record { kind = tt; own = own }
+may_happen net rows (One (step.Expire switch place)) own built =
+    record { kind = tt; own = own }
+may_happen net rows Flush own built = tt
 may_happen net rows Drain own built = tt
 may_happen net rows _ own built = cc built
 

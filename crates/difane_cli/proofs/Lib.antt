@@ -4,3 +4,4 @@ mod OneSwitch
 mod Plays
 mod ShelfReads
 mod Tried
+mod Worked

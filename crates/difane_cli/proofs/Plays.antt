@@ -1,16 +1,17 @@
 -- What comes of a task that is done, by what became of its text.
 use Rattle.std.specs.Prelude.{⊤}
-use Rattle.std.proofs.Common.{◌≡◌, inr, refl, Result, Ok, Err, OnOk, OnErr, IsErrOf, List, [], All}
+use Rattle.std.proofs.Common.{ℕ, ◌≡◌, inr, refl, Option, Some, None, Result, Ok, Err, OnOk, OnErr, IsErrOf, List, [], All}
 use Rattle.std.specs.Option.{ForSome}
 use Rattle.journal.specs.declared.item.Item.{Item}
 use Rattle.journal_text.specs.Lines.{journal_text}
 use Rattle.steps.specs.declared.step.Event.{Event}
-use Rattle.update_machine.specs.Answers.{Answers, BeginsAnswer}
+use Rattle.update_machine.specs.Answers.{BeginsAnswer}
 use Rattle.update_machine.specs.Causes.{EndsHaveCauses}
+use Rattle.update_machine.specs.Full.{IsPlay}
 use Rattle.update_machine.specs.Machine.{IsRun}
 use Rattle.update_machine.specs.Played.{IsSetting, MayHappen}
 use Rattle.update_machine.specs.Setting.{Setting}
-use Rattle.update_machine.proofs.CallerLemmas.{answers_so_far, begins_itself}
+use Rattle.update_machine.proofs.CallerLemmas.{answers_so_far, begins_itself, stop_begins}
 use Rattle.difane_cli.specs.Inputs.{Inputs, Play, Print, Printing}
 use Rattle.shelf.specs.Sink.{gained, GainedPart, SinkState}
 use Rattle.shelf.specs.declared.output.SinkError.{SinkError}
@@ -28,36 +29,39 @@ pub record AnswerLaws : Type 0 where
       → All (MayHappen setting) events → BeginsAnswer setting events journal
       → EndsHaveCauses setting journal
 
-begins : (inputs : Inputs) (journal : List Item) → Answers inputs.setting inputs.events journal
+begins : (inputs : Inputs) (journal : List Item) (full : Option ℕ)
+    → IsPlay inputs.setting inputs.events journal full
     → BeginsAnswer inputs.setting inputs.events journal
-begins inputs journal answers = begins_itself inputs.setting inputs.events journal
-    (answers_so_far inputs.setting inputs.events journal answers)
+begins inputs journal None play = begins_itself inputs.setting inputs.events journal
+    (answers_so_far inputs.setting inputs.events journal play.answers)
+begins inputs journal (Some row) play = stop_begins inputs.setting inputs.events journal row play
 
 -- what the journal of a play is, and what follows
 pub played : AnswerLaws → (command : ReplayCommand) (known : Known) (inputs : Inputs)
-    (journal : List Item) → IsReplayOf command inputs
+    (journal : List Item) (full : Option ℕ) → IsReplayOf command inputs
     → ForSome known (λ read. read ≡ Ok (Play inputs))
-    → Answers inputs.setting inputs.events journal → IsAnswer command known inputs journal
-played laws command known inputs journal asked accepted answers = record {
+    → IsPlay inputs.setting inputs.events journal full
+    → IsAnswer command known inputs journal full
+played laws command known inputs journal full asked accepted play = record {
   asked = asked;
   accepted = accepted;
-  answers = answers;
+  play = play;
   run = laws.run inputs.setting inputs.events journal asked.setting asked.events
-      (begins inputs journal answers);
+      (begins inputs journal full play);
   causes = laws.causes inputs.setting inputs.events journal asked.setting asked.events
-      (begins inputs journal answers);
+      (begins inputs journal full play);
 }
 
--- an answer begins itself, so that some of its text may be written
+-- what a play leaves begins an answer, so that some of its text may be written
 begun : (command : ReplayCommand) (known : Known) (inputs : Inputs) (journal : List Item)
-    (before now : SinkState) → IsAnswer command known inputs journal
+    (full : Option ℕ) (before now : SinkState) → IsAnswer command known inputs journal full
     → GainedSome before.bytes (journal_text inputs.setting.net journal) now.bytes
     → Begun command known journal before now
-begun command known inputs journal before now answer written = record {
+begun command known inputs journal full before now answer written = record {
   inputs = inputs;
   asked = answer.asked;
   accepted = answer.accepted;
-  begins = begins inputs journal answer.answers;
+  begins = begins inputs journal full answer.play;
   run = answer.run;
   causes = answer.causes;
   written = written;
@@ -65,19 +69,21 @@ begun command known inputs journal before now answer written = record {
 
 -- a journal that was played, and its text that was written, or not
 pub replayed : (command : ReplayCommand) (known : Known) (inputs : Inputs) (journal : List Item)
-    (before now : SinkState) (written : Result (⊤) SinkError)
-    → IsAnswer command known inputs journal
+    (full : Option ℕ) (before now : SinkState) (written : Result (⊤) SinkError)
+    → IsAnswer command known inputs journal full
     → OnOk written (now.bytes ≡ gained before.bytes (journal_text inputs.setting.net journal))
     → (IsErrOf written sink.Failed
     → GainedPart before.bytes (journal_text inputs.setting.net journal) now.bytes)
     → OnErr written (GainedSome before.bytes (journal_text inputs.setting.net journal) now.bytes)
-    → ReplayOutcome command known (status_after written) journal before now
-replayed command known inputs journal before now (Ok done) answer whole part some =
+    → ReplayOutcome command known (status_after written full) journal before now
+replayed command known inputs journal None before now (Ok done) answer whole part some =
     record { inputs = inputs; played = answer; written = whole }
-replayed command known inputs journal before now (Err sink.Failed) answer whole part some =
-    record { inputs = inputs; played = answer; written = part refl }
-replayed command known inputs journal before now (Err sink.NoMemory) answer whole part some =
-    inr (begun command known inputs journal before now answer some)
+replayed command known inputs journal (Some row) before now (Ok done) answer whole part some =
+    record { inputs = inputs; played = answer; written = whole }
+replayed command known inputs journal full before now (Err sink.Failed) answer whole part some =
+    record { inputs = inputs; full = full; played = answer; written = part refl }
+replayed command known inputs journal full before now (Err sink.NoMemory) answer whole part some =
+    inr (begun command known inputs journal full before now answer some)
 
 -- a plan or tables whose text was written, or not
 pub printed : (command : PrintCommand) (known : Known) (printing : Printing)
@@ -85,7 +91,7 @@ pub printed : (command : PrintCommand) (known : Known) (printing : Printing)
     → IsPrintingOf command printing → ForSome known (λ read. read ≡ Ok (Print printing))
     → OnOk written (now.bytes ≡ gained before.bytes (printing_text printing))
     → OnErr written (GainedPart before.bytes (printing_text printing) now.bytes)
-    → PrintOutcome command known (status_after written) [] before now
+    → PrintOutcome command known (status_after written None) [] before now
 printed command known printing before now (Ok done) planned accepted whole part =
     record {
       printing = printing;

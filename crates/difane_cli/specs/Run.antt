@@ -10,8 +10,9 @@ use Rattle.show_text.specs.Text.{compile_text, table_text}
 use Rattle.switch_table.specs.Tables.{tables_of}
 use Rattle.shelf.specs.Sink.{gained, GainedPart, SinkState}
 use Rattle.journal.specs.declared.item.Item.{Item}
-use Rattle.update_machine.specs.Answers.{Answers, BeginsAnswer}
+use Rattle.update_machine.specs.Answers.{BeginsAnswer}
 use Rattle.update_machine.specs.Causes.{EndsHaveCauses}
+use Rattle.update_machine.specs.Full.{IsPlay}
 use Rattle.update_machine.specs.Machine.{IsRun}
 use Rattle.update_machine.specs.Played.{IsSetting, MayHappen}
 use Rattle.difane_cli.specs.Inputs.{Inputs, Play, Print, Printing, Task}
@@ -49,28 +50,31 @@ pub record IsReplayOf (command : ReplayCommand) (inputs : Inputs) : Type 0 where
   pub setting : IsSetting inputs.setting
   pub events : All (MayHappen inputs.setting) inputs.events
 
--- the journal answers these inputs, which are the known ones where the task is known; so it is a
+-- the journal is that of the play of these inputs, which are the known ones where the task is
+-- known: it answers them, or it answers them up to a row at which the play stopped full; so it is a
 -- run of the machine, and its ends have their causes
 pub record IsAnswer (command : ReplayCommand) (known : Known) (inputs : Inputs)
-    (journal : List Item) : Type 0 where
+    (journal : List Item) (full : Option ℕ) : Type 0 where
   pub asked : IsReplayOf command inputs
   pub accepted : ForSome known (λ read. read ≡ Ok (Play inputs))
-  pub answers : Answers inputs.setting inputs.events journal
+  pub play : IsPlay inputs.setting inputs.events journal full
   pub run : IsRun inputs.setting journal
   pub causes : EndsHaveCauses inputs.setting journal
 
--- there are inputs that the journal answers, and the output gained its text
-pub record Replayed (command : ReplayCommand) (known : Known) (journal : List Item)
-    (before now : SinkState) : Type 0 where
+-- there are inputs such that the journal is that of their play, to its end or to a row at which it
+-- stopped full, and the output gained its text
+pub record Replayed (command : ReplayCommand) (known : Known) (full : Option ℕ)
+    (journal : List Item) (before now : SinkState) : Type 0 where
   pub inputs : Inputs
-  pub played : IsAnswer command known inputs journal
+  pub played : IsAnswer command known inputs journal full
   pub written : now.bytes ≡ gained before.bytes (journal_text inputs.setting.net journal)
 
--- the same, but that the output failed and gained a part of the text
+-- the same of either play, but that the output failed and gained a part of the text
 pub record CutShort (command : ReplayCommand) (known : Known) (journal : List Item)
     (before now : SinkState) : Type 0 where
   pub inputs : Inputs
-  pub played : IsAnswer command known inputs journal
+  pub full : Option ℕ
+  pub played : IsAnswer command known inputs journal full
   pub written : GainedPart before.bytes (journal_text inputs.setting.net journal) now.bytes
 
 -- there are such inputs; the journal begins an answer to them, and the output gained some of its
@@ -89,7 +93,9 @@ pub record Begun (command : ReplayCommand) (known : Known) (journal : List Item)
 abbrev pub ReplayOutcome : ReplayCommand → Known → Status → List Item
     → (before now : SinkState) → Type 0
 ReplayOutcome command known status.Ok journal before now =
-    Replayed command known journal before now
+    Replayed command known None journal before now
+ReplayOutcome command known (status.Full row) journal before now =
+    Replayed command known (Some row) journal before now
 ReplayOutcome command known status.WriteFault journal before now =
     CutShort command known journal before now
 ReplayOutcome command known status.NoMemory journal before now =
@@ -129,7 +135,7 @@ pub record Printed (command : PrintCommand) (known : Known) (IsWritten : List �
   pub nothing_played : journal ≡ []
   pub written : IsWritten (printing_text printing)
 
--- the output that a status of a printing command comes with; the journal is empty
+-- the output that a status of a printing command comes with; the journal is empty, so never full
 abbrev pub PrintOutcome : PrintCommand → Known → Status → List Item
     → (before now : SinkState) → Type 0
 PrintOutcome command known status.Ok journal before now =
@@ -139,6 +145,7 @@ PrintOutcome command known status.WriteFault journal before now =
 PrintOutcome command known status.NoMemory journal before now =
     Unplayed journal before now
     ⊎ Printed command known (λ text. GainedPart before.bytes text now.bytes) journal
+PrintOutcome command known (status.Full row) journal before now = ⊥
 PrintOutcome command known _ journal before now = Unplayed journal before now
 
 -- ---- all commands
@@ -160,4 +167,5 @@ Accounts read (status.Input file code row) =
 Accounts read status.Words = ⊥
 Accounts read status.Ok = IsOk read
 Accounts read status.WriteFault = IsOk read
+Accounts read (status.Full row) = IsOk read
 Accounts read _ = ⊤

@@ -4,7 +4,8 @@
 //! `run` carries the headline. Where it answers `Ok` there are inputs that its journal answers, is
 //! a run of the abstract machine for, and whose ends have their causes; where files are known,
 //! these are the inputs that the files state. The output gained the journal's text and nothing
-//! else. Each status other than want of memory comes exactly where its cause is.
+//! else. Where it answers `Full`, the same holds up to the row that it names. Each status other
+//! than want of memory comes exactly where its cause is.
 #![tactic(auto)]
 
 mod inputs;
@@ -19,5 +20,5 @@ mod top_call;
 mod words;
 
 pub use laws::one_switch_laws;
-pub use status::{FileName, Refusal, Status, Stop, tell};
-pub use top_call::{Finished, run};
+pub use status::{FileName, Finished, Refusal, Status, Stop, tell};
+pub use top_call::run;

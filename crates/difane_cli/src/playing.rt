@@ -8,10 +8,12 @@ ghost use Rattle.shelf.specs.Sink.{GainedPart, gained};
 ghost use Rattle.difane_cli.specs.Commands.{IsReady, inputs_stated};
 ghost use Rattle.difane_cli.specs.Run.{GainedSome, IsReplayOf, Known, ReplayOutcome};
 ghost use Rattle.difane_cli.specs.Inputs.{Play};
-ghost use Rattle.difane_cli.specs.Status.{status_after};
+ghost use Rattle.difane_cli.specs.Status.{IsAfterWork};
 ghost use Rattle.difane_cli.specs.Words.{ReplayCommand};
+ghost use Rattle.difane_cli.specs.declared.status.Status.TheVariants as status;
 
 use crate::inputs::ReplayInputs;
+use crate::status::{Finished, Status};
 use journal::{Item, Journal};
 use journal_text::lines;
 use net_file::Net;
@@ -22,19 +24,17 @@ use std::alloc::Global;
 /// How many items are printed before they are written: their lines have about 50,000 bytes.
 const BLOCK: usize = 1_024;
 
-/// Plays the inputs and writes the journal. What comes of it is told for whatever is known of them.
-pub fn play<K: Sink>(
-    alloc: Global,
-    inputs: ReplayInputs,
-    out: &mut K,
-) -> (Result<(), SinkError>, Journal)
+/// Plays the inputs, to their end or as far as there is room, and writes the journal. What comes of
+/// it is told for whatever is known of them.
+pub fn play<K: Sink>(alloc: Global, inputs: ReplayInputs, out: &mut K) -> Finished
     requires { IsReady inputs }
     ensures outcome { (command : ReplayCommand) (known : Known)
         → IsReplayOf command (inputs_stated inputs)
         → ForSome known (λ read. read ≡ Ok (Play (inputs_stated inputs)))
-        → ReplayOutcome command known (status_after result.0) result.1
+        → ReplayOutcome command known result.status result.journal
         (K.state out.old) (K.state out.new) }
-    ensures failed { IsErrOf result.0 SinkError.Failed
+    ensures worked { IsAfterWork result.status }
+    ensures failed { result.status ≡ status.WriteFault
         → Rose (K.state out.old).faults (K.state out.new).faults }
     ensures faults { (K.state out.old).faults ≤ (K.state out.new).faults }
 {
@@ -42,10 +42,16 @@ pub fn play<K: Sink>(
     answers_are_runs();
     ends_have_causes();
     let Ok(played) = replay::play(alloc, world, &events) else {
-        return (Err(SinkError::NoMemory), Journal::new(alloc));
+        return Finished {
+            status: Status::NoMemory,
+            journal: Journal::new(alloc),
+        };
     };
     let written = write_journal(alloc, &played.journal, &net, out);
-    (written, played.journal)
+    Finished {
+        status: Status::after(written, played.full),
+        journal: played.journal,
+    }
 }
 
 /// Writes the lines of the journal, so many items at a time.

@@ -1,5 +1,5 @@
 //! The plan of a policy, or the tables of a switch: its files, and the writing of its text.
-ghost use Rattle.std.specs.Prelude.{◌≡◌, ◌≤◌, [], Ok, Some, IfOk, IfErr, IsErrOf};
+ghost use Rattle.std.specs.Prelude.{◌≡◌, ◌≤◌, [], Ok, None, Some, IfOk, IfErr, IsErrOf};
 ghost use Rattle.std.specs.Option.{ForSome};
 ghost use Rattle.net_file.specs.Net.{IsNet};
 ghost use Rattle.shelf.specs.Faults.{Rose};
@@ -74,7 +74,7 @@ pub fn print<K: Sink>(alloc: Global, inputs: &PrintInputs, out: &mut K) -> Resul
     ensures outcome { (command : PrintCommand) (known : Known)
         → IsPrintingOf command (printing_stated inputs.now)
         → ForSome known (λ read. read ≡ Ok (Print (printing_stated inputs.now)))
-        → PrintOutcome command known (status_after result) []
+        → PrintOutcome command known (status_after result None) []
         (K.state out.old) (K.state out.new) }
     ensures failed { IsErrOf result SinkError.Failed
         → Rose (K.state out.old).faults (K.state out.new).faults }

@@ -2,9 +2,10 @@
 ghost use Rattle.std.specs.Prelude.{◌≡◌, IfOk};
 ghost use Rattle.std.specs.List.{flat_map};
 ghost use Rattle.shelf.specs.Sink.{IsAfterWrite};
-ghost use Rattle.difane_cli.specs.Status.{TellsLine, input_line, status_after, status_line, status_number, status_of};
+ghost use Rattle.difane_cli.specs.Status.{TellsLine, full_line, input_line, status_after, status_line, status_number, status_of};
 
 use itoa::Buffer;
+use journal::Journal;
 use shelf::{Sink, SinkError, write_whole};
 use std::alloc::{AllocError, Global};
 use std::marker::Model;
@@ -74,8 +75,18 @@ pub enum Status {
     ReadFault,
     /// The output could not be written.
     WriteFault,
+    /// The play stopped at this row of the schedule: so many messages were sent before its next
+    /// step that none may begin.
+    Full { row: u32 },
     /// Memory ran out.
     NoMemory,
+}
+
+/// How a command ended, and the journal of its play; the empty one where nothing was played.
+#[derive(Drop)]
+pub struct Finished {
+    pub status: Status,
+    pub journal: Journal,
 }
 
 impl From<Stop> for Status {
@@ -91,12 +102,16 @@ impl From<Stop> for Status {
 }
 
 impl Status {
-    /// The status of a command whose work was written, or not.
-    pub fn after(written: Result<(), SinkError>) -> Status
-        ensures { result ≡ status_after written }
+    /// The status of a command whose work was written or not, and went to its end or stopped full
+    /// at a row.
+    pub fn after(written: Result<(), SinkError>, full: Option<u32>) -> Status
+        ensures { result ≡ status_after written full }
     {
         match written {
-            Ok(()) => Status::Ok,
+            Ok(()) => match full {
+                None => Status::Ok,
+                Some(row) => Status::Full { row },
+            },
             Err(SinkError::Failed) => Status::WriteFault,
             Err(SinkError::NoMemory) => Status::NoMemory,
         }
@@ -112,6 +127,7 @@ impl Status {
             Status::Input { .. } => 3,
             Status::ReadFault => 4,
             Status::WriteFault => 5,
+            Status::Full { .. } => 6,
             Status::NoMemory => 7,
         }
     }
@@ -137,8 +153,19 @@ fn write_line<E: Sink>(status: &Status, errs: &mut E) -> Result<(), SinkError>
         Status::Input { file, code, row } => write_input_line(file, *code, *row, errs),
         Status::ReadFault => write_whole(errs, b"difane: read fault\n"),
         Status::WriteFault => write_whole(errs, b"difane: write fault\n"),
+        Status::Full { row } => write_full_line(*row, errs),
         Status::NoMemory => write_whole(errs, b"difane: no memory\n"),
     }
+}
+
+fn write_full_line<E: Sink>(row: u32, errs: &mut E) -> Result<(), SinkError>
+    ensures { IsAfterWrite (full_line row) E.takes_memory
+        (E.state errs.old) (E.state errs.new) result }
+{
+    let mut digits = Buffer::new();
+    let row = digits.format(row).as_bytes();
+    let pieces: [&[u8]; 3] = [b"difane: full row ", row, b"\n"];
+    write_pieces(&pieces, errs)
 }
 
 fn write_input_line<E: Sink>(

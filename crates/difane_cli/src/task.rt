@@ -1,5 +1,5 @@
 //! What a command is to do, once its files are read, and the doing of it.
-ghost use Rattle.std.specs.Prelude.{◌≡◌, ◌≤◌, Ok, Some, IfOk, IfErr, IsErrOf, Result};
+ghost use Rattle.std.specs.Prelude.{◌≡◌, ◌≤◌, Ok, Some, IfOk, IfErr, Result};
 ghost use Rattle.std.specs.Option.{ForSome};
 ghost use Rattle.shelf.specs.Faults.{Rose};
 ghost use Rattle.shelf.specs.Shelf.{IsAfterReads};
@@ -8,16 +8,17 @@ ghost use Rattle.difane_cli.specs.Inputs.{known_task, most_reads};
 ghost use Rattle.difane_cli.specs.Inputs.{Task as Stated};
 ghost use Rattle.difane_cli.specs.declared.status.Refusal.{Refusal};
 ghost use Rattle.difane_cli.specs.Run.{Accounts, Known, Outcome};
-ghost use Rattle.difane_cli.specs.Status.{NeedsReadFault, status_after, status_of};
+ghost use Rattle.difane_cli.specs.Status.{IsAfterWork, NeedsReadFault, status_of};
 ghost use Rattle.difane_cli.specs.Words as grammar;
+ghost use Rattle.difane_cli.specs.declared.status.Status.TheVariants as status;
 
 use crate::inputs::{ReplayInputs, read_inputs};
 use crate::playing::play;
 use crate::printing::{PrintInputs, print, read_printing};
-use crate::status::Stop;
+use crate::status::{Finished, Status, Stop};
 use crate::words::Command;
 use journal::Journal;
-use shelf::{Shelf, Sink, SinkError};
+use shelf::{Shelf, Sink};
 use std::alloc::Global;
 
 /// What a command is to do.
@@ -57,21 +58,25 @@ pub fn read_task<F: Shelf>(alloc: Global, shelf: &mut F, command: Command<'_>) -
 }
 
 /// Does the task and writes what comes of it, which is told for whatever is known of the task.
-pub fn work<K: Sink>(alloc: Global, task: Task, out: &mut K) -> (Result<(), SinkError>, Journal)
+pub fn work<K: Sink>(alloc: Global, task: Task, out: &mut K) -> Finished
     requires { IsReadyTask task }
     ensures outcome { (command : grammar.Command) (known : Known)
         → IsTaskOf command (task_stated task)
         → ForSome known (λ read. read ≡ Ok (task_stated task))
-        → Outcome (Some command) known (status_after result.0) result.1
+        → Outcome (Some command) known result.status result.journal
         (K.state out.old) (K.state out.new) }
     ensures accounts { (read : Result Stated Refusal) → read ≡ Ok (task_stated task)
-        → Accounts read (status_after result.0) }
-    ensures failed { IsErrOf result.0 SinkError.Failed
+        → Accounts read result.status }
+    ensures worked { IsAfterWork result.status }
+    ensures failed { result.status ≡ status.WriteFault
         → Rose (K.state out.old).faults (K.state out.new).faults }
     ensures faults { (K.state out.old).faults ≤ (K.state out.new).faults }
 {
     match task {
         Task::Play(inputs) => play(alloc, inputs, out),
-        Task::Print(inputs) => (print(alloc, &inputs, out), Journal::new(alloc)),
+        Task::Print(inputs) => Finished {
+            status: Status::after(print(alloc, &inputs, out), None),
+            journal: Journal::new(alloc),
+        },
     }
 }

@@ -1,5 +1,5 @@
 //! The top call.
-ghost use Rattle.std.specs.Prelude.{◌≡◌, ◌≤◌, ◌⊎◌, ◌↔◌, None};
+ghost use Rattle.std.specs.Prelude.{◌≡◌, ◌≤◌, ◌⊎◌, ◌↔◌, ℕ, None};
 ghost use Rattle.std.specs.Option.{ForSome};
 ghost use Rattle.shelf.specs.Faults.{Rose};
 ghost use Rattle.shelf.specs.Shelf.{IsAfterReads};
@@ -9,19 +9,12 @@ ghost use Rattle.difane_cli.specs.Status.{NeedsReadFault, TellsLine, status_line
 ghost use Rattle.difane_cli.specs.Words.{command_of, texts};
 ghost use Rattle.difane_cli.specs.declared.status.Status.TheVariants as status;
 
-use crate::status::{Status, tell};
+use crate::status::{Finished, Status, tell};
 use crate::task::{read_task, work};
 use crate::words::read_words;
 use journal::Journal;
 use shelf::{Shelf, Sink};
 use std::alloc::Global;
-
-/// How a command ended, and the journal of its play; the empty one where nothing was played.
-#[derive(Drop)]
-pub struct Finished {
-    pub status: Status,
-    pub journal: Journal,
-}
 
 /// Does what the words ask: `replay SCHEDULE POLICY` plays the schedule and writes the journal to
 /// `out`; `compile POLICY` writes the plan of the policy, and `show POLICY SWITCH` the tables that
@@ -54,12 +47,14 @@ pub fn run<F: Shelf, K: Sink, E: Sink>(
     ensures write_fault { result.status ≡ status.WriteFault
         → Rose (K.state out.old).faults (K.state out.new).faults }
 
-    // Where the inputs are accepted and nothing fails, the work is done or memory ran out.
+    // Where the inputs are accepted and nothing fails, the work is done, to its end or as far as
+    // there was room, or memory ran out.
     ensures complete { IsAccepted
         (known_task (F.state shelf.old).files (command_of (texts words.now)))
         → Rose (F.state shelf.old).faults (F.state shelf.new).faults
         ⊎ Rose (K.state out.old).faults (K.state out.new).faults
-        ⊎ (result.status ≡ status.Ok) ⊎ (result.status ≡ status.NoMemory) }
+        ⊎ (result.status ≡ status.Ok) ⊎ ((row : ℕ) × (result.status ≡ status.Full row))
+        ⊎ (result.status ≡ status.NoMemory) }
 
     // The line of the status is written, whole unless the sink of errors fails.
     ensures line { TellsLine (status_line result.status) E.takes_memory
@@ -76,8 +71,8 @@ pub fn run<F: Shelf, K: Sink, E: Sink>(
         Some(command) => match read_task(alloc, shelf, command) {
             Err(stop) => end(Status::from(stop), Journal::new(alloc), errs),
             Ok(task) => {
-                let (written, journal) = work(alloc, task, out);
-                end(Status::after(written), journal, errs)
+                let finished = work(alloc, task, out);
+                end(finished.status, finished.journal, errs)
             }
         },
     }

@@ -5,7 +5,12 @@ use std::alloc::{AllocError, Global};
 use std::test::Fail;
 
 /// Two switches and the link between them, of which b decides.
-const PAIR: &str = "leaf_rules = 8\ncache = 1\n\
+const PAIR: &str = "leaf_rules = 8\ncache = 4\n\
+    switch = [{ name = \"a\", ports = [1] }, { name = \"b\", ports = [2], authority = 100 }]\n\
+    link = [{ ends = [\"a\", \"b\"] }]\n";
+
+/// The same with caches of one entry.
+const SMALL_CACHES: &str = "leaf_rules = 8\ncache = 1\n\
     switch = [{ name = \"a\", ports = [1] }, { name = \"b\", ports = [2], authority = 100 }]\n\
     link = [{ ends = [\"a\", \"b\"] }]\n";
 
@@ -26,16 +31,73 @@ const ONE_ROW: &str = "priority,src,dst,sport,dport,proto,action\n\
 
 const ONE_PACKET: &str = "event,arguments\npacket,a,1.2.3.4,10.2.0.1,5000,80,tcp\n";
 
-const DRAINED: &str = "event,arguments\npacket,a,1.2.3.4,10.2.0.1,5000,80,tcp\ndrain\n";
+/// A cache rule is sent, delivered and met, isn't met where an earlier row says otherwise, and
+/// times out.
+const CACHED: &str = "event,arguments\npacket,a,1.2.3.4,10.2.0.1,5000,80,tcp\ndrain\nflush\n\
+    packet,a,1.2.3.4,10.3.9.9,5000,80,tcp\npacket,a,1.2.3.4,10.1.5.5,5000,80,tcp\n\
+    expire,a,0\npacket,a,1.2.3.4,10.3.9.9,5000,80,tcp\n";
 
-const OUT: &str = "row 1: packet a 1.2.3.4 10.2.0.1 5000 80 tcp\n\
+const CACHED_JOURNAL: &str = "row 1: packet a 1.2.3.4 10.2.0.1 5000 80 tcp\n\
     \x20 entered 1 a\n\
     \x20 tunnelled 1 v1 part 0 via a b\n\
     row 2: hop 1\n\
     \x20 hopped 1 b\n\
     row 2: hop 1\n\
     \x20 decided 1 v1 rule 100 out:2 authority b part 0\n\
-    \x20 out 1 port 2\n";
+    \x20 sent 1 a cache version 1 word 000000000a0200000000000006/00000000ff02000000000000ff \
+    rule 100 out:2\n\
+    \x20 out 1 port 2\n\
+    row 3: deliver 1\n\
+    \x20 delivered 1\n\
+    row 4: packet a 1.2.3.4 10.3.9.9 5000 80 tcp\n\
+    \x20 entered 2 a\n\
+    \x20 decided 2 v1 rule 100 out:2 cache 1\n\
+    \x20 exit 2 via a b\n\
+    row 5: packet a 1.2.3.4 10.1.5.5 5000 80 tcp\n\
+    \x20 entered 3 a\n\
+    \x20 tunnelled 3 v1 part 0 via a b\n\
+    row 6: expire a 0\n\
+    \x20 expired a 0 message 1\n\
+    row 7: packet a 1.2.3.4 10.3.9.9 5000 80 tcp\n\
+    \x20 entered 4 a\n\
+    \x20 tunnelled 4 v1 part 0 via a b\n";
+
+/// In a full cache the next entry takes the place of the first.
+const PUSHED_OUT: &str = "event,arguments\npacket,a,1.2.3.4,10.2.0.1,5000,80,tcp\ndrain\nflush\n\
+    packet,a,1.2.3.4,10.4.0.1,5000,80,tcp\ndrain\nflush\n\
+    packet,a,1.2.3.4,10.2.0.1,5000,80,tcp\nexpire,a,0\nexpire,a,0\n";
+
+const PUSHED_OUT_JOURNAL: &str = "row 1: packet a 1.2.3.4 10.2.0.1 5000 80 tcp\n\
+    \x20 entered 1 a\n\
+    \x20 tunnelled 1 v1 part 0 via a b\n\
+    row 2: hop 1\n\
+    \x20 hopped 1 b\n\
+    row 2: hop 1\n\
+    \x20 decided 1 v1 rule 100 out:2 authority b part 0\n\
+    \x20 sent 1 a cache version 1 word 000000000a0200000000000006/00000000ff02000000000000ff \
+    rule 100 out:2\n\
+    \x20 out 1 port 2\n\
+    row 3: deliver 1\n\
+    \x20 delivered 1\n\
+    row 4: packet a 1.2.3.4 10.4.0.1 5000 80 tcp\n\
+    \x20 entered 2 a\n\
+    \x20 tunnelled 2 v1 part 0 via a b\n\
+    row 5: hop 2\n\
+    \x20 hopped 2 b\n\
+    row 5: hop 2\n\
+    \x20 decided 2 v1 rule 100 out:2 authority b part 0\n\
+    \x20 sent 2 a cache version 1 word 000000000a0400000000000006/00000000ff04000000000000ff \
+    rule 100 out:2\n\
+    \x20 out 2 port 2\n\
+    row 6: deliver 2\n\
+    \x20 delivered 2\n\
+    row 7: packet a 1.2.3.4 10.2.0.1 5000 80 tcp\n\
+    \x20 entered 3 a\n\
+    \x20 tunnelled 3 v1 part 0 via a b\n\
+    row 8: expire a 0\n\
+    \x20 expired a 0 message 2\n\
+    row 9: expire a 0\n\
+    \x20 nothing\n";
 
 const NO_AUTHORITY: &str = "row 1: packet a 1.2.3.4 10.2.0.1 5000 80 tcp\n\
     \x20 entered 1 a\n\
@@ -78,7 +140,8 @@ fn played(
 #[test]
 fn replays_over_switches(rt: HostRuntime) -> Result<(), Fail> {
     for (schedule, policy, net, text) in [
-        (DRAINED, TWO_ROWS, PAIR, OUT),
+        (CACHED, TWO_ROWS, PAIR, CACHED_JOURNAL),
+        (PUSHED_OUT, TWO_ROWS, SMALL_CACHES, PUSHED_OUT_JOURNAL),
         (ONE_PACKET, ONE_ROW, UNLINKED, NO_AUTHORITY),
         (ONE_PACKET, ONE_ROW, TWO_PAIRS, NO_ROUTE),
     ] {
@@ -94,12 +157,12 @@ fn replays_over_switches(rt: HostRuntime) -> Result<(), Fail> {
 // ports and its plan.
 #[test]
 fn refuses_in_order(rt: HostRuntime) -> Result<(), Fail> {
-    let flush = "event,arguments\nflush\n";
+    let crash = "event,arguments\ncrash,a\n";
     let port = "priority,src,dst,sport,dport,proto,action\n7,any,any,any,any,any,out:3\n";
     let no_room = "switch = [{ name = \"a\", ports = [1, 2] }]\n";
     for (schedule, policy, net, line) in [
-        (flush, port, "", "difane: input n.toml code 2 row 0\n"),
-        (flush, port, PAIR, "difane: input s.csv code 10 row 1\n"),
+        (crash, port, "", "difane: input n.toml code 2 row 0\n"),
+        (crash, port, PAIR, "difane: input s.csv code 10 row 1\n"),
         (
             ONE_PACKET,
             port,

@@ -1,4 +1,4 @@
-use difane_cli::run;
+use difane_cli::{Status, run, tell};
 use shelf::{MemShelf, MemSink};
 use std::alloc::{AllocError, Global};
 use std::test::Fail;
@@ -275,6 +275,17 @@ fn answers_each_fault(rt: HostRuntime) -> Result<(), Fail> {
         assert_eq!(rt; written.bytes(), out.as_bytes(), "{line}");
         assert_eq!(rt; told.bytes(), line.as_bytes());
     }
+    Ok(())
+}
+
+// No schedule of the kinds that are played today sends so many messages.
+#[test]
+fn tells_a_full_play(rt: HostRuntime) -> Result<(), Fail> {
+    let status = Status::Full { row: 247 };
+    let mut errs = MemSink::new(rt.alloc(), u64::MAX, Vec::new(rt.alloc()));
+    tell(&status, &mut errs);
+    assert_eq!(rt; status.number(), 6);
+    assert_eq!(rt; errs.bytes(), b"difane: full row 247\n".as_slice());
     Ok(())
 }
 

@@ -1,21 +1,33 @@
 use Rattle.std.proofs.Common.{List, subst}
 use Rattle.steps.specs.declared.step.Event.{Event}
-use Rattle.update_machine.specs.Answers.{Answers}
+use Rattle.update_machine.specs.Full.{IsPlay}
 use Rattle.difane_cli.specs.Commands.{inputs_stated}
 use Rattle.difane_cli.proofs.Plays.{AnswerLaws, played, replayed}
+use Rattle.difane_cli.proofs.Worked.{after_work, by_failed}
 use Rattle.difane_cli.proofs.playing.play.Goals as goal
 
 pub returns-clause-outcome : goal.returns-clause-outcome
 returns-clause-outcome g c = λ command known asked read.
     let inputs = inputs_stated c.args.inputs in
+    let full = c.in-Ok.played.full in
     let journal = c.in-Ok.played.journal in
     let laws : AnswerLaws = record {
       run = c.answers_are_runs.ensures.begun;
       causes = c.ends_have_causes.ensures.begun;
     } in
-    let answers = subst (λ (events : List Event). Answers inputs.setting events journal)
+    let play = subst (λ (events : List Event). IsPlay inputs.setting events journal full)
     c.deref.ensures.value c.in-Ok.ensures in
-    let answer = played laws command known inputs journal asked read answers in
+    let answer = played laws command known inputs journal full asked read play in
     let written = c.write_journal-written.ensures in
-    replayed command known inputs journal _ _ _ answer (rw c.requires.net written.whole)
-    (rw c.requires.net written.part) (rw c.requires.net written.some)
+    rw c.after.ensures (replayed command known inputs journal full _ _ _ answer
+    (rw c.requires.net written.whole) (rw c.requires.net written.part)
+    (rw c.requires.net written.some))
+
+pub returns-clause-worked : goal.returns-clause-worked
+returns-clause-worked g c =
+    rw c.after.ensures (after_work c.write_journal-written.result c.in-Ok.played.full)
+
+pub returns-clause-failed : goal.returns-clause-failed
+returns-clause-failed g c = λ is.
+    c.write_journal-written.ensures.failed
+    (by_failed c.write_journal-written.result c.in-Ok.played.full (rw c.after.ensures at is))

@@ -11,3 +11,6 @@ returns-in-WriteFault g c = rw c.in-WriteFault.is c.write_whole-in-WriteFault.en
 
 pub returns-in-NoMemory : goal.returns-in-NoMemory
 returns-in-NoMemory g c = rw c.in-NoMemory.is c.write_whole-in-NoMemory.ensures.after
+
+pub returns-in-Full : goal.returns-in-Full
+returns-in-Full g c = rw c.in-Full.is c.write_full_line.ensures
