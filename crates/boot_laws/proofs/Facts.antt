@@ -1,0 +1,53 @@
+-- Causes of items and facts of journals: what each item keeps, a journal has; whatever causes each
+-- piece has, the journal of any steps has.
+use Rattle.std.proofs.Common.{List, [], ◌∷◌, ◌++◌, append-nil, append_assoc, sym, subst}
+use Rattle.journal.specs.declared.item.Item.{Item}
+use Rattle.update_machine.specs.Answers.{StepOfRow, after_steps}
+use Rattle.update_machine.specs.Causes.{HaveCauses}
+use Rattle.update_machine.specs.Pieces.{piece}
+use Rattle.update_machine.specs.Setting.{Setting}
+use Rattle.update_machine.proofs.CallerLemmas.{PiecesHave, have_append}
+use Rattle.boot_laws.specs.ItemCauses.{HasItemCause}
+
+-- the items have their causes behind the journal
+abbrev pub Has : Setting → List Item → List Item → Type 0
+Has setting journal items = HaveCauses (HasItemCause setting) journal items
+
+-- items with this cause keep the fact
+abbrev pub AreKept : (List Item → Item → Type 0) → (List Item → Type 0) → Type 0
+AreKept cause fact = (before : List Item) (item : Item) → cause before item → fact before
+    → fact (before ++ item ∷ [])
+
+-- so the fact holds behind them, and each of them stands behind it
+pub fact_on : (cause : List Item → Item → Type 0) (fact : List Item → Type 0) → AreKept cause fact
+    → (before items : List Item) → HaveCauses cause before items → fact before
+    → fact (before ++ items)
+fact_on cause fact kept before [] have known = subst fact (sym (append-nil before)) known
+fact_on cause fact kept before (item ∷ items) have known =
+    subst fact (append_assoc before (item ∷ []) items)
+    (fact_on cause fact kept (before ++ item ∷ []) items have.1 (kept before item have.0 known))
+
+-- a cause, and a fact of the journal before the item
+pub record Behind (cause : List Item → Item → Type 0) (fact : List Item → Type 0)
+    (before : List Item) (item : Item) : Type 0 where
+  pub caused : cause before item
+  pub known : fact before
+
+pub with_fact : (cause : List Item → Item → Type 0) (fact : List Item → Type 0)
+    → AreKept cause fact → (before items : List Item) → HaveCauses cause before items
+    → fact before → HaveCauses (Behind cause fact) before items
+with_fact cause fact kept before [] have known = tt
+with_fact cause fact kept before (item ∷ items) have known = (
+  record { caused = have.0; known = known },
+  with_fact cause fact kept (before ++ item ∷ []) items have.1 (kept before item have.0 known),
+)
+
+-- the journal of any steps has the causes that each piece has
+pub steps_have : (cause : List Item → Item → Type 0) (setting : Setting) → PiecesHave cause setting
+    → (before : List Item) (steps : List StepOfRow) → HaveCauses cause [] before
+    → HaveCauses cause [] (after_steps setting before steps)
+steps_have cause setting pieces before [] have = have
+steps_have cause setting pieces before (next ∷ steps) have =
+    steps_have cause setting pieces (before ++ piece setting before next.row next.step) steps
+    (have_append cause [] before (piece setting before next.row next.step) have
+    (pieces before next.row next.step))

@@ -1,0 +1,10 @@
+pub mod Grown
+pub mod Facts
+pub mod Boots
+pub mod Serving
+pub mod PacketBlocks
+pub mod Sends
+pub mod ControllerBlocks
+pub mod SwitchBlocks
+pub mod Resends
+pub mod Pieces

@@ -1,0 +1,143 @@
+-- Each piece has its causes, whatever its step, and so has the journal of any steps.
+use Rattle.std.proofs.Common.{sym, subst, ℕ, ◌≡◌, ◌==◌, Bool, true, false, List, [], ◌∷◌, ◌++◌, map, refl, arith}
+use Rattle.std.proofs.lemmas.Bool.{eq-eqb}
+use Rattle.journal.specs.declared.item.Item.{Item}
+use Rattle.journal.specs.declared.item.Item.TheVariants as item
+use Rattle.steps.specs.declared.step.Step.{Step}
+use Rattle.steps.specs.declared.step.Step.TheVariants.{Packet, Hop, Lose, Deliver, Forget, Expire, Update, LinkDown, LinkUp, Crash, Restart, Confirm, Resend}
+use Rattle.update_machine.specs.Answers.{StepOfRow, after_steps}
+use Rattle.update_machine.specs.Boots.{is_up}
+use Rattle.update_machine.specs.Causes.{HaveCauses}
+use Rattle.update_machine.specs.Deliveries.{link_changes}
+use Rattle.update_machine.specs.Messages.{sends}
+use Rattle.update_machine.specs.Moves.{put}
+use Rattle.update_machine.specs.Packets.{next_packet}
+use Rattle.update_machine.specs.Pieces.{confirm_items, crash_items, deliver_items, expire_items, forget_items, hello_of, link_items, piece, restart_items, step_items, update_items}
+use Rattle.update_machine.specs.Setting.{Setting}
+use Rattle.update_machine.proofs.CallerLemmas.{PiecesHave, begun_has, have_first, have_put}
+use Rattle.boot_laws.specs.Always.{HoldsAlways}
+use Rattle.boot_laws.specs.ItemCauses.{HasItemCause}
+use Rattle.boot_laws.proofs.ControllerBlocks.{settling_have, submitted_have}
+use Rattle.boot_laws.proofs.Facts.{Has, steps_have}
+use Rattle.boot_laws.proofs.Grown.{up_more}
+use Rattle.boot_laws.proofs.PacketBlocks.{hop_has, lose_has, packet_has}
+use Rattle.boot_laws.proofs.Sends.{sends_have}
+use Rattle.boot_laws.proofs.SwitchBlocks.{delivery_have, links_have}
+use Rattle.boot_laws.proofs.Resends.{resend_have}
+
+deliver_have : (setting : Setting) (before : List Item) (row number : ℕ) (step : Step)
+    → let here = before ++ item.Row row step ∷ [] in
+    Has setting here (deliver_items setting before number here)
+unfolding deliver_items
+deliver_have setting before row number step =
+    let delivery = delivery_have setting before row number step in
+    grind arith
+
+forget_have : (setting : Setting) (number : ℕ) (journal : List Item)
+    → Has setting journal (forget_items number journal)
+unfolding forget_items
+forget_have setting number journal = grind arith
+
+expire_have : (setting : Setting) (s at : ℕ) (journal : List Item)
+    → Has setting journal (expire_items setting s at journal)
+unfolding expire_items
+expire_have setting s at journal = grind arith
+
+update_have : (setting : Setting) (file : ℕ) (journal : List Item)
+    → Has setting journal (update_items setting file journal)
+unfolding update_items
+update_have setting file journal = grind (arith, submitted_have)
+
+link_have : (setting : Setting) (before : List Item) (one two : ℕ) (up : Bool)
+    (journal : List Item) → Has setting journal (link_items setting before one two up journal)
+unfolding link_items
+link_have setting before one two up journal = grind (arith, links_have)
+
+lost_have : (setting : Setting) (packets : List ℕ) (journal : List Item)
+    → Has setting journal (map item.Lost packets)
+lost_have setting [] journal = tt
+lost_have setting (i ∷ packets) journal =
+    (tt, lost_have setting packets (journal ++ item.Lost i ∷ []))
+
+down_has : (setting : Setting) (before : List Item) (s : ℕ) (packets : List ℕ)
+    (journal : List Item) → is_up journal s ≡ true → Has setting journal
+    (put (item.Down s ∷ map item.Lost packets) (link_changes setting before) journal)
+down_has setting before s packets journal up =
+    let down : List Item = item.Down s ∷ map item.Lost packets in
+    have_put (HasItemCause setting) down (link_changes setting before) journal
+    (up, lost_have setting packets (journal ++ item.Down s ∷ []))
+    (links_have setting before (journal ++ down))
+
+crash_have : (setting : Setting) (before : List Item) (s : ℕ) (journal : List Item)
+    → is_up journal s ≡ is_up before s
+    → Has setting journal (crash_items setting before s journal)
+unfolding crash_items
+crash_have setting before s journal same = grind (arith, down_has)
+
+-- a switch that began a boot is up, and says hello of it
+says_hello : (setting : Setting) (s boot : ℕ) (journal : List Item)
+    → let booted = journal ++ item.Booted s boot ∷ [] in
+    Has setting booted (sends booted (hello_of booted s ∷ []))
+says_hello setting s boot journal =
+    let own : (s == s) ≡ true = eq-eqb s s refl in
+    let booted : List Item = journal ++ item.Booted s boot ∷ [] in
+    let up : is_up booted s ≡ true = rw (up_more journal (item.Booted s boot) s, own) refl in
+    sends_have setting booted (hello_of booted s ∷ []) (record { up = up; own = refl }, tt)
+
+restart_have : (setting : Setting) (s : ℕ) (journal : List Item)
+    → Has setting journal (restart_items s journal)
+unfolding restart_items
+restart_have setting s journal = grind (arith, says_hello)
+
+confirm_have : (setting : Setting) (s : ℕ) (journal : List Item)
+    → Has setting journal (confirm_items setting s journal)
+unfolding confirm_items
+confirm_have setting s journal = grind (arith, settling_have)
+
+step_have : (setting : Setting) (before : List Item) (row : ℕ) (step : Step)
+    → let here = before ++ item.Row row step ∷ [] in
+    Has setting here (step_items setting before step here)
+step_have setting before row (Packet s header) =
+    packet_has setting (next_packet before) s header _
+step_have setting before row (Hop packet) =
+    hop_has setting packet _
+step_have setting before row (Lose packet) =
+    lose_has setting packet _
+step_have setting before row (Deliver message) =
+    deliver_have setting before row message (Deliver message)
+step_have setting before row (Forget message) = forget_have setting message _
+step_have setting before row (Expire s at) = expire_have setting s at _
+step_have setting before row (Update file) = update_have setting file _
+step_have setting before row (LinkDown one two) = link_have setting before one two false _
+step_have setting before row (LinkUp one two) = link_have setting before one two true _
+step_have setting before row (Crash s) = crash_have setting before s _
+    (up_more before (item.Row row (Crash s)) s)
+step_have setting before row (Restart s) = restart_have setting s _
+step_have setting before row (Confirm s) = confirm_have setting s _
+step_have setting before row (Resend s) = resend_have setting s _
+
+pieces_have : (setting : Setting) → PiecesHave (HasItemCause setting) setting
+unfolding piece
+pieces_have setting journal row step =
+    have_first (HasItemCause setting) (item.Row row step) (step_items setting journal step) journal
+    tt (step_have setting journal row step)
+
+-- so a fact that holds where items have their causes always holds
+pub always : (Holds : Setting → List Item → Type 0) →
+    ((setting : Setting) (journal : List Item) → HaveCauses (HasItemCause setting) [] journal
+    → Holds setting journal) →
+    HoldsAlways Holds
+always Holds caused = record {
+  caused = caused;
+  stepped = λ setting steps. caused setting (after_steps setting [] steps) (stepped setting steps);
+  answered = λ setting events journal answers. caused setting journal
+      (subst (HaveCauses (HasItemCause setting) []) (sym answers.written)
+      (stepped setting answers.steps));
+  begun = λ setting events journal begins. caused setting journal
+      (begun_has (HasItemCause setting) setting (pieces_have setting) events journal begins);
+}
+  where
+    stepped : (setting : Setting) (steps : List StepOfRow)
+        → HaveCauses (HasItemCause setting) [] (after_steps setting [] steps)
+    stepped setting steps =
+        steps_have (HasItemCause setting) setting (pieces_have setting) [] steps tt

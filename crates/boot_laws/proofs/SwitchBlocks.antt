@@ -1,0 +1,316 @@
+-- What a delivery causes has its causes.
+use Rattle.std.proofs.Common.{ℕ, ◌≡◌, ◌+◌, ◌≤◌, ◌==◌, Bool, true, false, if◌then◌else◌, Option, Some, None, List, [], ◌∷◌, ◌++◌, ◌||◌, map, refl, ap, sym, subst, ◌∙◌, arith}
+use Rattle.std.specs.Prelude.{⊤, IsTrue, IsFalse, filter, nat_lt, option_and_then}
+use Rattle.std.specs.List.{AllByRecursion, list_any}
+use Rattle.std.specs.Option.{option_map_or}
+use Rattle.std.proofs.lemmas.Bool.{eq-eqb, eqb-true}
+use Rattle.std.proofs.lemmas.Bool.Decides.{nat_tests}
+use Rattle.std.proofs.lemmas.List.Folds.{list_any-append}
+use Rattle.ctrl_msg.specs.declared.message.Body.{Body}
+use Rattle.ctrl_msg.specs.declared.message.Body.TheVariants.{Install, OpenAt, Stamp, Advertise, Hello, Installed, Stamped}
+use Rattle.ctrl_msg.specs.declared.message.Message.{Message}
+use Rattle.ctrl_msg.specs.declared.message.Place.{Place}
+use Rattle.ctrl_msg.specs.declared.message.Place.TheVariants as place
+use Rattle.failover.specs.Masks.{has}
+use Rattle.failover.specs.declared.advert.Advert.{Advert}
+use Rattle.journal.specs.declared.item.Item.{Item}
+use Rattle.journal.specs.declared.item.Item.TheVariants as item
+use Rattle.steps.specs.declared.step.Step.{Step}
+use Rattle.update_machine.specs.Adverts.{held_adverts, own_advert}
+use Rattle.update_machine.specs.Boots.{boot_of, heard, is_for_boot, is_up, said_to}
+use Rattle.update_machine.specs.Causes.{HaveCauses}
+use Rattle.update_machine.specs.Deliveries.{advert_to, after_hello, controller_items, delivery_items, has_changed, is_new_boot, link_changes, passed_on, received_items, switch_items, to_controller, told_by, told_over}
+use Rattle.update_machine.specs.Links.{near, switches_in}
+use Rattle.update_machine.specs.Marks.{is_over, known_boot, hello_boot, raises_known, said_to_controller}
+use Rattle.update_machine.specs.Messages.{message_of, next_message, sends, sent_from}
+use Rattle.update_machine.specs.Moves.{in_turn}
+use Rattle.update_machine.specs.Setting.{Setting, switches_of}
+use Rattle.update_machine.specs.Settling.{current_items, installs_to, open_items, retired_items, settling, to_switch}
+use Rattle.update_machine.specs.Versions.{installs, stamp_in, stamp_of}
+use Rattle.update_machine.proofs.CallerLemmas.{have_first, have_in_turn, have_put}
+use Rattle.boot_laws.specs.ItemCauses.{HasItemCause, OpensRightly}
+use Rattle.boot_laws.proofs.ControllerBlocks.{installs_have, settling_have}
+use Rattle.boot_laws.proofs.Facts.{AreKept, Has, fact_on}
+use Rattle.boot_laws.proofs.Grown.{boot_more, heard_more, known_more, message_more, over_more, raised, stamp_told, up_more}
+use Rattle.boot_laws.proofs.Sends.{IsRight, each, each_flat_map, each_map, sends_have}
+
+-- ---- adverts
+
+-- adverts may be sent at any time
+pub adverts_right : (setting : Setting) (journal : List Item) (s : ℕ) (adverts : List Advert)
+    → AllByRecursion (IsRight setting journal) (map (advert_to s) adverts)
+adverts_right setting journal s adverts =
+    each_map (IsRight setting journal) (advert_to s) adverts
+    (each (λ advert. IsRight setting journal (advert_to s advert)) (λ advert. tt) adverts)
+
+told_right : (setting : Setting) (before journal : List Item) (s neighbour : ℕ)
+    → AllByRecursion (IsRight setting journal) (told_over setting before journal s neighbour)
+told_right setting before journal s neighbour = by_link (has (near setting before s) neighbour)
+  where
+    by_link : (old : Bool) → AllByRecursion (IsRight setting journal) (elim old [
+      | true ↦ advert_to neighbour (own_advert setting journal s) ∷ []
+      | false ↦ map (advert_to neighbour) (held_adverts setting journal s)
+    ])
+    by_link true = (tt, tt)
+    by_link false = adverts_right setting journal neighbour (held_adverts setting journal s)
+
+pub links_have : (setting : Setting) (before journal : List Item)
+    → Has setting journal (link_changes setting before journal)
+unfolding link_changes
+links_have setting before journal =
+    sends_have setting journal _
+    (each_flat_map (IsRight setting journal) (told_by setting before journal)
+    (λ s. each_flat_map (IsRight setting journal) (told_over setting before journal s)
+    (told_right setting before journal s) (switches_in setting (near setting journal s)))
+    (filter (has_changed setting before journal) (switches_of setting)))
+
+-- ---- what is said to a switch
+
+-- a message of this number was sent to the switch, which is up in the boot that it is for
+pub record IsSaid (before : List Item) (s number : ℕ) (body : Body) : Type 0 where
+  pub sent : message_of before number ≡ Some (to_switch s body)
+  pub up : IsTrue (is_up before s)
+  pub own : IsTrue (is_for_boot (boot_of before s) body)
+
+pub said_parts : (before : List Item) (s number : ℕ) (body : Body)
+    → said_to before s number ≡ Some body → IsSaid before s number body
+said_parts before s number body said = grind (arith, nat_tests)
+
+-- the body was heard with the last item of the journal
+record IsHeard (now : List Item) (s number : ℕ) (body : Body) : Type 0 where
+  said : IsSaid now s number body
+  earlier : List Body
+  heard : heard now s ≡ earlier ++ body ∷ []
+  stamps : (version : ℕ) → stamp_in body ≡ Some version → version ≤ stamp_of now s
+
+-- a row changes nothing of what is said
+said_row : (before : List Item) (row s number : ℕ) (step : Step)
+    → said_to (before ++ item.Row row step ∷ []) s number ≡ said_to before s number
+said_row before row s number step =
+    let sent = message_more before (item.Row row step) number in
+    let up = up_more before (item.Row row step) s in
+    let boot = boot_more before (item.Row row step) s in
+    grind arith
+
+delivered_heard : (before : List Item) (s number : ℕ) (body : Body)
+    → said_to before s number ≡ Some body
+    → IsHeard (before ++ item.Delivered number ∷ []) s number body
+delivered_heard before s number body said =
+    let parts = said_parts before s number body said in
+    record {
+      said = record {
+        sent = message_more before (item.Delivered number) number ∙ parts.sent;
+        up = up_more before (item.Delivered number) s ∙ parts.up;
+        own = subst (λ boot. IsTrue (is_for_boot boot body))
+            (sym (boot_more before (item.Delivered number) s)) parts.own;
+      };
+      earlier = heard before s;
+      heard = heard_more before (item.Delivered number) s
+          ∙ ap (λ o. option_map_or (λ b. heard before s ++ b ∷ []) o (heard before s)) said;
+      stamps = λ version is.
+          let told : option_and_then stamp_in (said_to before s number) ≡ Some version =
+          ap (option_and_then stamp_in) said ∙ is in
+          let after : stamp_of (before ++ item.Delivered number ∷ []) s
+          ≡ raised (stamp_of before s) (Some version) =
+          stamp_told before number s ∙ ap (raised (stamp_of before s)) told in
+          omega (arith, after);
+    }
+
+-- ---- what a switch does
+
+own_boot : (now : List Item) (s boot : ℕ) → IsTrue (boot == boot_of now s) → boot ≡ boot_of now s
+own_boot now s boot own = eqb-true boot (boot_of now s) own
+
+opens_rightly : (now : List Item) (s number boot version : ℕ)
+    → IsHeard now s number (OpenAt boot version) → OpensRightly now s (stamp_of now s)
+opens_rightly now s number boot version is = record {
+  up = is.said.up;
+  number = number;
+  version = version;
+  sent = is.said.sent
+      ∙ ap (λ b. Some (to_switch s (OpenAt b version))) (own_boot now s boot is.said.own);
+  stamped = is.stamps version refl;
+  own = refl;
+}
+
+passed_have : (setting : Setting) (now : List Item) (s : ℕ) (advert : Advert)
+    → Has setting now (sends now (passed_on setting now s advert))
+passed_have setting now s advert = sends_have setting now (passed_on setting now s advert)
+    (each_map (IsRight setting now) (λ neighbour. advert_to neighbour advert)
+    (switches_in setting (near setting now s))
+    (each (λ neighbour. IsRight setting now (advert_to neighbour advert)) (λ neighbour. tt)
+    (switches_in setting (near setting now s))))
+
+or_true : (b : Bool) → (b || true) ≡ true
+or_true true = refl
+or_true false = refl
+
+switch_have : (setting : Setting) (before now : List Item) (s number : ℕ) (body : Body)
+    → IsHeard now s number body → Has setting now (switch_items setting before s body now)
+unfolding switch_items
+switch_have setting before now s number (Install boot tables) is =
+    sends_have setting now (to_controller (Installed s boot tables.version) ∷ []) (
+      record {
+        present = record { up = is.said.up; own = own_boot now s boot is.said.own };
+        heard = installed;
+      },
+      tt,
+    )
+  where
+    installed : IsTrue (list_any (installs tables.version) (heard now s))
+    installed =
+        let own : (tables.version == tables.version) ≡ true =
+        eq-eqb tables.version tables.version refl in
+        ap (list_any (installs tables.version)) is.heard
+        ∙ list_any-append (installs tables.version) is.earlier (Install boot tables ∷ [])
+        ∙ ap (λ b. list_any (installs tables.version) is.earlier || (b || false)) own
+        ∙ or_true (list_any (installs tables.version) is.earlier)
+switch_have setting before now s number (Stamp boot version) is =
+    sends_have setting now (to_controller (Stamped s boot version) ∷ []) (
+      record {
+        present = record { up = is.said.up; own = own_boot now s boot is.said.own };
+        stamps = is.stamps version refl;
+      },
+      tt,
+    )
+switch_have setting before now s number (OpenAt boot version) is =
+    let opens = opens_rightly now s number boot version is in grind (arith, links_have)
+switch_have setting before now s number (Advertise advert) is = grind (arith, passed_have)
+switch_have setting before now s number _ is = tt
+
+-- ---- what the controller does
+
+-- an item that settling writes
+abbrev IsOfSettling : List Item → Item → Type 0
+IsOfSettling before (item.Current version) = ⊤
+IsOfSettling before (item.Retired version) = ⊤
+IsOfSettling before (item.Sent number message) = ⊤
+IsOfSettling before _ = ⊥
+
+sent_settle : (messages : List Message) (journal : List Item) (n : ℕ)
+    → HaveCauses IsOfSettling journal (sent_from n messages)
+unfolding sent_from
+sent_settle [] journal n = tt
+sent_settle (message ∷ messages) journal n =
+    (tt, sent_settle messages (journal ++ item.Sent n message ∷ []) (n + 1))
+
+sends_settle : (journal : List Item) (messages : List Message)
+    → HaveCauses IsOfSettling journal (sends journal messages)
+sends_settle journal messages = sent_settle messages journal (next_message journal)
+
+current_settles : (setting : Setting) (journal : List Item)
+    → HaveCauses IsOfSettling journal (current_items setting journal)
+unfolding current_items
+current_settles setting journal = grind (arith, have_first, sends_settle)
+
+open_settles : (setting : Setting) (journal : List Item)
+    → HaveCauses IsOfSettling journal (open_items setting journal)
+unfolding open_items
+open_settles setting journal = sends_settle journal _
+
+retired_settles : (setting : Setting) (journal : List Item)
+    → HaveCauses IsOfSettling journal (retired_items setting journal)
+unfolding retired_items
+retired_settles setting journal = grind (arith, have_first, sends_settle)
+
+settling_settles : (setting : Setting) (journal : List Item)
+    → HaveCauses IsOfSettling journal (settling setting journal)
+unfolding settling
+settling_settles setting journal =
+    have_in_turn IsOfSettling
+    (current_items setting ∷ open_items setting ∷ retired_items setting ∷ [])
+    (current_settles setting, (open_settles setting, (retired_settles setting, tt))) journal
+
+-- so a switch that isn't over isn't so behind it
+over_kept : (s : ℕ) → AreKept IsOfSettling (λ journal. IsFalse (is_over journal s))
+over_kept s before (item.Current version) of none =
+    over_more before (item.Current version) s ∙ none
+over_kept s before (item.Retired version) of none =
+    over_more before (item.Retired version) s ∙ none
+over_kept s before (item.Sent number message) of none =
+    over_more before (item.Sent number message) s ∙ none
+over_kept s before _ of none = absurd of
+
+-- a hello that raised the known boot ended that its switch was over
+abbrev HelloEnds : List Item → List Item → Body → Type 0
+HelloEnds before now (Hello s boot) =
+    IsTrue (is_new_boot before s boot) → IsFalse (is_over now s)
+HelloEnds before now _ = ⊤
+
+hello_have : (setting : Setting) (before now : List Item) (body : Body)
+    → HelloEnds before now body
+    → (settled : List Item) → ((s : ℕ) → IsFalse (is_over now s) → IsFalse (is_over settled s))
+    → Has setting settled (after_hello setting before body settled)
+hello_have setting before now (Hello s boot) ends settled stays =
+    let begun : IsTrue (is_new_boot before s boot)
+    → Has setting settled (installs_to setting s settled) =
+    λ new. installs_have setting s settled (stays s (ends new)) in
+    grind arith
+hello_have setting before now _ ends settled stays = tt
+
+controller_have : (setting : Setting) (before now : List Item) (body : Body)
+    → HelloEnds before now body → Has setting now (controller_items setting before body now)
+unfolding controller_items
+controller_have setting before now body ends =
+    let settled : List Item = now ++ settling setting now in
+    have_put (HasItemCause setting) (settling setting now)
+    (in_turn (after_hello setting before body ∷ [])) now (settling_have setting now)
+    (have_put (HasItemCause setting) (after_hello setting before body settled) (in_turn []) settled
+    (hello_have setting before now body ends settled
+    (λ s none. fact_on IsOfSettling (λ journal. IsFalse (is_over journal s)) (over_kept s) now
+    (settling setting now) (settling_settles setting now) none)) tt)
+
+-- ---- a delivery
+
+hello_ends : (before : List Item) (row number : ℕ) (step : Step) (body : Body)
+    → message_of before number ≡ Some (to_controller body)
+    → HelloEnds before ((before ++ item.Row row step ∷ []) ++ item.Delivered number ∷ []) body
+hello_ends before row number step (Hello s boot) sent =
+    λ new.
+    let here = before ++ item.Row row step ∷ [] in
+    let own : (s == s) ≡ true = eq-eqb s s refl in
+    let still : message_of here number ≡ Some (to_controller (Hello s boot)) =
+    message_more before (item.Row row step) number ∙ sent in
+    let hello : option_and_then (hello_boot s) (said_to_controller here number) ≡ Some boot =
+    rw (still, said_to_controller, own) refl in
+    let known : known_boot here s ≡ known_boot before s =
+    known_more before (item.Row row step) s in
+    let raises : raises_known here s number ≡ true =
+    ap (λ o. option_map_or (λ of. nat_lt (known_boot here s) of) o false) hello
+    ∙ ap (λ k. nat_lt k boot) known ∙ new in
+    over_more here (item.Delivered number) s
+    ∙ ap (λ b. if b then false else is_over here s) raises
+hello_ends before row number step _ sent = tt
+
+pub delivery_have : (setting : Setting) (before : List Item) (row number : ℕ) (step : Step)
+    → let now = (before ++ item.Row row step ∷ []) ++ item.Delivered number ∷ [] in
+    Has setting now (delivery_items setting before number now)
+unfolding delivery_items
+delivery_have setting before row number step = by_message (message_of before number) refl
+  where
+    here : List Item
+    here = before ++ item.Row row step ∷ []
+
+    now : List Item
+    now = here ++ item.Delivered number ∷ []
+
+    said_have : (s : ℕ) (body : Body) → said_to before s number ≡ Some body
+        → Has setting now (switch_items setting before s body now)
+    said_have s body said = switch_have setting before now s number body
+        (delivered_heard here s number body (said_row before row s number step ∙ said))
+
+    by_place : (to : Place) (body : Body)
+        → message_of before number ≡ Some (record { to = to; body = body })
+        → Has setting now
+        (received_items setting before number (record { to = to; body = body }) now)
+    by_place place.Controller body e =
+        controller_have setting before now body (hello_ends before row number step body e)
+    by_place (place.Switch s) body e = grind (arith, said_have)
+
+    by_message : (o : Option Message) → message_of before number ≡ o
+        → Has setting now (elim o [
+          | None ↦ []
+          | Some message ↦ received_items setting before number message now
+        ])
+    by_message None e = tt
+    by_message (Some message) e = by_place message.to message.body e

@@ -1,0 +1,44 @@
+-- What is known of boots, whatever steps were taken, and whatever messages were lost, repeated or
+-- came late.
+use Rattle.std.specs.Prelude.{ℕ, ◌≡◌, ◌≤◌, Some, List, IfSome, IsTrue, IsFalse}
+use Rattle.ctrl_msg.specs.Bodies.{body_boot}
+use Rattle.ctrl_msg.specs.declared.message.Body.{Body}
+use Rattle.ctrl_msg.specs.declared.message.Body.TheVariants.{OpenAt}
+use Rattle.ctrl_msg.specs.declared.message.Message.{Message}
+use Rattle.ctrl_msg.specs.declared.message.Place.{Place}
+use Rattle.ctrl_msg.specs.declared.message.Place.TheVariants as place
+use Rattle.journal.specs.declared.item.Item.{Item}
+use Rattle.update_machine.specs.Boots.{boot_of, is_up, serves}
+use Rattle.update_machine.specs.Marks.{is_member, is_over, known_boot}
+use Rattle.update_machine.specs.Messages.{message_of}
+use Rattle.update_machine.specs.Quiet.{speaker}
+use Rattle.update_machine.specs.Settling.{to_switch}
+
+-- a message to a switch carries no boot above the one that is known of it, and one of a switch none
+-- above its own
+abbrev pub HasPastBoot : List Item → Place → Body → Type 0
+HasPastBoot journal (place.Switch s) body =
+    IfSome (body_boot body) (λ boot. boot ≤ known_boot journal s)
+HasPastBoot journal place.Controller body =
+    IfSome (speaker body) (λ of. of.1 ≤ boot_of journal of.0)
+
+-- the known boot of a switch is at most its own, and no message is of a boot that is to come
+pub record BootsAreKnown (journal : List Item) : Type 0 where
+  pub known : (s : ℕ) → known_boot journal s ≤ boot_of journal s
+  pub sent : (n : ℕ) (message : Message) → message_of journal n ≡ Some message →
+      HasPastBoot journal message.to message.body
+
+-- all messages that open a switch in one of its boots carry one version
+abbrev pub OpensAtOneVersion : List Item → Type 0
+OpensAtOneVersion journal = (s boot one other m n : ℕ)
+    → message_of journal m ≡ Some (to_switch s (OpenAt boot one))
+    → message_of journal n ≡ Some (to_switch s (OpenAt boot other)) → one ≡ other
+
+-- a switch that serves is up, a member, and its boot is known; one that is up and whose boot is
+-- known isn't over
+pub record ServingIsKnown (journal : List Item) : Type 0 where
+  pub up : (s : ℕ) → IsTrue (serves journal s) → IsTrue (is_up journal s)
+  pub known : (s : ℕ) → IsTrue (serves journal s) → known_boot journal s ≡ boot_of journal s
+  pub member : (s : ℕ) → IsTrue (serves journal s) → IsTrue (is_member journal s)
+  pub not_over : (s : ℕ) → IsTrue (is_up journal s) → known_boot journal s ≡ boot_of journal s →
+      IsFalse (is_over journal s)

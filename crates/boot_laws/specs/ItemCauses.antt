@@ -1,0 +1,132 @@
+-- What stands in a journal just before an item of switches and their controller: of messages,
+-- boots, openings and marks. Each cause speaks of the journal before the item alone, so it holds in
+-- the middle of a step too. The update in two phases is that of Reitblatt, Foster, Rexford,
+-- Schlesinger and Walker, "Abstractions for Network Update"; boots and acknowledgements are our
+-- own.
+use Rattle.std.specs.Prelude.{⊤, ℕ, ◌≡◌, ◌+◌, ◌<◌, ◌≤◌, ◌⊎◌, Some, None, List, IsTrue, IsFalse}
+use Rattle.std.specs.List.{list_any}
+use Rattle.ctrl_msg.specs.declared.message.Body.{Body}
+use Rattle.ctrl_msg.specs.declared.message.Body.TheVariants.{Install, OpenAt, Stamp, Collect, CacheRule, Advertise, Hello, Installed, Stamped}
+use Rattle.ctrl_msg.specs.declared.message.Place.{Place}
+use Rattle.ctrl_msg.specs.declared.message.Place.TheVariants as place
+use Rattle.switch_table.specs.declared.tables.Tables.{Tables}
+use Rattle.journal.specs.declared.item.Item.{Item}
+use Rattle.journal.specs.declared.item.Item.TheVariants as item
+use Rattle.update_machine.specs.Boots.{boot_of, heard, is_up}
+use Rattle.update_machine.specs.Marks.{MayRise, current_mark, has_acked, is_member, is_over, known_boot, next_retired, opened_at, retired_mark}
+use Rattle.update_machine.specs.Messages.{message_of}
+use Rattle.update_machine.specs.Setting.{Setting}
+use Rattle.update_machine.specs.Settling.{to_switch}
+use Rattle.update_machine.specs.Versions.{installs, stamp_of, tables_at, version_count}
+
+-- ---- what is sent to a switch
+
+-- the boot is known of the switch, which isn't over
+pub record IsForKnown (before : List Item) (s boot : ℕ) : Type 0 where
+  pub known : boot ≡ known_boot before s
+  pub not_over : IsFalse (is_over before s)
+
+-- the tables that the plan of a version gives to the switch: of the newest version, or of one from
+-- the current one on
+pub record IsRightInstall (setting : Setting) (before : List Item) (s boot : ℕ)
+    (installed : Tables) : Type 0 where
+  pub to : IsForKnown before s boot
+  pub version : ℕ
+  pub which : (version ≡ version_count before) ⊎ (current_mark before ≤ version)
+  pub there : version ≤ version_count before
+  pub planned : installed ≡ tables_at setting before version s
+
+-- it was never opened in this boot, acknowledged the current version, and is opened at it
+pub record IsFirstOpening (before : List Item) (s version : ℕ) : Type 0 where
+  pub closed : opened_at before s ≡ None
+  pub current : version ≡ current_mark before
+  pub acked : IsTrue (has_acked before s version)
+
+-- a switch is opened once in a boot, and is told so again only at the same version
+pub record IsRightOpening (before : List Item) (s boot version : ℕ) : Type 0 where
+  pub to : IsForKnown before s boot
+  pub opens : IsFirstOpening before s version ⊎ (opened_at before s ≡ Some version)
+
+-- a member is told to stamp with the current version
+pub record IsRightStamp (before : List Item) (s boot version : ℕ) : Type 0 where
+  pub to : IsForKnown before s boot
+  pub member : IsTrue (is_member before s)
+  pub current : version ≡ current_mark before
+
+-- a member is told to drop what is retired
+pub record IsRightCollect (before : List Item) (s boot version : ℕ) : Type 0 where
+  pub to : IsForKnown before s boot
+  pub member : IsTrue (is_member before s)
+  pub retired : version ≡ retired_mark before
+
+-- adverts and cache rules carry no boot of the switch, so they may come at any time
+abbrev pub IsRightTo : Setting → List Item → ℕ → Body → Type 0
+IsRightTo setting before s (Install boot tables) = IsRightInstall setting before s boot tables
+IsRightTo setting before s (OpenAt boot version) = IsRightOpening before s boot version
+IsRightTo setting before s (Stamp boot version) = IsRightStamp before s boot version
+IsRightTo setting before s (Collect boot version) = IsRightCollect before s boot version
+IsRightTo setting before s (CacheRule version word rule action) = ⊤
+IsRightTo setting before s (Advertise advert) = ⊤
+IsRightTo setting before s _ = ⊥
+
+-- ---- what a switch sends to the controller
+
+-- the switch is up, in this boot
+pub record IsPresentIn (before : List Item) (s boot : ℕ) : Type 0 where
+  pub up : IsTrue (is_up before s)
+  pub own : boot ≡ boot_of before s
+
+-- it acknowledges tables that it heard in its boot
+pub record IsRightInstalled (before : List Item) (s boot version : ℕ) : Type 0 where
+  pub present : IsPresentIn before s boot
+  pub heard : IsTrue (list_any (installs version) (heard before s))
+
+-- it acknowledges a stamp that isn't above its own
+pub record IsRightStamped (before : List Item) (s boot version : ℕ) : Type 0 where
+  pub present : IsPresentIn before s boot
+  pub stamps : version ≤ stamp_of before s
+
+abbrev pub IsRightFrom : List Item → Body → Type 0
+IsRightFrom before (Hello s boot) = IsPresentIn before s boot
+IsRightFrom before (Installed s boot version) = IsRightInstalled before s boot version
+IsRightFrom before (Stamped s boot version) = IsRightStamped before s boot version
+IsRightFrom before _ = ⊥
+
+abbrev pub IsRightMessage : Setting → List Item → Place → Body → Type 0
+IsRightMessage setting before (place.Switch s) body = IsRightTo setting before s body
+IsRightMessage setting before place.Controller body = IsRightFrom before body
+
+-- ---- switches and marks
+
+-- a switch that was down begins its next boot
+pub record BeginsBoot (before : List Item) (s boot : ℕ) : Type 0 where
+  pub down : IsFalse (is_up before s)
+  pub next : boot ≡ boot_of before s + 1
+
+-- a switch that is up opens with its stamp, which is at least the version of a message that was
+-- sent to open it in its boot
+pub record OpensRightly (before : List Item) (s stamp : ℕ) : Type 0 where
+  pub up : IsTrue (is_up before s)
+  pub number : ℕ
+  pub version : ℕ
+  pub sent : message_of before number ≡ Some (to_switch s (OpenAt (boot_of before s) version))
+  pub stamped : version ≤ stamp_of before s
+  pub own : stamp ≡ stamp_of before s
+
+-- retired rises as far as the members' acknowledged stamps allow
+pub record RetiresRightly (setting : Setting) (before : List Item) (version : ℕ) : Type 0 where
+  pub rises : retired_mark before < version
+  pub least : version ≡ next_retired setting before
+
+-- each item of switches and their controller has its cause in the journal before it
+abbrev pub HasItemCause : Setting → List Item → Item → Type 0
+HasItemCause setting before (item.Sent number message) =
+    IsRightMessage setting before message.to message.body
+HasItemCause setting before (item.Down s) = IsTrue (is_up before s)
+HasItemCause setting before (item.Booted s boot) = BeginsBoot before s boot
+HasItemCause setting before (item.Opened s version) = OpensRightly before s version
+HasItemCause setting before (item.OverNow s) = IsFalse (is_up before s)
+HasItemCause setting before (item.Submitted file version) = version ≡ version_count before + 1
+HasItemCause setting before (item.Current version) = MayRise setting before version
+HasItemCause setting before (item.Retired version) = RetiresRightly setting before version
+HasItemCause setting before _ = ⊤

@@ -1,0 +1,3 @@
+pub mod ItemCauses
+pub mod Always
+pub mod BootLaws

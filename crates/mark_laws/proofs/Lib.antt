@@ -1,0 +1,12 @@
+pub mod Told
+pub mod Switches
+pub mod Acks
+pub mod AcksHeld
+pub mod Planned
+pub mod Greatest
+pub mod Current
+pub mod Members
+pub mod Acked
+pub mod Stamping
+pub mod Retired
+pub mod Marks

@@ -1,0 +1,41 @@
+-- A switch is told to stamp with a version only once it acknowledged its tables; members
+-- acknowledged all that is current.
+use Rattle.std.specs.Prelude.{⊤, ℕ, ◌≡◌, ◌<◌, ◌≤◌, List, length, IsTrue}
+use Rattle.ctrl_msg.specs.declared.message.Body.{Body}
+use Rattle.ctrl_msg.specs.declared.message.Body.TheVariants.{OpenAt, Stamp}
+use Rattle.ctrl_msg.specs.declared.message.Place.{Place}
+use Rattle.ctrl_msg.specs.declared.message.Place.TheVariants as place
+use Rattle.journal.specs.declared.item.Item.{Item}
+use Rattle.journal.specs.declared.item.Item.TheVariants as item
+use Rattle.update_machine.specs.Boots.{serves}
+use Rattle.update_machine.specs.Marks.{acked_stamp, current_mark, has_acked, is_member, known_boot, open_version}
+use Rattle.update_machine.specs.Setting.{Setting}
+use Rattle.update_machine.specs.Versions.{stamp_of}
+
+-- a switch of the network is let stamp with a version, in its known boot, only where it
+-- acknowledged this version in that boot; the version is at most the current one
+pub record IsLetStamp (setting : Setting) (before : List Item) (s boot version : ℕ) : Type 0 where
+  pub known : boot ≡ known_boot before s
+  pub acked : s < length setting.net.switches → IsTrue (has_acked before s version)
+  pub current : version ≤ current_mark before
+
+abbrev pub LetsStamp : Setting → List Item → Place → Body → Type 0
+LetsStamp setting before (place.Switch s) (OpenAt boot version) =
+    IsLetStamp setting before s boot version
+LetsStamp setting before (place.Switch s) (Stamp boot version) =
+    IsLetStamp setting before s boot version
+LetsStamp setting before to body = ⊤
+
+-- the cause of a message by which a switch is let stamp
+abbrev pub IsAckedFirst : Setting → List Item → Item → Type 0
+IsAckedFirst setting before (item.Sent number message) =
+    LetsStamp setting before message.to message.body
+IsAckedFirst setting before _ = ⊤
+
+-- a member of the network acknowledged each version from the one at which it was opened to the
+-- current one; a switch that serves stamps at least with what it is known to stamp with
+pub record MembersAcknowledged (setting : Setting) (journal : List Item) : Type 0 where
+  pub acked : (s version : ℕ) → s < length setting.net.switches → IsTrue (is_member journal s)
+      → open_version journal s ≤ version → version ≤ current_mark journal
+      → IsTrue (has_acked journal s version)
+  pub stamps : (s : ℕ) → IsTrue (serves journal s) → acked_stamp journal s ≤ stamp_of journal s

@@ -1,0 +1,24 @@
+-- How the marks bound each other and the stamps of members.
+use Rattle.std.specs.Prelude.{ℕ, ◌≡◌, ◌<◌, ◌≤◌, Some, List, length, IsTrue}
+use Rattle.ctrl_msg.specs.declared.message.Body.TheVariants.{Collect}
+use Rattle.journal.specs.declared.item.Item.{Item}
+use Rattle.update_machine.specs.Marks.{acked_stamp, current_mark, is_member, retired_mark}
+use Rattle.update_machine.specs.Messages.{message_of}
+use Rattle.update_machine.specs.Setting.{Setting}
+use Rattle.update_machine.specs.Settling.{to_switch}
+use Rattle.update_machine.specs.Versions.{stamp_of, version_count}
+
+-- there is a current version; retired versions are below it and below the acknowledged stamp of
+-- each member of the network, and no member is told to drop a version that is not below that
+pub record MarksAreBounded (setting : Setting) (journal : List Item) : Type 0 where
+  pub first : 1 ≤ current_mark journal
+  pub there : current_mark journal ≤ version_count journal
+  pub retired : retired_mark journal < current_mark journal
+  pub stamped : (s : ℕ) → s < length setting.net.switches → IsTrue (is_member journal s)
+      → retired_mark journal < acked_stamp journal s
+  pub collected : (s boot version n : ℕ) → s < length setting.net.switches
+      → message_of journal n ≡ Some (to_switch s (Collect boot version))
+      → IsTrue (is_member journal s) → version < acked_stamp journal s
+  -- no switch stamps with a version that isn't current yet, nor is known to
+  pub stamps : (s : ℕ) → stamp_of journal s ≤ current_mark journal
+  pub known : (s : ℕ) → acked_stamp journal s ≤ current_mark journal

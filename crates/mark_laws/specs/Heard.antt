@@ -1,0 +1,47 @@
+-- What switches heard of versions, and what the controller may rely on while a boot lasts.
+use Rattle.std.specs.Prelude.{ℕ, ◌≡◌, ◌≤◌, ◌⊎◌, Some, List, IsTrue}
+use Rattle.std.specs.List.{list_any}
+use Rattle.ctrl_msg.specs.declared.message.Body.TheVariants.{Install, Installed, Stamped}
+use Rattle.switch_table.specs.declared.tables.Tables.{Tables}
+use Rattle.journal.specs.declared.item.Item.{Item}
+use Rattle.update_machine.specs.Boots.{boot_of, heard, is_up}
+use Rattle.update_machine.specs.Deliveries.{to_controller}
+use Rattle.update_machine.specs.Marks.{has_acked, known_boot}
+use Rattle.update_machine.specs.Messages.{message_of}
+use Rattle.update_machine.specs.Setting.{Setting}
+use Rattle.update_machine.specs.Settling.{to_switch}
+use Rattle.update_machine.specs.Versions.{installs, stamp_of, tables_at, version_count}
+
+-- the switch heard the tables of the version in its boot, or began with them
+abbrev pub HasTables : List Item → ℕ → ℕ → Type 0
+HasTables journal s version =
+    ((version ≡ 1) × (boot_of journal s ≡ 1))
+    ⊎ IsTrue (list_any (installs version) (heard journal s))
+
+-- what a switch acknowledged in its boot it heard in that boot, and stamps with, as long as it is
+-- up
+pub record AcksHold (journal : List Item) (s : ℕ) : Type 0 where
+  pub installed : (boot version n : ℕ)
+      → message_of journal n ≡ Some (to_controller (Installed s boot version))
+      → IsTrue (is_up journal s) → boot ≡ boot_of journal s
+      → IsTrue (list_any (installs version) (heard journal s))
+  pub stamped : (boot version n : ℕ)
+      → message_of journal n ≡ Some (to_controller (Stamped s boot version))
+      → IsTrue (is_up journal s) → boot ≡ boot_of journal s → version ≤ stamp_of journal s
+  -- so it has the tables of each version that the controller knows it to have
+  pub acked : (version : ℕ) → IsTrue (is_up journal s) → known_boot journal s ≡ boot_of journal s
+      → IsTrue (has_acked journal s version) → HasTables journal s version
+
+-- the tables are those that the plan of some version gives to the switch
+pub record ArePlanned (setting : Setting) (journal : List Item) (s : ℕ) (installed : Tables)
+    : Type 0 where
+  pub version : ℕ
+  pub first : 1 ≤ version
+  pub last : version ≤ version_count journal
+  pub planned : installed ≡ tables_at setting journal version s
+
+-- tables are sent only as they are planned
+abbrev pub InstallsArePlanned : Setting → List Item → Type 0
+InstallsArePlanned setting journal = (s boot n : ℕ) (installed : Tables)
+    → message_of journal n ≡ Some (to_switch s (Install boot installed))
+    → ArePlanned setting journal s installed
