@@ -4,9 +4,9 @@
 usage: bench/worlds.py BIN
 
 BIN is the proved program (`rt run` leaves it in crates/difane/out/difane). Port i is at switch i; two opposite switches
-are authorities. A schedule has 33,000 packets, each behind it a drain, or only the packets. Each case runs in a folder of
-its own, with its output sent to a file. Prints a line a case: seconds, peak memory in MiB, items and bytes of the journal
-written. It needs GNU time.
+are authorities. A schedule has 33,000 packets: alone, with a drain behind each, or with a drain and a flush, so that the
+cache rules that authorities send are delivered. Each case runs in a folder of its own, with its output sent to a file.
+Prints a line a case: seconds, peak memory in MiB, items and bytes of the journal written. It needs GNU time.
 """
 import os
 import random
@@ -17,6 +17,7 @@ import time
 
 PACKETS = 33_000
 SWITCHES = 16
+CASES = (("", []), (", each drained", ["drain"]), (", each drained and flushed", ["drain", "flush"]))
 
 
 def network():
@@ -43,12 +44,11 @@ def address(rng):
     return "10.%d.%d.%d" % (rng.randrange(4), rng.randrange(256), rng.randrange(256))
 
 
-def schedule(rng, drains):
+def schedule(rng, behind):
     lines = ["event,arguments"]
     for _ in range(PACKETS):
         lines.append("packet,n%d,%s,%s,%d,%d,tcp" % (rng.randrange(SWITCHES), address(rng), address(rng), rng.randrange(1024, 65536), rng.randrange(1024)))
-        if drains:
-            lines.append("drain")
+        lines += behind
     return "\n".join(lines) + "\n"
 
 
@@ -72,12 +72,12 @@ def main():
     program = os.path.abspath(sys.argv[1])
     rng = random.Random(2010)
     for rows in (100, 2000):
-        for drains in (False, True):
+        for name_of_case, behind in CASES:
             with tempfile.TemporaryDirectory() as folder:
-                for name, content in (("n.toml", network()), ("p.csv", policy(rng, rows)), ("s.csv", schedule(rng, drains))):
+                for name, content in (("n.toml", network()), ("p.csv", policy(rng, rows)), ("s.csv", schedule(rng, behind))):
                     with open(os.path.join(folder, name), "w") as file:
                         file.write(content)
-                run(program, folder, "%d packets%s, %4d rows" % (PACKETS, ", each drained" if drains else "", rows))
+                run(program, folder, "%d packets%s, %4d rows" % (PACKETS, name_of_case, rows))
 
 
 main()
