@@ -4,55 +4,55 @@ use Rattle.std.specs.Prelude.{slice_get}
 use Rattle.std.specs.List.{range_with_len}
 use Rattle.std.specs.Option.{option_map_or}
 use Rattle.std.specs.Int.{from_bool}
-use Rattle.std.proofs.lemmas.List.{map-append, map-id, take_more}
+use Rattle.std.proofs.lemmas.List.{map-append, take_more}
 use Rattle.std.proofs.lemmas.List.Elements.{filter-append}
-use Rattle.std.proofs.lemmas.List.FromFn.{map-range_with_len_more, get_or-map-range_with_len}
+use Rattle.std.proofs.lemmas.List.FromFn.{get_or-map-range_with_len}
+use Rattle.policy_rules.proofs.CallerLemmas.{filter_more}
 use Rattle.version_update.specs.declared.record.SwitchRecord.{SwitchRecord}
 use Rattle.version_update.specs.Settling.{Names}
 use Rattle.controller.specs.News.{named}
 use Rattle.controller.specs.Sends.{those}
 
-pub counting_from : (a n j : ℕ) → a + n ≡ j → range_with_len a (n + 1) ≡ range_with_len a
-    n ++ j ∷ []
-counting_from a n j last = sym (map-id _) ∙ map-range_with_len_more (λ k. k) a n j last
-    ∙ ap (λ l. l ++ j ∷ []) (map-id _)
+-- what a test adds to a list
+added : {X : Type 0} (x : X) (b : Bool) (old front whole acts new : List X)
+    → whole ≡ front ++ cond b (x ∷ []) [] → acts ≡ old ++ front → b ≡ true → new ≡ acts ++ x ∷ []
+    → new ≡ old ++ whole
+added x b old front whole acts new grown before passes made =
+    made ∙ ap (λ l. l ++ x ∷ []) before ∙ append_assoc old front (x ∷ [])
+    ∙ ap (λ l. old ++ l) (ap (λ b. front ++ cond b (x ∷ []) []) (sym passes) ∙ sym grown)
 
-counting_more : (n : ℕ) → range_with_len 0 (n + 1) ≡ range_with_len 0 n ++ n ∷ []
-counting_more n = counting_from 0 n n (omega arith)
+not_added : {X : Type 0} (x : X) (b : Bool) (old front whole acts new : List X)
+    → whole ≡ front ++ cond b (x ∷ []) [] → acts ≡ old ++ front → b ≡ false → new ≡ acts
+    → new ≡ old ++ whole
+not_added x b old front whole acts new grown before fails made =
+    made ∙ before ∙ ap (λ l. old ++ l)
+    (sym (append-nil _) ∙ ap (λ b. front ++ cond b (x ∷ []) []) (sym fails) ∙ sym grown)
+
+map_test : {X Y : Type 0} (f : X → Y) (x : X) (b : Bool)
+    → map f (cond b (x ∷ []) []) ≡ cond b (f x ∷ []) []
+map_test f x true = refl
+map_test f x false = refl
 
 -- one more number
-pub picked_more : {X : Type 0} (f : ℕ → X) (p : ℕ → Bool) (n : ℕ)
+picked_more : {X : Type 0} (f : ℕ → X) (p : ℕ → Bool) (n : ℕ)
     → map f (filter p (range_with_len 0 (n + 1))) ≡ map f (filter p (range_with_len 0 n)) ++ cond
     (p n) (f n ∷ []) []
 picked_more f p n =
-    ap (λ l. map f (filter p l)) (counting_more n)
-    ∙ ap (map f) (filter-append p (range_with_len 0 n) (n ∷ []))
-    ∙ map-append f (filter p (range_with_len 0 n)) (filter p (n ∷ []))
-    ∙ ap (λ l. map f (filter p (range_with_len 0 n)) ++ l) (by_test (p n))
-  where
-    by_test : (b : Bool) → map f (cond b (n ∷ []) []) ≡ cond b (f n ∷ []) []
-    by_test true = refl
-    by_test false = refl
+    ap (map f) (filter_more p n)
+    ∙ map-append f (filter p (range_with_len 0 n)) (cond (p n) (n ∷ []) [])
+    ∙ ap (λ l. map f (filter p (range_with_len 0 n)) ++ l) (map_test f n (p n))
 
 -- the next number passes, and is added
 pub picked_add : {X : Type 0} (f : ℕ → X) (p : ℕ → Bool) (n : ℕ) (old acts new : List X)
     → acts ≡ old ++ map f (filter p (range_with_len 0 n)) → p n ≡ true → new ≡ acts ++ f n ∷ []
     → new ≡ old ++ map f (filter p (range_with_len 0 (n + 1)))
-picked_add f p n old acts new before passes made =
-    made ∙ ap (λ l. l ++ f n ∷ []) before ∙ append_assoc old (map f (filter p (range_with_len 0 n)))
-    (f n ∷ [])
-    ∙ ap (λ l. old ++ l) (ap (λ b. map f (filter p (range_with_len 0 n)) ++ cond b (f n ∷ []) [])
-    (sym passes) ∙ sym (picked_more f p n))
+picked_add f p n old acts new = added (f n) (p n) old _ _ acts new (picked_more f p n)
 
 -- it doesn't pass
 pub picked_skip : {X : Type 0} (f : ℕ → X) (p : ℕ → Bool) (n : ℕ) (old acts new : List X)
     → acts ≡ old ++ map f (filter p (range_with_len 0 n)) → p n ≡ false → new ≡ acts
     → new ≡ old ++ map f (filter p (range_with_len 0 (n + 1)))
-picked_skip f p n old acts new before fails made =
-    made ∙ before ∙ ap (λ l. old ++ l)
-    (sym (append-nil _) ∙ ap
-    (λ b. map f (filter p (range_with_len 0 n)) ++ cond b (f n ∷ []) []) (sym fails)
-    ∙ sym (picked_more f p n))
+picked_skip f p n old acts new = not_added (f n) (p n) old _ _ acts new (picked_more f p n)
 
 -- one more item of a list
 take_picked : {X Y : Type 0} (f : X → Y) (p : X → Bool) (xs : List X) (i : ℕ) (x : X)
@@ -63,32 +63,23 @@ take_picked f p xs i x within read =
     (take_more xs i x within ∙ ap (λ y. take i xs ++ y ∷ []) (sym read))
     ∙ ap (map f) (filter-append p (take i xs) (x ∷ [])) ∙ map-append f (filter p (take i xs))
     (filter p (x ∷ []))
-    ∙ ap (λ l. map f (filter p (take i xs)) ++ l) (by_test (p x))
-  where
-    by_test : (b : Bool) → map f (cond b (x ∷ []) []) ≡ cond b (f x ∷ []) []
-    by_test true = refl
-    by_test false = refl
+    ∙ ap (λ l. map f (filter p (take i xs)) ++ l) (map_test f x (p x))
 
 -- the next item passes, and is added
 pub item_add : {X Y : Type 0} (f : X → Y) (p : X → Bool) (xs : List X) (i : ℕ) (x : X)
     (old acts new : List Y) → i < length xs → x ≡ get_or xs i x
     → acts ≡ old ++ map f (filter p (take i xs)) → p x ≡ true → new ≡ acts ++ f x ∷ []
     → new ≡ old ++ map f (filter p (take (i + 1) xs))
-item_add f p xs i x old acts new within read before passes made =
-    made ∙ ap (λ l. l ++ f x ∷ []) before ∙ append_assoc old (map f (filter p (take i xs)))
-    (f x ∷ [])
-    ∙ ap (λ l. old ++ l) (ap (λ b. map f (filter p (take i xs)) ++ cond b (f x ∷ []) [])
-    (sym passes) ∙ sym (take_picked f p xs i x within read))
+item_add f p xs i x old acts new within read =
+    added (f x) (p x) old _ _ acts new (take_picked f p xs i x within read)
 
 -- it doesn't pass
 pub item_skip : {X Y : Type 0} (f : X → Y) (p : X → Bool) (xs : List X) (i : ℕ) (x : X)
     (old acts new : List Y) → i < length xs → x ≡ get_or xs i x
     → acts ≡ old ++ map f (filter p (take i xs)) → p x ≡ false → new ≡ acts
     → new ≡ old ++ map f (filter p (take (i + 1) xs))
-item_skip f p xs i x old acts new within read before fails made =
-    made ∙ before ∙ ap (λ l. old ++ l)
-    (sym (append-nil _) ∙ ap (λ b. map f (filter p (take i xs)) ++ cond b (f x ∷ []) [])
-    (sym fails) ∙ sym (take_picked f p xs i x within read))
+item_skip f p xs i x old acts new within read =
+    not_added (f x) (p x) old _ _ acts new (take_picked f p xs i x within read)
 
 -- what a list by numbers has at a place
 pub read_map : {X : Type 0} (f : ℕ → X) (xs : List X) (s : ℕ) (x : X)

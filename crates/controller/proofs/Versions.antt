@@ -5,13 +5,13 @@ use Rattle.std.proofs.lemmas.List.Elements.{All-append, All-filter}
 use Rattle.std.proofs.lemmas.List.{map-append, length-map, get_or-map}
 use Rattle.std.proofs.lemmas.List.FromFn.{length-range_with_len, get_or-range_with_len}
 use Rattle.std.proofs.lemmas.Bool.Decides.{nat_tests}
+use Rattle.policy_rules.proofs.CallerLemmas.{range_more}
 use Rattle.version_update.specs.Marks.{MarksValue, StaySettled, at_switch, with_version}
 use Rattle.version_update.specs.Settling.{Settles}
 use Rattle.version_update.specs.declared.marks.Settled.{Settled}
 use Rattle.version_update.specs.declared.record.SwitchRecord.{SwitchRecord}
 use Rattle.controller.specs.Controller.{KeptPlan, ControllerValue, IsController, StaysController, SettlesWith, plans_from, versions_from_current}
 use Rattle.controller.specs.Plan.{PlanValue, IsSoundPlan}
-use Rattle.controller.proofs.Picking.{counting_from}
 
 test_le : (a b : ℕ) → a ≤ b → leb a b ≡ true
 test_le a b le = grind (arith, nat_tests)
@@ -109,7 +109,7 @@ versions_more marks plans next low number versions =
     map-append (λ (kept : KeptPlan). kept.version) plans (next ∷ [])
     ∙ ap (λ l. l ++ next.version ∷ []) versions
     ∙ ap (λ v. versions_from_current marks ++ v ∷ []) number
-    ∙ sym (counting_from marks.current (marks.count + 1 - marks.current) (marks.count + 1) last)
+    ∙ sym (range_more marks.current (marks.count + 1 - marks.current) (marks.count + 1) last)
     ∙ ap (range_with_len marks.current) count
 
 abbrev pub AreSoundPlans : List KeptPlan → Type 0
@@ -217,16 +217,16 @@ pushed_next kept mid next number count plan pushed is same =
     pushed ∙ ap (λ v. kept ++ v ∷ []) (is ∙ ap Next same)
 
 -- each version that is kept is there
-pub versions_within : (marks : MarksValue) (plans : List KeptPlan)
+pub versions_within : (marks : MarksValue) (plans read : List KeptPlan) → read ≡ plans
     → IsController (record { marks = marks; plans = plans })
-    → All (λ kept. (1 ≤ kept.version) × (kept.version ≤ marks.count)) plans
-versions_within marks plans is k d within =
+    → All (λ kept. (1 ≤ kept.version) × (kept.version ≤ marks.count)) read
+versions_within marks plans read same is = rw same (λ k d within.
     let number : length plans ≡ marks.count + 1 - marks.current =
     sym (length-map plans (λ kept. kept.version)) ∙ ap length is.versions
     ∙ length-range_with_len marks.current (marks.count + 1 - marks.current) in
     let below : k < marks.count + 1 - marks.current = omega (arith, number, within) in
-    let read : (get_or plans k d).version ≡ marks.current + k =
+    let at : (get_or plans k d).version ≡ marks.current + k =
     sym (get_or-map (λ (kept : KeptPlan). kept.version) plans k d 0 within)
     ∙ ap (λ l. get_or l k 0) is.versions ∙ get_or-range_with_len marks.current
     (marks.count + 1 - marks.current) k 0 below in
-    (omega (arith, read, is.marks.bounds.first), omega (arith, read, below))
+    (omega (arith, at, is.marks.bounds.first), omega (arith, at, below)))

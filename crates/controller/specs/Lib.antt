@@ -4,3 +4,4 @@ pub mod Controller
 pub mod Sends
 pub mod Submit
 pub mod News
+pub mod Replies

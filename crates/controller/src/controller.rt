@@ -1,20 +1,22 @@
 ghost use Rattle.std.specs.Prelude.{◌≡◌, ◌≢◌, ◌+◌, ◌-◌, ◌<◌, ◌≤◌, ◌↔◌, ◌++◌, [], ◌∷◌, map, filter, length, not, nat_le, Err, IsTrue, IsFalse, IfOk, IfErr, OnOk, OnErr};
 ghost use Rattle.net_file.specs.Net.{IsNet};
 ghost use Rattle.ctrl_msg.specs.Bodies.{is_for_controller};
-ghost use Rattle.ctrl_msg.specs.declared.message.Body.TheVariants.{Hello, Installed, Stamped};
+ghost use Rattle.ctrl_msg.specs.declared.message.Body.TheVariants.{Hello};
 ghost use Rattle.version_update.specs.Marks.{AreSettled, StaySettled, at_switch, record_of, with_version};
 ghost use Rattle.version_update.specs.Record.{is_member, is_over, after_over};
 ghost use Rattle.version_update.specs.Settling.{Settles};
 ghost use Rattle.version_update.specs.declared.record.Phase.TheVariants.{Joining, Member};
 ghost use Rattle.controller.specs.Controller.{first_controller, plans_from, IsController, StaysController, SettlesWith};
+ghost use Rattle.controller.specs.Replies.{after_reply};
 ghost use Rattle.controller.specs.Sends.{those, boot_of, install, settling, submitting, after_hearing, hearing, NamesBoth, NamesThere, resending, resending_to};
 ghost use Rattle.controller.specs.Submit.{Submits, IsLeft};
 ghost use Rattle.controller.specs.declared.submit_error.SubmitError.TheVariants.{TooManyLive, TooManyVersions, NoMemory};
 
 use crate::plan::Plan;
+use crate::replying::Reply;
 use crate::resending::{collect_again, install_missing, stamp_again};
 use crate::sends::{Act, Sends};
-use crate::settling::settle;
+use crate::settling::{settle, settled_sends};
 use crate::submit_error::SubmitError;
 use crate::version::Version;
 use ctrl_msg::Body;
@@ -132,12 +134,12 @@ impl Controller {
                 switch,
                 boot,
                 version,
-            } => self.installed(alloc, *switch, *boot, *version),
+            } => self.replied(alloc, Reply::Installed, *switch, *boot, *version),
             Body::Stamped {
                 switch,
                 boot,
                 version,
-            } => self.stamped(alloc, *switch, *boot, *version),
+            } => self.replied(alloc, Reply::Stamped, *switch, *boot, *version),
             _ => Ok(self.unheard(alloc)),
         }
     }
@@ -155,15 +157,13 @@ impl Controller {
         ensures rule { StaysController self.old self.new }
     {
         let settled = self.marks.over(s);
-        let mut acts = Vec::new(alloc);
-        settle(
-            &mut acts,
+        settled_sends(
+            alloc,
             &mut self.versions,
             &self.marks,
             self.switches,
             &settled,
-        )?;
-        Ok(Sends::new(acts))
+        )
     }
 
     /// What the switch may lack, once more: nothing that it acknowledged.
@@ -268,56 +268,31 @@ impl Controller {
         Ok(Sends::new(acts))
     }
 
-    fn installed(
+    // A switch replied that it has the tables of a version, or stamps packets with it.
+    fn replied(
         &mut self,
         alloc: Global,
+        reply: Reply,
         s: u32,
         boot: u32,
         version: u32,
     ) -> Result<Sends, AllocError>
         requires { NamesBoth s version self.old.marks }
-        ensures after { SettlesWith
-            (after_hearing (Installed s boot version) self.old.marks) self.old.plans self.new }
-        ensures sends { IfOk result (λ sends.
-            sends ≡ hearing (Installed s boot version) self.old.marks self.new) }
+        ensures after { SettlesWith (at_switch s (after_reply reply boot version) self.old.marks)
+            self.old.plans self.new }
+        ensures sends { IfOk result (λ sends. sends
+            ≡ settling (at_switch s (after_reply reply boot version) self.old.marks)
+            self.new.marks) }
         ensures rule { StaysController self.old self.new }
     {
-        let settled = self.marks.installed(s, boot, version);
-        let mut acts = Vec::new(alloc);
-        settle(
-            &mut acts,
+        let settled = reply.take_in(&mut self.marks, s, boot, version);
+        settled_sends(
+            alloc,
             &mut self.versions,
             &self.marks,
             self.switches,
             &settled,
-        )?;
-        Ok(Sends::new(acts))
-    }
-
-    fn stamped(
-        &mut self,
-        alloc: Global,
-        s: u32,
-        boot: u32,
-        version: u32,
-    ) -> Result<Sends, AllocError>
-        requires { NamesBoth s version self.old.marks }
-        ensures after { SettlesWith
-            (after_hearing (Stamped s boot version) self.old.marks) self.old.plans self.new }
-        ensures sends { IfOk result (λ sends.
-            sends ≡ hearing (Stamped s boot version) self.old.marks self.new) }
-        ensures rule { StaysController self.old self.new }
-    {
-        let settled = self.marks.stamped(s, boot, version);
-        let mut acts = Vec::new(alloc);
-        settle(
-            &mut acts,
-            &mut self.versions,
-            &self.marks,
-            self.switches,
-            &settled,
-        )?;
-        Ok(Sends::new(acts))
+        )
     }
 }
 

@@ -28,6 +28,7 @@ mod controller;
 mod plan;
 mod plan_error;
 mod planning;
+mod replying;
 mod resending;
 mod sends;
 mod settling;

@@ -1,5 +1,5 @@
 //! What is sent as the marks settle.
-ghost use Rattle.std.specs.Prelude.{◌≡◌, ◌++◌, ◌==◌, ◌<◌, length, OnOk};
+ghost use Rattle.std.specs.Prelude.{◌≡◌, ◌++◌, ◌==◌, ◌<◌, length, IfOk, OnOk};
 ghost use Rattle.std.specs.Int.{bit_at};
 ghost use Rattle.std.specs.List.{range_with_len};
 ghost use Rattle.version_update.specs.Marks.{MarksValue};
@@ -8,10 +8,10 @@ ghost use Rattle.controller.specs.Controller.{plans_from};
 ghost use Rattle.controller.specs.News.{body_of, named};
 ghost use Rattle.controller.specs.Sends.{tell, stamps, opens, collects, settling};
 
-use crate::sends::Act;
+use crate::sends::{Act, Sends};
 use crate::version::Version;
 use ctrl_msg::Body;
-use std::alloc::AllocError;
+use std::alloc::{AllocError, Global};
 use version_update::{Marks, Settled};
 
 /// What several switches are told at once.
@@ -56,6 +56,29 @@ pub fn settle(
     open(acts, marks, switches, settled)?;
     collect(acts, marks, switches, settled)?;
     Ok(())
+}
+
+/// The marks settled, and this is the answer: what is then sent alone. The versions before the
+/// current one are let go.
+///
+/// # Errors
+/// Want of memory alone; the versions are let go.
+pub fn settled_sends(
+    alloc: Global,
+    versions: &mut Vec<Version>,
+    marks: &Marks,
+    switches: u32,
+    settled: &Settled,
+) -> Result<Sends, AllocError>
+    requires { switches ≡ length marks.now.switches }
+    ensures sends { IfOk result (λ sends.
+        (before : MarksValue) → Settles before marks.now settled.now
+        → sends ≡ settling before marks.now) }
+    ensures versions { versions.new.items ≡ plans_from marks.now.current versions.old.items }
+{
+    let mut acts = Vec::new(alloc);
+    settle(&mut acts, versions, marks, switches, settled)?;
+    Ok(Sends::new(acts))
 }
 
 // Lets the versions before the current one go: no later call names them.

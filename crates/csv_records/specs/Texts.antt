@@ -1,6 +1,7 @@
 -- The records of a text, each the list of its fields.
-use Rattle.std.specs.Prelude.{ℕ, ◌≡◌, Bool, true, false, List, [], ◌∷◌}
+use Rattle.std.specs.Prelude.{ℕ, ◌≡◌, Bool, true, false, List, [], ◌∷◌, unwrap_or}
 use Rattle.csv.specs.Reading.{default_config, records, strip_bom}
+use Rattle.csv.specs.Records.{field_at}
 
 -- the records of a text are those that the crate `csv` defines, with its presets
 abbrev pub records_of : List ℕ → List (List (List ℕ))
@@ -11,3 +12,7 @@ records_of text = records default_config (strip_bom text)
 abbrev pub TakesNext : List (List (List ℕ)) → Bool → List (List ℕ) → List (List (List ℕ)) → Type 0
 TakesNext before true fields after = before ≡ fields ∷ after
 TakesNext before false fields after = (before ≡ []) × (after ≡ [])
+
+-- the field at this place, or an empty one where the record ends before it
+abbrev pub field : List (List ℕ) → ℕ → List ℕ
+field fields place = unwrap_or (field_at fields place) []

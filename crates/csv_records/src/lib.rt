@@ -17,9 +17,11 @@
 //! ```
 #![tactic(auto)]
 
+mod fields;
 mod records;
 
 pub use csv::ByteRecord;
+pub use fields::{field, has_text};
 pub use records::Records;
 
 #[cfg(test)]
@@ -38,7 +40,9 @@ mod tests {
         assert!(rt; record.get(1) == Some(b"b\"c".as_slice()));
         assert!(rt; records.read_next(&mut record)?);
         assert_eq!(rt; record.len(), 3);
+        assert!(rt; has_text(&record, 2, "3") && !has_text(&record, 2, "1"));
         assert!(rt; record.get(1) == Some(b"".as_slice()));
+        assert!(rt; field(&record, 3).is_empty());
         assert!(rt; !records.read_next(&mut record)?);
         assert!(rt; !records.read_next(&mut record)?);
         Ok(())

@@ -1,13 +1,14 @@
 -- Narrowing, rule by rule.
-use Rattle.std.proofs.Common.{◌≡◌, ℕ, ◌+◌, ◌<◌, ◌≤◌, Bool, true, false, cond, Some, None, List, [], ◌∷◌, length, get_or, drop, refl, sym, ◌∙◌, ap}
+use Rattle.std.proofs.Common.{◌≡◌, ℕ, ◌+◌, ◌<◌, ◌≤◌, Bool, true, false, cond, Some, None, List, [], ◌∷◌, length, get_or, drop, refl, ◌∙◌, ap}
 use Rattle.std.proofs.Common.{inl, inr, arith}
 use Rattle.std.specs.List.{All}
 use Rattle.std.proofs.lemmas.Bool.{cases_Bool}
-use Rattle.std.proofs.lemmas.List.{at_drop_more, at_drop_all}
+use Rattle.std.proofs.lemmas.List.{at_drop_all}
 use Rattle.std.proofs.lemmas.List.Elements.{All-nil, All-cons, All-head, All-tail, All-same}
 use Rattle.ternary.specs.Word.{WordValue, IsWord, meets, joined, meet_of, covers_of}
 use Rattle.ternary.proofs.CallerLemmas.{covers_full, meet_within, meet_word}
 use Rattle.policy_rules.specs.declared.rules.Rule.{Rule}
+use Rattle.policy_rules.proofs.CallerLemmas.{at_item}
 use Rattle.cut_tree.specs.Narrow.{narrowed, narrow}
 use Rattle.cut_tree.specs.Nodes.{AreNodeRules, AreWords, IsOneHeader, LiesIn}
 
@@ -59,12 +60,8 @@ pub narrow_past : (rules : List Rule) (index : ℕ) (rule : Rule) (region : Word
     → index < length rules → rule ≡ get_or rules index rule → meet_of rule.word region ≡ None
     → narrow (drop index rules) region ≡ narrow (drop (index + 1) rules) region
 narrow_past rules index rule region within is none =
-    let rest : List Rule = drop (index + 1) rules in
-    let from : narrow (drop index rules) region ≡ narrow (get_or rules index rule ∷ rest) region =
-    at_drop_more (λ rs. narrow rs region) rules index rule within in
-    let head : narrow (get_or rules index rule ∷ rest) region ≡ narrow (rule ∷ rest) region =
-    ap (λ r. narrow (r ∷ rest) region) (sym is) in
-    from ∙ head ∙ narrow_apart region rule rest (meet_none _ _ none)
+    at_item (λ rs. narrow rs region) rules index rule within is
+    ∙ narrow_apart region rule (drop (index + 1) rules) (meet_none _ _ none)
 
 pub narrow_last : (rules : List Rule) (index : ℕ) (rule : Rule) (region word : WordValue)
     → index < length rules → rule ≡ get_or rules index rule → meet_of rule.word region ≡ Some word
@@ -73,12 +70,9 @@ pub narrow_last : (rules : List Rule) (index : ℕ) (rule : Rule) (region word :
 unfolding narrowed
 narrow_last rules index rule region word within is some covers =
     let rest : List Rule = drop (index + 1) rules in
-    let from : narrow (drop index rules) region ≡ narrow (get_or rules index rule ∷ rest) region =
-    at_drop_more (λ rs. narrow rs region) rules index rule within in
-    let head : narrow (get_or rules index rule ∷ rest) region ≡ narrow (rule ∷ rest) region =
-    ap (λ r. narrow (r ∷ rest) region) (sym is) in
     let met = meet_some _ _ _ some in
-    from ∙ head ∙ narrow_covered region rule rest met.0 covers
+    at_item (λ rs. narrow rs region) rules index rule within is
+    ∙ narrow_covered region rule rest met.0 covers
     ∙ ap (λ w. with_word rule w ∷ []) met.1
 
 pub narrow_step : (rules : List Rule) (index : ℕ) (rule : Rule) (region word : WordValue)
@@ -88,12 +82,9 @@ pub narrow_step : (rules : List Rule) (index : ℕ) (rule : Rule) (region word :
 unfolding narrowed
 narrow_step rules index rule region word within is some past =
     let rest : List Rule = drop (index + 1) rules in
-    let from : narrow (drop index rules) region ≡ narrow (get_or rules index rule ∷ rest) region =
-    at_drop_more (λ rs. narrow rs region) rules index rule within in
-    let head : narrow (get_or rules index rule ∷ rest) region ≡ narrow (rule ∷ rest) region =
-    ap (λ r. narrow (r ∷ rest) region) (sym is) in
     let met = meet_some _ _ _ some in
-    from ∙ head ∙ narrow_more region rule rest met.0 past
+    at_item (λ rs. narrow rs region) rules index rule within is
+    ∙ narrow_more region rule rest met.0 past
     ∙ ap (λ w. with_word rule w ∷ narrow rest region) met.1
 
 pub narrow_end : (rules : List Rule) (index : ℕ) (region : WordValue) → length rules ≤ index

@@ -18,6 +18,7 @@ use Rattle.five_tuple.specs.Header.{IsHeader}
 use Rattle.five_tuple.specs.Printing.{address_text, fields_text, proto_number_text}
 use Rattle.five_tuple.specs.declared.header.Header.{Header}
 use Rattle.net_file.specs.Laws.{NameLaws}
+use Rattle.net_file.specs.Names.{name_of, names_text}
 use Rattle.net_file.specs.Net.{IsNet, IsSwitch}
 use Rattle.net_file.specs.declared.net.Net.{Net}
 use Rattle.net_file.specs.declared.net.SwitchRow.{SwitchRow}
@@ -31,7 +32,7 @@ use Rattle.policy_rules.specs.declared.policy.Action.TheVariants.{Drop, Out}
 use Rattle.ternary.specs.Word.{WordValue, hex_digits, word_text}
 use Rattle.journal.specs.declared.item.Item.{Item}
 use Rattle.journal.specs.declared.item.Item.TheVariants as item
-use Rattle.journal_text.specs.Lines.{advert_text, body_text, boot_text, cache_text, cause_text, decided_text, how_text, item_line, mask_text, name_of, named, names_text, numbered, packet_at, pair_text, place_text, state_text, step_text, submitted_text, tunnel_text, version_text}
+use Rattle.journal_text.specs.Lines.{advert_text, body_text, boot_text, cache_text, cause_text, decided_text, how_text, item_line, mask_text, named, numbered, packet_at, pair_text, place_text, state_text, step_text, submitted_text, tunnel_text, version_text}
 use Rattle.journal_text.specs.Sizes.{IsAction, IsBodyOfType, IsHow, IsItemOfType, IsNumber, IsRoute, IsRule, IsStepOfType, LinesFit}
 use Rattle.steps.specs.declared.step.Step.{Step}
 use Rattle.steps.specs.declared.step.Step.TheVariants.{Packet, Hop, Lose, Deliver, Forget, Expire, Update, LinkDown, LinkUp, Crash, Restart, Confirm, Resend}

@@ -1,7 +1,6 @@
 -- The lines of a journal: one for each item, in which switches stand by their names.
-use Rattle.std.specs.Prelude.{ℕ, ◌==◌, Bool, true, false, min, max, if◌then◌else◌, Option, List, [], ◌∷◌, ◌++◌, filter, codes, decimal, slice_get}
+use Rattle.std.specs.Prelude.{ℕ, ◌==◌, Bool, true, false, min, max, if◌then◌else◌, Option, List, [], ◌∷◌, ◌++◌, filter, codes, decimal}
 use Rattle.std.specs.List.{flat_map}
-use Rattle.std.specs.Option.{option_map_or}
 use Rattle.ctrl_msg.specs.declared.message.Body.{Body}
 use Rattle.ctrl_msg.specs.declared.message.Body.TheVariants.{Install, OpenAt, Stamp, Collect, CacheRule, Advertise, Hello, Installed, Stamped}
 use Rattle.ctrl_msg.specs.declared.message.Place.{Place}
@@ -9,6 +8,7 @@ use Rattle.ctrl_msg.specs.declared.message.Place.TheVariants as place
 use Rattle.failover.specs.Masks.{has, switches}
 use Rattle.failover.specs.declared.advert.Advert.{Advert}
 use Rattle.five_tuple.specs.Printing.{fields_text}
+use Rattle.net_file.specs.Names.{name_of, names_text}
 use Rattle.net_file.specs.declared.net.Net.{Net}
 use Rattle.policy_rules.specs.Print.{action_text, rule_text}
 use Rattle.policy_rules.specs.declared.packet.Cause.{Cause}
@@ -22,11 +22,7 @@ use Rattle.journal.specs.declared.item.Item.TheVariants as item
 use Rattle.steps.specs.declared.step.Step.{Step}
 use Rattle.steps.specs.declared.step.Step.TheVariants.{Packet, Hop, Lose, Deliver, Forget, Expire, Update, LinkDown, LinkUp, Crash, Restart, Confirm, Resend}
 
--- ---- names and words
-
--- the name of the switch of this number; one that the network lacks has none
-abbrev pub name_of : Net → ℕ → List ℕ
-name_of net s = option_map_or (λ row. row.name) (slice_get net.switches s) []
+-- ---- words
 
 -- a number behind a word, and a name behind one
 abbrev pub numbered : List ℕ → ℕ → List ℕ
@@ -34,10 +30,6 @@ numbered word n = word ++ codes " " ++ decimal n
 
 abbrev pub named : Net → List ℕ → ℕ → List ℕ
 named net word s = word ++ codes " " ++ name_of net s
-
--- the names of switches, each behind a blank
-abbrev pub names_text : Net → List ℕ → List ℕ
-names_text net list = flat_map (λ s. codes " " ++ name_of net s) list
 
 -- the names of a mask's switches, ascending, or a dash for none
 abbrev pub mask_text : Net → ℕ → List ℕ

@@ -1,11 +1,11 @@
 ghost use Rattle.std.specs.Prelude.{◌≡◌, ◌++◌, IfOk, OnOk, codes, decimal};
 ghost use Rattle.std.specs.String.{string_bytes};
+ghost use Rattle.net_file.specs.Names.{names_text};
 ghost use Rattle.net_file.specs.Net.{IsNet};
 ghost use Rattle.journal.specs.declared.item.Item.TheVariants as item;
-ghost use Rattle.journal_text.specs.Lines.{cause_text, decided_text, how_text, item_line, journal_text, names_text, numbered, packet_at, submitted_text, tunnel_text};
+ghost use Rattle.journal_text.specs.Lines.{cause_text, decided_text, how_text, item_line, journal_text, numbered, packet_at, submitted_text, tunnel_text};
 
 use crate::messages::{push_body, push_place};
-use crate::names::{name_of, push_names};
 use crate::rows::{push_name, push_number, push_pair, push_step};
 use journal::{Action, Cause, How, Item, Journal, SharedMessage, SharedRoute};
 use net_file::Net;
@@ -56,7 +56,7 @@ fn push_at(text: &mut String, net: &Net, word: &str, packet: u32, s: u32) -> Res
     ensures { OnOk result (string_bytes text.new
         ≡ string_bytes text.old ++ packet_at net.now word.now packet s) }
 {
-    let name = name_of(net, s);
+    let name = net.name(s);
     write!(text, "{word} {packet} {name}")?;
     Ok(())
 }
@@ -88,7 +88,7 @@ fn push_seeking(
         ++ (tunnel_text packet version partition ++ names_text net.now route.now)) }
 {
     push_tunnel(text, packet, version, partition)?;
-    push_names(text, net, route.route().items())
+    net.push_names(text, route.route().items())
 }
 
 // A packet's route behind a word.
@@ -105,7 +105,7 @@ fn push_route(
         ++ (numbered word.now packet ++ codes " via" ++ names_text net.now route.now)) }
 {
     write!(text, "{word} {packet} via")?;
-    push_names(text, net, route.route().items())
+    net.push_names(text, route.route().items())
 }
 
 fn push_found(
@@ -119,8 +119,8 @@ fn push_found(
     ensures { OnOk result (string_bytes text.new
         ≡ string_bytes text.old ++ item_line net.now (item.FoundDown packet one two)) }
 {
-    let one = name_of(net, one);
-    let two = name_of(net, two);
+    let one = net.name(one);
+    let two = net.name(two);
     write!(text, "  found {packet} {one} {two}")?;
     Ok(())
 }
@@ -132,7 +132,7 @@ fn push_how(text: &mut String, net: &Net, how: How) -> Result<(), AllocError>
     match how {
         How::Cached { message } => push_number(text, "cache", message),
         How::Authority { switch, partition } => {
-            let name = name_of(net, switch);
+            let name = net.name(switch);
             write!(text, "authority {name} part {partition}")?;
             Ok(())
         }
@@ -203,7 +203,7 @@ fn push_stuck(
         ≡ string_bytes text.old
         ++ (packet_at net.now (codes "  stuck") packet switch ++ codes " " ++ cause_text cause)) }
 {
-    let name = name_of(net, switch);
+    let name = net.name(switch);
     let cause = cause_word(cause);
     write!(text, "  stuck {packet} {name} {cause}")?;
     Ok(())
@@ -237,7 +237,7 @@ fn push_expired(
     ensures { OnOk result (string_bytes text.new
         ≡ string_bytes text.old ++ item_line net.now (item.Expired switch place message)) }
 {
-    let name = name_of(net, switch);
+    let name = net.name(switch);
     write!(text, "  expired {name} {place} message {message}")?;
     Ok(())
 }
@@ -263,7 +263,7 @@ fn push_booted(text: &mut String, net: &Net, switch: u32, boot: u32) -> Result<(
     ensures { OnOk result (string_bytes text.new
         ≡ string_bytes text.old ++ item_line net.now (item.Booted switch boot)) }
 {
-    let name = name_of(net, switch);
+    let name = net.name(switch);
     write!(text, "  booted {name} {boot}")?;
     Ok(())
 }
@@ -273,7 +273,7 @@ fn push_opened(text: &mut String, net: &Net, switch: u32, version: u32) -> Resul
     ensures { OnOk result (string_bytes text.new
         ≡ string_bytes text.old ++ item_line net.now (item.Opened switch version)) }
 {
-    let name = name_of(net, switch);
+    let name = net.name(switch);
     write!(text, "  opened {name} version {version}")?;
     Ok(())
 }

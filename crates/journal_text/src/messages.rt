@@ -3,7 +3,7 @@ ghost use Rattle.std.specs.String.{string_bytes};
 ghost use Rattle.net_file.specs.Net.{IsNet};
 ghost use Rattle.journal_text.specs.Lines.{advert_text, body_text, boot_text, cache_text, named, place_text, version_text};
 
-use crate::names::{name_of, push_mask};
+use crate::names::push_mask;
 use ctrl_msg::{Body, Place};
 use failover::Advert;
 use net_file::Net;
@@ -19,7 +19,7 @@ pub(crate) fn push_place(text: &mut String, net: &Net, place: Place) -> Result<(
         ≡ string_bytes text.old ++ place_text net.now place) }
 {
     match place {
-        Place::Switch(s) => text.push_str(name_of(net, s))?,
+        Place::Switch(s) => text.push_str(net.name(s))?,
         Place::Controller => text.push_str("controller")?,
     }
     Ok(())
@@ -38,7 +38,7 @@ fn push_hello(text: &mut String, net: &Net, switch: u32, boot: u32) -> Result<()
     ensures { OnOk result (string_bytes text.new
         ≡ string_bytes text.old ++ boot_text (named net.now (codes "hello") switch) boot) }
 {
-    let name = name_of(net, switch);
+    let name = net.name(switch);
     write!(text, "hello {name} boot {boot}")?;
     Ok(())
 }
@@ -55,7 +55,7 @@ fn push_answer(
     ensures { OnOk result (string_bytes text.new
         ≡ string_bytes text.old ++ version_text (named net.now word.now switch) boot version) }
 {
-    let name = name_of(net, switch);
+    let name = net.name(switch);
     write!(text, "{word} {name} boot {boot} version {version}")?;
     Ok(())
 }
@@ -84,7 +84,7 @@ fn push_advert(text: &mut String, net: &Net, advert: &Advert) -> Result<(), Allo
     ensures { OnOk result (string_bytes text.new
         ≡ string_bytes text.old ++ advert_text net.now advert.now) }
 {
-    let name = name_of(net, advert.origin);
+    let name = net.name(advert.origin);
     let boot = advert.boot;
     let seq = advert.seq;
     write!(text, "advert {name} boot {boot} seq {seq} up")?;

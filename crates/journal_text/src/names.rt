@@ -1,49 +1,13 @@
-ghost use Rattle.std.specs.Prelude.{◌≡◌, ◌<◌, ◌++◌, [], if◌then◌else◌, filter, OnOk, IsTrue, codes};
+ghost use Rattle.std.specs.Prelude.{◌≡◌, ◌<◌, ◌++◌, [], if◌then◌else◌, filter, OnOk, codes};
 ghost use Rattle.std.specs.String.{string_bytes};
 ghost use Rattle.failover.specs.Masks.{has, switches};
-ghost use Rattle.net_file.specs.Net.{IsNet, is_name};
-ghost use Rattle.journal_text.specs.Lines.{mask_text, name_of, names_text};
+ghost use Rattle.net_file.specs.Names.{name_of, names_text};
+ghost use Rattle.net_file.specs.Net.{IsNet};
+ghost use Rattle.journal_text.specs.Lines.{mask_text};
 
 use net_file::Net;
 use std::alloc::AllocError;
 use std::fmt::Write;
-use std::str;
-
-/// The name of the switch of this number, or none where the network lacks it.
-pub(crate) fn name_of(net: &Net, s: u32) -> &str
-    requires { IsNet net.now }
-    ensures { result.now ≡ name_of net.now s }
-{
-    match net.switches.rows().get(s as usize) {
-        Some(row) => text_of(row.name.bytes()),
-        None => "",
-    }
-}
-
-// A name as text.
-#[tactic(auto, using(crate::proofs::NameLemmas::name_is_text))]
-fn text_of(name: &[u8]) -> &str
-    requires { IsTrue (is_name name.now) }
-    ensures { result.now ≡ name.now }
-{
-    match str::from_utf8(name) {
-        Ok(text) => text,
-        Err(_) => unreachable!(),
-    }
-}
-
-/// Adds the names of switches, each behind a blank.
-pub(crate) fn push_names(text: &mut String, net: &Net, switches: &[u32]) -> Result<(), AllocError>
-    requires { IsNet net.now }
-    ensures { OnOk result (string_bytes text.new
-        ≡ string_bytes text.old ++ names_text net.now switches.now) }
-{
-    for s in switches {
-        let name = name_of(net, *s);
-        write!(text, " {name}")?;
-    }
-    Ok(())
-}
 
 // Whether the mask has this switch.
 #[tactic(auto, using(std::proofs::lemmas::Nat::Bits::shr_and_one), unfolding(failover::specs::Masks::has))]
@@ -86,7 +50,7 @@ fn push_if(text: &mut String, net: &Net, test: bool, s: u32) -> Result<(), Alloc
         ≡ string_bytes text.old ++ (if test then codes " " ++ name_of net.now s else [])) }
 {
     if test {
-        let name = name_of(net, s);
+        let name = net.name(s);
         write!(text, " {name}")?;
     }
     Ok(())

@@ -4,7 +4,6 @@ ghost use Rattle.net_file.specs.Net.{IsNet};
 ghost use Rattle.steps.specs.declared.step.Step.TheVariants.{Packet, Expire};
 ghost use Rattle.journal_text.specs.Lines.{named, numbered, pair_text, step_text};
 
-use crate::names::name_of;
 use five_tuple::Header;
 use net_file::Net;
 use std::alloc::AllocError;
@@ -25,7 +24,7 @@ pub(crate) fn push_name(text: &mut String, net: &Net, word: &str, s: u32) -> Res
     ensures { OnOk result (string_bytes text.new
         ≡ string_bytes text.old ++ named net.now word.now s) }
 {
-    let name = name_of(net, s);
+    let name = net.name(s);
     write!(text, "{word} {name}")?;
     Ok(())
 }
@@ -42,8 +41,8 @@ pub(crate) fn push_pair(
     ensures { OnOk result (string_bytes text.new
         ≡ string_bytes text.old ++ pair_text net.now word.now one two) }
 {
-    let one = name_of(net, one);
-    let two = name_of(net, two);
+    let one = net.name(one);
+    let two = net.name(two);
     write!(text, "{word} {one} {two}")?;
     Ok(())
 }
@@ -53,7 +52,7 @@ fn push_packet(text: &mut String, net: &Net, switch: u32, header: &Header) -> Re
     ensures { OnOk result (string_bytes text.new
         ≡ string_bytes text.old ++ step_text net.now (Packet switch header.now)) }
 {
-    let name = name_of(net, switch);
+    let name = net.name(switch);
     let fields = header.fields();
     write!(text, "packet {name} {fields}")?;
     Ok(())
@@ -64,7 +63,7 @@ fn push_expire(text: &mut String, net: &Net, switch: u32, place: u32) -> Result<
     ensures { OnOk result (string_bytes text.new
         ≡ string_bytes text.old ++ step_text net.now (Expire switch place)) }
 {
-    let name = name_of(net, switch);
+    let name = net.name(switch);
     write!(text, "expire {name} {place}")?;
     Ok(())
 }

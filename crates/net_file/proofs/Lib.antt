@@ -4,3 +4,4 @@ pub mod FreshPorts
 pub mod Steps
 pub mod Sound
 pub mod Places
+pub mod NameLemmas

@@ -1,6 +1,7 @@
 pub mod Refusals
 pub mod Keys
 pub mod Net
+pub mod Names
 pub mod Reading
 pub mod Owners
 pub mod Laws

@@ -14,6 +14,7 @@ mod keys;
 mod laws;
 mod links;
 mod mask;
+mod names;
 mod net;
 mod ports;
 mod read;

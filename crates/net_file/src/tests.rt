@@ -132,7 +132,7 @@ fn counts_switches_and_links(rt: HostRuntime) -> Result<(), Fail> {
 }
 
 #[test]
-fn answers_on_numbers_ports_and_links(rt: HostRuntime) -> Result<(), Fail> {
+fn answers_on_numbers_names_ports_and_links(rt: HostRuntime) -> Result<(), Fail> {
     let alloc = rt.alloc();
     let text = "[[switch]]\nname = \"a\"\nports = [1]\n[[switch]]\nname = \"b\"\nports = [63]\n\
           [[switch]]\nname = \"c\"\n[[link]]\nends = [\"a\", \"c\"]\n[[link]]\n\
@@ -140,6 +140,9 @@ fn answers_on_numbers_ports_and_links(rt: HostRuntime) -> Result<(), Fail> {
     let net = read_net(alloc, text.as_bytes())?;
     assert_eq!(rt; net.number(b"c"), Some(2));
     assert_eq!(rt; net.number(b"d"), None);
+    let mut names = String::new(alloc);
+    net.push_names(&mut names, &[2, 0, 3])?;
+    assert_eq!(rt; names.as_str(), " c a ");
     assert_eq!(rt; net.links_of(0), 4);
     assert_eq!(rt; net.links_of(2), 3);
     assert_eq!(rt; net.port_mask(), 9223372036854775810);

@@ -1,12 +1,13 @@
 -- The last rule of each partition of a policy covers its region: narrowing keeps the default last,
 -- or ends with an earlier rule that covers the region.
-use Rattle.std.proofs.Common.{◌≡◌, ◌∙◌, ℕ, ◌<◌, true, false, refl, sym, ap, inl, inr, arith, List, [], ◌∷◌, ◌++◌, ◌&&◌}
+use Rattle.std.proofs.Common.{◌∙◌, ℕ, ◌<◌, true, false, ap, inl, inr, List, [], ◌∷◌, ◌++◌}
 use Rattle.std.specs.Bool.{IsTrue}
 use Rattle.std.specs.List.{All}
 use Rattle.std.proofs.lemmas.Bool.{cases_Bool, and_from}
 use Rattle.std.proofs.lemmas.List.Elements.{All-nil, All-cons, All-append}
 use Rattle.ternary.specs.Word.{WordValue, any_word, covers_of, fix_of, meets}
 use Rattle.ternary.proofs.CallerLemmas.{covers_reflexive, covers_transitive, fix_within, meet_greatest, meets_comm, meets_cover}
+use Rattle.policy_rules.specs.Partitions.{EndInCover, LastCovers}
 use Rattle.policy_rules.specs.Policy.{IsPolicy}
 use Rattle.policy_rules.specs.RuleList.{default_rule, rules_of}
 use Rattle.policy_rules.specs.declared.policy.Row.{Row}
@@ -18,7 +19,7 @@ use Rattle.cut_tree.specs.Narrow.{narrow, narrowed}
 use Rattle.cut_tree.specs.Shape.{Shape, End, Node, leaves_of}
 use Rattle.cut_tree.proofs.CallerLemmas.{tree_defined}
 use Rattle.cut_tree.proofs.NarrowLemmas.{met_joined, narrow_apart, narrow_covered, narrow_more}
-use Rattle.partition.specs.Parts.{AllEndInCover, EndInCover, parts_of, partitions_of}
+use Rattle.partition.specs.Parts.{parts_of, partitions_of}
 use Rattle.partition.proofs.PartLemmas.{numbered_all}
 
 -- ---- a list that is narrowed
@@ -101,13 +102,12 @@ rules_end rows policy =
     (ends.0, default_rule _, ends.1, covers_reflexive any_word)
 
 pub parts_ended : (rows : List Row) (most : ℕ) (tree : Shape) → IsPolicy rows
-    → IsDefinedTree (rules_of rows) most tree → AllEndInCover (parts_of tree)
+    → IsDefinedTree (rules_of rows) most tree → All LastCovers (parts_of tree)
 parts_ended rows most tree policy is =
-    numbered_all (λ part. EndInCover part.region part.rules) IsEndedLeaf
-    (λ number leaf ended. ended) 0 (leaves_of tree)
+    numbered_all LastCovers IsEndedLeaf (λ number leaf ended. ended) 0 (leaves_of tree)
     (ended_leaves tree (rules_of rows) any_word most is (rules_end rows policy))
 
 pub partitions_ended : (rows : List Row) (most : ℕ) → 0 < most → IsPolicy rows
-    → AllEndInCover (partitions_of (rules_of rows) most)
+    → All LastCovers (partitions_of (rules_of rows) most)
 partitions_ended rows most some policy = parts_ended rows most (tree_of (rules_of rows) most) policy
     (tree_defined (rules_of rows) most some (IsRuleList-rules_of rows policy).words)

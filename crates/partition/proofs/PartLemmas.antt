@@ -5,7 +5,7 @@ use Rattle.std.specs.Int.{bit_at, from_bool}
 use Rattle.std.specs.List.{All, count_by, enumerate_from}
 use Rattle.std.proofs.lemmas.Bool.{cases_Bool, both_ways, cond-true, cond-false}
 use Rattle.std.proofs.lemmas.List.Elements.{All-nil, All-cons, All-head, All-tail, All-append, All-weaker, All-same}
-use Rattle.std.proofs.lemmas.List.{length-map, at_drop_more, at_drop_all}
+use Rattle.std.proofs.lemmas.List.{length-map, at_drop_all}
 use Rattle.std.proofs.lemmas.List.FromFn.{length-enumerate_from}
 use Rattle.std.proofs.lemmas.List.Sums.{sum_by-append, sum_by-cons}
 use Rattle.std.proofs.lemmas.Nat.Bits.{bit_at-lt}
@@ -20,7 +20,7 @@ use Rattle.policy_rules.specs.declared.policy.Row.{Row}
 use Rattle.policy_rules.specs.declared.policy.Hit.{Hit}
 use Rattle.policy_rules.specs.declared.rules.Partition.{Partition}
 use Rattle.policy_rules.specs.declared.rules.Rule.{Rule}
-use Rattle.policy_rules.proofs.CallerLemmas.{IsRuleList-rules_of, first_rule-rules_of}
+use Rattle.policy_rules.proofs.CallerLemmas.{IsRuleList-rules_of, at_item, first_rule-rules_of}
 use Rattle.cut_tree.specs.Cuts.{side_of}
 use Rattle.cut_tree.specs.DefinedTree.{IsTreeOf, IsDefinedTree, tree_of}
 use Rattle.cut_tree.specs.Narrow.{narrow, narrowed}
@@ -322,16 +322,14 @@ pub part_here : (header : Header) (parts : List Partition) (index : ℕ) (part :
     → index < length parts → part ≡ get_or parts index part → is_in header part ≡ true
     → find (is_in header) (drop index parts) ≡ Some part
 part_here header parts index part within is here =
-    at_drop_more (find (is_in header)) parts index part within
-    ∙ ap (λ p. find (is_in header) (p ∷ drop (index + 1) parts)) (sym is)
+    at_item (find (is_in header)) parts index part within is
     ∙ cond-true _ (Some part) (find (is_in header) (drop (index + 1) parts)) here
 
 pub part_away : (header : Header) (parts : List Partition) (index : ℕ) (part : Partition)
     → index < length parts → part ≡ get_or parts index part → is_in header part ≡ false
     → find (is_in header) (drop index parts) ≡ find (is_in header) (drop (index + 1) parts)
 part_away header parts index part within is away =
-    at_drop_more (find (is_in header)) parts index part within
-    ∙ ap (λ p. find (is_in header) (p ∷ drop (index + 1) parts)) (sym is)
+    at_item (find (is_in header)) parts index part within is
     ∙ cond-false _ (Some part) (find (is_in header) (drop (index + 1) parts)) away
 
 pub count_away : (header : Header) (parts : List Partition) (index : ℕ) (part : Partition)
@@ -340,8 +338,7 @@ pub count_away : (header : Header) (parts : List Partition) (index : ℕ) (part 
 count_away header parts index part within is away =
     let rest = drop (index + 1) parts in
     let from : count_by (is_in header) (drop index parts) ≡ count_by (is_in header) (part ∷ rest) =
-    at_drop_more (count_by (is_in header)) parts index part within
-    ∙ ap (λ p. count_by (is_in header) (p ∷ rest)) (sym is) in
+    at_item (count_by (is_in header)) parts index part within is in
     let front : count_by (is_in header) (part ∷ rest) ≡ cond (is_in header part) 1 0 + count_by
     (is_in header) rest = sum_by-cons (λ part. cond (is_in header part) 1 0) part rest in
     let never : ◌≡◌ {A = ℕ} (cond (is_in header part) 1 0) 0 = cond-false (is_in header part) 1 0

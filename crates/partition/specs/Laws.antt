@@ -1,12 +1,12 @@
 -- The laws of partitions: `partition_laws` of the crate ensures the record.
-use Rattle.std.specs.Prelude.{ℕ, ◌<◌, List}
-use Rattle.policy_rules.specs.Partitions.{AreSoundPartitions}
+use Rattle.std.specs.Prelude.{ℕ, ◌<◌, List, All}
+use Rattle.policy_rules.specs.Partitions.{AreSoundPartitions, LastCovers}
 use Rattle.policy_rules.specs.Policy.{IsPolicy}
 use Rattle.policy_rules.specs.RuleList.{rules_of}
 use Rattle.policy_rules.specs.declared.policy.Row.{Row}
 use Rattle.policy_rules.specs.declared.rules.Rule.{Rule}
 use Rattle.cut_tree.specs.Nodes.{AreWords}
-use Rattle.partition.specs.Parts.{AllEndInCover, DecideAs, partitions_of}
+use Rattle.partition.specs.Parts.{DecideAs, partitions_of}
 
 pub record PartitionLaws : Type 0 where
   -- the partitions of a list decide each header as the list does
@@ -17,4 +17,4 @@ pub record PartitionLaws : Type 0 where
       AreSoundPartitions rows (partitions_of (rules_of rows) cap)
   -- .. and the last rule of each covers its region
   pub ended : (rows : List Row) (cap : ℕ) → 0 < cap → IsPolicy rows →
-      AllEndInCover (partitions_of (rules_of rows) cap)
+      All LastCovers (partitions_of (rules_of rows) cap)

@@ -1,9 +1,9 @@
 -- The partitions of a list of rules, as in Yu, Rexford, Freedman and Wang, "Scalable Flow-Based
 -- Networking with DIFANE", SIGCOMM 2010.
-use Rattle.std.specs.Prelude.{ℕ, ◌≡◌, ◌≤◌, IsTrue, List, [], ◌∷◌, ◌++◌, length, map, All, count_by, option_map}
+use Rattle.std.specs.Prelude.{ℕ, ◌≡◌, ◌≤◌, IsTrue, List, length, map, All, count_by, option_map}
 use Rattle.std.specs.List.{enumerate_from}
 use Rattle.five_tuple.specs.declared.header.Header.{Header}
-use Rattle.ternary.specs.Word.{WordValue, covers_of}
+use Rattle.ternary.specs.Word.{WordValue}
 use Rattle.policy_rules.specs.Partitions.{is_in}
 use Rattle.policy_rules.specs.RuleList.{hit_of_rule}
 use Rattle.policy_rules.specs.Rules.{first_rule}
@@ -32,15 +32,6 @@ abbrev pub DecidesAs : List Rule → Header → Partition → Type 0
 DecidesAs rules header part =
     option_map hit_of_rule (first_rule part.rules header)
     ≡ option_map hit_of_rule (first_rule rules header)
-
--- the last of the rules covers the region
-abbrev pub EndInCover : WordValue → List Rule → Type 0
-EndInCover region rules = (earlier : List Rule) × (last : Rule)
-    × (rules ≡ earlier ++ last ∷ []) × IsTrue (covers_of last.word region)
-
--- the last rule of each partition covers its region
-abbrev pub AllEndInCover : List Partition → Type 0
-AllEndInCover parts = All (λ part. EndInCover part.region part.rules) parts
 
 -- each header lies in exactly one region, whose rules decide it as the whole list does
 pub record DecideAs (rules : List Rule) (parts : List Partition) : Type 0 where

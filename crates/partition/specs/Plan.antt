@@ -10,12 +10,12 @@ use Rattle.net_file.specs.Net.{IsNet}
 use Rattle.net_file.specs.declared.net.Net.{Net}
 use Rattle.placement.specs.Placement.{IsPlacement, placement_of}
 pub use Rattle.policy_rules.specs.Partitions.{Placed}
-use Rattle.policy_rules.specs.Partitions.{AreSoundPartitions}
+use Rattle.policy_rules.specs.Partitions.{AreSoundPartitions, LastCovers}
 use Rattle.policy_rules.specs.Policy.{IsPolicy}
 use Rattle.policy_rules.specs.RuleList.{rules_of, word_total}
 use Rattle.policy_rules.specs.declared.policy.Row.{Row}
 use Rattle.policy_rules.specs.declared.rules.Partition.{Partition}
-use Rattle.partition.specs.Parts.{AllEndInCover, parts_of}
+use Rattle.partition.specs.Parts.{parts_of}
 
 -- why a policy has no plan on a network
 pub data NoPlan : Type 0 where
@@ -52,7 +52,7 @@ plan_of rows net = if nat_lt 4096 (word_total rows)
 -- what holds of each plan
 pub record IsPlan (rows : List Row) (net : Net) (plan : List Placed) : Type 0 where
   pub sound : AreSoundPartitions rows (map (λ placed. placed.0) plan)
-  pub ended : AllEndInCover (map (λ placed. placed.0) plan)
+  pub ended : All LastCovers (map (λ placed. placed.0) plan)
   pub few : length plan ≤ 512
   pub leaves : All (λ placed. length placed.0.rules ≤ net.leaf_rules) plan
   pub placement : IsPlacement (sizes_of (map (λ placed. placed.0) plan)) (rooms_of net) net.backups

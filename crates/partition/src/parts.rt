@@ -1,12 +1,12 @@
 ghost use Rattle.std.specs.Prelude.{ℕ, ◌≡◌, ◌+◌, ◌<◌, ◌^◌, ◌++◌, All, IfOk, OnOk, IsTrue, List, Some, count_by, find, length, option_map};
-ghost use Rattle.policy_rules.specs.Partitions.{AreSoundPartitions, is_in};
+ghost use Rattle.policy_rules.specs.Partitions.{AreSoundPartitions, LastCovers, is_in};
 ghost use Rattle.policy_rules.specs.Policy.{IsPolicy};
 ghost use Rattle.policy_rules.specs.RuleList.{rules_of};
 ghost use Rattle.policy_rules.specs.declared.policy.Row.{Row};
 ghost use Rattle.policy_rules.specs.declared.rules.Rule.{Rule};
 ghost use Rattle.cut_tree.specs.DefinedTree.{IsDefinedTree};
 ghost use Rattle.cut_tree.specs.Shape.{leaf_count, leaves_of, shape_of};
-ghost use Rattle.partition.specs.Parts.{AllEndInCover, DecideAs, numbered_from, parts_of};
+ghost use Rattle.partition.specs.Parts.{DecideAs, numbered_from, parts_of};
 
 use cut_tree::Tree;
 use five_tuple::Header;
@@ -31,7 +31,7 @@ pub fn list(alloc: Global, tree: &Tree) -> Result<Vec<Partition>, AllocError>
         AreSoundPartitions rows parts.items) }
     ensures ended { IfOk result (λ parts. (rows : List Row) (cap : ℕ) →
         IsPolicy rows → IsDefinedTree (rules_of rows) cap (shape_of tree.now) →
-        AllEndInCover parts.items) }
+        All LastCovers parts.items) }
 {
     let mut parts = Vec::new(alloc);
     push_leaves(tree, &mut parts)?;

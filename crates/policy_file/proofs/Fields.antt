@@ -1,12 +1,10 @@
 -- The seven fields of a row, one by one.
 use Rattle.std.proofs.Common.{ℕ, zero, suc, ◌≡◌, ◌∙◌, ◌+◌, List, [], ◌∷◌, length, length-drop, drop, refl, ap, arith}
-use Rattle.std.specs.Prelude.{◌≢◌, Err, unwrap_or}
+use Rattle.std.specs.Prelude.{◌≢◌, Err}
 use Rattle.csv.specs.Records.{field_at}
+use Rattle.csv_records.specs.Texts.{field}
 use Rattle.policy_file.specs.Reading.{is_heading, row_of}
 use Rattle.policy_file.specs.declared.error.PolicyRefusal.TheVariants as why
-
-abbrev pub field : List (List ℕ) → ℕ → List ℕ
-field fields place = unwrap_or (field_at fields place) []
 
 abbrev pub seven_of : List (List ℕ) → List (List ℕ)
 seven_of fields = field fields 0 ∷ field fields 1 ∷ field fields 2 ∷ field fields 3 ∷ field fields

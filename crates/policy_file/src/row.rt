@@ -1,11 +1,12 @@
-ghost use Rattle.std.specs.Prelude.{◌≡◌, ◌<◌, ◌+◌, ◌&&◌, [], drop, IfOk, bytes_eq, unwrap_or};
-ghost use Rattle.csv.specs.Records.{field_at, fields_of};
+ghost use Rattle.std.specs.Prelude.{◌≡◌, ◌<◌, ◌+◌, ◌&&◌, drop, IfOk, bytes_eq};
+ghost use Rattle.csv.specs.Records.{fields_of};
+ghost use Rattle.csv_records.specs.Texts.{field};
 ghost use Rattle.five_tuple.specs.Texts.{number_up_to};
 ghost use Rattle.policy_rules.specs.Read.{HasSmallPort};
 ghost use Rattle.policy_file.specs.Reading.{is_heading, row_of};
 
 use crate::error::PolicyRefusal;
-use csv_records::ByteRecord;
+use csv_records::{ByteRecord, field, has_text};
 use five_tuple::{read_number, read_prefix, read_proto, read_range};
 use policy_rules::{Row, read_action};
 
@@ -27,25 +28,11 @@ pub const PROTO: &str = "proto";
 
 pub const ACTION: &str = "action";
 
-// The field at this place, or an empty one where the record ends before it.
-fn field(fields: &ByteRecord, place: usize) -> &[u8]
-    ensures { result.now ≡ unwrap_or (field_at (fields_of fields.now) place) [] }
-{
-    fields.get(place).unwrap_or(b"")
-}
-
-// Whether the field at this place is this text.
-fn has_text(fields: &ByteRecord, place: usize, text: &str) -> bool
-    ensures { result ≡ bytes_eq (unwrap_or (field_at (fields_of fields.now) place) []) text.now }
-{
-    field(fields, place) == text.as_bytes()
-}
-
 // Whether the fields at this place and the next are these texts.
 fn has_texts(fields: &ByteRecord, place: usize, one: &str, next: &str) -> bool
     requires { place < WIDTH }
-    ensures { result ≡ (bytes_eq (unwrap_or (field_at (fields_of fields.now) place) []) one.now
-        && bytes_eq (unwrap_or (field_at (fields_of fields.now) (place + 1)) []) next.now) }
+    ensures { result ≡ (bytes_eq (field (fields_of fields.now) place) one.now
+        && bytes_eq (field (fields_of fields.now) (place + 1)) next.now) }
 {
     has_text(fields, place, one) && has_text(fields, place + 1, next)
 }

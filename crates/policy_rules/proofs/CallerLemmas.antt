@@ -1,7 +1,8 @@
 -- What proofs above cite.
 pub use Rattle.policy_rules.proofs.FirstMatch.{first_match-only, first_match-scan, highest_is, one_of_priority}
+pub use Rattle.policy_rules.proofs.Counting.{filter_more, range_more}
 pub use Rattle.policy_rules.proofs.Distinct.{distinct_push}
-pub use Rattle.policy_rules.proofs.Finding.{find-position}
+pub use Rattle.policy_rules.proofs.Finding.{at_item, find-position}
 pub use Rattle.policy_rules.proofs.RowWords.{IsWord-word_of_row, holds-word_of_row}
 pub use Rattle.policy_rules.proofs.Ranks.{length-words_of_row}
 pub use Rattle.policy_rules.proofs.RuleLaw.{first_rule-rules_of, holds-words_of_row}

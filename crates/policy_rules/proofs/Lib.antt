@@ -7,3 +7,4 @@ mod Sorting
 mod RuleLaw
 mod RuleShape
 pub mod CallerLemmas
+mod Counting

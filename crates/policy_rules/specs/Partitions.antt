@@ -1,14 +1,15 @@
 -- Partitions of a policy: parts of the header space, each with the rules that decide its headers,
 -- as in Yu, Rexford, Freedman and Wang, "Scalable Flow-Based Networking with DIFANE", SIGCOMM 2010.
-use Rattle.std.specs.Prelude.{ℕ, ◌≡◌, ◌<◌, Bool, IsTrue, Some, List, length, All, count_by, option_map, slice_index_or}
+use Rattle.std.specs.Prelude.{ℕ, ◌≡◌, ◌<◌, Bool, IsTrue, Some, List, [], ◌∷◌, ◌++◌, length, All, count_by, option_map, slice_index_or}
 use Rattle.five_tuple.specs.Header.{IsHeader, number_of}
 use Rattle.five_tuple.specs.declared.header.Header.{Header}
-use Rattle.ternary.specs.Word.{holds}
+use Rattle.ternary.specs.Word.{WordValue, covers_of, holds}
 use Rattle.policy_rules.specs.Policy.{scan}
 use Rattle.policy_rules.specs.RuleList.{hit_of_rule}
 use Rattle.policy_rules.specs.Rules.{first_rule}
 use Rattle.policy_rules.specs.declared.policy.Row.{Row}
 use Rattle.policy_rules.specs.declared.rules.Partition.{Partition}
+use Rattle.policy_rules.specs.declared.rules.Rule.{Rule}
 
 -- the region of the partition holds this header
 abbrev pub is_in : Header → Partition → Bool
@@ -23,6 +24,15 @@ abbrev pub AreNumbered : List Partition → Type 0
 AreNumbered parts =
     (place : ℕ) (d : Partition) → place < length parts
     → (slice_index_or parts place d).number ≡ place
+
+-- the last of the rules covers the region
+abbrev pub EndInCover : WordValue → List Rule → Type 0
+EndInCover region rules = (earlier : List Rule) × (last : Rule)
+    × (rules ≡ earlier ++ last ∷ []) × IsTrue (covers_of last.word region)
+
+-- the last rule of the partition covers its region
+abbrev pub LastCovers : Partition → Type 0
+LastCovers part = EndInCover part.region part.rules
 
 -- sound partitions of a policy: each header lies in exactly one region, and the first rule there
 -- that holds it has the rule and the action of the policy's first match

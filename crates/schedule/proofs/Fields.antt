@@ -1,16 +1,14 @@
 -- The fields of a record, one by one.
 use Rattle.std.proofs.Common.{ℕ, ◌≡◌, ◌∙◌, Bool, true, false, ◌&&◌, Some, None, List, [], ◌∷◌, length, drop, refl, ap, arith}
-use Rattle.std.specs.Prelude.{◌≢◌, Err, bytes_eq, codes, unwrap_or}
+use Rattle.std.specs.Prelude.{◌≢◌, Err, bytes_eq, codes}
 use Rattle.csv.specs.Records.{field_at}
+use Rattle.csv_records.specs.Texts.{field}
 use Rattle.net_file.specs.declared.net.Net.{Net}
 use Rattle.schedule.specs.Kinds.{is_built, kind_of}
 use Rattle.schedule.specs.Rows.{event_of, event_with, is_heading}
 use Rattle.schedule.specs.declared.error.ScheduleRefusal.TheVariants as why
 use Rattle.schedule.specs.declared.kind.Kind.{Kind}
 use Rattle.schedule.specs.declared.kind.Kind.TheVariants as kind
-
-abbrev pub field : List (List ℕ) → ℕ → List ℕ
-field fields place = unwrap_or (field_at fields place) []
 
 -- ---- the heading
 

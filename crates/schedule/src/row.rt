@@ -1,28 +1,14 @@
-ghost use Rattle.std.specs.Prelude.{◌≡◌, [], ◌∷◌, drop, length, bytes_eq, unwrap_or};
-ghost use Rattle.csv.specs.Records.{field_at, fields_of};
+ghost use Rattle.std.specs.Prelude.{◌≡◌, [], ◌∷◌, drop, length};
+ghost use Rattle.csv.specs.Records.{fields_of};
 ghost use Rattle.net_file.specs.Net.{IsNet, are_linked};
 ghost use Rattle.schedule.specs.Rows.{event_of, event_with, file_in, header_in, is_heading, link_in, number_in, switch_in};
 
 use crate::error::ScheduleRefusal;
 use crate::kind::{Kind, read_kind};
-use csv_records::ByteRecord;
+use csv_records::{ByteRecord, field, has_text};
 use five_tuple::{Header, read_fields};
 use net_file::{LinkRow, Net};
 use steps::{Event, MAX_NUMBER, Step};
-
-// The field at this place, or an empty one where the record ends before it.
-fn field(fields: &ByteRecord, place: usize) -> &[u8]
-    ensures { result.now ≡ unwrap_or (field_at (fields_of fields.now) place) [] }
-{
-    fields.get(place).unwrap_or(b"")
-}
-
-// Whether the field at this place is this text.
-fn has_text(fields: &ByteRecord, place: usize, text: &str) -> bool
-    ensures { result ≡ bytes_eq (unwrap_or (field_at (fields_of fields.now) place) []) text.now }
-{
-    field(fields, place) == text.as_bytes()
-}
 
 /// Whether the record is the heading.
 #[tactic(auto, using(crate::proofs::Fields::heading))]

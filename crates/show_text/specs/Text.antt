@@ -1,7 +1,7 @@
 -- The texts of plans and of tables, one fact a line.
-use Rattle.std.specs.Prelude.{ℕ, List, [], ◌∷◌, ◌++◌, length, codes, decimal, slice_get}
+use Rattle.std.specs.Prelude.{ℕ, List, [], ◌∷◌, ◌++◌, length, codes, decimal}
 use Rattle.std.specs.List.{flat_map, enumerate_from}
-use Rattle.std.specs.Option.{option_map_or}
+use Rattle.net_file.specs.Names.{name_of, names_text}
 use Rattle.net_file.specs.declared.net.Net.{Net}
 use Rattle.partition.specs.Plan.{Placed}
 use Rattle.policy_rules.specs.Print.{action_text, rule_text}
@@ -17,14 +17,9 @@ use Rattle.ternary.specs.Word.{WordValue, word_text}
 abbrev pub line : List ℕ → List ℕ
 line text = text ++ 10 ∷ []
 
--- the name of the switch of this number; one that the network lacks has none
-abbrev pub name_of : Net → ℕ → List ℕ
-name_of net s = option_map_or (λ row. row.name) (slice_get net.switches s) []
-
 -- the names of the targets, each behind a blank
 abbrev pub targets_text : Net → List ℕ → List ℕ
-targets_text net targets =
-    codes " targets" ++ flat_map (λ s. codes " " ++ name_of net s) targets
+targets_text net targets = codes " targets" ++ names_text net targets
 
 abbrev pub region_text : ℕ → WordValue → List ℕ
 region_text number region =

@@ -1,14 +1,13 @@
-ghost use Rattle.std.specs.Prelude.{◌≡◌, ◌++◌, Some, OnOk, IsTrue, codes};
-ghost use Rattle.std.specs.List.{flat_map};
+ghost use Rattle.std.specs.Prelude.{◌≡◌, ◌++◌, Some, OnOk};
 ghost use Rattle.std.specs.String.{string_bytes};
-ghost use Rattle.net_file.specs.Net.{IsNet, is_name};
-ghost use Rattle.show_text.specs.Text.{line, name_of, part_text, region_text, rule_lines, rule_text_of, targets_text};
+ghost use Rattle.net_file.specs.Net.{IsNet};
+ghost use Rattle.show_text.specs.Text.{line, part_text, region_text, rule_lines, rule_text_of, targets_text};
 
 use net_file::Net;
 use policy_rules::{Partition, Rule, RuleName, Targets};
 use std::alloc::AllocError;
+use std::fmt;
 use std::fmt::Write;
-use std::{fmt, str};
 use ternary::Word;
 
 // The start of a partition's line.
@@ -79,42 +78,7 @@ pub fn push_targets(text: &mut String, net: &Net, targets: &Targets) -> Result<(
         ≡ string_bytes text.old ++ line (targets_text net.now targets.now)) }
 {
     text.push_str(" targets")?;
-    push_names(text, net, targets.items())?;
+    net.push_names(text, targets.items())?;
     text.push_str("\n")?;
     Ok(())
-}
-
-fn push_names(text: &mut String, net: &Net, switches: &[u32]) -> Result<(), AllocError>
-    requires { IsNet net.now }
-    ensures { OnOk result (string_bytes text.new
-        ≡ string_bytes text.old ++ flat_map (λ s. codes " " ++ name_of net.now s) switches.now) }
-{
-    for s in switches {
-        let name = name_of(net, *s);
-        write!(text, " {name}")?;
-    }
-    Ok(())
-}
-
-/// The name of the switch of this number, or none where the network lacks it.
-pub fn name_of(net: &Net, s: u32) -> &str
-    requires { IsNet net.now }
-    ensures { result.now ≡ name_of net.now s }
-{
-    match net.switches.rows().get(s as usize) {
-        Some(row) => text_of(row.name.bytes()),
-        None => "",
-    }
-}
-
-// A name as text.
-#[tactic(auto, using(crate::proofs::NameLemmas::name_is_text))]
-fn text_of(name: &[u8]) -> &str
-    requires { IsTrue (is_name name.now) }
-    ensures { result.now ≡ name.now }
-{
-    match str::from_utf8(name) {
-        Ok(text) => text,
-        Err(_) => unreachable!(),
-    }
 }

@@ -5,7 +5,7 @@ ghost use Rattle.net_file.specs.Net.{IsNet};
 ghost use Rattle.switch_table.specs.Tables.{tables_of};
 ghost use Rattle.show_text.specs.Text.{authority_text, compile_text, own_lines, placed_lines, regions_text, row_line, table_text};
 
-use crate::lines::{PartText, Region, name_of, push_rules, push_targets};
+use crate::lines::{PartText, Region, push_rules, push_targets};
 use controller::{Plan, tables_of};
 use net_file::Net;
 use policy_rules::{Partition, Targets, count_words};
@@ -55,7 +55,7 @@ fn text_of_tables(alloc: Global, net: &Net, s: u32, tables: &Tables) -> Result<V
     ensures { IfOk result (λ bytes. bytes.items ≡ table_text s tables.now net.now) }
 {
     let mut text = String::new(alloc);
-    let name = name_of(net, s);
+    let name = net.name(s);
     let version = tables.version;
     writeln!(text, "switch {name} version {version}")?;
     push_authority(&mut text, tables.auth.items())?;

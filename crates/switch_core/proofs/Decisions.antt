@@ -187,6 +187,26 @@ arrives_by s told t P arriving out cached own seeks stuck = by_leg t.leg refl
 
 -- ---- decisions
 
+by_this_entry : (s : SwitchValue) (told : Surroundings) (packet : Packet) (decision : Decision)
+    (next : Next) (entry : CacheEntry) →
+    first_entry s.stamp (number_of packet.header) s.cache.entries ≡ Some entry →
+    by_entry entry ≡ decision → next_of s told packet entry.action ≡ next →
+    IsDecision s told packet decision next
+by_this_entry s told packet decision next entry first by on = record {
+  source = inl (record { entry = entry; first = first; decided = sym by });
+  onward = sym on ∙ ap (λ (d : Decision). next_of s told packet d.action) by;
+}
+
+by_this_rule : (s : SwitchValue) (told : Surroundings) (packet : Packet) (decision : Decision)
+    (next : Next) (tables : Tables) (own : OwnRule tables packet.header) →
+    held_tables s tables.version ≡ Some tables →
+    by_rule s.number tables.version own.part.number own.rule ≡ decision →
+    next_of s told packet own.rule.action ≡ next → IsDecision s told packet decision next
+by_this_rule s told packet decision next tables own held by on = record {
+  source = inr (own_comes s packet.header tables own decision held by);
+  onward = sym on ∙ ap (λ (d : Decision). next_of s told packet d.action) by;
+}
+
 pub decided_on_entry : (s : SwitchValue) (told : Surroundings) (packet : Packet)
     (decision : Decision) (next : Next) →
     IsReady s packet.header → entered s told packet ≡ coming.Decided decision next →
@@ -194,20 +214,8 @@ pub decided_on_entry : (s : SwitchValue) (told : Surroundings) (packet : Packet)
 decided_on_entry s told packet decision next ready is =
     comes_by s told packet (λ answer. answer ≡ coming.Decided decision next →
     IsDecision s told packet decision next) ready
-    (λ entry first is.
-    let by : by_entry entry ≡ decision = cc in
-    let on : next_of s told packet entry.action ≡ next = cc in
-    record {
-      source = inl (record { entry = entry; first = first; decided = sym by });
-      onward = sym on ∙ ap (λ (d : Decision). next_of s told packet d.action) by;
-    })
-    (λ tables own held is.
-    let by : by_rule s.number tables.version own.part.number own.rule ≡ decision = cc in
-    let on : next_of s told packet own.rule.action ≡ next = cc in
-    record {
-      source = inr (own_comes s packet.header tables own decision held by);
-      onward = sym on ∙ ap (λ (d : Decision). next_of s told packet d.action) by;
-    })
+    (λ entry first is. by_this_entry s told packet decision next entry first (cc) (cc))
+    (λ tables own held is. by_this_rule s told packet decision next tables own held (cc) (cc))
     (λ tunnel is. absurd (cc)) (λ cause leg is. absurd (cc)) is
 
 pub decided_on_arrival : (s : SwitchValue) (told : Surroundings) (t : TunnelValue)
@@ -219,20 +227,8 @@ decided_on_arrival s told t decision cache next arriving is =
     arrives_by s told t (λ answer. answer ≡ arrival.Decided decision cache next →
     IsDecision s told packet decision next) arriving
     (λ port is. absurd (cc))
-    (λ entry first is.
-    let by : by_entry entry ≡ decision = cc in
-    let on : next_of s told packet entry.action ≡ next = cc in
-    record {
-      source = inl (record { entry = entry; first = first; decided = sym by });
-      onward = sym on ∙ ap (λ (d : Decision). next_of s told packet d.action) by;
-    })
-    (λ tables own held is.
-    let by : by_rule s.number tables.version own.part.number own.rule ≡ decision = cc in
-    let on : next_of s told packet own.rule.action ≡ next = cc in
-    record {
-      source = inr (own_comes s t.header tables own decision held by);
-      onward = sym on ∙ ap (λ (d : Decision). next_of s told packet d.action) by;
-    })
+    (λ entry first is. by_this_entry s told packet decision next entry first (cc) (cc))
+    (λ tables own held is. by_this_rule s told packet decision next tables own held (cc) (cc))
     (λ tunnel is. absurd (cc)) (λ cause leg is. absurd (cc)) is
 
 -- ---- rules for caches

@@ -1,8 +1,8 @@
 -- A body for each neighbour below a number.
-use Rattle.std.proofs.Common.{◌≡◌, ◌∙◌, ℕ, zero, suc, ◌+◌, ◌≤◌, Bool, true, false, cond, List, [], ◌∷◌, ◌++◌, map, filter, refl, ap, arith, append-nil}
+use Rattle.std.proofs.Common.{◌≡◌, ◌∙◌, ℕ, ◌+◌, ◌≤◌, Bool, true, false, cond, List, [], ◌∷◌, ◌++◌, map, filter, refl, ap, arith, append-nil}
 use Rattle.std.specs.List.{range_with_len}
-use Rattle.std.proofs.lemmas.List.Elements.{filter-append}
 use Rattle.std.proofs.lemmas.List.{map-append}
+use Rattle.policy_rules.proofs.CallerLemmas.{filter_more}
 use Rattle.failover.specs.Masks.{has, switches}
 use Rattle.ctrl_msg.specs.declared.message.Body.{Body}
 use Rattle.ctrl_msg.specs.declared.message.Message.{Message}
@@ -16,29 +16,15 @@ for_switch body other = record { to = Switch other; body = body }
 unfoldable pub told : ℕ → Body → ℕ → List Message
 told near body n = map (for_switch body) (filter (has near) (range_with_len 0 n))
 
-range_more : (a n : ℕ) → range_with_len a (suc n) ≡ range_with_len a n ++ (a + n) ∷ []
-range_more a zero = grind arith
-range_more a (suc n) =
-    let same : a + 1 + n ≡ a + suc n = omega arith in
-    let more : range_with_len (a + 1) (suc n) ≡ range_with_len (a + 1) n ++ (a + suc n) ∷ [] =
-    range_more (a + 1) n ∙ ap (λ (k : ℕ). range_with_len (a + 1) n ++ k ∷ []) same in
-    ap (λ (xs : List ℕ). a ∷ xs) more
-
 -- one more switch
 told_one : (near : ℕ) (body : Body) (n : ℕ) →
     told near body (n + 1)
-    ≡ told near body n ++ map (for_switch body) (filter (has near) (n ∷ []))
+    ≡ told near body n ++ map (for_switch body) (cond (has near n) (n ∷ []) [])
 unfolding told
 told_one near body n =
-    let one : n + 1 ≡ suc n = omega arith in
-    let same : 0 + n ≡ n = omega arith in
-    let range : range_with_len 0 (n + 1) ≡ range_with_len 0 n ++ n ∷ [] =
-    ap (range_with_len 0) one ∙ range_more 0 n
-    ∙ ap (λ (k : ℕ). range_with_len 0 n ++ k ∷ []) same in
-    ap (λ (xs : List ℕ). map (for_switch body) (filter (has near) xs)) range
-    ∙ ap (map (for_switch body)) (filter-append (has near) (range_with_len 0 n) (n ∷ []))
+    ap (map (for_switch body)) (filter_more (has near) n)
     ∙ map-append (for_switch body) (filter (has near) (range_with_len 0 n))
-    (filter (has near) (n ∷ []))
+    (cond (has near n) (n ∷ []) [])
 
 pub told_none : (near : ℕ) (body : Body) → told near body 0 ≡ []
 unfolding told

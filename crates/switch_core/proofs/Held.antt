@@ -8,14 +8,14 @@ use Rattle.std.proofs.lemmas.List.Elements.{All-contains}
 use Rattle.five_tuple.specs.Header.{IsHeader, number_of}
 use Rattle.five_tuple.specs.declared.header.Header.{Header}
 use Rattle.policy_rules.proofs.CallerLemmas.{find-position}
-use Rattle.policy_rules.specs.Partitions.{is_in}
+use Rattle.policy_rules.specs.Partitions.{LastCovers, is_in}
 use Rattle.policy_rules.specs.Rules.{first_rule, is_held}
 use Rattle.policy_rules.specs.declared.rules.Partition.{Partition}
 use Rattle.policy_rules.specs.declared.rules.Rule.{Rule}
 use Rattle.switch_table.proofs.TableLemmas.{decides_all, find-there}
 use Rattle.switch_table.specs.Cache.{first_entry}
 use Rattle.switch_table.specs.Lookup.{authority_of, redirect_of, lookup_of, table_lookup}
-use Rattle.switch_table.specs.Tables.{AreSoundTables, LastCovers}
+use Rattle.switch_table.specs.Tables.{AreSoundTables}
 use Rattle.switch_table.specs.declared.cache.CacheEntry.{CacheEntry}
 use Rattle.switch_table.specs.declared.tables.Tables.{Tables}
 use Rattle.switch_table.specs.declared.search.Found.TheVariants.{Cached}

@@ -82,9 +82,9 @@ pub hop_stuck : (s : SwitchValue) (near : ℕ) (t : TunnelValue) (other : ℕ) �
     }
 hop_stuck s near t other found none = hop_around s near t other None found none
 
-pub hop_turns : (s : SwitchValue) (near : ℕ) (t : TunnelValue) (other : ℕ) (way : List ℕ) →
-    found_down near (next t) ≡ Some other → way_around s near t other ≡ Some way →
-    MatchOption (slice_get way 1)
+-- it goes along the way around the link, by the second switch of the way
+abbrev pub IsTurned : SwitchValue → ℕ → TunnelValue → ℕ → List ℕ → Option ℕ → Type 0
+IsTurned s near t other way second = MatchOption second
     (hopped s near t ≡ record {
       end = Arrive;
       tunnel = record t { route = way; place = 0; down = down_with t other };
@@ -93,20 +93,16 @@ pub hop_turns : (s : SwitchValue) (near : ℕ) (t : TunnelValue) (other : ℕ) (
       end = Move second;
       tunnel = record t { route = way; place = 1; down = down_with t other };
     })
+
+pub hop_turns : (s : SwitchValue) (near : ℕ) (t : TunnelValue) (other : ℕ) (way : List ℕ) →
+    found_down near (next t) ≡ Some other → way_around s near t other ≡ Some way →
+    IsTurned s near t other way (slice_get way 1)
 hop_turns s near t other way found some =
     by_second (slice_get way 1) (hop_around s near t other (Some way) found some)
   where
     by_second : (second : Option ℕ) →
         hopped s near t ≡ moved (on_route (marked_down t other) way) second →
-        MatchOption second
-        (hopped s near t ≡ record {
-          end = Arrive;
-          tunnel = record t { route = way; place = 0; down = down_with t other };
-        })
-        (λ second. hopped s near t ≡ record {
-          end = Move second;
-          tunnel = record t { route = way; place = 1; down = down_with t other };
-        })
+        IsTurned s near t other way second
     by_second None is = is
     by_second (Some second) is = is
 

@@ -6,13 +6,13 @@ use Rattle.five_tuple.specs.Header.{number_of}
 use Rattle.five_tuple.specs.declared.header.Header.{Header}
 use Rattle.ternary.specs.Word.{any_word, holds}
 use Rattle.ternary.proofs.CallerLemmas.{any_holds, covers_reflexive}
-use Rattle.policy_rules.specs.Partitions.{is_in}
+use Rattle.policy_rules.specs.Partitions.{LastCovers, is_in}
 use Rattle.policy_rules.specs.declared.packet.Leg.TheVariants.{Seek}
 use Rattle.policy_rules.specs.declared.policy.Action.TheVariants.{Out}
 use Rattle.policy_rules.specs.declared.rules.Partition.{Partition}
 use Rattle.policy_rules.specs.declared.rules.Rule.{Rule}
 use Rattle.failover.specs.declared.advert.Advert.{Advert}
-use Rattle.switch_table.specs.Tables.{AreSoundTables, LastCovers}
+use Rattle.switch_table.specs.Tables.{AreSoundTables}
 use Rattle.switch_table.specs.declared.tables.PartRow.{PartRow}
 use Rattle.switch_table.specs.declared.tables.Tables.{Tables}
 use Rattle.switch_core.specs.Arriving.{IsAtAuthority}

@@ -8,6 +8,7 @@ use Rattle.failover.specs.declared.advert.Advert.{Advert}
 use Rattle.switch_table.specs.Cache.{CacheValue}
 use Rattle.switch_table.specs.Tables.{AreSoundTables}
 use Rattle.switch_table.specs.declared.tables.Tables.{Tables}
+use Rattle.switch_core.specs.declared.switch.Switch.TheInside.{Inside}
 
 pub record SwitchValue : Type 0 where
   -- its place in the network
@@ -28,6 +29,21 @@ pub record SwitchValue : Type 0 where
   pub seq : ℕ
   -- how many packet calls it answered
   pub handled : ℕ
+
+abbrev pub value_of : Inside → SwitchValue
+value_of s = record {
+  number = s.number;
+  boot = s.boot;
+  is_up = s.is_up;
+  is_open = s.is_open;
+  stamp = s.stamp;
+  collected = s.collected;
+  tables = s.tables.items;
+  cache = s.cache;
+  database = s.database;
+  seq = s.seq;
+  handled = s.handled;
+}
 
 -- it looks headers up: it is up, and was opened in this boot
 abbrev pub serves : SwitchValue → Bool

@@ -30,37 +30,13 @@ pub struct Switch {
 const _: () = prove!(size_of::<Switch>() < 8192);
 
 impl Model for Switch {
-    ghost use Rattle.switch_core.specs.State.{SwitchValue, IsSwitch};
+    ghost use Rattle.switch_core.specs.State.{SwitchValue, IsSwitch, value_of};
 
     ghost Value = { SwitchValue };
 
-    ghost view = { λ s. record {
-      number = s.number;
-      boot = s.boot;
-      is_up = s.is_up;
-      is_open = s.is_open;
-      stamp = s.stamp;
-      collected = s.collected;
-      tables = s.tables.items;
-      cache = s.cache;
-      database = s.database;
-      seq = s.seq;
-      handled = s.handled;
-    } };
+    ghost view = { value_of };
 
-    ghost invariant = { λ s. IsSwitch (record {
-      number = s.number;
-      boot = s.boot;
-      is_up = s.is_up;
-      is_open = s.is_open;
-      stamp = s.stamp;
-      collected = s.collected;
-      tables = s.tables.items;
-      cache = s.cache;
-      database = s.database;
-      seq = s.seq;
-      handled = s.handled;
-    }) };
+    ghost invariant = { λ s. IsSwitch (value_of s) };
 }
 
 impl Switch {

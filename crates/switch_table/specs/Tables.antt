@@ -1,27 +1,21 @@
 -- The tables of a switch for one version of a policy: partition rules for all headers, authority
 -- rules for its own partitions (Yu, Rexford, Freedman and Wang, "Scalable Flow-Based Networking
 -- with DIFANE", SIGCOMM 2010).
-use Rattle.std.specs.Prelude.{ℕ, ◌≡◌, ◌≢◌, ◌^◌, ◌<◌, Bool, Some, List, [], ◌∷◌, ◌++◌, length, map, filter, All, AllPairs, IsSome, IsTrue, nat_eq, count_by, slice_get}
+use Rattle.std.specs.Prelude.{ℕ, ◌≡◌, ◌≢◌, ◌^◌, ◌<◌, Bool, Some, List, length, map, filter, All, AllPairs, IsSome, IsTrue, nat_eq, count_by, slice_get}
 use Rattle.std.specs.List.{list_any}
 use Rattle.five_tuple.specs.Header.{IsHeader, number_of}
 use Rattle.five_tuple.specs.declared.header.Header.{Header}
-use Rattle.ternary.specs.Word.{covers_of, holds}
+use Rattle.ternary.specs.Word.{holds}
 pub use Rattle.policy_rules.specs.Partitions.{Placed}
-use Rattle.policy_rules.specs.Partitions.{is_in}
+use Rattle.policy_rules.specs.Partitions.{LastCovers, is_in}
 use Rattle.policy_rules.specs.Rules.{first_rule}
 use Rattle.policy_rules.specs.declared.rules.Partition.{Partition}
-use Rattle.policy_rules.specs.declared.rules.Rule.{Rule}
 use Rattle.switch_table.specs.declared.tables.PartRow.{PartRow}
 use Rattle.switch_table.specs.declared.tables.Tables.{Tables}
 
 -- the row's region holds this header
 abbrev pub row_has : Header → PartRow → Bool
 row_has header row = holds row.region (number_of header)
-
--- the last rule of the partition covers its region
-abbrev pub LastCovers : Partition → Type 0
-LastCovers part = (earlier : List Rule) × (last : Rule)
-    × (part.rules ≡ earlier ++ last ∷ []) × IsTrue (covers_of last.word part.region)
 
 -- some rule of the partition holds each header of its region, as where the last one covers it
 abbrev pub DecidesAll : Partition → Type 0

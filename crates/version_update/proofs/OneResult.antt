@@ -43,14 +43,10 @@ one_result before a b x y left right =
     let allowed = ap (λ c. unwrap_or (least_of (stamps a.switches)) c - 1) current
     ∙ ap (λ (l : List SwitchRecord). unwrap_or (least_of (stamps l)) b.current - 1) switches in
     let retired : a.retired ≡ b.retired = left.retired ∙ allowed ∙ sym right.retired in
-    ap (λ n. record { count = n; current = a.current; retired = a.retired; switches = a.switches })
-    count
-    ∙ ap (λ n. record { count = b.count; current = n; retired = a.retired; switches = a.switches })
-    current
-    ∙ ap (λ n. record { count = b.count; current = b.current; retired = n; switches = a.switches })
-    retired
-    ∙ ap (λ (l : List SwitchRecord).
-    record { count = b.count; current = b.current; retired = b.retired; switches = l }) switches
+    ap (λ n. record a { count = n }) count
+    ∙ ap (λ n. record a { count = b.count; current = n }) current
+    ∙ ap (λ n. record b { retired = n; switches = a.switches }) retired
+    ∙ ap (λ (l : List SwitchRecord). record b { switches = l }) switches
 
 -- ---- one answer
 
@@ -66,57 +62,12 @@ one_telling before after x y one two taken =
     let opens : x.opens ≡ y.opens = one_mask _ _ _ _ one.opens two.opens in
     let retired : x.retired ≡ y.retired = one.retired ∙ sym two.retired in
     let collects : x.collects ≡ y.collects = one_mask _ _ _ _ one.collects two.collects in
-    ap (λ b. record {
-      taken = b;
-      current = x.current;
-      stamps = x.stamps;
-      opens = x.opens;
-      retired =
-          x.retired;
-      collects = x.collects;
-    }) taken
-    ∙ ap (λ o. record {
-      taken = y.taken;
-      current = o;
-      stamps = x.stamps;
-      opens = x.opens;
-      retired =
-          x.retired;
-      collects = x.collects;
-    }) current
-    ∙ ap (λ n. record {
-      taken = y.taken;
-      current = y.current;
-      stamps = n;
-      opens = x.opens;
-      retired =
-          x.retired;
-      collects = x.collects;
-    }) stamps
-    ∙ ap (λ n. record {
-      taken = y.taken;
-      current = y.current;
-      stamps = y.stamps;
-      opens = n;
-      retired = x.retired;
-      collects = x.collects;
-    }) opens
-    ∙ ap (λ o. record {
-      taken = y.taken;
-      current = y.current;
-      stamps = y.stamps;
-      opens = y.opens;
-      retired = o;
-      collects = x.collects;
-    }) retired
-    ∙ ap (λ n. record {
-      taken = y.taken;
-      current = y.current;
-      stamps = y.stamps;
-      opens = y.opens;
-      retired = y.retired;
-      collects = n;
-    }) collects
+    ap (λ b. record x { taken = b }) taken
+    ∙ ap (λ o. record x { taken = y.taken; current = o }) current
+    ∙ ap (λ n. record x { taken = y.taken; current = y.current; stamps = n }) stamps
+    ∙ ap (λ n. record y { opens = n; retired = x.retired; collects = x.collects }) opens
+    ∙ ap (λ o. record y { retired = o; collects = x.collects }) retired
+    ∙ ap (λ n. record y { collects = n }) collects
 
 pub one_answer : (before a b : MarksValue) (x y : Settled) → Settles before a x → Settles before b y
     → x.taken ≡ y.taken → x ≡ y

@@ -6,6 +6,7 @@ use Rattle.partition.specs.Parts.{parts_of}
 use Rattle.partition.specs.Plan.{sizes_of}
 use Rattle.controller.proofs.PlanLemmas.{IsReady, placement_refused, plan_sound, planned_at, rules_refused, tree_refused}
 use Rattle.controller.proofs.planning.compile.Goals as goal
+use Rattle.controller.proofs.planning.compile.Goals.{After-place}
 
 pub returns-in_err-rules-clause-refused : goal.returns-in_err-rules-clause-refused
 returns-in_err-rules-clause-refused c =
@@ -22,20 +23,24 @@ returns-in_err-tree-clause-refused c =
     c.in_ok-rules.ensures.few (c.deref.ensures.value ∙ c.in_ok-rules.ensures.rules)
     c.in_err-tree.ensures.refused)
 
+-- what stands as the partitions are placed
+ready_to_place : (c : After-place) → IsReady c.args.policy.now c.args.net.now c.deref.result.now
+    (shape_of c.in_ok-tree.tree) c.deref-3.result.now c.deref-4.result.now
+ready_to_place c = record {
+  few = c.in_ok-rules.ensures.few;
+  rules = c.deref.ensures.value ∙ c.in_ok-rules.ensures.rules;
+  tree = c.in_ok-tree.ensures.tree;
+  leaves = c.in_ok-tree.ensures.few;
+  sizes_are = c.deref-3.ensures.value ∙ c.in_ok-sizes.ensures
+      ∙ ap sizes_of (c.deref-2.ensures.value ∙ c.in_ok-parts.ensures.parts);
+  rooms_are = c.deref-4.ensures.value ∙ c.in_ok-rooms.ensures;
+}
+
 pub returns-in_err-targets-clause-refused : goal.returns-in_err-targets-clause-refused
 returns-in_err-targets-clause-refused c =
     let p = err_from_is_err_and c.from_residual-in_err-targets.result
     c.from_residual-in_err-targets.ensures.1 in
-    let ready : IsReady c.args.policy.now c.args.net.now c.deref.result.now
-    (shape_of c.in_ok-tree.tree) c.deref-3.result.now c.deref-4.result.now = record {
-      few = c.in_ok-rules.ensures.few;
-      rules = c.deref.ensures.value ∙ c.in_ok-rules.ensures.rules;
-      tree = c.in_ok-tree.ensures.tree;
-      leaves = c.in_ok-tree.ensures.few;
-      sizes_are = c.deref-3.ensures.value ∙ c.in_ok-sizes.ensures
-          ∙ ap sizes_of (c.deref-2.ensures.value ∙ c.in_ok-parts.ensures.parts);
-      rooms_are = c.deref-4.ensures.value ∙ c.in_ok-rooms.ensures;
-    } in
+    let ready = ready_to_place (goal.at.returns-in_err-targets-clause-refused c).After-place in
     rw (p.1, p.2)
     (placement_refused c.args.policy.now c.args.net.now c.deref.result.now
     (shape_of c.in_ok-tree.tree) c.deref-3.result.now c.deref-4.result.now
@@ -43,16 +48,7 @@ returns-in_err-targets-clause-refused c =
 
 pub new-requires-clause-sound : goal.new-requires-clause-sound
 new-requires-clause-sound c =
-    let ready : IsReady c.args.policy.now c.args.net.now c.deref.result.now
-    (shape_of c.in_ok-tree.tree) c.deref-3.result.now c.deref-4.result.now = record {
-      few = c.in_ok-rules.ensures.few;
-      rules = c.deref.ensures.value ∙ c.in_ok-rules.ensures.rules;
-      tree = c.in_ok-tree.ensures.tree;
-      leaves = c.in_ok-tree.ensures.few;
-      sizes_are = c.deref-3.ensures.value ∙ c.in_ok-sizes.ensures
-          ∙ ap sizes_of (c.deref-2.ensures.value ∙ c.in_ok-parts.ensures.parts);
-      rooms_are = c.deref-4.ensures.value ∙ c.in_ok-rooms.ensures;
-    } in
+    let ready = ready_to_place (goal.at.new-requires-clause-sound c).After-place in
     let planned = planned_at c.args.policy.now c.args.net.now c.deref.result.now
     (shape_of c.in_ok-tree.tree) c.deref-3.result.now c.deref-4.result.now
     c.in_ok-targets.targets.items ready c.in_ok-targets.ensures.value in
@@ -70,16 +66,7 @@ new-requires-clause-sound c =
 
 pub returns-clause-plan : goal.returns-clause-plan
 returns-clause-plan c =
-    let ready : IsReady c.args.policy.now c.args.net.now c.deref.result.now
-    (shape_of c.in_ok-tree.tree) c.deref-3.result.now c.deref-4.result.now = record {
-      few = c.in_ok-rules.ensures.few;
-      rules = c.deref.ensures.value ∙ c.in_ok-rules.ensures.rules;
-      tree = c.in_ok-tree.ensures.tree;
-      leaves = c.in_ok-tree.ensures.few;
-      sizes_are = c.deref-3.ensures.value ∙ c.in_ok-sizes.ensures
-          ∙ ap sizes_of (c.deref-2.ensures.value ∙ c.in_ok-parts.ensures.parts);
-      rooms_are = c.deref-4.ensures.value ∙ c.in_ok-rooms.ensures;
-    } in
+    let ready = ready_to_place (goal.at.returns-clause-plan c).After-place in
     let planned = planned_at c.args.policy.now c.args.net.now c.deref.result.now
     (shape_of c.in_ok-tree.tree) c.deref-3.result.now c.deref-4.result.now
     c.in_ok-targets.targets.items ready c.in_ok-targets.ensures.value in

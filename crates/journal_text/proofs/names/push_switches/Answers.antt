@@ -3,7 +3,7 @@ use Rattle.std.specs.Prelude.{codes, filter, if◌then◌else◌}
 use Rattle.std.specs.List.{range_with_len}
 use Rattle.std.specs.String.{string_bytes}
 use Rattle.failover.specs.Masks.{has}
-use Rattle.journal_text.specs.Lines.{name_of, names_text}
+use Rattle.net_file.specs.Names.{name_of, names_text}
 use Rattle.journal_text.proofs.MaskLemmas.{names_more}
 use Rattle.journal_text.proofs.names.push_switches.Goals as goal
 

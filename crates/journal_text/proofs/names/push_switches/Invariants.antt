@@ -3,7 +3,7 @@ use Rattle.std.specs.Prelude.{filter}
 use Rattle.std.specs.List.{range_with_len}
 use Rattle.std.specs.String.{string_bytes}
 use Rattle.failover.specs.Masks.{has}
-use Rattle.journal_text.specs.Lines.{names_text}
+use Rattle.net_file.specs.Names.{names_text}
 use Rattle.journal_text.proofs.names.push_switches.Given as goal
 
 abbrev pub invariant-loop-s : goal.invariant-loop-s

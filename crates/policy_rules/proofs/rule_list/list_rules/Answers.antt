@@ -1,8 +1,10 @@
-use Rattle.std.proofs.Common.{◌≡◌, ◌∙◌, ap, sym, [], ◌∷◌, ◌++◌, length, arith, take}
+use Rattle.std.proofs.Common.{ℕ, ◌≡◌, ◌∙◌, ◌≤◌, List, ap, sym, [], ◌∷◌, ◌++◌, length, arith, take}
 use Rattle.std.specs.List.{flat_map}
 use Rattle.std.proofs.lemmas.List.{flat_map_more, take_more, take_all}
 use Rattle.std.proofs.lemmas.List.Sums.{sum_by-take-le}
-use Rattle.policy_rules.specs.RuleList.{entries_of, ranked_from, with_default, word_count}
+use Rattle.policy_rules.specs.RuleList.{entries_of, ranked_from, with_default, word_count, word_total}
+use Rattle.policy_rules.specs.declared.policy.Row.{Row}
+use Rattle.policy_rules.specs.declared.rules.Rule.{Rule}
 use Rattle.policy_rules.proofs.Ranks.{ranked_more, length-ranked_from, length-entries}
 use Rattle.policy_rules.proofs.rule_list.list_rules.Goals as goal
 
@@ -10,16 +12,20 @@ pub loop-row-init : goal.loop-row-init
 unfolding ranked_from
 loop-row-init c = c.in_ok-rules.ensures.items
 
+-- the rules of the first rows are no more than the words of all
+few_yet : (rows : List Row) (k : ℕ) (rules : List Rule)
+    → rules ≡ ranked_from 0 (flat_map entries_of (take k rows)) → length rules ≤ word_total rows
+few_yet rows k rules is = omega (
+  arith,
+  ap length is,
+  length-ranked_from 0 (flat_map entries_of (take k rows)),
+  length-entries (take k rows),
+  sum_by-take-le word_count rows k,
+)
+
 pub push_row-requires-clause-few : goal.push_row-requires-clause-few
 push_row-requires-clause-few c =
-    let done = take c.loop-row.row-index c.args.rows.now in
-    omega (
-      arith,
-      ap length c.loop-row.invariant,
-      length-ranked_from 0 (flat_map entries_of done),
-      length-entries done,
-      sum_by-take-le word_count c.args.rows.now c.loop-row.row-index,
-    )
+    omega (arith, few_yet c.args.rows.now c.loop-row.row-index _ c.loop-row.invariant)
 
 pub loop-row-preserved : goal.loop-row-preserved
 loop-row-preserved c =
@@ -33,14 +39,7 @@ loop-row-preserved c =
 
 pub push_rule-requires : goal.push_rule-requires
 push_rule-requires c =
-    let done = take c.loop-row.row-index c.args.rows.now in
-    omega (
-      arith,
-      ap length c.loop-row.invariant,
-      length-ranked_from 0 (flat_map entries_of done),
-      length-entries done,
-      sum_by-take-le word_count c.args.rows.now c.loop-row.row-index,
-    )
+    omega (arith, few_yet c.args.rows.now c.loop-row.row-index _ c.loop-row.invariant)
 
 pub returns : goal.returns
 returns c =

@@ -1,42 +1,42 @@
-use Rattle.std.proofs.Common.{ℕ, ◌≡◌, ◌+◌, ◌++◌, map, ap, ◌∙◌}
+use Rattle.std.proofs.Common.{ℕ, ◌≡◌, ◌+◌, [], ◌∷◌, ◌++◌, map, ap, ◌∙◌}
 use Rattle.std.specs.Prelude.{not}
 use Rattle.version_update.specs.Marks.{with_version}
 use Rattle.version_update.specs.Record.{is_over}
-use Rattle.controller.specs.Controller.{KeptPlan, ControllerValue}
+use Rattle.controller.specs.Controller.{KeptPlan, ControllerValue, StaysController}
 use Rattle.controller.specs.Sends.{boot_of, install, those, settling, submitting}
-use Rattle.controller.proofs.Versions.{pushed_next, whole_more, stays_more}
+use Rattle.controller.proofs.Versions.{IsWhole, pushed_next, whole_more, stays_more}
 use Rattle.controller.proofs.controller.Controller.add.Goals as goal
+use Rattle.controller.proofs.controller.Controller.add.Goals.{After-settle}
+
+pushed : (c : After-settle) → c.push.new.self.items ≡ c.self.inside.versions.items
+    ++ (record { version = c.self.inside.marks.count + 1; plan = c.args.plan }) ∷ []
+pushed c = pushed_next c.self.inside.versions.items c.push.new.self.items _ c.count.result
+    c.self.inside.marks.count c.args.plan c.in_ok-push.ensures.items c.in_ok-version.ensures
+    c.count.ensures.count
+
+whole : (c : After-settle) → IsWhole c.self.inside.switches c.add_version-settled.new.marks
+    c.settle.new.versions.items
+whole c = whole_more c.self.inside.marks c.self.inside.versions.items c.args.plan _ _ _ _ _
+    c.placed.ensures.sound c.self.invariant c.add_version-settled.ensures.rule
+    c.add_version-settled.ensures.settled (pushed c) c.settle.ensures.versions
+
+stays : (c : After-settle) → StaysController c.args.self.now (record {
+  marks = c.add_version-settled.new.marks;
+  plans = c.settle.new.versions.items;
+})
+stays c = stays_more c.self.inside.marks c.self.inside.versions.items c.args.plan _ _ _ _ _
+    c.placed.ensures.sound _ c.self.view_is c.self.invariant c.add_version-settled.ensures.rule
+    c.add_version-settled.ensures.settled (pushed c) c.settle.ensures.versions
 
 pub invariant_of-self-in_err-settle : goal.invariant_of-self-in_err-settle
-invariant_of-self-in_err-settle c =
-    let old = c.self.inside.marks in
-    let kept = c.self.inside.versions.items in
-    let pushed = pushed_next kept c.push.new.self.items _ c.count.result old.count c.args.plan
-    c.in_ok-push.ensures.items c.in_ok-version.ensures c.count.ensures.count in
-    whole_more old kept c.args.plan _ _ _ _ _ c.placed.ensures.sound c.self.invariant
-    c.add_version-settled.ensures.rule
-    c.add_version-settled.ensures.settled pushed c.settle.ensures.versions
+invariant_of-self-in_err-settle c = whole (goal.at.invariant_of-self-in_err-settle c).After-settle
 
 pub returns-in_err-settle-clause-rule : goal.returns-in_err-settle-clause-rule
 returns-in_err-settle-clause-rule c =
-    let old = c.self.inside.marks in
-    let kept = c.self.inside.versions.items in
-    let pushed = pushed_next kept c.push.new.self.items _ c.count.result old.count c.args.plan
-    c.in_ok-push.ensures.items c.in_ok-version.ensures c.count.ensures.count in
-    stays_more old kept c.args.plan _ _ _ _ _ c.placed.ensures.sound _ c.self.view_is
-    c.self.invariant
-    c.add_version-settled.ensures.rule c.add_version-settled.ensures.settled pushed
-    c.settle.ensures.versions
+    stays (goal.at.returns-in_err-settle-clause-rule c).After-settle
 
 pub invariant_of-self-2 : goal.invariant_of-self-2
-invariant_of-self-2 c =
-    let old = c.self.inside.marks in
-    let kept = c.self.inside.versions.items in
-    let pushed = pushed_next kept c.push.new.self.items _ c.count.result old.count c.args.plan
-    c.in_ok-push.ensures.items c.in_ok-version.ensures c.count.ensures.count in
-    whole_more old kept c.args.plan _ _ _ _ _ c.placed.ensures.sound c.self.invariant
-    c.add_version-settled.ensures.rule
-    c.add_version-settled.ensures.settled pushed c.settle.ensures.versions
+invariant_of-self-2 c = whole (goal.at.invariant_of-self-2 c).After-settle
 
 pub returns-clause-sends : goal.returns-clause-sends
 returns-clause-sends c =
@@ -53,12 +53,4 @@ returns-clause-sends c =
     ∙ ap (λ (value : ControllerValue). submitting value.marks c.args.plan new) c.self.view_is
 
 pub returns-clause-rule : goal.returns-clause-rule
-returns-clause-rule c =
-    let old = c.self.inside.marks in
-    let kept = c.self.inside.versions.items in
-    let pushed = pushed_next kept c.push.new.self.items _ c.count.result old.count c.args.plan
-    c.in_ok-push.ensures.items c.in_ok-version.ensures c.count.ensures.count in
-    stays_more old kept c.args.plan _ _ _ _ _ c.placed.ensures.sound _ c.self.view_is
-    c.self.invariant
-    c.add_version-settled.ensures.rule c.add_version-settled.ensures.settled pushed
-    c.settle.ensures.versions
+returns-clause-rule c = stays (goal.at.returns-clause-rule c).After-settle

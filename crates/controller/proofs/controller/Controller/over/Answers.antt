@@ -1,4 +1,5 @@
-use Rattle.std.proofs.Common.{◌++◌, ap, ◌∙◌}
+use Rattle.std.proofs.Common.{ap, ◌∙◌}
+use Rattle.std.proofs.lemmas.Result.{IfOk-weaker}
 use Rattle.version_update.specs.Marks.{at_switch}
 use Rattle.version_update.specs.Record.{after_over}
 use Rattle.controller.specs.Controller.{ControllerValue}
@@ -7,36 +8,23 @@ use Rattle.controller.proofs.Versions.{whole_at, settles_at, stays_at}
 use Rattle.controller.proofs.controller.Controller.over.Goals as goal
 
 pub invariant_of-self : goal.invariant_of-self
-invariant_of-self c = whole_at c.args.s after_over c.self.inside.marks c.self.inside.versions.items
-    _ _ _ _ c.self.invariant c.over-settled.ensures.rule c.over-settled.ensures.settled
-    c.settle.ensures.versions
-
-pub returns-in_err-settle-clause-rule : goal.returns-in_err-settle-clause-rule
-returns-in_err-settle-clause-rule c = stays_at c.args.s after_over c.self.inside.marks
-    c.self.inside.versions.items _ _ _ _ _ c.self.view_is c.self.invariant
-    c.over-settled.ensures.rule c.over-settled.ensures.settled c.settle.ensures.versions
-
-pub returns-in_err-settle-clause-after : goal.returns-in_err-settle-clause-after
-returns-in_err-settle-clause-after c = settles_at c.args.s after_over c.self.inside.marks
-    c.self.inside.versions.items _ _ c.self.inside.switches _ _ c.self.view_is
-    c.over-settled.ensures.settled c.settle.ensures.versions
-
-pub invariant_of-self-2 : goal.invariant_of-self-2
-invariant_of-self-2 c = whole_at c.args.s after_over c.self.inside.marks
+invariant_of-self c = whole_at c.args.s after_over c.self.inside.marks
     c.self.inside.versions.items _ _ _ _ c.self.invariant c.over-settled.ensures.rule
-    c.over-settled.ensures.settled c.settle.ensures.versions
+    c.over-settled.ensures.settled c.settled_sends.ensures.versions
 
 pub returns : goal.returns
-returns c = record {
-  after = settles_at c.args.s after_over c.self.inside.marks c.self.inside.versions.items _ _
-      c.self.inside.switches _ _ c.self.view_is c.over-settled.ensures.settled
-      c.settle.ensures.versions;
-  sends = c.new.ensures ∙ c.in_ok-settle.ensures.acts _ c.over-settled.ensures.settled
-      ∙ ap (λ l. l ++ settling (at_switch c.args.s after_over c.self.inside.marks)
-      c.over-settled.new.self) c.new-acts.ensures.items
-      ∙ ap (λ (old : ControllerValue). settling (at_switch c.args.s after_over old.marks)
-      c.over-settled.new.self) c.self.view_is;
-  rule = stays_at c.args.s after_over c.self.inside.marks c.self.inside.versions.items _ _ _ _ _
-      c.self.view_is c.self.invariant c.over-settled.ensures.rule c.over-settled.ensures.settled
-      c.settle.ensures.versions;
-}
+returns c =
+    let change = after_over in
+    let marks = c.self.inside.marks in
+    let kept = c.self.inside.versions.items in
+    record {
+      after = settles_at c.args.s change marks kept _ _ c.self.inside.switches _ _ c.self.view_is
+          c.over-settled.ensures.settled c.settled_sends.ensures.versions;
+      sends = IfOk-weaker c.settled_sends.result _ _
+          (λ sends is. is _ c.over-settled.ensures.settled
+          ∙ ap (λ (old : ControllerValue). settling (at_switch c.args.s change old.marks)
+          c.over-settled.new.self) c.self.view_is) c.settled_sends.ensures.sends;
+      rule = stays_at c.args.s change marks kept _ _ _ _ _ c.self.view_is c.self.invariant
+          c.over-settled.ensures.rule c.over-settled.ensures.settled
+          c.settled_sends.ensures.versions;
+    }

@@ -1,27 +1,27 @@
-use Rattle.std.proofs.Common.{◌≡◌, ap, ◌∙◌, arith}
+use Rattle.std.proofs.Common.{◌≡◌, ◌≤◌, ap, ◌∙◌, arith}
 use Rattle.std.specs.Prelude.{unwrap_or}
 use Rattle.version_update.specs.Marks.{MarksValue, stamps, least_of}
 use Rattle.version_update.proofs.Stamps.{least_stamp-version}
 use Rattle.version_update.proofs.ledger.Ledger.allowed.Goals as goal
+use Rattle.version_update.proofs.ledger.Ledger.allowed.Goals.{After-unwrap_or}
+
+-- the least version that a member stamps with, or the current one, is a version
+is_version : (c : After-unwrap_or) → (1 ≤ c.unwrap_or.result)
+    × (c.unwrap_or.result ≤ c.args.self.now.count)
+is_version c =
+    let now = c.args.self.now in
+    let bounds = c.switches.ensures.bounds in
+    let least = least_stamp-version now.count now.current now.switches bounds.first bounds.last
+    bounds.records in
+    let current = ap (λ (v : MarksValue). v.current) c.self.view_is in
+    let same : c.unwrap_or.result ≡ unwrap_or (least_of (stamps now.switches)) now.current =
+    c.unwrap_or.ensures ∙ cc (c.least_stamp.ensures, c.switches.ensures.switches, current) in
+    (omega (arith, least.0, same), omega (arith, least.1, same))
 
 pub overflow_sub-result : goal.overflow_sub-result
 overflow_sub-result c =
-    let now = c.args.self.now in
-    let bounds = c.switches.ensures.bounds in
-    let least = least_stamp-version now.count now.current now.switches bounds.first bounds.last
-    bounds.records in
-    let current = ap (λ (v : MarksValue). v.current) c.self.view_is in
-    let same : c.unwrap_or.result ≡ unwrap_or (least_of (stamps now.switches)) now.current =
-    c.unwrap_or.ensures ∙ cc (c.least_stamp.ensures, c.switches.ensures.switches, current) in
-    omega (arith, least.0, same)
+    let is = is_version (goal.at.overflow_sub-result c).After-unwrap_or in omega (arith, is.0)
 
 pub returns-clause-live : goal.returns-clause-live
 returns-clause-live c =
-    let now = c.args.self.now in
-    let bounds = c.switches.ensures.bounds in
-    let least = least_stamp-version now.count now.current now.switches bounds.first bounds.last
-    bounds.records in
-    let current = ap (λ (v : MarksValue). v.current) c.self.view_is in
-    let same : c.unwrap_or.result ≡ unwrap_or (least_of (stamps now.switches)) now.current =
-    c.unwrap_or.ensures ∙ cc (c.least_stamp.ensures, c.switches.ensures.switches, current) in
-    omega (arith, least.0, least.1, same, bounds.first)
+    let is = is_version (goal.at.returns-clause-live c).After-unwrap_or in omega (arith, is.0, is.1)

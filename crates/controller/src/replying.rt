@@ -1,0 +1,30 @@
+//! What a switch replies of a version.
+ghost use Rattle.std.specs.Prelude.{◌≡◌};
+ghost use Rattle.version_update.specs.Marks.{StaySettled, at_switch};
+ghost use Rattle.version_update.specs.Settling.{Settles};
+ghost use Rattle.controller.specs.Replies.{after_reply};
+ghost use Rattle.controller.specs.Sends.{NamesBoth};
+
+use version_update::{Marks, Settled};
+
+/// What a switch replies that it did with a version.
+#[derive(Clone, Copy)]
+pub enum Reply {
+    Installed,
+    Stamped,
+}
+
+impl Reply {
+    /// The marks take the reply of a switch in.
+    pub fn take_in(self, marks: &mut Marks, s: u32, boot: u32, version: u32) -> Settled
+        requires { NamesBoth s version marks.old }
+        ensures settled { Settles
+            (at_switch s (after_reply self boot version) marks.old) marks.new result }
+        ensures rule { StaySettled marks.old marks.new }
+    {
+        match self {
+            Reply::Installed => marks.installed(s, boot, version),
+            Reply::Stamped => marks.stamped(s, boot, version),
+        }
+    }
+}

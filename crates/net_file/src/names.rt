@@ -1,0 +1,50 @@
+ghost use Rattle.std.specs.Prelude.{◌≡◌, ◌++◌, OnOk, IsTrue};
+ghost use Rattle.std.specs.String.{string_bytes};
+ghost use Rattle.net_file.specs.Net.{IsNet, is_name};
+ghost use Rattle.net_file.specs.Names.{name_of, names_text};
+
+use crate::net::Net;
+use std::alloc::AllocError;
+use std::fmt::Write;
+use std::str;
+
+impl Net {
+    /// The name of the switch of this number, or none where the network lacks it.
+    pub fn name(&self, s: u32) -> &str
+        requires { IsNet self.now }
+        ensures { result.now ≡ name_of self.now s }
+    {
+        match self.switches.rows().get(s as usize) {
+            Some(row) => text_of(row.name.bytes()),
+            None => "",
+        }
+    }
+
+    /// Adds the names of switches to a text, each behind a blank.
+    ///
+    /// # Errors
+    /// Want of memory alone.
+    pub fn push_names(&self, text: &mut String, switches: &[u32]) -> Result<(), AllocError>
+        requires { IsNet self.now }
+        ensures { OnOk result (string_bytes text.new
+            ≡ string_bytes text.old ++ names_text self.now switches.now) }
+    {
+        for s in switches {
+            let name = self.name(*s);
+            write!(text, " {name}")?;
+        }
+        Ok(())
+    }
+}
+
+// A name as text.
+#[tactic(auto, using(crate::proofs::NameLemmas::name_is_text))]
+fn text_of(name: &[u8]) -> &str
+    requires { IsTrue (is_name name.now) }
+    ensures { result.now ≡ name.now }
+{
+    match str::from_utf8(name) {
+        Ok(text) => text,
+        Err(_) => unreachable!(),
+    }
+}
