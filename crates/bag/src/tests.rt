@@ -1,12 +1,12 @@
 //! Two messages in a bag: each call once.
 use super::*;
-use ctrl_msg::{Body, Message, Place};
+use ctrl_msg::{Body, Message, Receiver};
 use std::alloc::Global;
 use std::test::Fail;
 
 fn hello(alloc: Global, switch: u32) -> Result<SharedMessage, Fail> {
     let body = Body::Hello { switch, boot: 1 };
-    let to = Place::Controller;
+    let to = Receiver::Controller;
     Ok(SharedMessage::new(alloc, Message { to, body })?)
 }
 

@@ -7,8 +7,8 @@ use Rattle.ctrl_msg.specs.Bodies.{body_boot}
 use Rattle.ctrl_msg.specs.declared.message.Body.{Body}
 use Rattle.ctrl_msg.specs.declared.message.Body.TheVariants.{Install, OpenAt, Stamp, Collect, CacheRule, Advertise, Hello, Installed, Stamped}
 use Rattle.ctrl_msg.specs.declared.message.Message.{Message}
-use Rattle.ctrl_msg.specs.declared.message.Place.{Place}
-use Rattle.ctrl_msg.specs.declared.message.Place.TheVariants as place
+use Rattle.ctrl_msg.specs.declared.message.Receiver.{Receiver}
+use Rattle.ctrl_msg.specs.declared.message.Receiver.TheVariants as receiver
 use Rattle.journal.specs.declared.item.Item.{Item}
 use Rattle.journal.specs.declared.item.Item.TheVariants as item
 use Rattle.update_machine.specs.Boots.{boot_of}
@@ -62,37 +62,37 @@ weaker : {X : Type 0} (one other : X → Type 0) → ((x : X) → one x → othe
 weaker one other f None known = tt
 weaker one other f (Some x) known = f x known
 
-past_on : (setting : Setting) (before : List Item) (item : Item) (to : Place) (body : Body)
+past_on : (setting : Setting) (before : List Item) (item : Item) (to : Receiver) (body : Body)
     → HasItemCause setting before item → HasPastBoot before to body
     → HasPastBoot (before ++ item ∷ []) to body
-past_on setting before item (place.Switch s) body cause past =
+past_on setting before item (receiver.Switch s) body cause past =
     weaker (λ boot. boot ≤ known_boot before s) (λ boot. boot ≤ known_boot (before ++ item ∷ []) s)
     (λ boot below. omega (arith, below, known_rises before item s)) (body_boot body) past
-past_on setting before item place.Controller body cause past =
+past_on setting before item receiver.Controller body cause past =
     weaker (λ of. of.1 ≤ boot_of before of.0) (λ of. of.1 ≤ boot_of (before ++ item ∷ []) of.0)
     (λ of below. omega (arith, below, boot_rises setting before item of.0 cause)) (speaker body)
     past
 
-sent_past : (setting : Setting) (before : List Item) (to : Place) (body : Body)
+sent_past : (setting : Setting) (before : List Item) (to : Receiver) (body : Body)
     → IsRightMessage setting before to body → HasPastBoot before to body
-sent_past setting before (place.Switch s) (Install boot tables) right =
+sent_past setting before (receiver.Switch s) (Install boot tables) right =
     let known = right.to.known in omega arith
-sent_past setting before (place.Switch s) (OpenAt boot version) right =
+sent_past setting before (receiver.Switch s) (OpenAt boot version) right =
     let known = right.to.known in omega arith
-sent_past setting before (place.Switch s) (Stamp boot version) right =
+sent_past setting before (receiver.Switch s) (Stamp boot version) right =
     let known = right.to.known in omega arith
-sent_past setting before (place.Switch s) (Collect boot version) right =
+sent_past setting before (receiver.Switch s) (Collect boot version) right =
     let known = right.to.known in omega arith
-sent_past setting before (place.Switch s) (CacheRule version word rule action) right = tt
-sent_past setting before (place.Switch s) (Advertise advert) right = tt
-sent_past setting before (place.Switch s) _ right = absurd right
-sent_past setting before place.Controller (Hello s boot) right =
+sent_past setting before (receiver.Switch s) (CacheRule version word rule action) right = tt
+sent_past setting before (receiver.Switch s) (Advertise advert) right = tt
+sent_past setting before (receiver.Switch s) _ right = absurd right
+sent_past setting before receiver.Controller (Hello s boot) right =
     let own = right.own in omega arith
-sent_past setting before place.Controller (Installed s boot version) right =
+sent_past setting before receiver.Controller (Installed s boot version) right =
     let own = right.present.own in omega arith
-sent_past setting before place.Controller (Stamped s boot version) right =
+sent_past setting before receiver.Controller (Stamped s boot version) right =
     let own = right.present.own in omega arith
-sent_past setting before place.Controller _ right = absurd right
+sent_past setting before receiver.Controller _ right = absurd right
 
 -- a message of a number is the one that the item sends, or was sent before
 pub by_number : (before : List Item) (next : Item) (n : ℕ) (message : Message)

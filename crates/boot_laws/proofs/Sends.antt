@@ -6,8 +6,8 @@ use Rattle.std.specs.List.{AllByRecursion, flat_map, range_with_len}
 use Rattle.ctrl_msg.specs.declared.message.Body.{Body}
 use Rattle.ctrl_msg.specs.declared.message.Body.TheVariants.{Install, OpenAt, Stamp, Collect, CacheRule, Advertise, Hello, Installed, Stamped}
 use Rattle.ctrl_msg.specs.declared.message.Message.{Message}
-use Rattle.ctrl_msg.specs.declared.message.Place.{Place}
-use Rattle.ctrl_msg.specs.declared.message.Place.TheVariants as place
+use Rattle.ctrl_msg.specs.declared.message.Receiver.{Receiver}
+use Rattle.ctrl_msg.specs.declared.message.Receiver.TheVariants as receiver
 use Rattle.journal.specs.declared.item.Item.{Item}
 use Rattle.journal.specs.declared.item.Item.TheVariants as item
 use Rattle.update_machine.specs.Causes.{HaveCauses}
@@ -212,12 +212,12 @@ to_sent setting before s n message _ new right = absurd right
 abbrev pub IsRight : Setting → List Item → Message → Type 0
 IsRight setting before message = IsRightMessage setting before message.to message.body
 
-right_sent : (setting : Setting) (before : List Item) (n : ℕ) (message : Message) (to : Place)
+right_sent : (setting : Setting) (before : List Item) (n : ℕ) (message : Message) (to : Receiver)
     (body : Body) → IsRight setting before message → IsRightMessage setting before to body
     → IsRightMessage setting (before ++ item.Sent n message ∷ []) to body
-right_sent setting before n message (place.Switch s) body new right =
+right_sent setting before n message (receiver.Switch s) body new right =
     to_sent setting before s n message body new right
-right_sent setting before n message place.Controller body new right =
+right_sent setting before n message receiver.Controller body new right =
     from_sent setting before n message body right
 
 rest_right : (setting : Setting) (before : List Item) (n : ℕ) (message : Message)

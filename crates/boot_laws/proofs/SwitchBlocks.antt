@@ -9,8 +9,8 @@ use Rattle.std.proofs.lemmas.List.Folds.{list_any-append}
 use Rattle.ctrl_msg.specs.declared.message.Body.{Body}
 use Rattle.ctrl_msg.specs.declared.message.Body.TheVariants.{Install, OpenAt, Stamp, Advertise, Hello, Installed, Stamped}
 use Rattle.ctrl_msg.specs.declared.message.Message.{Message}
-use Rattle.ctrl_msg.specs.declared.message.Place.{Place}
-use Rattle.ctrl_msg.specs.declared.message.Place.TheVariants as place
+use Rattle.ctrl_msg.specs.declared.message.Receiver.{Receiver}
+use Rattle.ctrl_msg.specs.declared.message.Receiver.TheVariants as receiver
 use Rattle.failover.specs.Masks.{has}
 use Rattle.failover.specs.declared.advert.Advert.{Advert}
 use Rattle.journal.specs.declared.item.Item.{Item}
@@ -299,13 +299,13 @@ delivery_have setting before row number step = by_message (message_of before num
     said_have s body said = switch_have setting before now s number body
         (delivered_heard here s number body (said_row before row s number step ∙ said))
 
-    by_place : (to : Place) (body : Body)
+    by_receiver : (to : Receiver) (body : Body)
         → message_of before number ≡ Some (record { to = to; body = body })
         → Has setting now
         (received_items setting before number (record { to = to; body = body }) now)
-    by_place place.Controller body e =
+    by_receiver receiver.Controller body e =
         controller_have setting before now body (hello_ends before row number step body e)
-    by_place (place.Switch s) body e = grind (arith, said_have)
+    by_receiver (receiver.Switch s) body e = grind (arith, said_have)
 
     by_message : (o : Option Message) → message_of before number ≡ o
         → Has setting now (elim o [
@@ -313,4 +313,4 @@ delivery_have setting before row number step = by_message (message_of before num
           | Some message ↦ received_items setting before number message now
         ])
     by_message None e = tt
-    by_message (Some message) e = by_place message.to message.body e
+    by_message (Some message) e = by_receiver message.to message.body e

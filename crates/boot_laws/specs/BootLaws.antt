@@ -5,8 +5,8 @@ use Rattle.ctrl_msg.specs.Bodies.{body_boot}
 use Rattle.ctrl_msg.specs.declared.message.Body.{Body}
 use Rattle.ctrl_msg.specs.declared.message.Body.TheVariants.{OpenAt}
 use Rattle.ctrl_msg.specs.declared.message.Message.{Message}
-use Rattle.ctrl_msg.specs.declared.message.Place.{Place}
-use Rattle.ctrl_msg.specs.declared.message.Place.TheVariants as place
+use Rattle.ctrl_msg.specs.declared.message.Receiver.{Receiver}
+use Rattle.ctrl_msg.specs.declared.message.Receiver.TheVariants as receiver
 use Rattle.journal.specs.declared.item.Item.{Item}
 use Rattle.update_machine.specs.Boots.{boot_of, is_up, serves}
 use Rattle.update_machine.specs.Marks.{is_member, is_over, known_boot}
@@ -16,10 +16,10 @@ use Rattle.update_machine.specs.Settling.{to_switch}
 
 -- a message to a switch carries no boot above the one that is known of it, and one of a switch none
 -- above its own
-abbrev pub HasPastBoot : List Item → Place → Body → Type 0
-HasPastBoot journal (place.Switch s) body =
+abbrev pub HasPastBoot : List Item → Receiver → Body → Type 0
+HasPastBoot journal (receiver.Switch s) body =
     IfSome (body_boot body) (λ boot. boot ≤ known_boot journal s)
-HasPastBoot journal place.Controller body =
+HasPastBoot journal receiver.Controller body =
     IfSome (speaker body) (λ of. of.1 ≤ boot_of journal of.0)
 
 -- the known boot of a switch is at most its own, and no message is of a boot that is to come

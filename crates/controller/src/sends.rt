@@ -1,7 +1,7 @@
 ghost use Rattle.std.specs.Prelude.{◌≡◌};
 ghost use Rattle.controller.specs.Sends.{post};
 
-use ctrl_msg::{Body, Message, Place};
+use ctrl_msg::{Body, Message, Receiver};
 use std::marker::Model;
 
 /// What a controller does at a call.
@@ -20,7 +20,7 @@ impl Act {
         ensures { result ≡ post s body }
     {
         Act::Post(Message {
-            to: Place::Switch(s),
+            to: Receiver::Switch(s),
             body,
         })
     }

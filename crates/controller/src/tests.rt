@@ -3,7 +3,7 @@ ghost use Rattle.std.specs.Prelude.{IfOk};
 ghost use Rattle.net_file.specs.Net.{IsNet};
 
 use super::*;
-use ctrl_msg::{Body, Place};
+use ctrl_msg::{Body, Receiver};
 use net_file::{Net, read_net};
 use policy_rules::{Action, Policy, PortRange, Prefix, Proto, Row};
 use std::alloc::Global;
@@ -96,8 +96,8 @@ fn seen(act: &Act) -> Seen {
         Act::Retired(version) => ('-', 0, 0, *version),
         Act::Post(message) => {
             let to = match message.to {
-                Place::Switch(s) => s,
-                Place::Controller => u32::MAX,
+                Receiver::Switch(s) => s,
+                Receiver::Controller => u32::MAX,
             };
             let boot = message.body.boot().unwrap_or(0);
             let version = message.body.version().unwrap_or(0);

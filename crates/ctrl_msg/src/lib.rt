@@ -7,7 +7,7 @@
 mod message;
 mod shared;
 
-pub use message::{Body, Message, Place};
+pub use message::{Body, Message, Receiver};
 pub use shared::SharedTables;
 
 #[cfg(test)]

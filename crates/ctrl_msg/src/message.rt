@@ -9,7 +9,7 @@ use ternary::Word;
 
 /// Whom a message is for.
 #[derive(Clone, Copy, Debug, PartialEq, Eq)]
-pub enum Place {
+pub enum Receiver {
     /// The switch of this number.
     Switch(u32),
     Controller,
@@ -72,7 +72,7 @@ pub enum Body {
 /// A message on its way.
 #[derive(Debug, Drop)]
 pub struct Message {
-    pub to: Place,
+    pub to: Receiver,
     pub body: Body,
 }
 

@@ -20,7 +20,7 @@ fn install(alloc: Global) -> Result<Message, Fail> {
     let tables = SharedTables::new(alloc, tables)?;
     let body = Body::Install { boot: 2, tables };
     Ok(Message {
-        to: Place::Switch(1),
+        to: Receiver::Switch(1),
         body,
     })
 }
@@ -37,7 +37,7 @@ fn messages_are_cloned_into_items(rt: HostRuntime) -> Result<(), Fail> {
     items.push(Item::Sent { number: 2, message })?;
     for item in &items {
         let Item::Sent { message, .. } = item;
-        assert_eq!(rt; message.to, Place::Switch(1));
+        assert_eq!(rt; message.to, Receiver::Switch(1));
         assert_eq!(rt; message.body.boot(), Some(2));
         assert_eq!(rt; message.body.version(), Some(3));
         assert!(rt; !message.body.is_for_controller());

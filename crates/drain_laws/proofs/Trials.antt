@@ -3,7 +3,7 @@
 use Rattle.std.proofs.Common.{◌≡◌, ◌-◌, ◌^◌, Some, List, [], ◌∷◌, ◌++◌, refl}
 use Rattle.ctrl_msg.specs.declared.message.Body.TheVariants.{CacheRule}
 use Rattle.ctrl_msg.specs.declared.message.Message.{Message}
-use Rattle.ctrl_msg.specs.declared.message.Place.TheVariants as place
+use Rattle.ctrl_msg.specs.declared.message.Receiver.TheVariants as receiver
 use Rattle.five_tuple.specs.Header.{header_of, number_of}
 use Rattle.five_tuple.specs.declared.header.Header.{Header}
 use Rattle.policy_rules.specs.declared.policy.Action.TheVariants.{Out}
@@ -24,7 +24,7 @@ one = header_of (record { src = 16909060; dst = 167903233; sport = 5000; dport =
 -- a rule for this header alone
 abbrev rule : Message
 rule = record {
-  to = place.Switch 0;
+  to = receiver.Switch 0;
   body = CacheRule 1 (record { value = number_of one; mask = 2 ^ 104 - 1 }) (Some 100) (Out 2);
 }
 

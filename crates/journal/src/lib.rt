@@ -8,7 +8,7 @@ mod item;
 mod log;
 mod shared;
 
-pub use ctrl_msg::{Body, Message, Place, SharedTables};
+pub use ctrl_msg::{Body, Message, Receiver, SharedTables};
 pub use failover::{Advert, DownSet, Route};
 pub use five_tuple::Header;
 pub use item::Item;

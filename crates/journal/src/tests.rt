@@ -28,11 +28,11 @@ fn items_share_what_is_large(rt: HostRuntime) -> Result<(), Fail> {
     let message = SharedMessage::new(
         alloc,
         Message {
-            to: Place::Controller,
+            to: Receiver::Controller,
             body: Body::Hello { switch: 1, boot: 2 },
         },
     )?;
-    assert_eq!(rt; message.clone()?.message().to, Place::Controller);
+    assert_eq!(rt; message.clone()?.message().to, Receiver::Controller);
     let mut journal = Journal::new(alloc);
     journal.push(Item::Exiting {
         packet: 1,

@@ -10,8 +10,8 @@ use Rattle.std.proofs.lemmas.List.Sums.{count_by-le-length, length-filter}
 use Rattle.std.proofs.lemmas.Option.{slice_get_cases}
 use Rattle.ctrl_msg.specs.declared.message.Body.{Body}
 use Rattle.ctrl_msg.specs.declared.message.Body.TheVariants.{Install, OpenAt, Stamp, Collect, CacheRule, Advertise, Hello, Installed, Stamped}
-use Rattle.ctrl_msg.specs.declared.message.Place.{Place}
-use Rattle.ctrl_msg.specs.declared.message.Place.TheVariants as place
+use Rattle.ctrl_msg.specs.declared.message.Receiver.{Receiver}
+use Rattle.ctrl_msg.specs.declared.message.Receiver.TheVariants as receiver
 use Rattle.failover.specs.Masks.{has, switches}
 use Rattle.failover.specs.declared.advert.Advert.{Advert}
 use Rattle.five_tuple.specs.Header.{IsHeader}
@@ -32,7 +32,7 @@ use Rattle.policy_rules.specs.declared.policy.Action.TheVariants.{Drop, Out}
 use Rattle.ternary.specs.Word.{WordValue, hex_digits, word_text}
 use Rattle.journal.specs.declared.item.Item.{Item}
 use Rattle.journal.specs.declared.item.Item.TheVariants as item
-use Rattle.journal_text.specs.Lines.{advert_text, body_text, boot_text, cache_text, cause_text, decided_text, how_text, item_line, mask_text, named, numbered, packet_at, pair_text, place_text, state_text, step_text, submitted_text, tunnel_text, version_text}
+use Rattle.journal_text.specs.Lines.{advert_text, body_text, boot_text, cache_text, cause_text, decided_text, how_text, item_line, mask_text, named, numbered, packet_at, pair_text, receiver_text, state_text, step_text, submitted_text, tunnel_text, version_text}
 use Rattle.journal_text.specs.Sizes.{IsAction, IsBodyOfType, IsHow, IsItemOfType, IsNumber, IsRoute, IsRule, IsStepOfType, LinesFit}
 use Rattle.steps.specs.declared.step.Step.{Step}
 use Rattle.steps.specs.declared.step.Step.TheVariants.{Packet, Hop, Lose, Deliver, Forget, Expire, Update, LinkDown, LinkUp, Crash, Restart, Confirm, Resend}
@@ -229,9 +229,9 @@ module _ (laws : NameLaws) (net : Net) (sound : IsNet net) where
   step_within (Resend switch) is =
       widened (named_within (all_of (codes "resend")) switch) 300 (omega arith)
 
-  place_within : (to : Place) → IsWithin 16 (place_text net to)
-  place_within (place.Switch s) = name_within s
-  place_within place.Controller = widened (all_of (codes "controller")) 16 (omega arith)
+  receiver_within : (to : Receiver) → IsWithin 16 (receiver_text net to)
+  receiver_within (receiver.Switch s) = name_within s
+  receiver_within receiver.Controller = widened (all_of (codes "controller")) 16 (omega arith)
 
   cache_within : (version : ℕ) (word : WordValue) (rule : Option ℕ) (action : Action)
       → IsNumber version → IsRule rule → IsAction action
@@ -349,7 +349,7 @@ module _ (laws : NameLaws) (net : Net) (sound : IsNet net) where
       " ")) (cause_within cause)) 2047 (omega arith)
   item_within (item.Sent number message) is =
       widened (row_of (with_word (row_of (with_word (numbered_within (all_of (codes "  sent"))
-      number is.0) (codes " ")) (place_within message.to)) (codes " ")) (body_within message.body
+      number is.0) (codes " ")) (receiver_within message.to)) (codes " ")) (body_within message.body
       is.1)) 2047 (omega arith)
   item_within (item.Delivered number) is =
       widened (numbered_within (all_of (codes "  delivered")) number is) 2047 (omega arith)

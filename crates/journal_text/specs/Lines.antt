@@ -3,8 +3,8 @@ use Rattle.std.specs.Prelude.{ℕ, ◌==◌, Bool, true, false, min, max, if◌t
 use Rattle.std.specs.List.{flat_map}
 use Rattle.ctrl_msg.specs.declared.message.Body.{Body}
 use Rattle.ctrl_msg.specs.declared.message.Body.TheVariants.{Install, OpenAt, Stamp, Collect, CacheRule, Advertise, Hello, Installed, Stamped}
-use Rattle.ctrl_msg.specs.declared.message.Place.{Place}
-use Rattle.ctrl_msg.specs.declared.message.Place.TheVariants as place
+use Rattle.ctrl_msg.specs.declared.message.Receiver.{Receiver}
+use Rattle.ctrl_msg.specs.declared.message.Receiver.TheVariants as receiver
 use Rattle.failover.specs.Masks.{has, switches}
 use Rattle.failover.specs.declared.advert.Advert.{Advert}
 use Rattle.five_tuple.specs.Printing.{fields_text}
@@ -66,9 +66,9 @@ step_text net (Resend switch) = named net (codes "resend") switch
 
 -- ---- messages
 
-abbrev pub place_text : Net → Place → List ℕ
-place_text net (place.Switch s) = name_of net s
-place_text net place.Controller = codes "controller"
+abbrev pub receiver_text : Net → Receiver → List ℕ
+receiver_text net (receiver.Switch s) = name_of net s
+receiver_text net receiver.Controller = codes "controller"
 
 abbrev pub boot_text : List ℕ → ℕ → List ℕ
 boot_text word boot = word ++ codes " boot " ++ decimal boot
@@ -155,7 +155,7 @@ item_line net (item.Lost packet) = numbered (codes "  lost") packet
 item_line net (item.Stuck packet switch cause leg down) =
     packet_at net (codes "  stuck") packet switch ++ codes " " ++ cause_text cause
 item_line net (item.Sent number message) =
-    numbered (codes "  sent") number ++ codes " " ++ place_text net message.to ++ codes " "
+    numbered (codes "  sent") number ++ codes " " ++ receiver_text net message.to ++ codes " "
     ++ body_text net message.body
 item_line net (item.Delivered number) = numbered (codes "  delivered") number
 item_line net (item.Forgotten number) = numbered (codes "  forgotten") number

@@ -5,7 +5,7 @@ ghost use Rattle.net_file.specs.Net.{IsNet};
 ghost use Rattle.journal.specs.declared.item.Item.TheVariants as item;
 ghost use Rattle.journal_text.specs.Lines.{cause_text, decided_text, how_text, item_line, journal_text, numbered, packet_at, submitted_text, tunnel_text};
 
-use crate::messages::{push_body, push_place};
+use crate::messages::{push_body, push_receiver};
 use crate::rows::{push_name, push_number, push_pair, push_step};
 use journal::{Action, Cause, How, Item, Journal, SharedMessage, SharedRoute};
 use net_file::Net;
@@ -221,7 +221,7 @@ fn push_sent(
 {
     let message = message.message();
     write!(text, "  sent {number} ")?;
-    push_place(text, net, message.to)?;
+    push_receiver(text, net, message.to)?;
     text.push_str(" ")?;
     push_body(text, net, &message.body)
 }

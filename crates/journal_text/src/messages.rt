@@ -1,10 +1,10 @@
 ghost use Rattle.std.specs.Prelude.{◌≡◌, ◌++◌, OnOk, codes};
 ghost use Rattle.std.specs.String.{string_bytes};
 ghost use Rattle.net_file.specs.Net.{IsNet};
-ghost use Rattle.journal_text.specs.Lines.{advert_text, body_text, boot_text, cache_text, named, place_text, version_text};
+ghost use Rattle.journal_text.specs.Lines.{advert_text, body_text, boot_text, cache_text, named, receiver_text, version_text};
 
 use crate::names::push_mask;
-use ctrl_msg::{Body, Place};
+use ctrl_msg::{Body, Receiver};
 use failover::Advert;
 use net_file::Net;
 use policy_rules::{Action, RuleName};
@@ -13,14 +13,14 @@ use std::fmt::Write;
 use ternary::Word;
 
 /// Adds the receiver of a message.
-pub(crate) fn push_place(text: &mut String, net: &Net, place: Place) -> Result<(), AllocError>
+pub(crate) fn push_receiver(text: &mut String, net: &Net, to: Receiver) -> Result<(), AllocError>
     requires { IsNet net.now }
     ensures { OnOk result (string_bytes text.new
-        ≡ string_bytes text.old ++ place_text net.now place) }
+        ≡ string_bytes text.old ++ receiver_text net.now to) }
 {
-    match place {
-        Place::Switch(s) => text.push_str(net.name(s))?,
-        Place::Controller => text.push_str("controller")?,
+    match to {
+        Receiver::Switch(s) => text.push_str(net.name(s))?,
+        Receiver::Controller => text.push_str("controller")?,
     }
     Ok(())
 }

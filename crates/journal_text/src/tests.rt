@@ -6,7 +6,7 @@ use super::*;
 use failover::{Advert, DownSet};
 use five_tuple::{Fields, Header};
 use journal::{
-    Action, Body, Cause, How, Item, Journal, Leaving, Leg, Message, Place, SharedLinks,
+    Action, Body, Cause, How, Item, Journal, Leaving, Leg, Message, Receiver, SharedLinks,
     SharedMessage,
 };
 use net_file::{Net, read_net};
@@ -23,7 +23,7 @@ fn two_switches(alloc: Global) -> Result<Net, Fail>
     Ok(read_net(alloc, text.as_bytes())?)
 }
 
-fn sent(alloc: Global, number: u32, to: Place, body: Body) -> Result<Item, Fail> {
+fn sent(alloc: Global, number: u32, to: Receiver, body: Body) -> Result<Item, Fail> {
     let message = SharedMessage::new(alloc, Message { to, body })?;
     Ok(Item::Sent { number, message })
 }
@@ -75,23 +75,23 @@ fn push_messages(alloc: Global, journal: &mut Journal) -> Result<(), Fail> {
         rule: Some(100),
         action: Action::Drop,
     };
-    journal.push(sent(alloc, 1, Place::Switch(0), rule)?)?;
+    journal.push(sent(alloc, 1, Receiver::Switch(0), rule)?)?;
     let advert = Advert {
         origin: 1,
         boot: 1,
         seq: 3,
         up: 1,
     };
-    journal.push(sent(alloc, 2, Place::Switch(0), Body::Advertise { advert })?)?;
+    journal.push(sent(alloc, 2, Receiver::Switch(0), Body::Advertise { advert })?)?;
     let alone = Advert { up: 0, ..advert };
     journal.push(sent(
         alloc,
         3,
-        Place::Switch(0),
+        Receiver::Switch(0),
         Body::Advertise { advert: alone },
     )?)?;
     let hello = Body::Hello { switch: 0, boot: 2 };
-    journal.push(sent(alloc, 4, Place::Controller, hello)?)?;
+    journal.push(sent(alloc, 4, Receiver::Controller, hello)?)?;
     Ok(())
 }
 

@@ -7,8 +7,8 @@ use Rattle.std.proofs.lemmas.Bool.Decides.{nat_tests}
 use Rattle.ctrl_msg.specs.declared.message.Body.{Body}
 use Rattle.ctrl_msg.specs.declared.message.Body.TheVariants.{OpenAt, Stamp, Stamped}
 use Rattle.ctrl_msg.specs.declared.message.Message.{Message}
-use Rattle.ctrl_msg.specs.declared.message.Place.{Place}
-use Rattle.ctrl_msg.specs.declared.message.Place.TheVariants as place
+use Rattle.ctrl_msg.specs.declared.message.Receiver.{Receiver}
+use Rattle.ctrl_msg.specs.declared.message.Receiver.TheVariants as receiver
 use Rattle.journal.specs.declared.item.Item.{Item}
 use Rattle.journal.specs.declared.item.Item.TheVariants as item
 use Rattle.update_machine.specs.Boots.{said_to}
@@ -32,10 +32,10 @@ use Rattle.mark_laws.proofs.Switches.{stamp_less}
 use Rattle.mark_laws.proofs.Told.{each_if, each_weaker, tells, told_by, told_by_more, told_sent}
 
 -- a message that lets a switch stamp, or says that it does, is of a version that is current or was
-abbrev pub IsOfCurrent : List Item → Place → Body → Type 0
-IsOfCurrent journal (place.Switch s) (OpenAt boot version) = version ≤ current_mark journal
-IsOfCurrent journal (place.Switch s) (Stamp boot version) = version ≤ current_mark journal
-IsOfCurrent journal place.Controller (Stamped s boot version) = version ≤ current_mark journal
+abbrev pub IsOfCurrent : List Item → Receiver → Body → Type 0
+IsOfCurrent journal (receiver.Switch s) (OpenAt boot version) = version ≤ current_mark journal
+IsOfCurrent journal (receiver.Switch s) (Stamp boot version) = version ≤ current_mark journal
+IsOfCurrent journal receiver.Controller (Stamped s boot version) = version ≤ current_mark journal
 IsOfCurrent journal to body = ⊤
 
 pub record StampsAreCurrent (journal : List Item) : Type 0 where
@@ -91,29 +91,29 @@ opened_on setting before next s boot version cause are opened =
 
 -- ---- messages
 
-sent_current : (setting : Setting) (before : List Item) (to : Place) (body : Body)
+sent_current : (setting : Setting) (before : List Item) (to : Receiver) (body : Body)
     → StampsAreCurrent before → IsRightMessage setting before to body
     → IsOfCurrent before to body
-sent_current setting before (place.Switch s) (OpenAt boot version) are right =
+sent_current setting before (receiver.Switch s) (OpenAt boot version) are right =
     right_current before s boot version are right
-sent_current setting before (place.Switch s) (Stamp boot version) are right =
+sent_current setting before (receiver.Switch s) (Stamp boot version) are right =
     let current = right.current in omega arith
-sent_current setting before (place.Switch s) _ are right = tt
-sent_current setting before place.Controller (Stamped s boot version) are right =
+sent_current setting before (receiver.Switch s) _ are right = tt
+sent_current setting before receiver.Controller (Stamped s boot version) are right =
     omega (arith, right.stamps, are.stamps s)
-sent_current setting before place.Controller _ are right = tt
+sent_current setting before receiver.Controller _ are right = tt
 
-current_on : (setting : Setting) (before : List Item) (next : Item) (to : Place) (body : Body)
+current_on : (setting : Setting) (before : List Item) (next : Item) (to : Receiver) (body : Body)
     → HasItemCause setting before next → IsOfCurrent before to body
     → IsOfCurrent (before ++ next ∷ []) to body
-current_on setting before next (place.Switch s) (OpenAt boot version) cause is =
+current_on setting before next (receiver.Switch s) (OpenAt boot version) cause is =
     omega (arith, is, current_rises setting before next cause)
-current_on setting before next (place.Switch s) (Stamp boot version) cause is =
+current_on setting before next (receiver.Switch s) (Stamp boot version) cause is =
     omega (arith, is, current_rises setting before next cause)
-current_on setting before next (place.Switch s) _ cause is = tt
-current_on setting before next place.Controller (Stamped s boot version) cause is =
+current_on setting before next (receiver.Switch s) _ cause is = tt
+current_on setting before next receiver.Controller (Stamped s boot version) cause is =
     omega (arith, is, current_rises setting before next cause)
-current_on setting before next place.Controller _ cause is = tt
+current_on setting before next receiver.Controller _ cause is = tt
 
 sent_on : (setting : Setting) (before : List Item) (next : Item) (n : ℕ) (message : Message)
     → HasItemCause setting before next → StampsAreCurrent before
@@ -130,7 +130,7 @@ sent_on setting before next n message cause are is = elim (by_number before next
 -- ---- stamps
 
 stamp_current : (before : List Item) (s : ℕ) (body : Body) (version : ℕ)
-    → stamp_in body ≡ Some version → IsOfCurrent before (place.Switch s) body
+    → stamp_in body ≡ Some version → IsOfCurrent before (receiver.Switch s) body
     → version ≤ current_mark before
 stamp_current before s body version is current = grind arith
 
@@ -140,7 +140,7 @@ delivered_current : (before : List Item) (s number : ℕ) → StampsAreCurrent b
 delivered_current before s number are = by_said (said_to before s number) refl
   where
     by_stamp : (body : Body) (stamp : Option ℕ) → stamp_in body ≡ stamp
-        → IsOfCurrent before (place.Switch s) body
+        → IsOfCurrent before (receiver.Switch s) body
         → raised (stamp_of before s) stamp ≤ current_mark before
     by_stamp body None e current = are.stamps s
     by_stamp body (Some version) e current =

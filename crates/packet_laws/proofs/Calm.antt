@@ -12,8 +12,8 @@ use Rattle.std.proofs.lemmas.List.FromFn.{get_or-map-range_with_len}
 use Rattle.ctrl_msg.specs.declared.message.Body.{Body}
 use Rattle.ctrl_msg.specs.declared.message.Body.TheVariants.{Advertise, CacheRule, Collect, Install, OpenAt, Stamp}
 use Rattle.ctrl_msg.specs.declared.message.Message.{Message}
-use Rattle.ctrl_msg.specs.declared.message.Place.{Place}
-use Rattle.ctrl_msg.specs.declared.message.Place.TheVariants as place
+use Rattle.ctrl_msg.specs.declared.message.Receiver.{Receiver}
+use Rattle.ctrl_msg.specs.declared.message.Receiver.TheVariants as receiver
 use Rattle.failover.specs.Adverts.{first_advert, first_of}
 use Rattle.net_file.specs.Net.{IsNet, links_of}
 use Rattle.policy_rules.specs.declared.policy.Action.{Action}
@@ -204,33 +204,33 @@ right_on setting before items version word rule action of right = record {
   decides = rw (file_same setting before items version of) right.decides;
 }
 
-brings_on : (setting : Setting) (before items : List Item) (to : Place) (body : Body)
+brings_on : (setting : Setting) (before items : List Item) (to : Receiver) (body : Body)
     → HaveCauses (Alone setting) before items → BringsRule setting before to body
     → BringsRule setting (before ++ items) to body
-brings_on setting before items (place.Switch s) (CacheRule version word rule action) of right =
+brings_on setting before items (receiver.Switch s) (CacheRule version word rule action) of right =
     (right.0, right_on setting before items version word rule action of right.1)
 brings_on setting before items to body of right = absurd right
 
-pub brings_cache : (setting : Setting) (journal : List Item) (to : Place) (body : Body)
+pub brings_cache : (setting : Setting) (journal : List Item) (to : Receiver) (body : Body)
     → BringsRule setting journal to body → IsCacheBody body
-brings_cache setting journal (place.Switch s) (CacheRule version word rule action) right = tt
+brings_cache setting journal (receiver.Switch s) (CacheRule version word rule action) right = tt
 brings_cache setting journal to body right = absurd right
 
-pub not_to_controller : (setting : Setting) (journal : List Item) (to : Place) (body : Body)
+pub not_to_controller : (setting : Setting) (journal : List Item) (to : Receiver) (body : Body)
     → BringsRule setting journal to body → IsFalse (is_to_controller to)
-not_to_controller setting journal (place.Switch s) body right = refl
-not_to_controller setting journal place.Controller body right = absurd right
+not_to_controller setting journal (receiver.Switch s) body right = refl
+not_to_controller setting journal receiver.Controller body right = absurd right
 
 -- the switch that it is for
-to_own : (setting : Setting) (journal : List Item) (s : ℕ) (to : Place) (body : Body)
+to_own : (setting : Setting) (journal : List Item) (s : ℕ) (to : Receiver) (body : Body)
     → IsTrue (is_to_switch s to) → BringsRule setting journal to body
-    → BringsRule setting journal (place.Switch s) body
-to_own setting journal s (place.Switch t) body is right =
-    subst (λ k. BringsRule setting journal (place.Switch k) body) (eqb-true t s is) right
-to_own setting journal s place.Controller body is right = absurd right
+    → BringsRule setting journal (receiver.Switch s) body
+to_own setting journal s (receiver.Switch t) body is right =
+    subst (λ k. BringsRule setting journal (receiver.Switch k) body) (eqb-true t s is) right
+to_own setting journal s receiver.Controller body is right = absurd right
 
 pub for_own : (setting : Setting) (journal : List Item) (s : ℕ) (body : Body)
-    → BringsRule setting journal (place.Switch s) body → s < length setting.net.switches
+    → BringsRule setting journal (receiver.Switch s) body → s < length setting.net.switches
 for_own setting journal s (CacheRule version word rule action) right = right.0
 for_own setting journal s _ right = absurd right
 
@@ -284,7 +284,7 @@ sent_brings setting journal alone =
 -- and so does what is delivered to a switch
 pub said_brings : (setting : Setting) (before : List Item) (s number : ℕ) (body : Body)
     → HasPacketsAlone setting before → said_to before s number ≡ Some body
-    → BringsRule setting before (place.Switch s) body
+    → BringsRule setting before (receiver.Switch s) body
 said_brings setting before s number body alone said =
     by_message (message_of before number) refl said
   where
@@ -294,10 +294,10 @@ said_brings setting before s number body alone said =
           if is_to_switch s message.to && is_up before s
           && is_for_boot (boot_of before s) message.body
           then Some message.body else None
-    ] ≡ Some body → BringsRule setting before (place.Switch s) body
+    ] ≡ Some body → BringsRule setting before (receiver.Switch s) body
     by_message None e said = absurd cc
     by_message (Some message) e said =
-        subst (BringsRule setting before (place.Switch s)) (chosen _ message.body body said)
+        subst (BringsRule setting before (receiver.Switch s)) (chosen _ message.body body said)
         (to_own setting before s message.to message.body
         (and_parts _ _ (and_parts _ _ (chosen_by _ message.body body said)).0).0
         (sent_brings setting before alone number message e))
@@ -370,7 +370,7 @@ heard_more setting s before bodies (item.Delivered number) alone of so =
         → All IsCacheBody (option_map_or (λ body. bodies ++ body ∷ []) o bodies)
     by_said None e = so
     by_said (Some body) e = All-push IsCacheBody bodies body so
-        (brings_cache setting before (place.Switch s) body
+        (brings_cache setting before (receiver.Switch s) body
         (said_brings setting before s number body alone e))
 heard_more setting s before bodies _ alone of so = so
 
@@ -495,7 +495,7 @@ entry_of number version word rule action = record {
 }
 
 told_right : (setting : Setting) (journal : List Item) (s stamp number : ℕ) (cache : CacheValue)
-    (body : Body) → BringsRule setting journal (place.Switch s) body
+    (body : Body) → BringsRule setting journal (receiver.Switch s) body
     → All (IsRightEntry setting journal) cache.entries
     → All (IsRightEntry setting journal) (cache_after stamp number cache body).entries
 told_right setting journal s stamp number cache (CacheRule version word rule action) right so =

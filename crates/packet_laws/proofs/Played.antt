@@ -6,8 +6,8 @@ use Rattle.std.proofs.lemmas.Bool.{cases_eq}
 use Rattle.ctrl_msg.specs.declared.message.Body.{Body}
 use Rattle.ctrl_msg.specs.declared.message.Body.TheVariants.{CacheRule}
 use Rattle.ctrl_msg.specs.declared.message.Message.{Message}
-use Rattle.ctrl_msg.specs.declared.message.Place.{Place}
-use Rattle.ctrl_msg.specs.declared.message.Place.TheVariants as place
+use Rattle.ctrl_msg.specs.declared.message.Receiver.{Receiver}
+use Rattle.ctrl_msg.specs.declared.message.Receiver.TheVariants as receiver
 use Rattle.failover.specs.DownSet.{no_links}
 use Rattle.five_tuple.specs.Header.{IsHeader}
 use Rattle.five_tuple.specs.declared.header.Header.{Header}
@@ -195,7 +195,7 @@ received_none : (setting : Setting) (before : List Item) (number : ℕ) (message
     (journal : List Item) → HasPacketsAlone setting before → message_of before number ≡ Some message
     → IsEmpty (received_items setting before number message journal)
 received_none setting before number message journal alone sent =
-    by_place message.to
+    by_receiver message.to
     (not_to_controller setting before message.to message.body
     (sent_brings setting before alone number message sent))
   where
@@ -205,18 +205,18 @@ received_none setting before number message journal alone sent =
     ])
     by_said s None e = refl
     by_said s (Some body) e = silent_switch setting before s body journal
-        (brings_cache setting before (place.Switch s) body
+        (brings_cache setting before (receiver.Switch s) body
         (said_brings setting before s number body alone e))
 
-    by_place : (to : Place) → IsFalse (is_to_controller to) → IsEmpty (elim to [
-      | place.Controller ↦ controller_items setting before message.body journal
-      | place.Switch s ↦ elim (said_to before s number) [
+    by_receiver : (to : Receiver) → IsFalse (is_to_controller to) → IsEmpty (elim to [
+      | receiver.Controller ↦ controller_items setting before message.body journal
+      | receiver.Switch s ↦ elim (said_to before s number) [
         | None ↦ []
         | Some body ↦ switch_items setting before s body journal
       ]
     ])
-    by_place (place.Switch s) apart = by_said s (said_to before s number) refl
-    by_place place.Controller apart = absurd cc
+    by_receiver (receiver.Switch s) apart = by_said s (said_to before s number) refl
+    by_receiver receiver.Controller apart = absurd cc
 
 -- a cache rule causes no more
 pub delivery_none : (setting : Setting) (before : List Item) (number : ℕ) (journal : List Item)

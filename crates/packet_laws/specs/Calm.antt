@@ -3,8 +3,8 @@
 use Rattle.std.specs.Prelude.{⊤, ℕ, ◌≡◌, ◌<◌, ◌≤◌, true, false, ◌==◌, Option, List, [], length, map, All, IsTrue}
 use Rattle.ctrl_msg.specs.declared.message.Body.{Body}
 use Rattle.ctrl_msg.specs.declared.message.Body.TheVariants.{CacheRule}
-use Rattle.ctrl_msg.specs.declared.message.Place.{Place}
-use Rattle.ctrl_msg.specs.declared.message.Place.TheVariants as place
+use Rattle.ctrl_msg.specs.declared.message.Receiver.{Receiver}
+use Rattle.ctrl_msg.specs.declared.message.Receiver.TheVariants as receiver
 use Rattle.failover.specs.Adverts.{first_adverts}
 use Rattle.failover.specs.Routes.{route_of}
 use Rattle.failover.specs.declared.advert.Advert.{Advert}
@@ -41,8 +41,8 @@ pub record IsRightRule (setting : Setting) (journal : List Item) (version : ℕ)
       scan (policy_at setting journal version) header ≡ record { rule = rule; action = action }
 
 -- the message brings a switch of the network such a rule
-abbrev pub BringsRule : Setting → List Item → Place → Body → Type 0
-BringsRule setting journal (place.Switch switch) (CacheRule version word rule action) =
+abbrev pub BringsRule : Setting → List Item → Receiver → Body → Type 0
+BringsRule setting journal (receiver.Switch switch) (CacheRule version word rule action) =
     (switch < length setting.net.switches) × IsRightRule setting journal version word rule action
 BringsRule setting journal to body = ⊥
 

@@ -6,7 +6,7 @@ use Rattle.policy_rules.proofs.CallerLemmas.{filter_more}
 use Rattle.failover.specs.Masks.{has, switches}
 use Rattle.ctrl_msg.specs.declared.message.Body.{Body}
 use Rattle.ctrl_msg.specs.declared.message.Message.{Message}
-use Rattle.ctrl_msg.specs.declared.message.Place.TheVariants.{Switch}
+use Rattle.ctrl_msg.specs.declared.message.Receiver.TheVariants.{Switch}
 use Rattle.switch_core.specs.Hearing.{flood}
 
 abbrev for_switch : Body → ℕ → Message

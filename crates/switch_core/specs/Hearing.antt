@@ -14,7 +14,7 @@ use Rattle.ctrl_msg.specs.Bodies.{body_boot, is_for_controller}
 use Rattle.ctrl_msg.specs.declared.message.Body.{Body}
 use Rattle.ctrl_msg.specs.declared.message.Body.TheVariants.{Install, OpenAt, Stamp, Collect, CacheRule, Advertise, Installed, Stamped}
 use Rattle.ctrl_msg.specs.declared.message.Message.{Message}
-use Rattle.ctrl_msg.specs.declared.message.Place.TheVariants.{Switch, Controller}
+use Rattle.ctrl_msg.specs.declared.message.Receiver.TheVariants.{Switch, Controller}
 use Rattle.switch_core.specs.State.{SwitchValue, holds_version}
 
 -- tables that come in are sound

@@ -7,7 +7,7 @@ ghost use Rattle.switch_core.specs.Hearing.{IsSoundBody, collected_to, flood, he
 use crate::answers::{Heard, Replies};
 use crate::hopping::is_near;
 use crate::switch::Switch;
-use ctrl_msg::{Body, Message, Place, SharedTables};
+use ctrl_msg::{Body, Message, Receiver, SharedTables};
 use failover::Advert;
 use std::alloc::{AllocError, Global};
 use switch_table::CacheEntry;
@@ -195,7 +195,7 @@ fn to_controller(body: Body) -> Message
     ensures { result ≡ to_controller body }
 {
     Message {
-        to: Place::Controller,
+        to: Receiver::Controller,
         body,
     }
 }
@@ -209,7 +209,7 @@ fn flood(alloc: Global, near: u64, advert: &Advert) -> Result<Replies, AllocErro
     for other in 0..64 {
         if is_near(near, other) {
             messages.push(Message {
-                to: Place::Switch(other),
+                to: Receiver::Switch(other),
                 body: Body::Advertise { advert: *advert },
             })?;
         }

@@ -15,7 +15,7 @@ use Rattle.policy_rules.specs.declared.policy.Action.TheVariants.{Drop, Out}
 use Rattle.ctrl_msg.specs.declared.message.Body.{Body}
 use Rattle.ctrl_msg.specs.declared.message.Body.TheVariants.{Advertise}
 use Rattle.ctrl_msg.specs.declared.message.Message.{Message}
-use Rattle.ctrl_msg.specs.declared.message.Place.TheVariants as place
+use Rattle.ctrl_msg.specs.declared.message.Receiver.TheVariants as receiver
 use Rattle.steps.specs.declared.step.Step.{Step}
 use Rattle.update_machine.specs.Setting.{Setting}
 use Rattle.update_machine.specs.Answers.{StepOfRow}
@@ -27,10 +27,10 @@ abbrev pub at : ℕ → Step → StepOfRow
 at row step = record { row = row; step = step }
 
 abbrev pub to : ℕ → Body → Message
-to s body = record { to = place.Switch s; body = body }
+to s body = record { to = receiver.Switch s; body = body }
 
 abbrev pub to_controller : Body → Message
-to_controller body = record { to = place.Controller; body = body }
+to_controller body = record { to = receiver.Controller; body = body }
 
 abbrev pub advert : ℕ → ℕ → ℕ → ℕ → Body
 advert origin boot seq up =

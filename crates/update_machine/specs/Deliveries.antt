@@ -5,7 +5,7 @@ use Rattle.std.specs.List.{flat_map}
 use Rattle.ctrl_msg.specs.declared.message.Body.{Body}
 use Rattle.ctrl_msg.specs.declared.message.Body.TheVariants.{Install, OpenAt, Stamp, Advertise, Hello, Installed, Stamped}
 use Rattle.ctrl_msg.specs.declared.message.Message.{Message}
-use Rattle.ctrl_msg.specs.declared.message.Place.TheVariants as place
+use Rattle.ctrl_msg.specs.declared.message.Receiver.TheVariants as receiver
 use Rattle.failover.specs.Adverts.{is_news}
 use Rattle.failover.specs.Masks.{has}
 use Rattle.failover.specs.declared.advert.Advert.{Advert}
@@ -53,7 +53,7 @@ link_changes setting before journal =
 -- ---- at a switch
 
 abbrev pub to_controller : Body → Message
-to_controller body = record { to = place.Controller; body = body }
+to_controller body = record { to = receiver.Controller; body = body }
 
 -- the switch passes an advert on to its neighbours
 abbrev pub passed_on : Setting → List Item → ℕ → Advert → List Message
@@ -107,8 +107,8 @@ controller_items setting before body journal =
 -- message of another boot
 abbrev pub received_items : Setting → List Item → ℕ → Message → List Item → List Item
 received_items setting before number message journal = elim message.to [
-  | place.Controller ↦ controller_items setting before message.body journal
-  | place.Switch s ↦ elim (said_to before s number) [
+  | receiver.Controller ↦ controller_items setting before message.body journal
+  | receiver.Switch s ↦ elim (said_to before s number) [
     | None ↦ []
     | Some body ↦ switch_items setting before s body journal
   ]

@@ -3,8 +3,8 @@
 use Rattle.std.specs.Prelude.{ℕ, ◌+◌, Bool, true, false, not, ◌&&◌, ◌==◌, nat_lt, if◌then◌else◌, Option, Some, None, is_some, List, [], ◌∷◌, find}
 use Rattle.std.specs.List.{range_with_len}
 use Rattle.ctrl_msg.specs.declared.message.Message.{Message}
-use Rattle.ctrl_msg.specs.declared.message.Place.{Place}
-use Rattle.ctrl_msg.specs.declared.message.Place.TheVariants as place
+use Rattle.ctrl_msg.specs.declared.message.Receiver.{Receiver}
+use Rattle.ctrl_msg.specs.declared.message.Receiver.TheVariants as receiver
 use Rattle.journal.specs.declared.item.Item.{Item}
 use Rattle.journal.specs.declared.item.Item.TheVariants as item
 use Rattle.update_machine.specs.Folds.{count_of, last_told}
@@ -54,13 +54,13 @@ unfoldable pub next_waiting : List Item → Option ℕ
 next_waiting journal =
     find (is_waiting journal) (range_with_len 1 (count_of is_sending journal))
 
-abbrev pub is_to_switch : ℕ → Place → Bool
-is_to_switch s (place.Switch switch) = switch == s
-is_to_switch s place.Controller = false
+abbrev pub is_to_switch : ℕ → Receiver → Bool
+is_to_switch s (receiver.Switch switch) = switch == s
+is_to_switch s receiver.Controller = false
 
-abbrev pub is_to_controller : Place → Bool
-is_to_controller (place.Switch switch) = false
-is_to_controller place.Controller = true
+abbrev pub is_to_controller : Receiver → Bool
+is_to_controller (receiver.Switch switch) = false
+is_to_controller receiver.Controller = true
 
 -- the sending of messages, the first one under this number
 unfoldable pub sent_from : ℕ → List Message → List Item

@@ -6,7 +6,7 @@ use Rattle.std.specs.List.{list_all}
 use Rattle.cache_maker.specs.Independent.{widen}
 use Rattle.ctrl_msg.specs.declared.message.Body.TheVariants.{CacheRule}
 use Rattle.ctrl_msg.specs.declared.message.Message.{Message}
-use Rattle.ctrl_msg.specs.declared.message.Place.TheVariants as place
+use Rattle.ctrl_msg.specs.declared.message.Receiver.TheVariants as receiver
 use Rattle.failover.specs.Masks.{has}
 use Rattle.five_tuple.specs.Header.{header_of, number_of}
 use Rattle.five_tuple.specs.declared.header.Header.{Header}
@@ -129,7 +129,7 @@ first_place setting journal version partition header =
 -- the cache rule by which the ingress decides headers as this rule does
 abbrev pub cache_rule : AuthorityRule → ℕ → Header → Message
 cache_rule found ingress header = record {
-  to = place.Switch ingress;
+  to = receiver.Switch ingress;
   body = CacheRule found.version
       (widen (number_of header) found.part.region found.part.rules found.place)
       found.rule.rule found.rule.action;

@@ -7,8 +7,8 @@ use Rattle.ctrl_msg.specs.Bodies.{body_boot}
 use Rattle.ctrl_msg.specs.declared.message.Body.{Body}
 use Rattle.ctrl_msg.specs.declared.message.Body.TheVariants.{Install, Stamp, Collect, Advertise, Hello, Installed, Stamped}
 use Rattle.ctrl_msg.specs.declared.message.Message.{Message}
-use Rattle.ctrl_msg.specs.declared.message.Place.{Place}
-use Rattle.ctrl_msg.specs.declared.message.Place.TheVariants as place
+use Rattle.ctrl_msg.specs.declared.message.Receiver.{Receiver}
+use Rattle.ctrl_msg.specs.declared.message.Receiver.TheVariants as receiver
 use Rattle.failover.specs.Adverts.{is_newer}
 use Rattle.journal.specs.declared.item.Item.{Item}
 use Rattle.journal.specs.declared.item.Item.TheVariants as item
@@ -26,9 +26,9 @@ pub record Sending : Type 0 where
   pub message : Message
   pub boot : ℕ
 
-abbrev pub boot_at : List Item → Place → ℕ
-boot_at before (place.Switch s) = boot_of before s
-boot_at before place.Controller = 0
+abbrev pub boot_at : List Item → Receiver → ℕ
+boot_at before (receiver.Switch s) = boot_of before s
+boot_at before receiver.Controller = 0
 
 abbrev pub changes_sendings : List Item → List Sending → Item → List Sending
 changes_sendings before sendings (item.Sent number message) =
@@ -73,10 +73,10 @@ carries boot body = option_map_or (λ of. of == boot) (body_boot body) false
 -- was sent since its boot began and is an advert or for that boot; but nothing of old tables
 abbrev pub matters : List Item → Sending → Bool
 matters journal sending = elim sending.message.to [
-  | place.Controller ↦
+  | receiver.Controller ↦
       option_map_or (is_present journal) (speaker sending.message.body) false
       && not (is_of_old_tables journal sending.message.body)
-  | place.Switch s ↦
+  | receiver.Switch s ↦
       is_up journal s && sending.boot == boot_of journal s
       && (is_advert sending.message.body || carries (boot_of journal s) sending.message.body)
       && not (is_of_old_tables journal sending.message.body)

@@ -7,7 +7,7 @@ use Rattle.bag.specs.Posts.{Post, delivered, forgotten, message_of as message_in
 use Rattle.ctrl_msg.specs.declared.message.Body.{Body}
 use Rattle.ctrl_msg.specs.declared.message.Body.TheVariants.{CacheRule}
 use Rattle.ctrl_msg.specs.declared.message.Message.{Message}
-use Rattle.ctrl_msg.specs.declared.message.Place.TheVariants as place
+use Rattle.ctrl_msg.specs.declared.message.Receiver.TheVariants as receiver
 use Rattle.journal.specs.declared.item.Item.{Item}
 use Rattle.journal.specs.declared.item.Item.TheVariants as item
 use Rattle.steps.specs.declared.step.Step.{Step}
@@ -123,13 +123,13 @@ forget_piece setting journal row n =
 
 -- a cache rule is for each boot
 for_any : (setting : Setting) (journal : List Item) (s boot : ℕ) (body : Body)
-    → BringsRule setting journal (place.Switch s) body → is_for_boot boot body ≡ true
+    → BringsRule setting journal (receiver.Switch s) body → is_for_boot boot body ≡ true
 for_any setting journal s boot (CacheRule version word rule action) right = refl
 for_any setting journal s boot _ right = absurd right
 
 said_is : (setting : Setting) (journal before : List Item) (s q n : ℕ) (body : Body)
-    → message_of before n ≡ Some (record { to = place.Switch s; body = body })
-    → is_up before q ≡ true → BringsRule setting journal (place.Switch s) body
+    → message_of before n ≡ Some (record { to = receiver.Switch s; body = body })
+    → is_up before q ≡ true → BringsRule setting journal (receiver.Switch s) body
     → said_to before q n ≡ (if s == q then Some body else None)
 said_is setting journal before s q n body sent up right =
     rw (sent, up, for_any setting journal s (boot_of before q) body right, said_to) (by_test (s ==
@@ -144,8 +144,8 @@ said_is setting journal before s q n body sent up right =
 cache_delivered : (setting : Setting) (journal : List Item) (row s q n : ℕ) (body : Body)
     → IsCalm setting journal
     → IsCalm setting (grown journal row (Deliver n) (item.Delivered n))
-    → message_of journal n ≡ Some (record { to = place.Switch s; body = body })
-    → BringsRule setting journal (place.Switch s) body
+    → message_of journal n ≡ Some (record { to = receiver.Switch s; body = body })
+    → BringsRule setting journal (receiver.Switch s) body
     → cache_of setting (grown journal row (Deliver n) (item.Delivered n)) q
     ≡ (if s == q then cache_after 1 n (cache_of setting journal q) body
     else cache_of setting journal q)
@@ -178,7 +178,7 @@ cache_delivered setting journal row s q n body calm calmer sent right =
 
 -- the switch takes the rule into its cache
 heard_right : (setting : Setting) (journal : List Item) (s n handled : ℕ) (cache : CacheValue)
-    (body : Body) → BringsRule setting journal (place.Switch s) body
+    (body : Body) → BringsRule setting journal (receiver.Switch s) body
     → heard (calm_switch setting cache handled s) n body
     ≡ calm_switch setting (cache_after 1 n cache body) handled s
 unfolding heard obeys
@@ -186,7 +186,7 @@ heard_right setting journal s n handled cache (CacheRule version word rule actio
 heard_right setting journal s n handled cache _ right = absurd right
 
 pub sound_right : (setting : Setting) (journal : List Item) (s : ℕ) (body : Body)
-    → BringsRule setting journal (place.Switch s) body → IsSoundBody body
+    → BringsRule setting journal (receiver.Switch s) body → IsSoundBody body
 sound_right setting journal s (CacheRule version word rule action) right = tt
 sound_right setting journal s _ right = absurd right
 
@@ -195,15 +195,15 @@ sound_right setting journal s _ right = absurd right
 -- the message of a number in the bag, which is for this switch
 record IsHeld (setting : Setting) (journal : List Item) (posts : List Post) (n s : ℕ)
     (message : Message) : Type 0 where
-  sent : message_of journal n ≡ Some (record { to = place.Switch s; body = message.body })
-  right : BringsRule setting journal (place.Switch s) message.body
+  sent : message_of journal n ≡ Some (record { to = receiver.Switch s; body = message.body })
+  right : BringsRule setting journal (receiver.Switch s) message.body
   within : n ≤ length posts
   deliverable : is_deliverable journal n ≡ true
 
 is_held : (control : Control) (setting : Setting) (journal : List Item)
     (switches : List SwitchValue) (before : Travellers) (count n s : ℕ) (message : Message)
     → AreTied setting journal switches before count control
-    → message_in control.posts n ≡ Some message → message.to ≡ place.Switch s
+    → message_in control.posts n ≡ Some message → message.to ≡ receiver.Switch s
     → IsHeld setting journal control.posts n s message
 unfolding AreTied
 is_held control setting journal switches before count n s message tied there to =
@@ -223,7 +223,7 @@ is_held control setting journal switches before count n s message tied there to 
 pub not_controller : (control : Control) (setting : Setting) (journal : List Item)
     (switches : List SwitchValue) (before : Travellers) (count n : ℕ) (message : Message)
     → AreTied setting journal switches before count control
-    → message_in control.posts n ≡ Some message → message.to ≡ place.Controller → ⊥
+    → message_in control.posts n ≡ Some message → message.to ≡ receiver.Controller → ⊥
 unfolding AreTied
 not_controller control setting journal switches before count n message tied there to =
     subst (λ p. BringsRule setting journal p message.body) to
@@ -234,7 +234,7 @@ not_controller control setting journal switches before count n message tied ther
 pub deliver_ready : (control : Control) (setting : Setting) (journal : List Item)
     (switches : List SwitchValue) (before : Travellers) (count n s : ℕ) (message : Message)
     → AreTied setting journal switches before count control
-    → message_in control.posts n ≡ Some message → message.to ≡ place.Switch s
+    → message_in control.posts n ≡ Some message → message.to ≡ receiver.Switch s
     → (s < length switches) × (s < 64) × IsSoundBody message.body
 unfolding AreTied
 deliver_ready control setting journal switches before count n s message tied there to =
@@ -252,8 +252,8 @@ delivered_switch : (setting : Setting) (journal : List Item) (switches : List Sw
     (row n s q : ℕ) (body : Body) (own changed d : SwitchValue) (b : Bool) → (s == q) ≡ b
     → IsCalm setting journal
     → IsCalm setting (grown journal row (Deliver n) (item.Delivered n))
-    → message_of journal n ≡ Some (record { to = place.Switch s; body = body })
-    → BringsRule setting journal (place.Switch s) body → s < length switches
+    → message_of journal n ≡ Some (record { to = receiver.Switch s; body = body })
+    → BringsRule setting journal (receiver.Switch s) body → s < length switches
     → own ≡ calm_switch setting (cache_of setting journal s) (handled_count journal s) s
     → changed ≡ heard own n body
     → get_or switches q d
@@ -292,7 +292,7 @@ pub delivered_tied : (control : Control) (setting : Setting) (journal : List Ite
     (switches : List SwitchValue) (before : Travellers) (count row n s : ℕ) (message : Message)
     (own changed : SwitchValue) → AreTied setting journal switches before count control
     → MayPlay setting (Deliver n) → message_in control.posts n ≡ Some message
-    → message.to ≡ place.Switch s → own ≡ get_or switches s own
+    → message.to ≡ receiver.Switch s → own ≡ get_or switches s own
     → changed ≡ heard own n message.body
     → (piece setting journal row (Deliver n)
     ≡ item.Row row (Deliver n) ∷ item.Delivered n ∷ [])

@@ -3,7 +3,7 @@ use Rattle.std.specs.Prelude.{ℕ, ◌≡◌, Option, Some, None, option_map, Li
 use Rattle.bag.specs.Posts.{Post, posted}
 use Rattle.ctrl_msg.specs.declared.message.Body.{Body}
 use Rattle.ctrl_msg.specs.declared.message.Message.{Message}
-use Rattle.ctrl_msg.specs.declared.message.Place.TheVariants as place
+use Rattle.ctrl_msg.specs.declared.message.Receiver.TheVariants as receiver
 use Rattle.policy_rules.specs.declared.packet.Leg.{Leg}
 use Rattle.policy_rules.specs.declared.packet.Leg.TheVariants.{Exit as ExitLeg}
 use Rattle.policy_rules.specs.declared.policy.Action.{Action}
@@ -93,7 +93,7 @@ messages_in (Some message) = message ∷ []
 -- a cache rule goes to the switch where the packet came in
 abbrev pub cache_message : ℕ → Option Body → Option Message
 cache_message ingress cache =
-    option_map (λ body. record { to = place.Switch ingress; body = body }) cache
+    option_map (λ body. record { to = receiver.Switch ingress; body = body }) cache
 
 -- ---- at the end of its route
 

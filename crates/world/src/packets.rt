@@ -11,7 +11,7 @@ ghost use Rattle.world.specs.Writing.{IsPart, arrived_items, arrived_posts, arri
 use crate::log::{Log, Standing};
 use crate::travelling::Traveller;
 use five_tuple::Header;
-use journal::{Body, DownSet, Item, Message, Place};
+use journal::{Body, DownSet, Item, Message, Receiver};
 use net_file::Ports;
 use std::alloc::{AllocError, Global};
 use switch_core::{Arrived, Entered, HopEnd, Switch};
@@ -239,7 +239,7 @@ fn cache_message(ingress: u32, cache: Option<Body>) -> Option<Message>
 {
     match cache {
         Some(body) => Some(Message {
-            to: Place::Switch(ingress),
+            to: Receiver::Switch(ingress),
             body,
         }),
         None => None,

@@ -10,7 +10,7 @@ ghost use Rattle.world.specs.Writing.{IsPart};
 use crate::log::Log;
 use crate::packets::{enter, hop};
 use controller::Controller;
-use ctrl_msg::Place;
+use ctrl_msg::Receiver;
 use five_tuple::Header;
 use journal::Item;
 use net_file::{Net, Ports};
@@ -187,9 +187,9 @@ impl Parts {
             Some(message) => message,
         };
         let here = match message.to {
-            Place::Switch(switch) => switch as usize,
+            Receiver::Switch(switch) => switch as usize,
             // Cache rules alone are sent so far, and those go to switches.
-            Place::Controller => unreachable!(),
+            Receiver::Controller => unreachable!(),
         };
         let near = self.near[here];
         // A switch answers a cache rule by nothing, and doesn't open.
