@@ -1,2 +1,3 @@
+pub mod Numbered
 pub mod Waiting
-pub mod CallerLemmas
+pub mod Zipped

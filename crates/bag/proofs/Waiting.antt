@@ -1,4 +1,4 @@
--- What becomes of the waiting messages when the list of posts changes, and which one is found.
+-- What becomes of the waiting messages when the list of statuses changes, and which one is found.
 use Rattle.std.proofs.Common.{◌≡◌, ◌+◌, ◌-◌, ◌^◌, ◌<◌, ◌≤◌, ◌∙◌, inl, inr, ap, sym, subst, refl, ℕ, Bool, true, false, cond, Option, Some, None, List, [], ◌∷◌, ◌++◌, zero, suc, length, set, get_or, max, eq-eqb, arith, length-append}
 use Rattle.std.specs.Prelude.{slice_get, option_map, find, IsTrue, ◌==◌, if◌then◌else◌}
 use Rattle.std.specs.Option.{option_map_or}
@@ -6,111 +6,112 @@ use Rattle.std.specs.List.{range_with_len}
 use Rattle.std.proofs.lemmas.Bool.{cases_lt, cases_eq, ne_eqb}
 use Rattle.std.proofs.lemmas.Grind.{common_steps}
 use Rattle.std.proofs.lemmas.Option.{get_or_from_slice_get}
-use Rattle.ctrl_msg.specs.declared.message.Message.{Message}
-use Rattle.bag.proofs.CallerLemmas.{length_changed, post_of_changed, post_of_pushed}
-use Rattle.bag.specs.Posts.{Post, post_of, posted, waits, is_waiting, is_deliverable, with_changed, next_waiting, may_be_delivered, IsBag, IsFirstWaiting}
+use Rattle.bag.proofs.Numbered.{length_changed, numbered_changed, numbered_pushed}
+use Rattle.bag.specs.Deliveries.{waiting, waits, is_waiting, is_deliverable, next_waiting, may_be_delivered, ArePassed, IsFirstWaiting}
+use Rattle.bag.specs.Numbered.{numbered, with_changed}
+use Rattle.bag.specs.declared.deliveries.Status.{Status}
 
-waits_as : (posts after : List Post) (number : ℕ) (b : Bool)
-    → post_of after number ≡ post_of posts number → is_waiting posts number ≡ b
+waits_as : (statuses after : List Status) (number : ℕ) (b : Bool)
+    → numbered after number ≡ numbered statuses number → is_waiting statuses number ≡ b
     → is_waiting after number ≡ b
-waits_as posts after number b same is = ap (λ o. option_map_or waits o false) same ∙ is
+waits_as statuses after number b same is = ap (λ o. option_map_or waits o false) same ∙ is
 
-post_before : (posts : List Post) (post : Post) (number : ℕ) → number ≤ length posts
-    → post_of (posts ++ post ∷ []) number ≡ post_of posts number
-post_before posts post number within = post_of_pushed posts post number
-    ∙ ap (λ b. cond b (Some post) (post_of posts number))
-    (ne_eqb number (length posts + 1) (λ same. absurd (omega arith)))
+status_before : (statuses : List Status) (status : Status) (number : ℕ) → number ≤ length statuses
+    → numbered (statuses ++ status ∷ []) number ≡ numbered statuses number
+status_before statuses status number within = numbered_pushed statuses status number
+    ∙ ap (λ b. cond b (Some status) (numbered statuses number))
+    (ne_eqb number (length statuses + 1) (λ same. absurd (omega arith)))
 
-post_last : (posts : List Post) (post : Post) (number : ℕ) → number ≡ length posts + 1
-    → post_of (posts ++ post ∷ []) number ≡ Some post
-post_last posts post number last = post_of_pushed posts post number
-    ∙ ap (λ b. cond b (Some post) (post_of posts number)) (eq-eqb number (length posts + 1) last)
+status_last : (statuses : List Status) (status : Status) (number : ℕ) → number ≡ length statuses + 1
+    → numbered (statuses ++ status ∷ []) number ≡ Some status
+status_last statuses status number last = numbered_pushed statuses status number
+    ∙ ap (λ b. cond b (Some status) (numbered statuses number)) (eq-eqb number (length statuses + 1) last)
 
--- a post behind the others leaves what waits before it, and waits itself
-pub pushed_is_bag : (passed : ℕ) (posts : List Post) (message : Message)
-    → length posts + 1 < 2 ^ 32 → IsBag passed posts → IsBag passed (posts ++ posted message ∷ [])
-pushed_is_bag passed posts message few bag =
-    let after = posts ++ posted message ∷ [] in
-    let longer : length after ≡ length posts + 1 = length-append posts (posted message ∷ []) in
+-- a status behind the others leaves what waits before it, and waits itself
+pub pushed_passed : (passed : ℕ) (statuses : List Status)
+    → length statuses + 1 < 2 ^ 32 → ArePassed passed statuses → ArePassed passed (statuses ++ waiting ∷ [])
+pushed_passed passed statuses few are =
+    let after = statuses ++ waiting ∷ [] in
+    let longer : length after ≡ length statuses + 1 = length-append statuses (waiting ∷ []) in
     record {
       few = omega arith;
-      within = omega (arith, bag.within);
-      here = λ below. elim (cases_lt passed (length posts)) [
-        | inl within ↦ waits_as posts after (passed + 1) true
-            (post_before posts (posted message) (passed + 1) (omega arith)) (bag.here within)
+      within = omega (arith, are.within);
+      here = λ below. elim (cases_lt passed (length statuses)) [
+        | inl within ↦ waits_as statuses after (passed + 1) true
+            (status_before statuses waiting (passed + 1) (omega arith)) (are.here within)
         | inr past ↦ ap (λ o. option_map_or waits o false)
-            (post_last posts (posted message) (passed + 1) (omega arith))
+            (status_last statuses waiting (passed + 1) (omega arith))
       ];
-      none = λ number below. waits_as posts after number false
-          (post_before posts (posted message) number (omega (arith, bag.within)))
-          (bag.none number below);
+      none = λ number below. waits_as statuses after number false
+          (status_before statuses waiting number (omega (arith, are.within)))
+          (are.none number below);
     }
 
 -- after a change by which a message waits no more, nothing waits that didn't before
-still_none : (change : Post → Post) (posts : List Post) (changed number : ℕ)
-    → ((post : Post) → waits (change post) ≡ false) → is_waiting posts number ≡ false
-    → is_waiting (with_changed change posts changed) number ≡ false
-still_none change posts changed number still none =
-    ap (λ o. option_map_or waits o false) (post_of_changed change posts changed number)
-    ∙ by_post (number == changed) (post_of posts number) none
+still_none : (change : Status → Status) (statuses : List Status) (changed number : ℕ)
+    → ((status : Status) → waits (change status) ≡ false) → is_waiting statuses number ≡ false
+    → is_waiting (with_changed change statuses changed) number ≡ false
+still_none change statuses changed number still none =
+    ap (λ o. option_map_or waits o false) (numbered_changed change statuses changed number)
+    ∙ by_status (number == changed) (numbered statuses number) none
   where
-    by_post : (b : Bool) (o : Option Post) → option_map_or waits o false ≡ false
+    by_status : (b : Bool) (o : Option Status) → option_map_or waits o false ≡ false
         → option_map_or waits (if b then option_map change o else o) false ≡ false
-    by_post true None before = refl
-    by_post true (Some post) before = still post
-    by_post false o before = before
+    by_status true None before = refl
+    by_status true (Some status) before = still status
+    by_status false o before = before
 
 -- the messages up to the first that waits have been passed
-pub changed_is_bag : (change : Post → Post) (passed number first : ℕ)
-    → (before posts after : List Post)
-    → ((post : Post) → waits (change post) ≡ false) → IsBag passed before → before ≡ posts
-    → after ≡ with_changed change posts number → IsFirstWaiting after passed first
-    → IsBag first after
-changed_is_bag change passed number first before posts after still bag same changed is =
+pub changed_passed : (change : Status → Status) (passed number first : ℕ)
+    → (before statuses after : List Status)
+    → ((status : Status) → waits (change status) ≡ false) → ArePassed passed before → before ≡ statuses
+    → after ≡ with_changed change statuses number → IsFirstWaiting after passed first
+    → ArePassed first after
+changed_passed change passed number first before statuses after still are same changed is =
     let long : length after ≡ length before =
-    ap length changed ∙ length_changed change posts number ∙ sym (ap length same) in
+    ap length changed ∙ length_changed change statuses number ∙ sym (ap length same) in
     record {
-      few = omega (arith, bag.few);
-      within = is.within (omega (arith, bag.within));
+      few = omega (arith, are.few);
+      within = is.within (omega (arith, are.within));
       here = is.here;
       none = λ at below. elim (cases_lt passed at) [
         | inl above ↦ is.none at above below
-        | inr within ↦ ap (λ posts. is_waiting posts at) changed
-            ∙ still_none change posts number at still
-            (subst (λ posts. is_waiting posts at ≡ false) same (bag.none at within))
+        | inr within ↦ ap (λ statuses. is_waiting statuses at) changed
+            ∙ still_none change statuses number at still
+            (subst (λ statuses. is_waiting statuses at ≡ false) same (are.none at within))
       ];
     }
 
--- the change of a number's post is a change at its place
-changed_place : (change : Post → Post) (posts : List Post) (place : ℕ) (post : Post)
-    → IsTrue (is_deliverable posts (suc place)) → post ≡ get_or posts place post
-    → set posts place (change post) ≡ with_changed change posts (suc place)
-changed_place change posts place post is here = by_post (slice_get posts place) refl is
+-- the change of a number's status is a change at its place
+changed_place : (change : Status → Status) (statuses : List Status) (place : ℕ) (status : Status)
+    → IsTrue (is_deliverable statuses (suc place)) → status ≡ get_or statuses place status
+    → set statuses place (change status) ≡ with_changed change statuses (suc place)
+changed_place change statuses place status is here = by_status (slice_get statuses place) refl is
   where
-    by_post : (o : Option Post) → slice_get posts place ≡ o
+    by_status : (o : Option Status) → slice_get statuses place ≡ o
         → IsTrue (option_map_or may_be_delivered o false)
-        → set posts place (change post) ≡ option_map_or (λ p. set posts place (change p)) o posts
-    by_post None at none = absurd (cc)
-    by_post (Some found) at some = ap (λ p. set posts place (change p))
-        (here ∙ get_or_from_slice_get posts place found post at)
+        → set statuses place (change status) ≡ option_map_or (λ p. set statuses place (change p)) o statuses
+    by_status None at none = absurd (cc)
+    by_status (Some found) at some = ap (λ p. set statuses place (change p))
+        (here ∙ get_or_from_slice_get statuses place found status at)
 
-changed_at : (change : Post → Post) (posts : List Post) (number : ℕ) (post : Post)
-    → IsTrue (is_deliverable posts number) → post ≡ get_or posts (number - 1) post
-    → set posts (number - 1) (change post) ≡ with_changed change posts number
-changed_at change posts zero post is here = absurd (cc)
-changed_at change posts (suc place) post is here =
+changed_at : (change : Status → Status) (statuses : List Status) (number : ℕ) (status : Status)
+    → IsTrue (is_deliverable statuses number) → status ≡ get_or statuses (number - 1) status
+    → set statuses (number - 1) (change status) ≡ with_changed change statuses number
+changed_at change statuses zero status is here = absurd (cc)
+changed_at change statuses (suc place) status is here =
     let same : suc place - 1 ≡ place = omega arith in
-    rw same (changed_place change posts place post is (rw same at here))
+    rw same (changed_place change statuses place status is (rw same at here))
 
-pub changed_from : (change : Post → Post) (before posts : List Post) (number : ℕ)
-    → (post after : Post)
-    → IsTrue (is_deliverable posts number) → before ≡ posts
-    → post ≡ get_or before (number - 1) post → after ≡ change post
-    → set before (number - 1) after ≡ with_changed change posts number
-changed_from change before posts number post after is same here changed =
-    ap (set before (number - 1)) changed ∙ ap (λ posts. set posts (number - 1) (change post)) same
-    ∙ changed_at change posts number post is
-    (subst (λ posts. post ≡ get_or posts (number - 1) post) same here)
+pub changed_from : (change : Status → Status) (before statuses : List Status) (number : ℕ)
+    → (status after : Status)
+    → IsTrue (is_deliverable statuses number) → before ≡ statuses
+    → status ≡ get_or before (number - 1) status → after ≡ change status
+    → set before (number - 1) after ≡ with_changed change statuses number
+changed_from change before statuses number status after is same here changed =
+    ap (set before (number - 1)) changed ∙ ap (λ statuses. set statuses (number - 1) (change status)) same
+    ∙ changed_at change statuses number status is
+    (subst (λ statuses. status ≡ get_or statuses (number - 1) status) same here)
 
 -- the first of these numbers for which the test holds
 found_at : (p : ℕ → Bool) (from n at : ℕ)
@@ -143,29 +144,29 @@ not_found p from (suc n) none =
     grind (arith, common_steps)
 
 -- a search that begins behind what was passed misses nothing
-none_before : (posts : List Post) (passed from start place : ℕ) → IsBag passed posts
-    → start ≡ max (from - 1) passed → IsFirstWaiting posts start place
-    → (number : ℕ) → from ≤ number → number ≤ place → is_waiting posts number ≡ false
-none_before posts passed from start place bag begins is zero above below = refl
-none_before posts passed from start place bag begins is (suc at) above below =
+none_before : (statuses : List Status) (passed from start place : ℕ) → ArePassed passed statuses
+    → start ≡ max (from - 1) passed → IsFirstWaiting statuses start place
+    → (number : ℕ) → from ≤ number → number ≤ place → is_waiting statuses number ≡ false
+none_before statuses passed from start place are begins is zero above below = refl
+none_before statuses passed from start place are begins is (suc at) above below =
     elim (cases_lt passed (suc at)) [
       | inl past ↦ is.none (suc at) (omega arith) below
-      | inr within ↦ bag.none (suc at) within
+      | inr within ↦ are.none (suc at) within
     ]
 
-pub next_is : (posts : List Post) (passed from start place : ℕ) → IsBag passed posts
-    → start ≡ max (from - 1) passed → IsFirstWaiting posts start place → place < length posts
-    → next_waiting posts from ≡ Some (place + 1)
-next_is posts passed from start place bag begins is within =
-    found_at (is_waiting posts) from (length posts + 1 - from) (place + 1)
+pub next_is : (statuses : List Status) (passed from start place : ℕ) → ArePassed passed statuses
+    → start ≡ max (from - 1) passed → IsFirstWaiting statuses start place → place < length statuses
+    → next_waiting statuses from ≡ Some (place + 1)
+next_is statuses passed from start place are begins is within =
+    found_at (is_waiting statuses) from (length statuses + 1 - from) (place + 1)
     (λ number above below.
-    none_before posts passed from start place bag begins is number above (omega arith))
+    none_before statuses passed from start place are begins is number above (omega arith))
     (omega (arith, is.above)) (omega (arith, is.above)) (is.here within)
 
-pub next_is_none : (posts : List Post) (passed from start place : ℕ) → IsBag passed posts
-    → start ≡ max (from - 1) passed → IsFirstWaiting posts start place → length posts ≤ place
-    → next_waiting posts from ≡ None
-next_is_none posts passed from start place bag begins is past =
-    not_found (is_waiting posts) from (length posts + 1 - from)
+pub next_is_none : (statuses : List Status) (passed from start place : ℕ) → ArePassed passed statuses
+    → start ≡ max (from - 1) passed → IsFirstWaiting statuses start place → length statuses ≤ place
+    → next_waiting statuses from ≡ None
+next_is_none statuses passed from start place are begins is past =
+    not_found (is_waiting statuses) from (length statuses + 1 - from)
     (λ number above below.
-    none_before posts passed from start place bag begins is number above (omega arith))
+    none_before statuses passed from start place are begins is number above (omega arith))

@@ -1,74 +1,47 @@
--- The messages that were posted: numbered from 1 in the order in which they were posted, delivered
--- in any order and any number of times, until they are forgotten.
-use Rattle.std.specs.Prelude.{ℕ, ◌≡◌, ◌+◌, ◌-◌, ◌^◌, ◌<◌, ◌≤◌, Bool, true, false, not, ◌&&◌, if◌then◌else◌, Option, Some, None, List, zero, suc, length, find, set, slice_get}
-use Rattle.std.specs.List.{range_with_len}
-use Rattle.std.specs.Option.{option_and_then, option_map_or}
+-- The messages that were posted, each with what became of it, numbered from 1 in the order in which
+-- they were posted.
+use Rattle.std.specs.Prelude.{ℕ, Bool, if◌then◌else◌, Option, Some, None, is_some, List, map}
+use Rattle.std.specs.Option.{option_and_then}
 use Rattle.ctrl_msg.specs.declared.message.Message.{Message}
+use Rattle.bag.specs.Deliveries as statuses
+use Rattle.bag.specs.Numbered.{numbered, with_changed}
+use Rattle.bag.specs.declared.deliveries.Status.{Status}
 
--- a message that was posted, whether it was delivered, and whether it is forgotten
-pub record Post : Type 0 where
-  pub message : Message
-  pub delivered : Bool
-  pub forgotten : Bool
+abbrev pub Post : Type 0
+Post = Message × Status
 
 -- a message that is posted now
 abbrev pub posted : Message → Post
-posted message = record { message = message; delivered = false; forgotten = false }
+posted message = (message, statuses.waiting)
 
--- the post of a number
-abbrev pub post_of : List Post → ℕ → Option Post
-post_of posts zero = None
-post_of posts (suc place) = slice_get posts place
+-- what became of each
+abbrev pub statuses_of : List Post → List Status
+statuses_of posts = map (λ (post : Post). post.1) posts
 
+-- the message of a post that isn't forgotten
 abbrev pub remembered : Post → Option Message
-remembered post = if post.forgotten then None else Some post.message
+remembered post = if post.1.forgotten then None else Some post.0
 
 -- the message of a number, if it was posted and isn't forgotten
 abbrev pub message_of : List Post → ℕ → Option Message
-message_of posts number = option_and_then remembered (post_of posts number)
+message_of posts number = option_and_then remembered (numbered posts number)
 
-abbrev pub may_be_delivered : Post → Bool
-may_be_delivered post = not post.forgotten
-
-abbrev pub waits : Post → Bool
-waits post = not post.delivered && not post.forgotten
-
--- the number was posted, and isn't forgotten
+-- there is such a message
 abbrev pub is_deliverable : List Post → ℕ → Bool
-is_deliverable posts number = option_map_or may_be_delivered (post_of posts number) false
+is_deliverable posts number = is_some (message_of posts number)
 
--- the number was posted, was never delivered, and isn't forgotten
-abbrev pub is_waiting : List Post → ℕ → Bool
-is_waiting posts number = option_map_or waits (post_of posts number) false
-
--- the least number at or above `from` of a message that waits
+-- the least number at or above `from` of a message that was never delivered and isn't forgotten
 abbrev pub next_waiting : List Post → ℕ → Option ℕ
-next_waiting posts from =
-    find (is_waiting posts) (range_with_len from (length posts + 1 - from))
+next_waiting posts from = statuses.next_waiting (statuses_of posts) from
 
-abbrev pub delivered : Post → Post
-delivered post = record post { delivered = true }
+-- another thing became of a message
+abbrev pub with_status : (Status → Status) → Post → Post
+with_status change post = (post.0, change post.1)
 
-abbrev pub forgotten : Post → Post
-forgotten post = record post { forgotten = true }
+-- the message of the number was delivered, perhaps once more
+abbrev pub with_delivered : List Post → ℕ → List Post
+with_delivered posts number = with_changed (with_status statuses.delivered) posts number
 
--- the post of a number is changed, where there is one
-abbrev pub with_changed : (Post → Post) → List Post → ℕ → List Post
-with_changed change posts zero = posts
-with_changed change posts (suc place) =
-    option_map_or (λ post. set posts place (change post)) (slice_get posts place) posts
-
--- a bag of these posts: their numbers fit 32 bits, and those up to a number were passed, which is
--- to say that none of them waits and the next one does, where there is one
-pub record IsBag (passed : ℕ) (posts : List Post) : Type 0 where
-  pub few : length posts < 2 ^ 32
-  pub within : passed ≤ length posts
-  pub here : passed < length posts → is_waiting posts (passed + 1) ≡ true
-  pub none : (number : ℕ) → number ≤ passed → is_waiting posts number ≡ false
-
--- the least place at or above one whose message waits; none does up to the place, if it is the end
-pub record IsFirstWaiting (posts : List Post) (from : ℕ) (place : ℕ) : Type 0 where
-  pub above : from ≤ place
-  pub within : from ≤ length posts → place ≤ length posts
-  pub here : place < length posts → is_waiting posts (place + 1) ≡ true
-  pub none : (number : ℕ) → from < number → number ≤ place → is_waiting posts number ≡ false
+-- the message of the number is never delivered again
+abbrev pub with_forgotten : List Post → ℕ → List Post
+with_forgotten posts number = with_changed (with_status statuses.forgotten) posts number

@@ -1,8 +1,7 @@
 ghost use Rattle.std.specs.Prelude.{◌≡◌, ◌<◌, ◌+◌, ◌-◌, ◌^◌, [], ◌∷◌, ◌++◌, length, IsTrue, IfOk, OnOk, OnErr};
-ghost use Rattle.std.specs.Option.{option_copied};
-ghost use Rattle.bag.specs.Posts.{delivered, forgotten, is_deliverable, message_of, next_waiting, posted, with_changed, IsFirstWaiting};
+ghost use Rattle.bag.specs.Posts.{is_deliverable, message_of, next_waiting, posted, with_delivered, with_forgotten};
 
-use crate::slot::Slot;
+use crate::deliveries::Deliveries;
 use ctrl_msg::Message;
 use journal::SharedMessage;
 use std::alloc::{AllocError, Global};
@@ -12,23 +11,20 @@ use std::marker::Model;
 /// the list of them, each with whether it was delivered and whether it is forgotten.
 #[derive(Drop)]
 pub struct Bag {
-    slots: Vec<Slot>,
-    // No message up to this number waits, and the next one does, where there is one. So it rises
-    // past each message once, and a search from 1 begins where it ends; so does one from behind the
-    // message that such a search gave and that was delivered since. Flushes look at each message
-    // once in all.
-    passed: u32,
+    messages: Vec<SharedMessage>,
+    deliveries: Deliveries,
 }
 
 impl Model for Bag {
-    ghost use Rattle.std.specs.Prelude.{List};
-    ghost use Rattle.bag.specs.Posts.{IsBag, Post};
+    ghost use Rattle.std.specs.Prelude.{◌≡◌, List, length};
+    ghost use Rattle.std.specs.List.{zip};
+    ghost use Rattle.bag.specs.Posts.{Post};
 
     ghost Value = { List Post };
 
-    ghost view = { λ b. b.slots.items };
+    ghost view = { λ b. zip b.messages.items b.deliveries };
 
-    ghost invariant = { λ b. IsBag b.passed b.slots.items };
+    ghost invariant = { λ b. length b.messages.items ≡ length b.deliveries };
 }
 
 impl Bag {
@@ -37,8 +33,8 @@ impl Bag {
         ensures { result ≡ [] }
     {
         Bag {
-            slots: Vec::new(alloc),
-            passed: 0,
+            messages: Vec::new(alloc),
+            deliveries: Deliveries::new(alloc),
         }
     }
 
@@ -52,42 +48,60 @@ impl Bag {
         ensures posted { OnOk result (self.new ≡ self.old ++ posted message ∷ []) }
         ensures unchanged { OnErr result (self.new ≡ self.old) }
     {
-        self.slots.push(Slot::new(message))?;
-        Ok(self.slots.len() as u32)
+        self.messages.push(message)?;
+        match self.deliveries.add() {
+            Ok(()) => Ok(self.deliveries.count()),
+            Err(error) => {
+                let _ = self.messages.pop();
+                Err(error)
+            }
+        }
     }
 
     /// How many messages were posted.
     pub fn sent(&self) -> u32
         ensures { result ≡ length self.now }
     {
-        self.slots.len() as u32
+        self.deliveries.count()
     }
 
-    /// The message of this number; `None` exactly where none of this number was posted, or it is
-    /// forgotten.
-    pub fn get(&self, number: u32) -> Option<&Message>
-        ensures { option_copied result ≡ message_of self.now number }
+    /// A copy of the message of this number, which shares its tables; `None` exactly where none of
+    /// this number was posted, or it is forgotten.
+    ///
+    /// # Errors
+    /// Want of memory alone.
+    pub fn get(&self, number: u32) -> Result<Option<Message>, AllocError>
+        ensures { IfOk result (λ message. message ≡ message_of self.now number) }
     {
-        let place = number.checked_sub(1)?;
-        self.slots.get(place as usize)?.message()
+        if !self.may_be_delivered(number) {
+            return Ok(None);
+        }
+        let message = self.messages[number as usize - 1].message();
+        let copy = message.clone()?;
+        Ok(Some(copy))
+    }
+
+    /// Whether a message of this number was posted and isn't forgotten.
+    pub fn may_be_delivered(&self, number: u32) -> bool
+        ensures { result ≡ is_deliverable self.now number }
+    {
+        self.deliveries.may_be_delivered(number)
     }
 
     /// The message of this number was delivered, perhaps once more.
     pub fn deliver(&mut self, number: u32)
         requires { IsTrue (is_deliverable self.old number) }
-        ensures { self.new ≡ with_changed delivered self.old number }
+        ensures { self.new ≡ with_delivered self.old number }
     {
-        self.slots[number as usize - 1].deliver();
-        self.passed = first_waiting(&self.slots, self.passed);
+        self.deliveries.deliver(number);
     }
 
     /// The message of this number is never delivered again.
     pub fn forget(&mut self, number: u32)
         requires { IsTrue (is_deliverable self.old number) }
-        ensures { self.new ≡ with_changed forgotten self.old number }
+        ensures { self.new ≡ with_forgotten self.old number }
     {
-        self.slots[number as usize - 1].forget();
-        self.passed = first_waiting(&self.slots, self.passed);
+        self.deliveries.forget(number);
     }
 
     /// The least number at or above `from` of a message that was never delivered and isn't
@@ -95,26 +109,6 @@ impl Bag {
     pub fn next_waiting(&self, from: u32) -> Option<u32>
         ensures { result ≡ next_waiting self.now from }
     {
-        let start = from.saturating_sub(1).max(self.passed);
-        let place = first_waiting(&self.slots, start);
-        if place < self.sent() {
-            Some(place + 1)
-        } else {
-            None
-        }
+        self.deliveries.next_waiting(from)
     }
-}
-
-// The least place at or above this one of a slot that waits; where there is none, the number of
-// slots, or this place if it lies above.
-fn first_waiting(slots: &[Slot], from: u32) -> u32
-    requires { length slots.now < 2 ^ 32 }
-    ensures { IsFirstWaiting slots.now from result }
-{
-    for place in from..slots.len() as u32 {
-        if slots[place as usize].waits() {
-            return place;
-        }
-    }
-    from.max(slots.len() as u32)
 }

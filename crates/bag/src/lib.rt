@@ -2,8 +2,8 @@
 //!
 //! A `Bag` has each message that was posted, under its number from 1. Until it is forgotten it may
 //! be delivered, in any order and more than once, as by a network that loses, doubles and reorders
-//! what it carries. A message takes 16 bytes beside its content, which a journal may share, and
-//! `post` alone takes memory.
+//! what it carries. What became of each is kept apart from the messages themselves, which a journal
+//! may share. `post` and `get` alone take memory.
 //!
 //! ```text
 //! let mut bag = Bag::new(alloc);
@@ -15,10 +15,8 @@
 #![tactic(auto)]
 
 mod bag;
-mod slot;
+mod deliveries;
 
 pub use bag::Bag;
+pub use deliveries::{Deliveries, Status};
 pub use journal::SharedMessage;
-
-#[cfg(test)]
-mod tests;

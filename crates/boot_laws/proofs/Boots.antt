@@ -1,8 +1,9 @@
 -- Items that have their causes keep what is known of boots.
 use Rattle.std.proofs.Common.{ℕ, ◌≡◌, ◌≤◌, ◌==◌, ◌⊎◌, Bool, true, false, Option, Some, None, List, [], ◌∷◌, ◌++◌, refl, ap, subst, ◌∙◌, arith, inl, inr}
-use Rattle.std.specs.Prelude.{IfSome, option_and_then}
+use Rattle.std.specs.Prelude.{option_and_then}
 use Rattle.std.proofs.lemmas.Bool.{eqb-true}
 use Rattle.std.proofs.lemmas.Bool.Decides.{nat_tests}
+use Rattle.std.proofs.lemmas.Option.{IfSome_then}
 use Rattle.ctrl_msg.specs.Bodies.{body_boot}
 use Rattle.ctrl_msg.specs.declared.message.Body.{Body}
 use Rattle.ctrl_msg.specs.declared.message.Body.TheVariants.{Install, OpenAt, Stamp, Collect, CacheRule, Advertise, Hello, Installed, Stamped}
@@ -57,21 +58,15 @@ boot_rises setting before item s cause = rw (boot_more before item s) (omega ari
 
 -- ---- what items keep
 
-weaker : {X : Type 0} (one other : X → Type 0) → ((x : X) → one x → other x) → (o : Option X)
-    → IfSome o one → IfSome o other
-weaker one other f None known = tt
-weaker one other f (Some x) known = f x known
-
 past_on : (setting : Setting) (before : List Item) (item : Item) (to : Receiver) (body : Body)
     → HasItemCause setting before item → HasPastBoot before to body
     → HasPastBoot (before ++ item ∷ []) to body
 past_on setting before item (receiver.Switch s) body cause past =
-    weaker (λ boot. boot ≤ known_boot before s) (λ boot. boot ≤ known_boot (before ++ item ∷ []) s)
-    (λ boot below. omega (arith, below, known_rises before item s)) (body_boot body) past
+    IfSome_then (body_boot body) past
+    (λ boot below. omega (arith, below, known_rises before item s))
 past_on setting before item receiver.Controller body cause past =
-    weaker (λ of. of.1 ≤ boot_of before of.0) (λ of. of.1 ≤ boot_of (before ++ item ∷ []) of.0)
-    (λ of below. omega (arith, below, boot_rises setting before item of.0 cause)) (speaker body)
-    past
+    IfSome_then (speaker body) past
+    (λ of below. omega (arith, below, boot_rises setting before item of.0 cause))
 
 sent_past : (setting : Setting) (before : List Item) (to : Receiver) (body : Body)
     → IsRightMessage setting before to body → HasPastBoot before to body

@@ -14,16 +14,16 @@ use Rattle.update_machine.specs.Folds.{all_given, count_of, last_told}
 use Rattle.update_machine.specs.Marks.{first_of, said_to_controller, changes_over, changes_told, controller_heard, current_mark, hello_boot, is_over, known_boot, open_sent, opened_at, retired_mark, tells_current, tells_retired}
 use Rattle.update_machine.specs.Messages.{message_of, tells_message}
 use Rattle.update_machine.specs.Settling.{to_switch}
-use Rattle.update_machine.specs.Versions.{file_of, first_stamp, greatest, stamp_in, stamp_of, is_submission, tells_file, version_count}
+use Rattle.update_machine.specs.Versions.{first_stamp, greatest, stamp_in, stamp_of, is_submission, version_count}
 use Rattle.update_machine.proofs.CallerLemmas.{all_given_append, count_of_append, folded_append, last_told_append}
 
 -- the last item tells, or else those before it
-last_more : {X : Type 0} (told : Item → Option X) (before : List Item) (item : Item) (other : X)
-    → unwrap_or (last_told told (before ++ item ∷ [])) other
-    ≡ unwrap_or (told item) (unwrap_or (last_told told before) other)
-last_more {X = X} told before item other =
-    ap (λ o. unwrap_or o other) (last_told_append told before (item ∷ []))
-    ∙ by_told (told item) (last_told told before)
+last_more : {X : Type 0} (tells : Item → Option X) (before : List Item) (item : Item) (other : X)
+    → unwrap_or (last_told tells (before ++ item ∷ [])) other
+    ≡ unwrap_or (tells item) (unwrap_or (last_told tells before) other)
+last_more {X = X} tells before item other =
+    ap (λ o. unwrap_or o other) (last_told_append tells before (item ∷ []))
+    ∙ by_told (tells item) (last_told tells before)
   where
     by_told : (now earlier : Option X) → unwrap_or (option_or now earlier) other
         ≡ unwrap_or now (unwrap_or earlier other)
@@ -54,11 +54,6 @@ pub retired_more : (before : List Item) (item : Item)
     → retired_mark (before ++ item ∷ []) ≡ unwrap_or (tells_retired item) (retired_mark before)
 unfolding retired_mark
 retired_more before item = last_more tells_retired before item 0
-
-pub file_more : (before : List Item) (item : Item) (v : ℕ)
-    → file_of (before ++ item ∷ []) v ≡ unwrap_or (tells_file v item) (file_of before v)
-unfolding file_of
-file_more before item v = last_more (tells_file v) before item 1
 
 pub count_more : (before : List Item) (item : Item) → version_count (before ++ item ∷ [])
     ≡ (if is_submission item then version_count before + 1 else version_count before)

@@ -1,6 +1,10 @@
 -- Each piece has its causes, whatever its step, and so has the journal of any steps.
-use Rattle.std.proofs.Common.{sym, subst, ℕ, ◌≡◌, ◌==◌, Bool, true, false, List, [], ◌∷◌, ◌++◌, map, refl, arith}
+use Rattle.std.proofs.Common.{sym, subst, ℕ, ◌≡◌, ◌+◌, ◌==◌, Bool, true, false, Option, Some, None, List, [], ◌∷◌, ◌++◌, map, refl, arith}
+use Rattle.std.specs.Prelude.{Result, Ok, Err}
 use Rattle.std.proofs.lemmas.Bool.{eq-eqb}
+use Rattle.std.proofs.lemmas.Bool.Decides.{nat_tests}
+use Rattle.partition.specs.Plan.{NoPlan, Placed, TooManyLeaves}
+use Rattle.policy_rules.specs.declared.policy.Row.{Row}
 use Rattle.journal.specs.declared.item.Item.{Item}
 use Rattle.journal.specs.declared.item.Item.TheVariants as item
 use Rattle.steps.specs.declared.step.Step.{Step}
@@ -12,17 +16,18 @@ use Rattle.update_machine.specs.Deliveries.{link_changes}
 use Rattle.update_machine.specs.Messages.{sends}
 use Rattle.update_machine.specs.Moves.{put}
 use Rattle.update_machine.specs.Packets.{next_packet}
-use Rattle.update_machine.specs.Pieces.{confirm_items, crash_items, deliver_items, expire_items, forget_items, hello_of, link_items, piece, restart_items, step_items, update_items}
-use Rattle.update_machine.specs.Setting.{Setting}
+use Rattle.update_machine.specs.Pieces.{confirm_items, crash_items, deliver_items, hello_of, link_items, marks_code, piece, plan_code, restart_items, step_items, update_code, update_items}
+use Rattle.update_machine.specs.Setting.{Setting, plan_of_file, policy_of_file}
+use Rattle.update_machine.specs.Versions.{version_count}
 use Rattle.update_machine.proofs.CallerLemmas.{PiecesHave, begun_has, have_first, have_put}
 use Rattle.boot_laws.specs.Always.{HoldsAlways}
-use Rattle.boot_laws.specs.ItemCauses.{HasItemCause}
+use Rattle.boot_laws.specs.ItemCauses.{HasItemCause, SubmitsRightly}
 use Rattle.boot_laws.proofs.ControllerBlocks.{settling_have, submitted_have}
 use Rattle.boot_laws.proofs.Facts.{Has, steps_have}
 use Rattle.boot_laws.proofs.Grown.{up_more}
-use Rattle.boot_laws.proofs.PacketBlocks.{hop_has, lose_has, packet_has}
 use Rattle.boot_laws.proofs.Sends.{sends_have}
-use Rattle.boot_laws.proofs.SwitchBlocks.{delivery_have, links_have}
+use Rattle.boot_laws.proofs.SwitchBlocks.{delivery_have}
+use Rattle.boot_laws.proofs.Traffic.{expire_traffic, forget_traffic, hop_traffic, links_have, lose_traffic, lost_traffic, packet_has, traffic_has, traffic_right}
 use Rattle.boot_laws.proofs.Resends.{resend_have}
 
 deliver_have : (setting : Setting) (before : List Item) (row number : ℕ) (step : Step)
@@ -33,39 +38,54 @@ deliver_have setting before row number step =
     let delivery = delivery_have setting before row number step in
     grind arith
 
-forget_have : (setting : Setting) (number : ℕ) (journal : List Item)
-    → Has setting journal (forget_items number journal)
-unfolding forget_items
-forget_have setting number journal = grind arith
-
-expire_have : (setting : Setting) (s at : ℕ) (journal : List Item)
-    → Has setting journal (expire_items setting s at journal)
-unfolding expire_items
-expire_have setting s at journal = grind arith
+-- a policy that isn't refused is there and has a plan, and neither limit is met
+may_submit : (setting : Setting) (file : ℕ) (journal : List Item)
+    → update_code setting journal file ≡ None
+    → SubmitsRightly setting journal file (version_count journal + 1)
+may_submit setting file journal allowed = by (policy_of_file setting file) refl
+  where
+    by : (o : Option (List Row)) → policy_of_file setting file ≡ o
+        → SubmitsRightly setting journal file (version_count journal + 1)
+    by None none =
+        let refused : Some (plan_code TooManyLeaves) ≡ None =
+        rw (none, update_code) at allowed in absurd cc
+    by (Some rows) there = by_plan (setting.plan rows) refl
+      where
+        by_plan : (plan : Result (List Placed) NoPlan) → setting.plan rows ≡ plan
+            → SubmitsRightly setting journal file (version_count journal + 1)
+        by_plan (Err why) none =
+            let refused : Some (plan_code why) ≡ None =
+            rw (there, none, update_code) at allowed in absurd cc
+        by_plan (Ok plan) planned =
+            let free : marks_code journal ≡ None = rw (there, planned, update_code) at allowed in
+            record {
+              next = refl;
+              there = rw there refl;
+              planned = rw (there, planned, plan_of_file) refl;
+              live = λ met. grind (arith, nat_tests);
+              few = λ met. grind (arith, nat_tests);
+            }
 
 update_have : (setting : Setting) (file : ℕ) (journal : List Item)
     → Has setting journal (update_items setting file journal)
 unfolding update_items
-update_have setting file journal = grind (arith, submitted_have)
+update_have setting file journal = grind (arith, submitted_have, may_submit)
 
 link_have : (setting : Setting) (before : List Item) (one two : ℕ) (up : Bool)
     (journal : List Item) → Has setting journal (link_items setting before one two up journal)
 unfolding link_items
 link_have setting before one two up journal = grind (arith, links_have)
 
-lost_have : (setting : Setting) (packets : List ℕ) (journal : List Item)
-    → Has setting journal (map item.Lost packets)
-lost_have setting [] journal = tt
-lost_have setting (i ∷ packets) journal =
-    (tt, lost_have setting packets (journal ++ item.Lost i ∷ []))
-
 down_has : (setting : Setting) (before : List Item) (s : ℕ) (packets : List ℕ)
     (journal : List Item) → is_up journal s ≡ true → Has setting journal
     (put (item.Down s ∷ map item.Lost packets) (link_changes setting before) journal)
 down_has setting before s packets journal up =
     let down : List Item = item.Down s ∷ map item.Lost packets in
-    have_put (HasItemCause setting) down (link_changes setting before) journal
-    (up, lost_have setting packets (journal ++ item.Down s ∷ []))
+    have_put (HasItemCause setting) down (link_changes setting before) journal (
+      up,
+      traffic_has setting (journal ++ item.Down s ∷ []) (map item.Lost packets)
+          (lost_traffic setting packets (journal ++ item.Down s ∷ [])),
+    )
     (links_have setting before (journal ++ down))
 
 crash_have : (setting : Setting) (before : List Item) (s : ℕ) (journal : List Item)
@@ -98,15 +118,17 @@ step_have : (setting : Setting) (before : List Item) (row : ℕ) (step : Step)
     → let here = before ++ item.Row row step ∷ [] in
     Has setting here (step_items setting before step here)
 step_have setting before row (Packet s header) =
-    packet_has setting (next_packet before) s header _
+    packet_has setting (HasItemCause setting) (traffic_right setting) (next_packet before) s
+    header _ tt
 step_have setting before row (Hop packet) =
-    hop_has setting packet _
-step_have setting before row (Lose packet) =
-    lose_has setting packet _
+    traffic_has setting _ _ (hop_traffic setting packet _)
+step_have setting before row (Lose packet) = traffic_has setting _ _ (lose_traffic setting packet _)
 step_have setting before row (Deliver message) =
     deliver_have setting before row message (Deliver message)
-step_have setting before row (Forget message) = forget_have setting message _
-step_have setting before row (Expire s at) = expire_have setting s at _
+step_have setting before row (Forget message) =
+    traffic_has setting _ _ (forget_traffic setting message _)
+step_have setting before row (Expire s at) =
+    traffic_has setting _ _ (expire_traffic setting s at _)
 step_have setting before row (Update file) = update_have setting file _
 step_have setting before row (LinkDown one two) = link_have setting before one two false _
 step_have setting before row (LinkUp one two) = link_have setting before one two true _
@@ -116,7 +138,7 @@ step_have setting before row (Restart s) = restart_have setting s _
 step_have setting before row (Confirm s) = confirm_have setting s _
 step_have setting before row (Resend s) = resend_have setting s _
 
-pieces_have : (setting : Setting) → PiecesHave (HasItemCause setting) setting
+pub pieces_have : (setting : Setting) → PiecesHave (HasItemCause setting) setting
 unfolding piece
 pieces_have setting journal row step =
     have_first (HasItemCause setting) (item.Row row step) (step_items setting journal step) journal

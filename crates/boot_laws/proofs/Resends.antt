@@ -3,6 +3,7 @@ use Rattle.std.proofs.Common.{ℕ, ◌≡◌, ◌+◌, ◌-◌, ◌≤◌, ◌==
 use Rattle.std.specs.Prelude.{IsTrue, IsFalse, is_some, filter, nat_lt, unwrap_or}
 use Rattle.std.specs.List.{AllByRecursion, flat_map, range_with_len}
 use Rattle.ctrl_msg.specs.declared.message.Message.{Message}
+use Rattle.failover.specs.declared.advert.Advert.{Advert}
 use Rattle.journal.specs.declared.item.Item.{Item}
 use Rattle.update_machine.specs.Adverts.{held_adverts}
 use Rattle.update_machine.specs.Boots.{is_up}
@@ -15,9 +16,15 @@ use Rattle.update_machine.specs.Settling.{collect_for, install_for, resent_by_co
 use Rattle.update_machine.specs.Versions.{version_count}
 use Rattle.boot_laws.specs.ItemCauses.{IsForKnown}
 use Rattle.boot_laws.proofs.Facts.{Has}
-use Rattle.boot_laws.proofs.Sends.{IsRight, each_append, each_flat_map, each_kept, each_map, each_range, sends_have}
+use Rattle.boot_laws.proofs.Sends.{IsRight, each, each_append, each_flat_map, each_kept, each_map, each_range, sends_have}
 use Rattle.boot_laws.proofs.Serving.{member_parts}
-use Rattle.boot_laws.proofs.SwitchBlocks.{adverts_right}
+
+-- adverts may be sent at any time
+adverts_right : (setting : Setting) (journal : List Item) (s : ℕ) (adverts : List Advert)
+    → AllByRecursion (IsRight setting journal) (map (advert_to s) adverts)
+adverts_right setting journal s adverts =
+    each_map (IsRight setting journal) (advert_to s) adverts
+    (each (λ advert. IsRight setting journal (advert_to s advert)) (λ advert. tt) adverts)
 
 resend_by_switch : (setting : Setting) (journal : List Item) (s : ℕ)
     → AllByRecursion (IsRight setting journal) (resent_by_switch setting journal s)

@@ -8,6 +8,7 @@ use Rattle.ctrl_msg.specs.declared.message.Body.TheVariants.{Install, OpenAt, St
 use Rattle.ctrl_msg.specs.declared.message.Message.{Message}
 use Rattle.ctrl_msg.specs.declared.message.Receiver.{Receiver}
 use Rattle.ctrl_msg.specs.declared.message.Receiver.TheVariants as receiver
+use Rattle.switch_table.specs.Tables.{tables_of}
 use Rattle.journal.specs.declared.item.Item.{Item}
 use Rattle.journal.specs.declared.item.Item.TheVariants as item
 use Rattle.update_machine.specs.Causes.{HaveCauses}
@@ -16,9 +17,9 @@ use Rattle.update_machine.specs.Marks.{controller_heard, has_acked, is_member, k
 use Rattle.update_machine.specs.Messages.{next_message, sends, sent_from}
 use Rattle.update_machine.specs.Setting.{Setting}
 use Rattle.update_machine.specs.Versions.{tables_at}
-use Rattle.update_machine.proofs.CallerLemmas.{switch_keeps}
+use Rattle.update_machine.proofs.CallerLemmas.{policies_keep, switch_keeps}
 use Rattle.boot_laws.specs.ItemCauses.{HasItemCause, IsFirstOpening, IsForKnown, IsPresentIn, IsRightFrom, IsRightMessage, IsRightOpening, IsRightTo}
-use Rattle.boot_laws.proofs.Grown.{count_more, current_more, file_more, known_more, opened_at_more, opens_by, over_more, retired_more, told_more}
+use Rattle.boot_laws.proofs.Grown.{count_more, current_more, known_more, opened_at_more, opens_by, over_more, retired_more, told_more}
 use Rattle.boot_laws.proofs.Serving.{member_on}
 
 -- ---- facts of each element
@@ -178,7 +179,9 @@ opening_sent setting before s boot version n message new right = record {
 
 tables_sent : (setting : Setting) (before : List Item) (n v s : ℕ) (message : Message)
     → tables_at setting (before ++ item.Sent n message ∷ []) v s ≡ tables_at setting before v s
-tables_sent setting before n v s message = rw (file_more before (item.Sent n message) v) refl
+tables_sent setting before n v s message =
+    ap (λ plan. tables_of plan v s)
+    ((policies_keep before (item.Sent n message ∷ []) (refl, tt)).plan setting v)
 
 to_sent : (setting : Setting) (before : List Item) (s n : ℕ) (message : Message) (body : Body)
     → IsRightMessage setting before message.to message.body → IsRightTo setting before s body

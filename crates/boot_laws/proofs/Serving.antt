@@ -49,7 +49,7 @@ pub opened_on : (before : List Item) (next : Item) (s boot version : ℕ)
     → opened_in (before ++ next ∷ []) s boot ≡ Some version
 opened_on before next s boot version opened = rw (opened_more before next s boot, opened) refl
 
-own_opening : (s boot version n : ℕ)
+pub own_opening : (s boot version n : ℕ)
     → first_of (open_sent s boot (item.Sent n (to_switch s (OpenAt boot version)))) ≡ Some version
 own_opening s boot version n =
     let s_is : (s == s) ≡ true = eq-eqb s s refl in

@@ -1,7 +1,7 @@
 -- What a delivery causes has its causes.
-use Rattle.std.proofs.Common.{ℕ, ◌≡◌, ◌+◌, ◌≤◌, ◌==◌, Bool, true, false, if◌then◌else◌, Option, Some, None, List, [], ◌∷◌, ◌++◌, ◌||◌, map, refl, ap, sym, subst, ◌∙◌, arith}
-use Rattle.std.specs.Prelude.{⊤, IsTrue, IsFalse, filter, nat_lt, option_and_then}
-use Rattle.std.specs.List.{AllByRecursion, list_any}
+use Rattle.std.proofs.Common.{ℕ, ◌≡◌, ◌+◌, ◌≤◌, ◌==◌, Bool, true, false, if◌then◌else◌, Option, Some, None, List, [], ◌∷◌, ◌++◌, ◌||◌, refl, ap, sym, subst, ◌∙◌, arith}
+use Rattle.std.specs.Prelude.{⊤, IsTrue, IsFalse, nat_lt, option_and_then}
+use Rattle.std.specs.List.{list_any}
 use Rattle.std.specs.Option.{option_map_or}
 use Rattle.std.proofs.lemmas.Bool.{eq-eqb, eqb-true}
 use Rattle.std.proofs.lemmas.Bool.Decides.{nat_tests}
@@ -11,20 +11,16 @@ use Rattle.ctrl_msg.specs.declared.message.Body.TheVariants.{Install, OpenAt, St
 use Rattle.ctrl_msg.specs.declared.message.Message.{Message}
 use Rattle.ctrl_msg.specs.declared.message.Receiver.{Receiver}
 use Rattle.ctrl_msg.specs.declared.message.Receiver.TheVariants as receiver
-use Rattle.failover.specs.Masks.{has}
-use Rattle.failover.specs.declared.advert.Advert.{Advert}
 use Rattle.journal.specs.declared.item.Item.{Item}
 use Rattle.journal.specs.declared.item.Item.TheVariants as item
 use Rattle.steps.specs.declared.step.Step.{Step}
-use Rattle.update_machine.specs.Adverts.{held_adverts, own_advert}
 use Rattle.update_machine.specs.Boots.{boot_of, heard, is_for_boot, is_up, said_to}
 use Rattle.update_machine.specs.Causes.{HaveCauses}
-use Rattle.update_machine.specs.Deliveries.{advert_to, after_hello, controller_items, delivery_items, has_changed, is_new_boot, link_changes, passed_on, received_items, switch_items, to_controller, told_by, told_over}
-use Rattle.update_machine.specs.Links.{near, switches_in}
+use Rattle.update_machine.specs.Deliveries.{after_hello, controller_items, delivery_items, is_new_boot, received_items, switch_items, to_controller}
 use Rattle.update_machine.specs.Marks.{is_over, known_boot, hello_boot, raises_known, said_to_controller}
 use Rattle.update_machine.specs.Messages.{message_of, next_message, sends, sent_from}
 use Rattle.update_machine.specs.Moves.{in_turn}
-use Rattle.update_machine.specs.Setting.{Setting, switches_of}
+use Rattle.update_machine.specs.Setting.{Setting}
 use Rattle.update_machine.specs.Settling.{current_items, installs_to, open_items, retired_items, settling, to_switch}
 use Rattle.update_machine.specs.Versions.{installs, stamp_in, stamp_of}
 use Rattle.update_machine.proofs.CallerLemmas.{have_first, have_in_turn, have_put}
@@ -32,37 +28,8 @@ use Rattle.boot_laws.specs.ItemCauses.{HasItemCause, OpensRightly}
 use Rattle.boot_laws.proofs.ControllerBlocks.{installs_have, settling_have}
 use Rattle.boot_laws.proofs.Facts.{AreKept, Has, fact_on}
 use Rattle.boot_laws.proofs.Grown.{boot_more, heard_more, known_more, message_more, over_more, raised, stamp_told, up_more}
-use Rattle.boot_laws.proofs.Sends.{IsRight, each, each_flat_map, each_map, sends_have}
-
--- ---- adverts
-
--- adverts may be sent at any time
-pub adverts_right : (setting : Setting) (journal : List Item) (s : ℕ) (adverts : List Advert)
-    → AllByRecursion (IsRight setting journal) (map (advert_to s) adverts)
-adverts_right setting journal s adverts =
-    each_map (IsRight setting journal) (advert_to s) adverts
-    (each (λ advert. IsRight setting journal (advert_to s advert)) (λ advert. tt) adverts)
-
-told_right : (setting : Setting) (before journal : List Item) (s neighbour : ℕ)
-    → AllByRecursion (IsRight setting journal) (told_over setting before journal s neighbour)
-told_right setting before journal s neighbour = by_link (has (near setting before s) neighbour)
-  where
-    by_link : (old : Bool) → AllByRecursion (IsRight setting journal) (elim old [
-      | true ↦ advert_to neighbour (own_advert setting journal s) ∷ []
-      | false ↦ map (advert_to neighbour) (held_adverts setting journal s)
-    ])
-    by_link true = (tt, tt)
-    by_link false = adverts_right setting journal neighbour (held_adverts setting journal s)
-
-pub links_have : (setting : Setting) (before journal : List Item)
-    → Has setting journal (link_changes setting before journal)
-unfolding link_changes
-links_have setting before journal =
-    sends_have setting journal _
-    (each_flat_map (IsRight setting journal) (told_by setting before journal)
-    (λ s. each_flat_map (IsRight setting journal) (told_over setting before journal s)
-    (told_right setting before journal s) (switches_in setting (near setting journal s)))
-    (filter (has_changed setting before journal) (switches_of setting)))
+use Rattle.boot_laws.proofs.Traffic.{links_have, passed_traffic, traffic_has}
+use Rattle.boot_laws.proofs.Sends.{sends_have}
 
 -- ---- what is said to a switch
 
@@ -84,7 +51,7 @@ record IsHeard (now : List Item) (s number : ℕ) (body : Body) : Type 0 where
   stamps : (version : ℕ) → stamp_in body ≡ Some version → version ≤ stamp_of now s
 
 -- a row changes nothing of what is said
-said_row : (before : List Item) (row s number : ℕ) (step : Step)
+pub said_row : (before : List Item) (row s number : ℕ) (step : Step)
     → said_to (before ++ item.Row row step ∷ []) s number ≡ said_to before s number
 said_row before row s number step =
     let sent = message_more before (item.Row row step) number in
@@ -133,14 +100,6 @@ opens_rightly now s number boot version is = record {
   own = refl;
 }
 
-passed_have : (setting : Setting) (now : List Item) (s : ℕ) (advert : Advert)
-    → Has setting now (sends now (passed_on setting now s advert))
-passed_have setting now s advert = sends_have setting now (passed_on setting now s advert)
-    (each_map (IsRight setting now) (λ neighbour. advert_to neighbour advert)
-    (switches_in setting (near setting now s))
-    (each (λ neighbour. IsRight setting now (advert_to neighbour advert)) (λ neighbour. tt)
-    (switches_in setting (near setting now s))))
-
 or_true : (b : Bool) → (b || true) ≡ true
 or_true true = refl
 or_true false = refl
@@ -175,45 +134,46 @@ switch_have setting before now s number (Stamp boot version) is =
     )
 switch_have setting before now s number (OpenAt boot version) is =
     let opens = opens_rightly now s number boot version is in grind (arith, links_have)
-switch_have setting before now s number (Advertise advert) is = grind (arith, passed_have)
+switch_have setting before now s number (Advertise advert) is =
+    grind (arith, traffic_has, passed_traffic)
 switch_have setting before now s number _ is = tt
 
 -- ---- what the controller does
 
 -- an item that settling writes
-abbrev IsOfSettling : List Item → Item → Type 0
+abbrev pub IsOfSettling : List Item → Item → Type 0
 IsOfSettling before (item.Current version) = ⊤
 IsOfSettling before (item.Retired version) = ⊤
 IsOfSettling before (item.Sent number message) = ⊤
 IsOfSettling before _ = ⊥
 
-sent_settle : (messages : List Message) (journal : List Item) (n : ℕ)
+pub sent_settle : (messages : List Message) (journal : List Item) (n : ℕ)
     → HaveCauses IsOfSettling journal (sent_from n messages)
 unfolding sent_from
 sent_settle [] journal n = tt
 sent_settle (message ∷ messages) journal n =
     (tt, sent_settle messages (journal ++ item.Sent n message ∷ []) (n + 1))
 
-sends_settle : (journal : List Item) (messages : List Message)
+pub sends_settle : (journal : List Item) (messages : List Message)
     → HaveCauses IsOfSettling journal (sends journal messages)
 sends_settle journal messages = sent_settle messages journal (next_message journal)
 
-current_settles : (setting : Setting) (journal : List Item)
+pub current_settles : (setting : Setting) (journal : List Item)
     → HaveCauses IsOfSettling journal (current_items setting journal)
 unfolding current_items
 current_settles setting journal = grind (arith, have_first, sends_settle)
 
-open_settles : (setting : Setting) (journal : List Item)
+pub open_settles : (setting : Setting) (journal : List Item)
     → HaveCauses IsOfSettling journal (open_items setting journal)
 unfolding open_items
 open_settles setting journal = sends_settle journal _
 
-retired_settles : (setting : Setting) (journal : List Item)
+pub retired_settles : (setting : Setting) (journal : List Item)
     → HaveCauses IsOfSettling journal (retired_items setting journal)
 unfolding retired_items
 retired_settles setting journal = grind (arith, have_first, sends_settle)
 
-settling_settles : (setting : Setting) (journal : List Item)
+pub settling_settles : (setting : Setting) (journal : List Item)
     → HaveCauses IsOfSettling journal (settling setting journal)
 unfolding settling
 settling_settles setting journal =

@@ -3,7 +3,7 @@
 -- the middle of a step too. The update in two phases is that of Reitblatt, Foster, Rexford,
 -- Schlesinger and Walker, "Abstractions for Network Update"; boots and acknowledgements are our
 -- own.
-use Rattle.std.specs.Prelude.{⊤, ℕ, ◌≡◌, ◌+◌, ◌<◌, ◌≤◌, ◌⊎◌, Some, None, List, IsTrue, IsFalse}
+use Rattle.std.specs.Prelude.{⊤, ℕ, ◌≡◌, ◌≢◌, ◌+◌, ◌-◌, ◌<◌, ◌≤◌, ◌⊎◌, Some, None, List, IsOk, IsSome, IsTrue, IsFalse}
 use Rattle.std.specs.List.{list_any}
 use Rattle.ctrl_msg.specs.declared.message.Body.{Body}
 use Rattle.ctrl_msg.specs.declared.message.Body.TheVariants.{Install, OpenAt, Stamp, Collect, CacheRule, Advertise, Hello, Installed, Stamped}
@@ -13,9 +13,9 @@ use Rattle.switch_table.specs.declared.tables.Tables.{Tables}
 use Rattle.journal.specs.declared.item.Item.{Item}
 use Rattle.journal.specs.declared.item.Item.TheVariants as item
 use Rattle.update_machine.specs.Boots.{boot_of, heard, is_up}
-use Rattle.update_machine.specs.Marks.{MayRise, current_mark, has_acked, is_member, is_over, known_boot, next_retired, opened_at, retired_mark}
+use Rattle.update_machine.specs.Marks.{MayRise, current_mark, has_acked, is_member, is_over, known_boot, most_live, most_versions, next_retired, opened_at, retired_mark}
 use Rattle.update_machine.specs.Messages.{message_of}
-use Rattle.update_machine.specs.Setting.{Setting}
+use Rattle.update_machine.specs.Setting.{Setting, plan_of_file, policy_of_file}
 use Rattle.update_machine.specs.Settling.{to_switch}
 use Rattle.update_machine.specs.Versions.{installs, stamp_of, tables_at, version_count}
 
@@ -113,6 +113,15 @@ pub record OpensRightly (before : List Item) (s stamp : ℕ) : Type 0 where
   pub stamped : version ≤ stamp_of before s
   pub own : stamp ≡ stamp_of before s
 
+-- the policy of a file that is there becomes the next version: it has a plan, and one more version
+-- may be live and be there in all
+pub record SubmitsRightly (setting : Setting) (before : List Item) (file version : ℕ) : Type 0 where
+  pub next : version ≡ version_count before + 1
+  pub there : IsSome (policy_of_file setting file)
+  pub planned : IsOk (plan_of_file setting file)
+  pub live : version_count before - retired_mark before ≢ most_live
+  pub few : version_count before ≢ most_versions
+
 -- retired rises as far as the members' acknowledged stamps allow
 pub record RetiresRightly (setting : Setting) (before : List Item) (version : ℕ) : Type 0 where
   pub rises : retired_mark before < version
@@ -126,7 +135,8 @@ HasItemCause setting before (item.Down s) = IsTrue (is_up before s)
 HasItemCause setting before (item.Booted s boot) = BeginsBoot before s boot
 HasItemCause setting before (item.Opened s version) = OpensRightly before s version
 HasItemCause setting before (item.OverNow s) = IsFalse (is_up before s)
-HasItemCause setting before (item.Submitted file version) = version ≡ version_count before + 1
+HasItemCause setting before (item.Submitted file version) =
+    SubmitsRightly setting before file version
 HasItemCause setting before (item.Current version) = MayRise setting before version
 HasItemCause setting before (item.Retired version) = RetiresRightly setting before version
 HasItemCause setting before _ = ⊤

@@ -1,6 +1,7 @@
 //! The laws.
 ghost use Rattle.std.specs.Prelude.{[]};
 ghost use Rattle.update_machine.specs.Causes.{HaveCauses};
+ghost use Rattle.update_machine.specs.Numbers.{VersionsAreNumbered};
 ghost use Rattle.boot_laws.specs.Always.{HoldsAlways};
 ghost use Rattle.boot_laws.specs.BootLaws.{BootsAreKnown, OpensAtOneVersion, ServingIsKnown};
 ghost use Rattle.boot_laws.specs.ItemCauses.{HasItemCause};
@@ -8,6 +9,11 @@ ghost use Rattle.boot_laws.specs.ItemCauses.{HasItemCause};
 /// Each item of switches and their controller has its cause in the journal before it.
 pub fn items_have_causes()
     ensures { HoldsAlways (λ setting journal. HaveCauses (HasItemCause setting) [] journal) }
+{}
+
+/// The versions that are there are those from 1 to their count.
+pub fn versions_are_numbered()
+    ensures { HoldsAlways (λ setting journal. VersionsAreNumbered journal) }
 {}
 
 /// The known boot of a switch is at most its own, and no message to it or of it carries a greater

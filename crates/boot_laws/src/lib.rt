@@ -6,4 +6,6 @@
 
 mod laws;
 
-pub use laws::{boots_are_known, items_have_causes, serving_is_known, switches_open_once};
+pub use laws::{
+    boots_are_known, items_have_causes, serving_is_known, switches_open_once, versions_are_numbered,
+};

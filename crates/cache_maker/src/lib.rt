@@ -16,6 +16,3 @@ mod laws;
 
 pub use cache_word::widen;
 pub use laws::{independent_laws, widen_laws};
-
-#[cfg(test)]
-mod tests;

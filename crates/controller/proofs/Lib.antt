@@ -3,3 +3,4 @@ mod Picking
 mod Telling
 mod Versions
 mod Unheard
+mod Kept

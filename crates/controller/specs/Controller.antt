@@ -1,5 +1,5 @@
 -- A controller: the marks of the versions, and the plans of those that a later call can name.
-use Rattle.std.specs.Prelude.{ℕ, ◌≡◌, ◌+◌, ◌-◌, nat_le, List, [], ◌∷◌, length, map, filter, All}
+use Rattle.std.specs.Prelude.{ℕ, ◌≡◌, ◌+◌, ◌-◌, ◌==◌, nat_le, Option, option_map, List, [], ◌∷◌, length, map, filter, find, All}
 use Rattle.std.specs.List.{range_with_len}
 use Rattle.switch_table.specs.Tables.{tables_of}
 use Rattle.switch_table.specs.declared.tables.Tables.{Tables}
@@ -22,6 +22,12 @@ pub record ControllerValue : Type 0 where
 abbrev pub tables_by_switch : KeptPlan → ℕ → List Tables
 tables_by_switch kept switches =
     map (tables_of kept.plan.placed kept.version) (range_with_len 0 switches)
+
+-- the tables that the plan of a version gives to a switch, where it is kept
+abbrev pub kept_tables : ControllerValue → ℕ → ℕ → Option Tables
+kept_tables controller version s =
+    option_map (λ (kept : KeptPlan). tables_of kept.plan.placed kept.version s)
+    (find (λ (kept : KeptPlan). kept.version == version) controller.plans)
 
 -- at the start every switch has version 1
 abbrev pub first_controller : ℕ → PlanValue → ControllerValue

@@ -1,12 +1,13 @@
-ghost use Rattle.std.specs.Prelude.{◌≡◌, ◌≢◌, ◌+◌, ◌-◌, ◌<◌, ◌≤◌, ◌↔◌, ◌++◌, [], ◌∷◌, map, filter, length, not, nat_le, Err, IsTrue, IsFalse, IfOk, IfErr, OnOk, OnErr};
+ghost use Rattle.std.specs.Prelude.{◌≡◌, ◌≢◌, ◌+◌, ◌-◌, ◌<◌, ◌≤◌, ◌↔◌, ◌++◌, [], ◌∷◌, map, filter, length, not, nat_le, Err, Some, IsTrue, IsFalse, IfOk, IfErr, OnOk, OnErr};
 ghost use Rattle.net_file.specs.Net.{IsNet};
 ghost use Rattle.ctrl_msg.specs.Bodies.{is_for_controller};
 ghost use Rattle.ctrl_msg.specs.declared.message.Body.TheVariants.{Hello};
+ghost use Rattle.switch_table.specs.Tables.{AreSoundTables};
 ghost use Rattle.version_update.specs.Marks.{AreSettled, StaySettled, at_switch, record_of, with_version};
 ghost use Rattle.version_update.specs.Record.{is_member, is_over, after_over};
 ghost use Rattle.version_update.specs.Settling.{Settles};
 ghost use Rattle.version_update.specs.declared.record.Phase.TheVariants.{Joining, Member};
-ghost use Rattle.controller.specs.Controller.{first_controller, plans_from, IsController, StaysController, SettlesWith};
+ghost use Rattle.controller.specs.Controller.{first_controller, kept_tables, plans_from, IsController, StaysController, SettlesWith};
 ghost use Rattle.controller.specs.Replies.{after_reply};
 ghost use Rattle.controller.specs.Sends.{those, boot_of, install, settling, submitting, after_hearing, hearing, NamesBoth, NamesThere, resending, resending_to};
 ghost use Rattle.controller.specs.Submit.{Submits, IsLeft};
@@ -19,10 +20,11 @@ use crate::sends::{Act, Sends};
 use crate::settling::{settle, settled_sends};
 use crate::submit_error::SubmitError;
 use crate::version::Version;
-use ctrl_msg::Body;
+use ctrl_msg::{Body, SharedTables};
 use net_file::Net;
 use std::alloc::{AllocError, Global};
 use std::marker::Model;
+use switch_table::tables_laws;
 use version_update::{Marks, Phase, Settled, settling_laws};
 
 /// The controller of a network: what it knows of the switches, and the plan of each version that a
@@ -86,6 +88,22 @@ impl Controller {
         ensures { result ≡ length self.now.marks.switches }
     {
         self.switches
+    }
+
+    /// The tables that the plan of a version, from the current one to the last, gives to a switch:
+    /// those that each `Install` of the version carries, shared.
+    ///
+    /// # Errors
+    /// Want of memory alone.
+    pub fn tables(&self, alloc: Global, version: u32, s: u32) -> Result<SharedTables, AllocError>
+        requires first { self.now.marks.current ≤ version }
+        requires last { version ≤ self.now.marks.count }
+        ensures tables { IfOk result (λ tables. kept_tables self.now version s ≡ Some tables) }
+        ensures sound { IfOk result AreSoundTables }
+    {
+        tables_laws();
+        let place = version - self.marks.current();
+        self.versions[place as usize].tables(alloc, s)
     }
 
     /// One more version, of which this is the plan: it goes to each switch that isn't over. A clone

@@ -43,6 +43,3 @@ pub use planning::compile;
 pub use sends::{Act, Sends};
 pub use submit_error::SubmitError;
 pub use tables::tables_of;
-
-#[cfg(test)]
-mod tests;

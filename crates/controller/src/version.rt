@@ -11,7 +11,7 @@ use std::alloc::{AllocError, Global};
 use std::marker::Model;
 
 /// A version with its plan. The tables of each switch are made once, and shared by each `Install`
-/// that carries them. Contracts see the version and the plan.
+/// that carries them and by each switch that begins with them. Contracts see the version and the plan.
 #[derive(Drop)]
 pub struct Version {
     version: u32,
@@ -70,8 +70,11 @@ impl Version {
         Ok(Act::post(s, Body::Install { boot, tables }))
     }
 
-    // The tables of a switch: those that were made, where they were.
-    fn tables(&self, alloc: Global, s: u32) -> Result<SharedTables, AllocError>
+    /// The tables of a switch: those that were made, where they were.
+    ///
+    /// # Errors
+    /// Want of memory alone.
+    pub fn tables(&self, alloc: Global, s: u32) -> Result<SharedTables, AllocError>
         ensures { IfOk result (λ tables.
             tables ≡ tables_of self.now.plan.placed self.now.version s) }
     {

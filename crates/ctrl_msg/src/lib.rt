@@ -9,6 +9,3 @@ mod shared;
 
 pub use message::{Body, Message, Receiver};
 pub use shared::SharedTables;
-
-#[cfg(test)]
-mod tests;

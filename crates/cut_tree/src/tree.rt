@@ -114,20 +114,3 @@ fn boxed(alloc: Global, tree: Tree) -> Result<Box<Tree>, AllocError>
     let boxed = Box::new(alloc, tree)?;
     Ok(boxed)
 }
-
-#[cfg(test)]
-mod tests {
-    use super::*;
-    use std::test::Fail;
-
-    #[test]
-    fn no_rules_make_a_leaf(rt: HostRuntime) -> Result<(), Fail> {
-        let tree = build(rt.alloc(), &[], 1)?;
-        let Tree::Leaf { region, rules } = tree else {
-            return Err(Fail::from("a cut"));
-        };
-        assert_eq!(rt; region, Word::any());
-        assert_eq!(rt; rules.items().len(), 0);
-        Ok(())
-    }
-}

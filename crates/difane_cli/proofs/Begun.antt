@@ -19,7 +19,7 @@ use Rattle.steps.specs.declared.step.Event.TheVariants.{One, Flush, Drain}
 use Rattle.steps.specs.declared.step.Step.TheVariants as step
 use Rattle.update_machine.specs.Played.{IsSetting, MayHappen, NamesOwnPort}
 use Rattle.update_machine.specs.Setting.{Setting, setting_of}
-use Rattle.world.specs.State.{AreTied, IsTied, WorldValue}
+use Rattle.world.specs.State.{AreTied, IsTied, WorldValue, setting_at}
 use Rattle.shelf.specs.Shelf.{Files}
 use Rattle.difane_cli.specs.Inputs.{StopsContent, and_then, first_plan, inputs_of, plan_from, plan_on, read_net, read_policy, read_schedule}
 use Rattle.difane_cli.specs.Run.{IsNetOf, IsReplayOf}
@@ -62,7 +62,7 @@ stops_first name net rows stop.NoMemory stops = tt
 stops_first name net rows stop.ReadFault stops = stops
 
 pub sound_by_tie : (world : WorldValue) → world.is_spent ≡ false
-    → (world.is_spent ≡ false → IsTied world) → IsSetting world.setting
+    → (world.is_spent ≡ false → IsTied world) → IsSetting (setting_at world)
 unfolding AreTied
 sound_by_tie world able tied = (tied able).sound
 

@@ -44,6 +44,12 @@ flat_map-block f xs block at is =
     (sym (flat_map-append f block rest) ∙ ap (flat_map f) both)
     ∙ sym (flat_map-append f (take at xs) (drop at xs)) ∙ ap (flat_map f) (take-append-drop at xs)
 
+-- what stands in the midst of nothing is nothing
+pub middle_none : {X : Type 0} (xs ys zs : List X) → xs ++ (ys ++ zs) ≡ [] → ys ≡ []
+middle_none [] [] zs is = refl
+middle_none [] (y ∷ ys) zs is = cc is
+middle_none (x ∷ xs) ys zs is = cc is
+
 -- so many as there are of the first
 pub take_own : {X : Type 0} (n : ℕ) (xs : List X) → take (length (take n xs)) xs ≡ take n xs
 take_own zero xs = refl

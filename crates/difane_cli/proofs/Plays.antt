@@ -16,7 +16,7 @@ use Rattle.difane_cli.specs.Inputs.{Inputs, Play, Print, Printing}
 use Rattle.shelf.specs.Sink.{gained, GainedPart, SinkState}
 use Rattle.shelf.specs.declared.output.SinkError.{SinkError}
 use Rattle.shelf.specs.declared.output.SinkError.TheVariants as sink
-use Rattle.difane_cli.specs.Run.{Begun, GainedSome, IsAnswer, IsPrintingOf, IsReplayOf, Known, PrintOutcome, ReplayOutcome, printing_text}
+use Rattle.difane_cli.specs.Run.{Begun, GainedSome, IsAnswer, IsPrintingOf, IsReplayOf, Known, PrintOutcome, ReplayOutcome, Wrote, WroteSome, printing_text}
 use Rattle.difane_cli.specs.Status.{status_after}
 use Rattle.difane_cli.specs.Words.{PrintCommand, ReplayCommand}
 
@@ -55,7 +55,7 @@ played laws command known inputs journal full asked accepted play = record {
 -- what a play leaves begins an answer, so that some of its text may be written
 begun : (command : ReplayCommand) (known : Known) (inputs : Inputs) (journal : List Item)
     (full : Option ℕ) (before now : SinkState) → IsAnswer command known inputs journal full
-    → GainedSome before.bytes (journal_text inputs.setting.net journal) now.bytes
+    → WroteSome (journal_text inputs.setting.net journal) before now
     → Begun command known journal before now
 begun command known inputs journal full before now answer written = record {
   inputs = inputs;
@@ -75,21 +75,33 @@ pub replayed : (command : ReplayCommand) (known : Known) (inputs : Inputs) (jour
     → (IsErrOf written sink.Failed
     → GainedPart before.bytes (journal_text inputs.setting.net journal) now.bytes)
     → OnErr written (GainedSome before.bytes (journal_text inputs.setting.net journal) now.bytes)
+    → (journal_text inputs.setting.net journal ≡ [] → now ≡ before)
     → ReplayOutcome command known (status_after written full) journal before now
-replayed command known inputs journal None before now (Ok done) answer whole part some =
-    record { inputs = inputs; played = answer; written = whole }
-replayed command known inputs journal (Some row) before now (Ok done) answer whole part some =
-    record { inputs = inputs; played = answer; written = whole }
-replayed command known inputs journal full before now (Err sink.Failed) answer whole part some =
+replayed command known inputs journal None before now (Ok done) answer whole part some none =
+    record {
+      inputs = inputs;
+      played = answer;
+      written = record { whole = whole; untouched = none };
+    }
+replayed command known inputs journal (Some row) before now (Ok done) answer whole part some none =
+    record {
+      inputs = inputs;
+      played = answer;
+      written = record { whole = whole; untouched = none };
+    }
+replayed command known inputs journal full before now (Err sink.Failed) answer whole part some
+    none =
     record { inputs = inputs; full = full; played = answer; written = part refl }
-replayed command known inputs journal full before now (Err sink.NoMemory) answer whole part some =
-    inr (begun command known inputs journal full before now answer some)
+replayed command known inputs journal full before now (Err sink.NoMemory) answer whole part some
+    none =
+    inr (begun command known inputs journal full before now answer
+    (record { some = some; untouched = none }))
 
 -- a plan or tables whose text was written, or not
 pub printed : (command : PrintCommand) (known : Known) (printing : Printing)
     (before now : SinkState) (written : Result (⊤) SinkError)
     → IsPrintingOf command printing → ForSome known (λ read. read ≡ Ok (Print printing))
-    → OnOk written (now.bytes ≡ gained before.bytes (printing_text printing))
+    → OnOk written (Wrote (printing_text printing) before now)
     → OnErr written (GainedPart before.bytes (printing_text printing) now.bytes)
     → PrintOutcome command known (status_after written None) [] before now
 printed command known printing before now (Ok done) planned accepted whole part =

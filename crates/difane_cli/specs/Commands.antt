@@ -2,9 +2,9 @@
 use Rattle.std.specs.Prelude.{ℕ, ◌≡◌, ◌≤◌, Option, option_map, List, length, map, string_bytes, All}
 use Rattle.std.specs.Borrow.{Bor}
 use Rattle.net_file.specs.Net.{IsNet}
-use Rattle.steps.specs.declared.step.TheConstants.{MAX_EVENTS}
+use Rattle.steps.specs.Steps.{max_events}
 use Rattle.update_machine.specs.Played.{MayHappen}
-use Rattle.world.specs.State.{IsBegun}
+use Rattle.world.specs.State.{IsBegun, setting_at}
 use Rattle.difane_cli.specs.Run.{IsPrintingOf, IsReplayOf}
 use Rattle.difane_cli.specs.Inputs.{Inputs, Printing, Task, Play, Print}
 use Rattle.difane_cli.specs.Words as grammar
@@ -45,7 +45,7 @@ cut_seen cut = record { net = net_named cut.net; words = map string_bytes cut.wo
 -- the inputs that were read
 abbrev pub inputs_stated : ReplayInputs → Inputs
 inputs_stated inputs = record {
-  setting = inputs.world.setting;
+  setting = setting_at inputs.world;
   events = inputs.events.items;
 }
 
@@ -64,10 +64,10 @@ task_stated (asked.Print inputs) = Print (printing_stated inputs)
 -- in the world of a replay nothing happened yet, its network is the one that was read, and the
 -- events may happen on it
 pub record IsReady (inputs : ReplayInputs) : Type 0 where
-  pub begun : IsBegun inputs.world.setting inputs.world
-  pub net : inputs.world.setting.net ≡ inputs.net
-  pub may : All (MayHappen inputs.world.setting) inputs.events.items
-  pub few : length inputs.events.items ≤ MAX_EVENTS
+  pub begun : IsBegun (setting_at inputs.world) inputs.world
+  pub net : inputs.world.net ≡ inputs.net
+  pub may : All (MayHappen (setting_at inputs.world)) inputs.events.items
+  pub few : length inputs.events.items ≤ max_events
 
 -- a plan is on a network
 abbrev pub IsReadyTask : declared_task.Task → Type 0

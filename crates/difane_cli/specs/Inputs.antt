@@ -18,8 +18,7 @@ use Rattle.shelf.specs.Shelf.{Files, file_named}
 use Rattle.update_machine.specs.Setting.{Setting, setting_of}
 use Rattle.difane_cli.specs.Words.{Command, PrintCommand, ReplayCommand}
 use Rattle.difane_cli.specs.Words as asked
-use Rattle.difane_cli.specs.declared.inputs.TheConstants.{MAX_BYTES, MISSING, TOO_LONG}
-use Rattle.difane_cli.specs.declared.policies.TheConstants.{NO_PORT, NO_ROOM, NO_SWITCH, TOO_MANY_LEAVES, TOO_MANY_WORDS}
+use Rattle.difane_cli.specs.Codes.{missing, most_bytes, no_port, no_room, no_switch, too_long, too_many_leaves, too_many_words}
 use Rattle.difane_cli.specs.declared.status.Refusal.{Refusal}
 use Rattle.difane_cli.specs.declared.status.Stop.{Stop}
 use Rattle.difane_cli.specs.declared.status.Stop.TheVariants as stop
@@ -36,9 +35,9 @@ abbrev pub whole : List ℕ → ℕ → Refusal
 whole name code = record { file = name; code = code; row = 0 }
 
 abbrev pub content_from : List ℕ → Option (List ℕ) → Result (List ℕ) Refusal
-content_from name None = Err (whole name MISSING)
+content_from name None = Err (whole name missing)
 content_from name (Some bytes) =
-    if nat_le (length bytes) MAX_BYTES then Ok bytes else Err (whole name TOO_LONG)
+    if nat_le (length bytes) most_bytes then Ok bytes else Err (whole name too_long)
 
 -- the content of the file of this name, unless there is none or it is too long
 abbrev pub content_of : Files → List ℕ → Result (List ℕ) Refusal
@@ -61,7 +60,7 @@ policy_from name (Err refusal) =
 
 abbrev pub with_ports : List ℕ → List Row → Option NoPort → Result (List Row) Refusal
 with_ports name rows None = Ok rows
-with_ports name rows (Some lack) = Err (record { file = name; code = NO_PORT; row = lack.row })
+with_ports name rows (Some lack) = Err (record { file = name; code = no_port; row = lack.row })
 
 -- the rows that the bytes of this file state, unless one names a port outside this mask
 abbrev pub policy_in : ℕ → List ℕ → List ℕ → Result (List Row) Refusal
@@ -93,10 +92,10 @@ read_net files (Some name) = and_then (content_of files name) (net_in name)
 
 abbrev pub plan_from : List ℕ → Result (List Placed) NoPlan → Result (List Placed) Refusal
 plan_from name (Ok placed) = Ok placed
-plan_from name (Err (no_plan.TooManyWords words)) = Err (whole name TOO_MANY_WORDS)
-plan_from name (Err no_plan.TooManyLeaves) = Err (whole name TOO_MANY_LEAVES)
+plan_from name (Err (no_plan.TooManyWords words)) = Err (whole name too_many_words)
+plan_from name (Err no_plan.TooManyLeaves) = Err (whole name too_many_leaves)
 plan_from name (Err (no_plan.NoRoom partition)) =
-    Err (record { file = name; code = NO_ROOM; row = partition })
+    Err (record { file = name; code = no_room; row = partition })
 
 -- the plan of the rows of this file on the network
 abbrev pub plan_on : List ℕ → Net → List Row → Result (List Placed) Refusal
@@ -128,7 +127,7 @@ inputs_of files command =
 abbrev pub switch_on : Net → Option (List ℕ) → Result (Option ℕ) Refusal
 switch_on net None = Ok None
 switch_on net (Some name) =
-    option_map_or (λ s. Ok (Some s)) (switch_number net.switches name) (Err (whole name NO_SWITCH))
+    option_map_or (λ s. Ok (Some s)) (switch_number net.switches name) (Err (whole name no_switch))
 
 -- a policy planned on a network, and the switch whose tables are asked for
 pub record Printing : Type 0 where
@@ -219,12 +218,12 @@ Refuses given stop.ReadFault = ⊥
 -- doesn't have
 abbrev pub StopsContent : {X : Type 0} → Result X Refusal → Stop → Type 0
 StopsContent read (stop.Refused refusal) =
-    (read ≡ Err refusal) × (MISSING < refusal.code) × (refusal.code < TOO_LONG)
+    (read ≡ Err refusal) × (missing < refusal.code) × (refusal.code < too_long)
 StopsContent read stop.NoMemory = ⊤
 StopsContent read stop.ReadFault = ⊥
 
 -- a stop at the switch: its refusal, by a code that no file has
 abbrev pub StopsSwitch : {X : Type 0} → Result X Refusal → Stop → Type 0
-StopsSwitch read (stop.Refused refusal) = (read ≡ Err refusal) × (TOO_LONG < refusal.code)
+StopsSwitch read (stop.Refused refusal) = (read ≡ Err refusal) × (too_long < refusal.code)
 StopsSwitch read stop.NoMemory = ⊤
 StopsSwitch read stop.ReadFault = ⊥

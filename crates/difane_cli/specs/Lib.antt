@@ -1,3 +1,4 @@
+pub mod Codes
 pub mod Inputs
 pub mod Run
 pub mod Status

@@ -30,6 +30,17 @@ Known = Option (Result Task Refusal)
 abbrev pub GainedSome : Option (List ℕ) → List ℕ → Option (List ℕ) → Type 0
 GainedSome before bytes now = (n : ℕ) × (now ≡ gained before (take n bytes))
 
+-- the output gained this text; where it is empty, it wasn't touched: no write was made, not even of
+-- nothing
+pub record Wrote (text : List ℕ) (before now : SinkState) : Type 0 where
+  pub whole : now.bytes ≡ gained before.bytes text
+  pub untouched : text ≡ [] → now ≡ before
+
+-- the same of some of the text
+pub record WroteSome (text : List ℕ) (before now : SinkState) : Type 0 where
+  pub some : GainedSome before.bytes text now.bytes
+  pub untouched : text ≡ [] → now ≡ before
+
 -- nothing was played, and the output wasn't touched: no write was made, not even of nothing
 pub record Unplayed (journal : List Item) (before now : SinkState) : Type 0 where
   pub nothing_played : journal ≡ []
@@ -67,7 +78,7 @@ pub record Replayed (command : ReplayCommand) (known : Known) (full : Option ℕ
     (journal : List Item) (before now : SinkState) : Type 0 where
   pub inputs : Inputs
   pub played : IsAnswer command known inputs journal full
-  pub written : now.bytes ≡ gained before.bytes (journal_text inputs.setting.net journal)
+  pub written : Wrote (journal_text inputs.setting.net journal) before now
 
 -- the same of either play, but that the output failed and gained a part of the text
 pub record CutShort (command : ReplayCommand) (known : Known) (journal : List Item)
@@ -87,7 +98,7 @@ pub record Begun (command : ReplayCommand) (known : Known) (journal : List Item)
   pub begins : BeginsAnswer inputs.setting inputs.events journal
   pub run : IsRun inputs.setting journal
   pub causes : EndsHaveCauses inputs.setting journal
-  pub written : GainedSome before.bytes (journal_text inputs.setting.net journal) now.bytes
+  pub written : WroteSome (journal_text inputs.setting.net journal) before now
 
 -- the journal and the output that a status of a replay comes with
 abbrev pub ReplayOutcome : ReplayCommand → Known → Status → List Item
@@ -139,7 +150,7 @@ pub record Printed (command : PrintCommand) (known : Known) (IsWritten : List �
 abbrev pub PrintOutcome : PrintCommand → Known → Status → List Item
     → (before now : SinkState) → Type 0
 PrintOutcome command known status.Ok journal before now =
-    Printed command known (λ text. now.bytes ≡ gained before.bytes text) journal
+    Printed command known (λ text. Wrote text before now) journal
 PrintOutcome command known status.WriteFault journal before now =
     Printed command known (λ text. GainedPart before.bytes text now.bytes) journal
 PrintOutcome command known status.NoMemory journal before now =

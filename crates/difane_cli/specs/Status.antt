@@ -6,11 +6,11 @@ use Rattle.shelf.specs.Shelf.{Files}
 use Rattle.shelf.specs.Sink.{SinkState, gained, GainedPart}
 use Rattle.shelf.specs.declared.output.SinkError.{SinkError}
 use Rattle.shelf.specs.declared.output.SinkError.TheVariants as sink
+use Rattle.difane_cli.specs.Codes.{missing, too_long}
 use Rattle.difane_cli.specs.declared.status.Status.{Status}
 use Rattle.difane_cli.specs.declared.status.Status.TheVariants as status
 use Rattle.difane_cli.specs.declared.status.Stop.{Stop}
 use Rattle.difane_cli.specs.declared.status.Stop.TheVariants as stop
-use Rattle.difane_cli.specs.declared.inputs.TheConstants.{MISSING, TOO_LONG}
 
 -- the status of a command that ended before its work
 abbrev pub status_of : Stop → Status
@@ -73,5 +73,5 @@ pub record TellsLine (whole : List ℕ) (takes_memory : Bool) (old new : SinkSta
 -- absent file or one too long
 abbrev pub NeedsReadFault : Option Files → Status → Type 0
 NeedsReadFault files status.ReadFault = ⊤
-NeedsReadFault None (status.Input file code row) = (code ≡ MISSING) ⊎ (code ≡ TOO_LONG)
+NeedsReadFault None (status.Input file code row) = (code ≡ missing) ⊎ (code ≡ too_long)
 NeedsReadFault _ _ = ⊥

@@ -1,5 +1,5 @@
 //! The play of accepted inputs, and the writing of its journal.
-ghost use Rattle.std.specs.Prelude.{◌≡◌, ◌≤◌, ◌<◌, ◌+◌, Ok, IsErrOf, OnOk, OnErr, drop, length, take};
+ghost use Rattle.std.specs.Prelude.{◌≡◌, ◌≤◌, ◌<◌, ◌+◌, [], Ok, IsErrOf, OnOk, OnErr, drop, length, take};
 ghost use Rattle.std.specs.Option.{ForSome};
 ghost use Rattle.journal_text.specs.Lines.{journal_text};
 ghost use Rattle.net_file.specs.Net.{IsNet};
@@ -70,6 +70,7 @@ fn write_journal<K: Sink>(
     ensures some { OnErr result
         (GainedSome (K.state out.old).bytes (journal_text net.now journal.now)
         (K.state out.new).bytes) }
+    ensures untouched { journal_text net.now journal.now ≡ [] → out.new ≡ out.old }
     ensures failed { IsErrOf result SinkError.Failed
         → Rose (K.state out.old).faults (K.state out.new).faults }
     ensures faults { (K.state out.old).faults ≤ (K.state out.new).faults }
@@ -113,6 +114,7 @@ fn write_block<K: Sink>(
     ensures some { OnErr result
         (GainedSome (K.state out.old).bytes (journal_text net.now items.now)
         (K.state out.new).bytes) }
+    ensures untouched { journal_text net.now items.now ≡ [] → out.new ≡ out.old }
     ensures failed { IsErrOf result SinkError.Failed
         → Rose (K.state out.old).faults (K.state out.new).faults }
     ensures faults { (K.state out.old).faults ≤ (K.state out.new).faults }

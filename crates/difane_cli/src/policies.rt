@@ -11,7 +11,7 @@ ghost use Rattle.net_file.specs.declared.net.Net.{Net};
 ghost use Rattle.partition.specs.Plan.{plan_of};
 ghost use Rattle.update_machine.specs.Played.{IsSetting};
 ghost use Rattle.update_machine.specs.Setting.{setting_of};
-ghost use Rattle.world.specs.State.{IsBegun};
+ghost use Rattle.world.specs.State.{IsBegun, setting_at};
 
 use crate::inputs::refused;
 use crate::status::Stop;
@@ -86,7 +86,7 @@ pub fn begin_world(alloc: Global, name: &str, policy: Policy, net: &Net) -> Resu
     requires ports { All (λ row. IsTrue (has_port (port_mask net.now.switches) row.action)) policy }
     ensures value { OnOk result (first_plan name.now net.now policy ≡ Ok policy) }
     ensures begun { IfOk result (IsBegun (setting_of net.now (policy ∷ []))) }
-    ensures sound { IfOk result (λ world. IsSetting world.setting) }
+    ensures sound { IfOk result (λ world. IsSetting (setting_at world)) }
     ensures stopped { IfErr result (StopsContent (first_plan name.now net.now policy)) }
 {
     port_laws();

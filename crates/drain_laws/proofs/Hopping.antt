@@ -18,7 +18,7 @@ use Rattle.update_machine.specs.Moves.{arrive_by, arrive_items, authority_items,
 use Rattle.update_machine.specs.Packets.{header_in, leg_of, next_switch, route_in, route_place}
 use Rattle.update_machine.specs.Played.{IsSetting}
 use Rattle.update_machine.specs.Setting.{Setting}
-use Rattle.update_machine.specs.Versions.{holds_version}
+use Rattle.update_machine.specs.Versions.{holds_version, plan_at}
 use Rattle.packet_laws.specs.Calm.{HasPacketsAlone, IsCalm}
 use Rattle.packet_laws.specs.OnWay.{IsNext, IsOnLeg, IsOnWay}
 use Rattle.packet_laws.specs.Words.{words_of}
@@ -49,7 +49,7 @@ arrive_form setting journal i s way (Seek version partition) is alone on headed 
     let finds : Finds setting header on.placed = in_plan setting header on.placed is
     way.under_way.sound
     (subst (λ plan. find (λ (p : Placed). is_in header (part_of p)) plan ≡ Some on.placed)
-    (calm_here.plan version) on.own.first) in
+    (calm_here.plan version ∙ ap (plan_at setting []) first) on.own.first) in
     let holds : holds_version journal s version ≡ true = calm_here.versions s version
     ∙ ap (λ v. v == 1) first in
     let place_of : first_place setting journal version partition (header_at journal i)

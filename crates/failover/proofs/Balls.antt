@@ -4,10 +4,10 @@ use Rattle.std.specs.Int.Bits.{bit_and}
 use Rattle.std.proofs.lemmas.Bool.{cases_lt, cases_eq}
 use Rattle.std.proofs.lemmas.Bool.Decides.{nat_tests}
 use Rattle.std.proofs.lemmas.Nat.{pow_below, or_lt, and_le_r}
-use Rattle.failover.specs.Masks.{has, least_in}
+use Rattle.masks.specs.Masks.{has, least_in}
 use Rattle.failover.specs.Routes.{wider, ball, nearer}
 use Rattle.failover.specs.Search.{IsAway}
-use Rattle.failover.proofs.MaskLemmas.{has-or, has-and, has-zero, has-pow_same, has-pow_other, marks_at, marks_lt, least_lt, has_least, least_below}
+use Rattle.masks.proofs.CallerLemmas.{has-or, has-and, has-zero, has-pow_same, has-pow_other, mask_where_at, mask_where_lt, least_lt, has_least, least_below}
 
 -- ---- Bool
 
@@ -72,13 +72,17 @@ positive (suc m) k h = omega arith
 pub wider_lt : (links : List ℕ) (within : ℕ) → length links ≤ 64 → within < 2 ^ 64 →
     wider links within < 2 ^ 64
 unfolding wider
-wider_lt links within rows fits = or_lt 64 _ _ fits (marks_lt _ 0 links 64 (omega arith))
+wider_lt links within rows fits = or_lt 64 _ _ fits (mask_where_lt _ 0 links 64 (omega arith))
 
 has_wider : (links : List ℕ) (within at : ℕ) → at < length links →
     has (wider links within) at ≡ (has within at || not (bit_and (get_or links at 0) within == 0))
 unfolding wider
 has_wider links within at below =
-    rw (has-or, marks_at (λ row. not (bit_and row within == 0)) 0 links 0 at at (omega arith) below)
+    rw (
+      has-or,
+      mask_where_at (λ row. not (bit_and row within == 0)) 0 links 0 at at
+          (omega arith) below,
+    )
     refl
 
 pub wider_keeps : (links : List ℕ) (within at : ℕ) → at < length links → has within at ≡ true →

@@ -1,4 +1,3 @@
-pub mod MaskLemmas
 pub mod Balls
 pub mod LeastPaths
 pub mod Searching

@@ -6,18 +6,17 @@ use Rattle.std.proofs.lemmas.Bool.{cases_eq}
 use Rattle.std.proofs.lemmas.Bool.Decides.{nat_tests}
 use Rattle.std.proofs.lemmas.Nat.{pow_pos, pow_below}
 use Rattle.std.proofs.lemmas.Nat.Bits.{bit_at_xor, bit_at-lt, bit_at-pow_same, bit_at-pow_other, and_pow}
-use Rattle.failover.specs.Masks.{has, only_if, least_in}
+use Rattle.masks.specs.Masks.{has, only_if, least_in}
 use Rattle.failover.specs.Links.{is_link, link_row}
-use Rattle.failover.proofs.MaskLemmas.{has-or, has-zero, has_only_same, has_only_other, has_least, same_masks, only_if_lt}
+use Rattle.masks.proofs.CallerLemmas.{has-or, has-zero, has_only_same, has_only_other, has_least, same_masks, only_if_lt, has_mask, mask_of_lt}
 use Rattle.failover.proofs.Balls.{apart_tests}
-use Rattle.failover.proofs.Rows.{has_mask, mask_of_lt}
 
 -- the row has the links to the switches that are not left
-pub record IsRowSoFar (told down : List ℕ) (one row rest : ℕ) : Type 0 where
+pub record IsRowSoFar (neighbours down : List ℕ) (one row rest : ℕ) : Type 0 where
   pub row_fits : row < 2 ^ 64
   pub rest_fits : rest < 2 ^ 64
   pub found : (k : ℕ) → k < 64 →
-      (has row k || (has rest k && is_link told down one k)) ≡ is_link told down one k
+      (has row k || (has rest k && is_link neighbours down one k)) ≡ is_link neighbours down one k
 
 named_and : (a b c d : Bool) → (b && (a && b && c && d)) ≡ (a && b && c && d)
 named_and true true c d = refl
@@ -26,26 +25,28 @@ named_and true false c d = refl
 named_and false false c d = refl
 
 -- a link is to a switch that is named
-named : (told down : List ℕ) (one k : ℕ) →
-    (has (get_or told one 0) k && is_link told down one k) ≡ is_link told down one k
+named : (neighbours down : List ℕ) (one k : ℕ) →
+    (has (get_or neighbours one 0) k && is_link neighbours down one k) ≡
+    is_link neighbours down one k
 unfolding is_link
-named told down one k = named_and (not (one == k)) (has (get_or told one 0) k)
-    (has (get_or told k 0) one) _
+named neighbours down one k = named_and (not (one == k)) (has (get_or neighbours one 0) k)
+    (has (get_or neighbours k 0) one) _
 
-pub row_begins : (told down : List ℕ) (one : ℕ) → get_or told one 0 < 2 ^ 64 →
-    IsRowSoFar told down one 0 (get_or told one 0)
-row_begins told down one fits = record {
+pub row_begins : (neighbours down : List ℕ) (one : ℕ) → get_or neighbours one 0 < 2 ^ 64 →
+    IsRowSoFar neighbours down one 0 (get_or neighbours one 0)
+row_begins neighbours down one fits = record {
   row_fits = pow_pos 64;
   rest_fits = fits;
-  found = λ k below. rw (has-zero k) (named told down one k);
+  found = λ k below. rw (has-zero k) (named neighbours down one k);
 }
 
-pub row_ends : (told down : List ℕ) (one row rest : ℕ) → IsRowSoFar told down one row rest →
-    rest ≡ 0 → row ≡ link_row told down one
-row_ends told down one row rest so_far none =
-    same_masks row _ so_far.row_fits (mask_of_lt (is_link told down one))
+pub row_ends : (neighbours down : List ℕ) (one row rest : ℕ) →
+    IsRowSoFar neighbours down one row rest →
+    rest ≡ 0 → row ≡ link_row neighbours down one
+row_ends neighbours down one row rest so_far none =
+    same_masks row _ so_far.row_fits (mask_of_lt (is_link neighbours down one))
     (λ k below. at_end (has row k) (has rest k) _ (ap (λ n. has n k) none ∙ has-zero k)
-    (so_far.found k below) ∙ sym (has_mask (is_link told down one) k below))
+    (so_far.found k below) ∙ sym (has_mask (is_link neighbours down one) k below))
   where
     at_end : (row rest link : Bool) → rest ≡ false → (row || (rest && link)) ≡ link → row ≡ link
     at_end true true link none h = apart_tests true refl none
@@ -100,24 +101,24 @@ turn_other : (row rest link : Bool) → (row || (rest && link)) ≡ link →
 turn_other true rest link h = h
 turn_other false rest link h = h
 
-pub row_goes_on : (told down : List ℕ) (one row rest other gain gone : ℕ) →
-    IsRowSoFar told down one row rest → has rest other ≡ true → other < 64 →
-    gain ≡ only_if (is_link told down one other) other → gone ≡ 2 ^ other →
-    IsRowSoFar told down one (bit_or row gain) (bit_xor rest gone)
-row_goes_on told down one row rest other gain gone so_far left fits gains goes =
+pub row_goes_on : (neighbours down : List ℕ) (one row rest other gain gone : ℕ) →
+    IsRowSoFar neighbours down one row rest → has rest other ≡ true → other < 64 →
+    gain ≡ only_if (is_link neighbours down one other) other → gone ≡ 2 ^ other →
+    IsRowSoFar neighbours down one (bit_or row gain) (bit_xor rest gone)
+row_goes_on neighbours down one row rest other gain gone so_far left fits gains goes =
     rw (gains, goes) (record {
       row_fits = or_lt 64 _ _ so_far.row_fits
-          (only_if_lt (is_link told down one other) other 64 fits);
+          (only_if_lt (is_link neighbours down one other) other 64 fits);
       rest_fits = xor_lt 64 _ _ so_far.rest_fits (pow_below other 64 fits);
       found = λ k below. elim (cases_eq k other) [
         | inl same ↦ rw (has-or, same, has_only_same, has_less-same rest other left)
             (turn_same (has row other) _ (sym
-            (ap (λ b. has row other || (b && is_link told down one other)) left)
+            (ap (λ b. has row other || (b && is_link neighbours down one other)) left)
             ∙ so_far.found other fits))
         | inr apart ↦ rw (
           has-or,
           has_only_other
-              (is_link told down one other) other k apart,
+              (is_link neighbours down one other) other k apart,
           has_less-other rest other k apart,
         )
             (turn_other (has row k) (has rest k) _ (so_far.found k below))

@@ -1,34 +1,34 @@
 -- The rows of known links.
-use Rattle.std.proofs.Common.{◌≡◌, ◌≢◌, ℕ, ◌+◌, ◌^◌, ◌<◌, ◌≤◌, Bool, true, false, not, ◌&&◌, ◌==◌, nat_le, List, [], ◌∷◌, length, get_or, ◌⊎◌, inl, inr, Option, map, length-set, get_or-set_same, get_or-set_other, None, ◌↔◌, IsTrue, refl, sym, ◌∙◌, ap, subst, arith}
+use Rattle.std.proofs.Common.{◌≡◌, ◌≢◌, ℕ, ◌+◌, ◌<◌, ◌≤◌, Bool, true, false, not, ◌&&◌, ◌==◌, nat_le, List, [], ◌∷◌, length, get_or, ◌⊎◌, inl, inr, Option, map, length-set, get_or-set_same, get_or-set_other, None, ◌↔◌, IsTrue, refl, sym, ◌∙◌, ap, subst, arith}
 use Rattle.std.proofs.lemmas.Bool.Decides.{nat_tests}
 use Rattle.std.proofs.lemmas.Bool.{cases_lt}
 use Rattle.std.proofs.lemmas.List.{get_or_past, get_or-map, length-map}
 use Rattle.failover.specs.declared.advert.Advert.{Advert}
-use Rattle.failover.specs.Masks.{has, marks, switches, mask_of}
+use Rattle.masks.specs.Masks.{has, mask_where, switches, mask_of}
 use Rattle.failover.specs.DownSet.{has_link}
 use Rattle.failover.specs.Links.{told_links, is_link, link_row, known_links, is_isolated, names, neighbours_told}
 use Rattle.failover.specs.Paths.{IsIsolated}
-use Rattle.failover.proofs.MaskLemmas.{has-zero, marks_at, marks_past, marks_lt, same_sets}
+use Rattle.masks.proofs.CallerLemmas.{has-zero, same_sets, length-switches, get_or-switches, has_mask, has_mask_past}
 use Rattle.failover.proofs.Balls.{and_both, and_left, and_right, apart_tests, false_of, same_number, number_test}
 use Rattle.failover.proofs.LinkSets.{has_link-turned}
 use Rattle.failover.proofs.Searching.{length-known_links}
-use Rattle.failover.proofs.Loops.{length-switches, get_or-switches}
 
-marks_none : {X : Type 0} (test : X → Bool) (k : ℕ) (xs : List X) → ((x : X) → test x ≡ false) →
-    marks test k xs ≡ 0
-unfolding marks
-marks_none test k [] none = refl
-marks_none test k (x ∷ xs) none = rw (none x, marks_none test (k + 1) xs none) refl
+mask_where_none : {X : Type 0} (test : X → Bool) (k : ℕ) (xs : List X) → ((x : X) →
+    test x ≡ false) →
+    mask_where test k xs ≡ 0
+unfolding mask_where
+mask_where_none test k [] none = refl
+mask_where_none test k (x ∷ xs) none = rw (none x, mask_where_none test (k + 1) xs none) refl
 
 never : (a b c d : Bool) → b ≡ false → (a && b && c && d) ≡ false
 never true b c d e = rw e refl
 never false b c d e = refl
 
-strange : (told down : List ℕ) (one : ℕ) → length told ≤ one → (other : ℕ) →
-    is_link told down one other ≡ false
+strange : (neighbours down : List ℕ) (one : ℕ) → length neighbours ≤ one → (other : ℕ) →
+    is_link neighbours down one other ≡ false
 unfolding is_link
-strange told down one past other =
-    never _ _ _ _ (ap (λ row. has row other) (get_or_past told one 0 past) ∙ has-zero other)
+strange neighbours down one past other =
+    never _ _ _ _ (ap (λ row. has row other) (get_or_past neighbours one 0 past) ∙ has-zero other)
 
 is_zero : (n : ℕ) → n ≡ 0 → true ≡ (n == 0)
 is_zero n e = grind (arith, nat_tests)
@@ -36,27 +36,15 @@ is_zero n e = grind (arith, nat_tests)
 at_least : (n : ℕ) → 64 ≤ n → nat_le 64 n ≡ true
 at_least n past = grind (arith, nat_tests)
 
-pub no_row_past : (told down : List ℕ) (one : ℕ) → length told ≡ 64 → 64 ≤ one →
-    nat_le 64 one ≡ (link_row told down one == 0)
+pub no_row_past : (neighbours down : List ℕ) (one : ℕ) → length neighbours ≡ 64 → 64 ≤ one →
+    nat_le 64 one ≡ (link_row neighbours down one == 0)
 unfolding mask_of
-no_row_past told down one rows past =
+no_row_past neighbours down one rows past =
     at_least one past ∙ is_zero _
-    (marks_none (is_link told down one) 0 switches (strange told down one (omega arith)))
+    (mask_where_none (is_link neighbours down one) 0 switches (strange neighbours down one
+    (omega arith)))
 
 -- ---- known links
-
-pub has_mask : (test : ℕ → Bool) (k : ℕ) → k < 64 → has (mask_of test) k ≡ test k
-unfolding mask_of
-has_mask test k below = marks_at test 0 switches 0 k k (omega arith)
-    (omega (arith, length-switches)) ∙ ap test (get_or-switches k below)
-
-has_mask_past : (test : ℕ → Bool) (k : ℕ) → 64 ≤ k → has (mask_of test) k ≡ false
-unfolding mask_of
-has_mask_past test k past = marks_past test 0 switches k (omega (arith, length-switches))
-
-pub mask_of_lt : (test : ℕ → Bool) → mask_of test < 2 ^ 64
-unfolding mask_of
-mask_of_lt test = marks_lt test 0 switches 64 (omega (arith, length-switches))
 
 row_of : (adverts : List (Option Advert)) (at near : ℕ) (down : List ℕ) (one : ℕ) → one < 64 →
     get_or (known_links adverts at near down) one 0 ≡ link_row (told_links adverts at near) down one
@@ -95,12 +83,13 @@ swapped false b c d = refl
 turned_number : (x y : ℕ) → (x == y) ≡ (y == x)
 turned_number x y = grind (arith, nat_tests)
 
-link_turned : (told down : List ℕ) (one other : ℕ) →
-    is_link told down one other ≡ is_link told down other one
+link_turned : (neighbours down : List ℕ) (one other : ℕ) →
+    is_link neighbours down one other ≡ is_link neighbours down other one
 unfolding is_link
-link_turned told down one other =
+link_turned neighbours down one other =
     rw (turned_number one other, has_link-turned down one other)
-    (swapped (not (other == one)) (has (get_or told one 0) other) (has (get_or told other 0) one)
+    (swapped (not (other == one)) (has (get_or neighbours one 0) other) (has
+    (get_or neighbours other 0) one)
     (not (has_link down other one)))
 
 pub known_turned : (adverts : List (Option Advert)) (at near : ℕ) (down : List ℕ) (one other : ℕ) →
@@ -178,12 +167,13 @@ isolated_tells adverts at target near down rows = (
       ∙ sym (has-zero other))))),
 )
 
-pub isolated_answer : (adverts : List (Option Advert)) (at target near : ℕ) (down told : List ℕ)
-    (answer : Bool) → length adverts ≡ 64 → told ≡ told_links adverts at near →
-    answer ≡ (link_row told down target == 0) → target ≢ at →
+pub isolated_answer : (adverts : List (Option Advert)) (at target near : ℕ)
+    (down neighbours : List ℕ)
+    (answer : Bool) → length adverts ≡ 64 → neighbours ≡ told_links adverts at near →
+    answer ≡ (link_row neighbours down target == 0) → target ≢ at →
     IsTrue answer ↔ IsIsolated (known_links adverts at near down) at target
 unfolding is_isolated
-isolated_answer adverts at target near down told answer rows e linkless apart =
+isolated_answer adverts at target near down neighbours answer rows e linkless apart =
     let same : answer ≡ is_isolated adverts at target near down =
     rw (not_test target at apart) (linkless ∙ ap (λ t. link_row t down target == 0) e) in
     subst (λ (b : Bool). IsTrue b ↔ IsIsolated (known_links adverts at near down) at target)
@@ -206,11 +196,11 @@ told_other adverts at near origin other rows fits apart =
     ap (λ row. has row other) (get_or-set_other (map neighbours_told adverts) at origin near 0 apart
     ∙ get_or-map neighbours_told adverts origin None 0 (omega (arith, rows)))
 
-link_test : (told down : List ℕ) (one other : ℕ) (a b : Bool) → one ≢ other →
-    has (get_or told one 0) other ≡ a → has (get_or told other 0) one ≡ b →
-    is_link told down one other ≡ (a && b && not (has_link down one other))
+link_test : (neighbours down : List ℕ) (one other : ℕ) (a b : Bool) → one ≢ other →
+    has (get_or neighbours one 0) other ≡ a → has (get_or neighbours other 0) one ≡ b →
+    is_link neighbours down one other ≡ (a && b && not (has_link down one other))
 unfolding is_link
-link_test told down one other a b apart p q = rw (not_test one other apart, p, q) refl
+link_test neighbours down one other a b apart p q = rw (not_test one other apart, p, q) refl
 
 pub own_link : (adverts : List (Option Advert)) (at near : ℕ) (down : List ℕ) (other : ℕ) →
     length adverts ≡ 64 → at < 64 → other < 64 → at ≢ other →

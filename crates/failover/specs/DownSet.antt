@@ -1,7 +1,7 @@
 -- A set of links between two different switches, as 64 masks: row k has the greater numbers to
 -- which k has a link in the set.
 use Rattle.std.specs.Prelude.{ℕ, ◌≡◌, ◌^◌, ◌<◌, min, max, Bool, ◌&&◌, ◌||◌, ◌==◌, List, length, bit_or, replicate, slice_index, slice_set, IsTrue}
-use Rattle.failover.specs.Masks.{has}
+use Rattle.masks.specs.Masks.{has}
 
 -- the link of two switches, in either order, is in the set
 unfoldable pub has_link : List ℕ → ℕ → ℕ → Bool

@@ -2,7 +2,7 @@
 -- its own neighbours by what it sees itself.
 use Rattle.std.specs.Prelude.{ℕ, Bool, not, ◌&&◌, ◌==◌, Option, Some, None, List, map, slice_index, slice_set}
 use Rattle.failover.specs.declared.advert.Advert.{Advert}
-use Rattle.failover.specs.Masks.{has, mask_of, switches}
+use Rattle.masks.specs.Masks.{has, mask_of, switches}
 use Rattle.failover.specs.Adverts.{held}
 use Rattle.failover.specs.DownSet.{has_link}
 
@@ -20,18 +20,18 @@ told_links adverts at near = slice_set (map neighbours_told adverts) at near
 
 -- two different switches name each other, and their link isn't in the set of those found down
 unfoldable pub is_link : List ℕ → List ℕ → ℕ → ℕ → Bool
-is_link told down one other =
-    not (one == other) && has (slice_index told one) other && has
-    (slice_index told other) one && not (has_link down one other)
+is_link neighbours down one other =
+    not (one == other) && has (slice_index neighbours one) other && has
+    (slice_index neighbours other) one && not (has_link down one other)
 
 -- the switches to which this one has a link
 abbrev pub link_row : List ℕ → List ℕ → ℕ → ℕ
-link_row told down one = mask_of (is_link told down one)
+link_row neighbours down one = mask_of (is_link neighbours down one)
 
 -- the links that `at` knows: for each switch those to which it has a link
 unfoldable pub known_links : List (Option Advert) → ℕ → ℕ → List ℕ → List ℕ
-known_links adverts at near down = let told =
-    told_links adverts at near in map (link_row told down) switches
+known_links adverts at near down = let neighbours =
+    told_links adverts at near in map (link_row neighbours down) switches
 
 -- no link that `at` knows ends at another switch
 unfoldable pub is_isolated : List (Option Advert) → ℕ → ℕ → ℕ → List ℕ → Bool

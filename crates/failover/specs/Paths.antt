@@ -2,7 +2,7 @@
 -- least list.
 use Rattle.std.specs.Prelude.{⊤, ℕ, ◌≡◌, ◌≢◌, ◌<◌, ◌≤◌, ◌⊎◌, nat_eq, Option, None, List, [], ◌∷◌, length, slice_index, IsTrue, IsSomeAnd}
 use Rattle.std.specs.List.{IsDistinct}
-use Rattle.failover.specs.Masks.{has}
+use Rattle.masks.specs.Masks.{has}
 
 -- row `one` of the links has the other switch
 abbrev pub AreJoined : List ℕ → ℕ → ℕ → Type 0

@@ -3,12 +3,12 @@
 -- time to the least switch that is one link nearer.
 use Rattle.std.specs.Prelude.{ℕ, zero, suc, ◌^◌, true, false, not, ◌&&◌, ◌==◌, nat_lt, Option, Some, None, option_map, List, [], ◌∷◌, bit_and, bit_or, slice_index}
 use Rattle.failover.specs.declared.advert.Advert.{Advert}
-use Rattle.failover.specs.Masks.{has, marks, least_in}
+use Rattle.masks.specs.Masks.{has, mask_where, least_in}
 use Rattle.failover.specs.Links.{known_links}
 
 -- a set of switches, and those that have a link into it
 unfoldable pub wider : List ℕ → ℕ → ℕ
-wider links ball = bit_or ball (marks (λ row. not (bit_and row ball == 0)) 0 links)
+wider links ball = bit_or ball (mask_where (λ row. not (bit_and row ball == 0)) 0 links)
 
 -- the switches that are at most k links away from the target
 unfoldable pub ball : List ℕ → ℕ → ℕ → ℕ

@@ -6,10 +6,10 @@ ghost use Rattle.failover.specs.Paths.{IsIsolated, IsRoute};
 ghost use Rattle.failover.specs.RouteList.{IsRouteList};
 ghost use Rattle.failover.specs.Routes.{route_of};
 
+use crate::SWITCHES;
 use crate::advert::Advert;
 use crate::down_set::DownSet;
 use crate::links::{is_linkless, link_rows};
-use crate::masks::SWITCHES;
 use crate::path::Route;
 use crate::search::first_route;
 use policy_rules::Targets;
@@ -109,7 +109,7 @@ impl Database {
         ensures route { IsRoute (known_links self.now from near down.now) from targets.now result }
         ensures list { IfSome result IsRouteList }
     {
-        let links = link_rows(&self.told(from, near), down);
+        let links = link_rows(&self.neighbours(from, near), down);
         first_route(&links, from, targets.items())
     }
 
@@ -120,30 +120,30 @@ impl Database {
         ensures isolated { IsTrue result ↔
             IsIsolated (known_links self.now at near down.now) at target }
     {
-        target != at && is_linkless(&self.told(at, near), down, target)
+        target != at && is_linkless(&self.neighbours(at, near), down, target)
     }
 
     // The neighbours that each switch names: `at` these, every other those of its advert.
-    fn told(&self, at: u32, near: u64) -> [u64; 64]
-        ensures told { result ≡ told_links self.now at near }
+    fn neighbours(&self, at: u32, near: u64) -> [u64; 64]
+        ensures neighbours { result ≡ told_links self.now at near }
         ensures places { length self.now ≡ 64 }
     {
-        let mut told = self.advertised();
+        let mut neighbours = self.advertised();
         if at < SWITCHES {
-            told[at as usize] = near;
+            neighbours[at as usize] = near;
         }
-        told
+        neighbours
     }
 
     fn advertised(&self) -> [u64; 64]
-        ensures told { result ≡ map neighbours_told self.now }
+        ensures neighbours { result ≡ map neighbours_told self.now }
         ensures places { length self.now ≡ 64 }
     {
-        let mut told = [0; 64];
+        let mut neighbours = [0; 64];
         for origin in 0..64 {
-            told[origin] = neighbours_told(&self.adverts[origin]);
+            neighbours[origin] = neighbours_told(&self.adverts[origin]);
         }
-        told
+        neighbours
     }
 }
 

@@ -1,7 +1,8 @@
 ghost use Rattle.std.specs.Prelude.{◌≡◌, ◌≢◌, ◌<◌, ◌||◌, ℕ, false};
 ghost use Rattle.failover.specs.DownSet.{has_link, no_links, with_link, is_link_of};
 
-use crate::masks::{SWITCHES, has, only_if};
+use crate::SWITCHES;
+use masks::{has, only_if};
 use std::marker::Model;
 
 /// A set of links between two different switches below 64, as a packet finds them down on its way.

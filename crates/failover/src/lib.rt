@@ -17,7 +17,6 @@ mod database;
 mod down_set;
 mod laws;
 mod links;
-mod masks;
 mod path;
 mod search;
 
@@ -27,5 +26,5 @@ pub use down_set::DownSet;
 pub use laws::{advert_laws, link_laws, link_set_laws, route_laws};
 pub use path::Route;
 
-#[cfg(test)]
-mod tests;
+// The numbers of switches, and the bits of a mask of them.
+const SWITCHES: u32 = 64;

@@ -3,8 +3,9 @@ ghost use Rattle.failover.specs.Routes.{wider, first_route, route_to};
 ghost use Rattle.failover.specs.RouteList.{IsRouteList};
 ghost use Rattle.failover.specs.Search.{IsAway, IsOutOfReach, AreBalls, along};
 
-use crate::masks::{SWITCHES, has, only_if};
+use crate::SWITCHES;
 use crate::path::Route;
+use masks::{has, only_if};
 
 /// The least path to the first of the targets that a path reaches; `None` exactly where no path
 /// reaches any.

@@ -38,6 +38,3 @@ pub use write::{
     Address, Protocol, printed_forms_are_plain, printed_forms_are_read_back, write_address,
     write_prefix, write_proto, write_range,
 };
-
-#[cfg(test)]
-mod tests;

@@ -16,6 +16,3 @@ pub use log::Journal;
 pub use policy_rules::{Action, Cause, How, Leaving, Leg};
 pub use shared::{SharedLinks, SharedMessage, SharedRoute};
 pub use steps::{Event, Step};
-
-#[cfg(test)]
-mod tests;

@@ -12,7 +12,7 @@ use Rattle.ctrl_msg.specs.declared.message.Body.{Body}
 use Rattle.ctrl_msg.specs.declared.message.Body.TheVariants.{Install, OpenAt, Stamp, Collect, CacheRule, Advertise, Hello, Installed, Stamped}
 use Rattle.ctrl_msg.specs.declared.message.Receiver.{Receiver}
 use Rattle.ctrl_msg.specs.declared.message.Receiver.TheVariants as receiver
-use Rattle.failover.specs.Masks.{has, switches}
+use Rattle.masks.specs.Masks.{has, switches}
 use Rattle.failover.specs.declared.advert.Advert.{Advert}
 use Rattle.five_tuple.specs.Header.{IsHeader}
 use Rattle.five_tuple.specs.Printing.{address_text, fields_text, proto_number_text}
@@ -33,7 +33,7 @@ use Rattle.ternary.specs.Word.{WordValue, hex_digits, word_text}
 use Rattle.journal.specs.declared.item.Item.{Item}
 use Rattle.journal.specs.declared.item.Item.TheVariants as item
 use Rattle.journal_text.specs.Lines.{advert_text, body_text, boot_text, cache_text, cause_text, decided_text, how_text, item_line, mask_text, named, numbered, packet_at, pair_text, receiver_text, state_text, step_text, submitted_text, tunnel_text, version_text}
-use Rattle.journal_text.specs.Sizes.{IsAction, IsBodyOfType, IsHow, IsItemOfType, IsNumber, IsRoute, IsRule, IsStepOfType, LinesFit}
+use Rattle.journal_text.specs.Sizes.{IsAction, IsBodyOfType, IsHow, IsItemOfType, IsNumber, IsShortRoute, IsRule, IsStepOfType, LinesFit}
 use Rattle.steps.specs.declared.step.Step.{Step}
 use Rattle.steps.specs.declared.step.Step.TheVariants.{Packet, Hop, Lose, Deliver, Forget, Expire, Update, LinkDown, LinkUp, Crash, Restart, Confirm, Resend}
 
@@ -163,7 +163,7 @@ module _ (laws : NameLaws) (net : Net) (sound : IsNet net) where
       widened (row_of (row_of (all_of (codes " ")) (name_within s)) (names_within list))
       (length (s ∷ list) * 17) (omega arith)
 
-  route_within : (route : List ℕ) → IsRoute route → IsWithin 1088 (names_text net route)
+  route_within : (route : List ℕ) → IsShortRoute route → IsWithin 1088 (names_text net route)
   route_within route is = widened (names_within route) 1088 (omega (arith, is))
 
   mask_within : (mask : ℕ) → IsWithin 1088 (mask_text net mask)

@@ -20,8 +20,8 @@ use Rattle.steps.specs.declared.step.Step.TheVariants.{Packet, Hop, Lose, Delive
 abbrev pub IsNumber : ℕ → Type 0
 IsNumber n = n < 2 ^ 32
 
-abbrev pub IsRoute : List ℕ → Type 0
-IsRoute route = length route ≤ 64
+abbrev pub IsShortRoute : List ℕ → Type 0
+IsShortRoute route = length route ≤ 64
 
 abbrev pub IsRule : Option ℕ → Type 0
 IsRule (Some priority) = IsNumber priority
@@ -62,11 +62,11 @@ IsItemOfType (item.Row row step) = IsNumber row × IsStepOfType step
 IsItemOfType (item.Entered packet switch header) = IsNumber packet
 IsItemOfType (item.Closed packet switch) = IsNumber packet
 IsItemOfType (item.Seeking packet version partition route) =
-    IsNumber packet × IsNumber version × IsNumber partition × IsRoute route
-IsItemOfType (item.Exiting packet route) = IsNumber packet × IsRoute route
+    IsNumber packet × IsNumber version × IsNumber partition × IsShortRoute route
+IsItemOfType (item.Exiting packet route) = IsNumber packet × IsShortRoute route
 IsItemOfType (item.Hopped packet switch) = IsNumber packet
 IsItemOfType (item.FoundDown packet one two) = IsNumber packet
-IsItemOfType (item.Rerouted packet route) = IsNumber packet × IsRoute route
+IsItemOfType (item.Rerouted packet route) = IsNumber packet × IsShortRoute route
 IsItemOfType (item.Decided packet version rule action how) =
     IsNumber packet × IsNumber version × IsRule rule × IsAction action × IsHow how
 IsItemOfType (item.Left packet port leaving) = IsNumber packet × IsNumber port

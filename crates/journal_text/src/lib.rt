@@ -12,6 +12,3 @@ mod rows;
 
 pub use items::{lines, text};
 pub use laws::lines_fit;
-
-#[cfg(test)]
-mod tests;

@@ -1,22 +1,14 @@
 ghost use Rattle.std.specs.Prelude.{◌≡◌, ◌<◌, ◌++◌, [], if◌then◌else◌, filter, OnOk, codes};
 ghost use Rattle.std.specs.String.{string_bytes};
-ghost use Rattle.failover.specs.Masks.{has, switches};
+ghost use Rattle.masks.specs.Masks.{has, switches};
 ghost use Rattle.net_file.specs.Names.{name_of, names_text};
 ghost use Rattle.net_file.specs.Net.{IsNet};
 ghost use Rattle.journal_text.specs.Lines.{mask_text};
 
+use masks::has;
 use net_file::Net;
 use std::alloc::AllocError;
 use std::fmt::Write;
-
-// Whether the mask has this switch.
-#[tactic(auto, using(std::proofs::lemmas::Nat::Bits::shr_and_one), unfolding(failover::specs::Masks::has))]
-fn is_in(mask: u64, switch: u32) -> bool
-    requires { switch < 64 }
-    ensures { result ≡ has mask switch }
-{
-    (mask >> switch) & 1 == 1
-}
 
 /// Adds the names of a mask's switches, ascending, each behind a blank, or a dash for none.
 pub(crate) fn push_mask(text: &mut String, net: &Net, mask: u64) -> Result<(), AllocError>
@@ -38,7 +30,7 @@ fn push_switches(text: &mut String, net: &Net, mask: u64) -> Result<(), AllocErr
         ≡ string_bytes text.old ++ names_text net.now (filter (has mask) switches)) }
 {
     for s in 0..64 {
-        push_if(text, net, is_in(mask, s), s)?;
+        push_if(text, net, has(mask, s), s)?;
     }
     Ok(())
 }

@@ -210,7 +210,7 @@ acked_current journal s are =
     (sym (opened_is journal s) ∙ opened)).0))
     (are.told s (known_boot journal s))
 
-next_below : (setting : Setting) (journal : List Item) → StampsAreCurrent journal
+pub next_below : (setting : Setting) (journal : List Item) → StampsAreCurrent journal
     → next_retired setting journal < current_mark journal
 unfolding next_retired
 next_below setting journal are =
@@ -247,7 +247,7 @@ current_kept setting before next cause are = record {
   retired = retired_on setting before next cause are;
 }
 
-first_opened : (s boot version : ℕ) → opened_in [] s boot ≡ Some version
+pub first_opened : (s boot version : ℕ) → opened_in [] s boot ≡ Some version
     → (version ≡ 1) × (boot ≡ 1)
 unfolding opened_in
 first_opened s boot version opened = grind (arith, nat_tests)

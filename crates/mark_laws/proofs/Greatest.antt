@@ -4,7 +4,7 @@ use Rattle.std.specs.Prelude.{fold, max, unwrap_or}
 use Rattle.std.specs.List.{AllByRecursion}
 use Rattle.std.proofs.lemmas.List.Sums.{fold-append}
 use Rattle.journal.specs.declared.item.Item.{Item}
-use Rattle.update_machine.specs.Marks.{acked_stamp, known_boot, least, open_version, opened_at, stamped_in}
+use Rattle.update_machine.specs.Marks.{acked_stamp, hello_boot, known_boot, least, open_version, opened_at, stamped_in}
 use Rattle.mark_laws.proofs.Told.{tells, told_by, told_by_more}
 
 -- the greatest of numbers that a bound holds of is within it
@@ -36,6 +36,11 @@ open_within journal s bound within = by_opened (opened_at journal s) refl
 fold_up : (first : ℕ) (xs : List ℕ) → first ≤ fold max first xs
 fold_up first [] = omega arith
 fold_up first (x ∷ xs) = omega (arith, fold_up (max first x) xs)
+
+-- no known boot is below the first one
+pub known_first : (journal : List Item) (s : ℕ) → 1 ≤ known_boot journal s
+unfolding known_boot
+known_first journal s = fold_up 1 (told_by (hello_boot s) journal)
 
 -- it is at least the version of the opening
 pub acked_stamp_opened : (journal : List Item) (s : ℕ)

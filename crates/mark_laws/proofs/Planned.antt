@@ -1,21 +1,23 @@
 -- How far the marks and what is sent of versions may go: at most to the current version, and tables
 -- only as they are planned.
-use Rattle.std.proofs.Common.{ℕ, ◌≡◌, ◌≤◌, ◌+◌, ◌==◌, false, Some, None, List, [], ◌∷◌, ◌++◌, refl, sym, subst, ◌∙◌, arith, inl, inr}
-use Rattle.std.proofs.lemmas.Bool.Decides.{nat_tests}
+use Rattle.std.proofs.Common.{ℕ, ◌≡◌, ◌≤◌, Some, None, List, [], ◌∷◌, ◌++◌, ap, sym, subst, ◌∙◌, arith, inl, inr}
 use Rattle.ctrl_msg.specs.declared.message.Body.TheVariants.{Install}
+use Rattle.switch_table.specs.Tables.{tables_of}
 use Rattle.switch_table.specs.declared.tables.Tables.{Tables}
 use Rattle.journal.specs.declared.item.Item.{Item}
 use Rattle.journal.specs.declared.item.Item.TheVariants as item
 use Rattle.update_machine.specs.Causes.{HaveCauses}
 use Rattle.update_machine.specs.Marks.{current_mark}
+use Rattle.update_machine.specs.Numbers.{VersionsAreNumbered}
 use Rattle.update_machine.specs.Setting.{Setting}
 use Rattle.update_machine.specs.Settling.{to_switch}
-use Rattle.update_machine.specs.Versions.{file_of, tables_at, version_count}
-use Rattle.update_machine.proofs.CallerLemmas.{start_laws}
+use Rattle.update_machine.specs.Versions.{version_count}
+use Rattle.update_machine.proofs.CallerLemmas.{numbered_at_first, plan_kept, start_laws}
 use Rattle.boot_laws.specs.ItemCauses.{HasItemCause, IsRightInstall}
 use Rattle.boot_laws.proofs.Boots.{by_number}
 use Rattle.boot_laws.proofs.Facts.{AreKept, fact_on}
-use Rattle.boot_laws.proofs.Grown.{count_more, current_more, file_more}
+use Rattle.boot_laws.proofs.Grown.{count_more, current_more}
+use Rattle.boot_laws.proofs.Versions.{numbered_kept}
 use Rattle.mark_laws.specs.Heard.{ArePlanned, InstallsArePlanned}
 
 -- ---- current
@@ -59,7 +61,7 @@ current_rises setting before (item.Current version) cause =
     let rises = cause.rises in rw (current_more before (item.Current version)) (omega arith)
 current_rises setting before next cause = rw (current_more before next) (omega arith)
 
-count_rises : (before : List Item) (next : Item)
+pub count_rises : (before : List Item) (next : Item)
     → version_count before ≤ version_count (before ++ next ∷ [])
 count_rises before (item.Submitted file version) =
     rw (count_more before (item.Submitted file version)) (omega arith)
@@ -67,31 +69,20 @@ count_rises before next = rw (count_more before next) (omega arith)
 
 -- ---- tables
 
--- a version that is there keeps its file
-file_same : (setting : Setting) (before : List Item) (next : Item) (v : ℕ)
-    → HasItemCause setting before next → v ≤ version_count before
-    → file_of (before ++ next ∷ []) v ≡ file_of before v
-file_same setting before (item.Submitted file version) v cause there =
-    let newest : version ≡ version_count before + 1 = cause in
-    let apart : (version == v) ≡ false = grind (arith, nat_tests) in
-    rw (file_more before (item.Submitted file version) v, apart) refl
-file_same setting before next v cause there = file_more before next v
-
 planned_on : (setting : Setting) (before : List Item) (next : Item) (s : ℕ) (installed : Tables)
-    → HasItemCause setting before next → ArePlanned setting before s installed
+    → VersionsAreNumbered before → ArePlanned setting before s installed
     → ArePlanned setting (before ++ next ∷ []) s installed
-planned_on setting before next s installed cause are = record {
-  version = are.version;
-  first = are.first;
-  last = omega (arith, are.last, count_rises before next);
-  planned = are.planned ∙ sym same;
-}
-  where
-    same : tables_at setting (before ++ next ∷ []) are.version s
-        ≡ tables_at setting before are.version s
-    same = rw (file_same setting before next are.version cause are.last) refl
+planned_on setting before next s installed numbered are =
+    let there = (numbered are.version).1 (are.first, are.last) in
+    record {
+      version = are.version;
+      first = are.first;
+      last = omega (arith, are.last, count_rises before next);
+      planned = are.planned ∙ sym (ap (λ plan. tables_of plan are.version s)
+          (plan_kept setting before (next ∷ []) are.version there));
+    }
 
-right_planned : (setting : Setting) (before : List Item) (s boot : ℕ) (installed : Tables)
+pub right_planned : (setting : Setting) (before : List Item) (s boot : ℕ) (installed : Tables)
     → IsThere before → IsRightInstall setting before s boot installed
     → ArePlanned setting before s installed
 right_planned setting before s boot installed is right = record {
@@ -107,31 +98,37 @@ right_planned setting before s boot installed is right = record {
 -- tables are sent as they are planned, and stay so
 pub record IsPlannedSoFar (setting : Setting) (journal : List Item) : Type 0 where
   pub marks : IsThere journal
+  pub versions : VersionsAreNumbered journal
   pub installs : InstallsArePlanned setting journal
 
 pub planned_kept : (setting : Setting) → AreKept (HasItemCause setting) (IsPlannedSoFar setting)
 planned_kept setting before next cause are = record {
   marks = there_kept setting before next cause are.marks;
+  versions = numbered_kept setting before next cause are.versions;
   installs = λ s boot n installed is. elim
       (by_number before next n (to_switch s (Install boot installed)) is) [
-        | inl new ↦ planned_on setting before next s installed cause
+        | inl new ↦ planned_on setting before next s installed are.versions
             (right_planned setting before s boot installed are.marks
             (subst (HasItemCause setting before) new cause))
-        | inr old ↦ planned_on setting before next s installed cause
+        | inr old ↦ planned_on setting before next s installed are.versions
             (are.installs s boot n installed old)
       ];
+}
+
+pub planned_at_first : (setting : Setting) → IsPlannedSoFar setting []
+planned_at_first setting = record {
+  marks = there_at_first;
+  versions = numbered_at_first;
+  installs = λ s boot n installed is.
+      let none : None ≡ Some (to_switch s (Install boot installed)) =
+      rw (start_laws.message n).message at is in absurd cc;
 }
 
 pub caused_planned : (setting : Setting) (journal : List Item)
     → HaveCauses (HasItemCause setting) [] journal → IsPlannedSoFar setting journal
 caused_planned setting journal have =
     fact_on (HasItemCause setting) (IsPlannedSoFar setting) (planned_kept setting) [] journal have
-    (record {
-      marks = there_at_first;
-      installs = λ s boot n installed is.
-          let none : None ≡ Some (to_switch s (Install boot installed)) =
-          rw (start_laws.message n).message at is in absurd cc;
-    })
+    (planned_at_first setting)
 
 pub installs_planned : (setting : Setting) (journal : List Item)
     → HaveCauses (HasItemCause setting) [] journal → InstallsArePlanned setting journal

@@ -119,7 +119,7 @@ CollectsRetired journal = (s boot version n : ℕ)
     → message_of journal n ≡ Some (to_switch s (Collect boot version))
     → version ≤ retired_mark journal
 
-retired_rises : (setting : Setting) (before : List Item) (next : Item)
+pub retired_rises : (setting : Setting) (before : List Item) (next : Item)
     → HasItemCause setting before next
     → retired_mark before ≤ retired_mark (before ++ next ∷ [])
 retired_rises setting before (item.Retired version) cause =

@@ -13,9 +13,9 @@ use Rattle.std.proofs.lemmas.Slice.Eq.{bytes_eq-Decides}
 use Rattle.net_file.specs.declared.net.SwitchRow.{SwitchRow}
 use Rattle.net_file.specs.declared.net.LinkRow.{LinkRow}
 use Rattle.net_file.specs.declared.net.Net.{Net}
-use Rattle.net_file.specs.Laws.{IsPlainByte, LinkLaws, MaskLaws, NameLaws, PortLaws}
+use Rattle.net_file.specs.Laws.{IsPlainByte, LinkLaws, NameLaws, PortLaws}
 use Rattle.net_file.specs.Net.{AreApart, IsLink, IsNet, IsSwitch, are_linked, are_name_bytes, has_port, have_port, is_label, is_name, is_name_byte, joins, owner_of, port_mask}
-use Rattle.net_file.proofs.Masks.{in_mask, in_mask_of, in_mask_past, mask_of_is, mask_of_small}
+use Rattle.net_file.proofs.Masks.{in_mask, in_mask_of, in_mask_past, mask_of_small}
 
 -- ---- places
 
@@ -236,6 +236,3 @@ links = record {
             (arith, linked_below net s k sound linked, sound.few_switches))))
       ];
 }
-
-pub masks : MaskLaws
-masks = record { small = mask_of_small; bits = in_mask_of; unique = mask_of_is }

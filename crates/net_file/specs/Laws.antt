@@ -1,16 +1,10 @@
 -- The laws of networks: `x_laws` of the crate ensures the record of each.
-use Rattle.std.specs.Prelude.{ℕ, ◌≡◌, ◌≢◌, ◌^◌, ◌<◌, ◌≤◌, ◌==◌, Bool, true, false, Some, is_some, List, All, length, slice_get, codes}
+use Rattle.std.specs.Prelude.{ℕ, ◌≡◌, ◌≢◌, ◌<◌, ◌≤◌, ◌==◌, true, false, Some, is_some, List, All, length, slice_get, codes}
 use Rattle.std.specs.Int.{bit_at}
 use Rattle.net_file.specs.declared.net.SwitchRow.{SwitchRow}
 use Rattle.net_file.specs.declared.net.LinkRow.{LinkRow}
 use Rattle.net_file.specs.declared.net.Net.{Net}
-use Rattle.net_file.specs.Net.{IsMask, IsNet, are_linked, has_port, have_name, is_name, links_of, mask_of, owner_of, port_mask, switch_number}
-
-pub record MaskLaws : Type 0 where
-  pub small : (test : ℕ → Bool) → mask_of test < 2 ^ 64
-  pub bits : (test : ℕ → Bool) (k : ℕ) → k < 64 → (bit_at (mask_of test) k == 1) ≡ test k
-  -- a word of 64 bits is the mask of a test that says what bits it has
-  pub unique : (mask : ℕ) (test : ℕ → Bool) → mask < 2 ^ 64 → IsMask mask test → mask ≡ mask_of test
+use Rattle.net_file.specs.Net.{IsMask, IsNet, are_linked, has_port, have_name, is_name, links_of, owner_of, port_mask, switch_number}
 
 -- the byte ends no field of a record, no word and no line
 pub record IsPlainByte (byte : ℕ) : Type 0 where

@@ -1,22 +1,14 @@
 -- Networks: switches with ports, and the links that join them.
-use Rattle.std.specs.Prelude.{ℕ, zero, suc, ◌≡◌, ◌≢◌, ◌+◌, ◌-◌, ◌*◌, ◌^◌, ◌<◌, ◌≤◌, ◌==◌, Bool, false, ◌&&◌, ◌||◌, not, nat_le, Option, List, [], ◌∷◌, length, position, All, AllPairs, IsTrue, IsFalse, codes, bytes_eq}
-use Rattle.std.specs.Int.{bit_at, from_bool}
+use Rattle.std.specs.Prelude.{ℕ, ◌≡◌, ◌≢◌, ◌-◌, ◌^◌, ◌<◌, ◌≤◌, ◌==◌, Bool, false, ◌&&◌, ◌||◌, not, nat_le, Option, List, [], ◌∷◌, length, position, All, AllPairs, IsTrue, IsFalse, codes, bytes_eq}
+use Rattle.std.specs.Int.{bit_at}
 use Rattle.std.specs.List.{list_all, list_any}
 use Rattle.std.specs.Char.{is_ascii_alphabetic, is_ascii_alphanumeric}
+use Rattle.masks.specs.Masks.{mask_of}
 use Rattle.net_file.specs.declared.net.SwitchRow.{SwitchRow}
 use Rattle.net_file.specs.declared.net.LinkRow.{LinkRow}
 use Rattle.net_file.specs.declared.net.Net.{Net}
 
 -- ---- masks
-
--- the number below 2^n whose bit k is 1 exactly where the test holds of k
-abbrev pub mask_below : (ℕ → Bool) → ℕ → ℕ
-mask_below test zero = 0
-mask_below test (suc k) = from_bool (test k) * 2 ^ k + mask_below test k
-
--- a set of numbers from 0 to 63 as the bits of a word
-unfoldable pub mask_of : (ℕ → Bool) → ℕ
-mask_of test = mask_below test 64
 
 -- the mask has exactly the bits for which the test holds
 abbrev pub IsMask : ℕ → (ℕ → Bool) → Type 0

@@ -5,7 +5,8 @@ use Rattle.std.specs.Str.{is_utf8}
 use Rattle.toml.specs.Data.{Data, Members, as_integer, as_str, as_array, as_table}
 use Rattle.toml.specs.Parse.{parse_document}
 use Rattle.net_file.specs.Keys.{at_key, items_list, number_within, of_type, within}
-use Rattle.net_file.specs.Net.{are_linked, have_name, have_port, is_name, mask_of, switch_number}
+use Rattle.masks.specs.Masks.{mask_of}
+use Rattle.net_file.specs.Net.{are_linked, have_name, have_port, is_name, switch_number}
 use Rattle.net_file.specs.Refusals.{Refusal, in_row, require, with_value}
 use Rattle.net_file.specs.declared.error.NetRefusal.{NetRefusal}
 use Rattle.net_file.specs.declared.error.NetRefusal.TheVariants as refusal

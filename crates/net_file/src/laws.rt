@@ -1,13 +1,8 @@
 ghost use Rattle.std.specs.Prelude.{◌≡◌, ℕ, List, Ok};
-ghost use Rattle.net_file.specs.Laws.{LinkLaws, MaskLaws, NameLaws, PortLaws};
+ghost use Rattle.net_file.specs.Laws.{LinkLaws, NameLaws, PortLaws};
 ghost use Rattle.net_file.specs.Net.{IsNet, solo_net};
 ghost use Rattle.net_file.specs.Reading.{net_of};
 ghost use Rattle.net_file.specs.declared.net.Net.{Net};
-
-/// What a mask of a test is.
-pub fn mask_laws()
-    ensures { MaskLaws }
-{}
 
 /// Names and numbers of switches stand for each other, and no byte of a name ends a field, a word
 /// or a line.

@@ -13,17 +13,14 @@ mod error;
 mod keys;
 mod laws;
 mod links;
-mod mask;
 mod names;
 mod net;
 mod ports;
 mod read;
 mod switches;
-#[cfg(test)]
-mod tests;
 
 pub use error::{NetError, NetRefusal};
-pub use laws::{link_laws, mask_laws, name_laws, net_laws, port_laws};
+pub use laws::{link_laws, name_laws, net_laws, port_laws};
 pub use net::{LinkRow, Links, Name, Net, SwitchRow, Switches, solo};
 pub use ports::Ports;
 pub use read::read_net;

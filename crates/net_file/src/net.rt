@@ -2,8 +2,8 @@ ghost use Rattle.std.specs.Prelude.{◌≡◌, ◌≤◌, ◌<◌, ◌==◌, ℕ
 ghost use Rattle.net_file.specs.Net.{IsLink, IsNet, joins, links_of, owner_of, port_mask, solo_net, switch_number};
 ghost use Rattle.net_file.specs.Owners.{AreOwners};
 
-use crate::mask::{has, with};
 use crate::ports::{Ports, owners};
+use masks::{has, with};
 use std::alloc::{AllocError, AllocFailed, Global};
 use std::marker::Model;
 

@@ -9,8 +9,8 @@ ghost use Rattle.net_file.specs.Stated.{row_of};
 
 use crate::error::{NetError, NetRefusal};
 use crate::keys::{array_in, setting_of, table_in, text_in, value_at, within};
-use crate::mask::{has, with};
 use crate::net::{Name, SwitchRow};
+use masks::{has, with};
 use std::alloc::Global;
 use toml::{Table, Value};
 

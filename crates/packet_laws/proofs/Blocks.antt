@@ -448,13 +448,17 @@ decision_writes setting journal i s header version rule action how rest is ready
     calm_here : IsCalm setting journal
     calm_here = calm setting journal is.net ready.here.alone
 
+    first : version ≡ 1
+    first = omega (arith, match.known, match.current, calm_here.current)
+
     after : words_of (journal ++ decided ∷ []) i ≡ told_by (retired_mark journal) decided
         (words_of journal i)
     after = words_named i journal decided (own_number i)
 
     named : NamesOwnPort setting action
     named = subst (λ hit. NamesOwnPort setting hit.action)
-        (sym (ap (λ rows. scan rows header) (calm_here.policy version)) ∙ match.first_match)
+        (sym (ap (λ rows. scan rows header)
+        (calm_here.policy version ∙ ap (policy_at setting []) first)) ∙ match.first_match)
         (scan_named setting header is)
 
 -- two blocks, one behind the other
@@ -698,7 +702,7 @@ arrive_writes setting journal i s header (Seek version partition) is here mark o
     let first : version ≡ 1 = omega (arith, on.not_retired, on.current, calm_here.current) in
     let finds : Finds setting header on.placed = in_plan setting header on.placed is here.sound
     (subst (λ plan. find (λ (p : Placed). is_in header (part_of p)) plan ≡ Some on.placed)
-    (calm_here.plan version) on.own.first) in
+    (calm_here.plan version ∙ ap (plan_at setting []) first) on.own.first) in
     let holds : holds_version journal s version ≡ true = calm_here.versions s version
     ∙ ap (λ v. v == 1) first in
     let at : slice_get (plan_at setting journal version) partition ≡ Some on.placed =

@@ -23,9 +23,9 @@ use Rattle.ternary.proofs.CallerLemmas.{covers_held, meet_disjoint}
 use Rattle.journal.specs.declared.item.Item.{Item}
 use Rattle.update_machine.specs.Played.{IsSetting}
 use Rattle.update_machine.specs.Setting.{Setting}
-use Rattle.packet_laws.specs.Calm.{HasPacketsAlone, IsCalm, IsRightRule, first_plan}
+use Rattle.packet_laws.specs.Calm.{HasPacketsAlone, IsCalm, IsRightRule, first_plan, first_policy}
 use Rattle.packet_laws.proofs.Calm.{calm}
-use Rattle.packet_laws.proofs.Plans.{Finds, begun, first_policy}
+use Rattle.packet_laws.proofs.Plans.{Finds, begun}
 
 -- ---- headers of a word
 

@@ -18,6 +18,7 @@ use Rattle.failover.specs.Adverts.{first_advert, first_of}
 use Rattle.net_file.specs.Net.{IsNet, links_of}
 use Rattle.policy_rules.specs.declared.policy.Action.{Action}
 use Rattle.switch_table.specs.Cache.{CacheValue, newest, same_key}
+use Rattle.switch_table.specs.Tables.{tables_of}
 use Rattle.switch_table.specs.declared.cache.CacheEntry.{CacheEntry}
 use Rattle.ternary.specs.Word.{WordValue}
 use Rattle.journal.specs.declared.item.Item.{Item}
@@ -26,15 +27,15 @@ use Rattle.update_machine.specs.Adverts.{adverts_known, other_advert, own_advert
 use Rattle.update_machine.specs.Boots.{boot_of, changes_heard, heard, is_for_boot, is_up, said_to, serves, tells_boot, tells_serving, tells_up}
 use Rattle.update_machine.specs.Caches.{cache_after, cache_of, changes_cache, lookup_at}
 use Rattle.update_machine.specs.Causes.{HaveCauses}
-use Rattle.update_machine.specs.Concerns.{concerns_controller, concerns_links, is_opening}
+use Rattle.update_machine.specs.Concerns.{concerns_controller, concerns_links, concerns_policies, is_opening}
 use Rattle.update_machine.specs.Folds.{last_told}
-use Rattle.update_machine.specs.Laws.{ControllerKeeps, LinksKeep}
+use Rattle.update_machine.specs.Laws.{ControllerKeeps, LinksKeep, PoliciesKeep}
 use Rattle.update_machine.specs.Links.{near}
 use Rattle.update_machine.specs.Marks.{current_mark, retired_mark, tells_current, tells_retired}
 use Rattle.update_machine.specs.Messages.{is_to_controller, is_to_switch, message_of, tells_message}
 use Rattle.update_machine.specs.Setting.{Setting}
-use Rattle.update_machine.specs.Versions.{collects, file_of, holds_version, installs, stamp_in, stamp_of, tells_file}
-use Rattle.update_machine.proofs.CallerLemmas.{controller_keeps, folded_append, have_append, last_told_append, links_keep, start_laws}
+use Rattle.update_machine.specs.Versions.{collects, holds_version, installs, plan_at, stamp_in, stamp_of}
+use Rattle.update_machine.proofs.CallerLemmas.{controller_keeps, folded_append, have_append, last_told_append, links_keep, policies_keep, start_laws}
 use Rattle.packet_laws.specs.Calm.{BringsRule, HasPacketsAlone, IsCacheBody, IsCalm, IsOfPackets, IsRightEntry, IsRightRule, adverts_at_first, neighbours}
 
 -- ---- causes
@@ -84,21 +85,22 @@ kept_by_items setting Fact one before (item ∷ items) alone of so =
 
 -- ---- what no item tells
 
-told_none : {X : Type 0} (setting : Setting) (told : Item → Option X)
-    → ((before : List Item) (item : Item) → IsOfPackets setting before item → told item ≡ None) →
+told_none : {X : Type 0} (setting : Setting) (tells : Item → Option X)
+    → ((before : List Item) (item : Item) → IsOfPackets setting before item → tells item ≡ None) →
     (before items : List Item) → HaveCauses (Alone setting) before items
-    → last_told told items ≡ None
-told_none setting told silent before [] of = refl
-told_none setting told silent before (item ∷ items) of =
-    ap (λ o. option_or o (told item))
-    (told_none setting told silent (before ++ item ∷ []) items of.1) ∙ silent before item of.0
+    → last_told tells items ≡ None
+told_none setting tells silent before [] of = refl
+told_none setting tells silent before (item ∷ items) of =
+    ap (λ o. option_or o (tells item))
+    (told_none setting tells silent (before ++ item ∷ []) items of.1) ∙ silent before item of.0
 
-told_same : {X : Type 0} (setting : Setting) (told : Item → Option X)
-    → ((before : List Item) (item : Item) → IsOfPackets setting before item → told item ≡ None) →
+told_same : {X : Type 0} (setting : Setting) (tells : Item → Option X)
+    → ((before : List Item) (item : Item) → IsOfPackets setting before item → tells item ≡ None) →
     (before items : List Item) → HaveCauses (Alone setting) before items
-    → last_told told (before ++ items) ≡ last_told told before
-told_same setting told silent before items of = last_told_append told before items
-    ∙ ap (λ o. option_or o (last_told told before)) (told_none setting told silent before items of)
+    → last_told tells (before ++ items) ≡ last_told tells before
+told_same setting tells silent before items of = last_told_append tells before items
+    ∙ ap (λ o. option_or o (last_told tells before))
+    (told_none setting tells silent before items of)
 
 silent_boot : (setting : Setting) (s : ℕ) (before : List Item) (item : Item)
     → IsOfPackets setting before item → tells_boot s item ≡ None
@@ -117,11 +119,6 @@ silent_serving setting s before (item.Down switch) of = absurd of
 silent_serving setting s before (item.Booted switch boot) of = absurd of
 silent_serving setting s before (item.Opened switch version) of = absurd of
 silent_serving setting s before _ of = refl
-
-silent_file : (setting : Setting) (v : ℕ) (before : List Item) (item : Item)
-    → IsOfPackets setting before item → tells_file v item ≡ None
-silent_file setting v before (item.Submitted file version) of = absurd of
-silent_file setting v before _ of = refl
 
 silent_current : (setting : Setting) (before : List Item) (item : Item)
     → IsOfPackets setting before item → tells_current item ≡ None
@@ -154,19 +151,17 @@ serving_calm setting journal alone s =
     ap (λ o. unwrap_or o true) (told_none setting (tells_serving s) (silent_serving setting s) []
     journal alone)
 
-file_calm : (setting : Setting) (journal : List Item) → HasPacketsAlone setting journal → (v : ℕ)
-    → file_of journal v ≡ 1
-unfolding file_of
-file_calm setting journal alone v =
-    ap (λ o. unwrap_or o 1) (told_none setting (tells_file v) (silent_file setting v) [] journal
-    alone)
+apart_policies : (setting : Setting) (before : List Item) (item : Item)
+    → IsOfPackets setting before item → IsFalse (concerns_policies before item)
+apart_policies setting before (item.Submitted file version) of = absurd of
+apart_policies setting before _ of = refl
 
-file_same : (setting : Setting) (before items : List Item) (v : ℕ)
-    → HaveCauses (Alone setting) before items → file_of (before ++ items) v ≡ file_of before v
-unfolding file_of
-file_same setting before items v of =
-    ap (λ o. unwrap_or o 1) (told_same setting (tells_file v) (silent_file setting v) before items
-    of)
+policies_same : (setting : Setting) (before items : List Item)
+    → HaveCauses (Alone setting) before items → PoliciesKeep before (before ++ items)
+policies_same setting before items of =
+    policies_keep before items
+    (have_map (Alone setting) (λ js item. IsFalse (concerns_policies js item))
+    (apart_policies setting) before items of)
 
 current_same : (setting : Setting) (before items : List Item)
     → HaveCauses (Alone setting) before items → current_mark (before ++ items) ≡ current_mark before
@@ -175,10 +170,12 @@ current_same setting before items of =
     ap (λ o. unwrap_or o 1) (told_same setting tells_current (silent_current setting) before items
     of)
 
--- an item of packets leaves the file of each version, and the marks, as they were
-pub file_more : (setting : Setting) (before : List Item) (item : Item) (v : ℕ)
-    → IsOfPackets setting before item → file_of (before ++ item ∷ []) v ≡ file_of before v
-file_more setting before item v of = file_same setting before (item ∷ []) v (of, tt)
+-- an item of packets leaves the plan of each version, and the marks, as they were
+pub plan_more : (setting : Setting) (before : List Item) (item : Item) (v : ℕ)
+    → IsOfPackets setting before item
+    → plan_at setting (before ++ item ∷ []) v ≡ plan_at setting before v
+plan_more setting before item v of =
+    (policies_same setting before (item ∷ []) (of, tt)).plan setting v
 
 pub current_more : (setting : Setting) (before : List Item) (item : Item)
     → IsOfPackets setting before item → current_mark (before ++ item ∷ []) ≡ current_mark before
@@ -201,7 +198,7 @@ pub right_on : (setting : Setting) (before items : List Item) (version : ℕ) (w
 right_on setting before items version word rule action of right = record {
   known = right.known;
   current = rw (current_same setting before items of) right.current;
-  decides = rw (file_same setting before items version of) right.decides;
+  decides = rw ((policies_same setting before items of).policy setting version) right.decides;
 }
 
 brings_on : (setting : Setting) (before items : List Item) (to : Receiver) (body : Body)
@@ -494,11 +491,12 @@ entry_of number version word rule action = record {
   message = number;
 }
 
-told_right : (setting : Setting) (journal : List Item) (s stamp number : ℕ) (cache : CacheValue)
-    (body : Body) → BringsRule setting journal (receiver.Switch s) body
+told_right : (setting : Setting) (journal : List Item) (s earlier stamp number : ℕ)
+    (cache : CacheValue) (body : Body) → BringsRule setting journal (receiver.Switch s) body
     → All (IsRightEntry setting journal) cache.entries
-    → All (IsRightEntry setting journal) (cache_after stamp number cache body).entries
-told_right setting journal s stamp number cache (CacheRule version word rule action) right so =
+    → All (IsRightEntry setting journal) (cache_after earlier stamp number cache body).entries
+told_right setting journal s earlier stamp number cache (CacheRule version word rule action) right
+    so =
     by_test (nat_lt version stamp
     || list_any (same_key (entry_of number version word rule action)) cache.entries)
   where
@@ -513,7 +511,7 @@ told_right setting journal s stamp number cache (CacheRule version word rule act
         (cache.entries ++ entry_of number version word rule action ∷ [])
         (All-push (IsRightEntry setting journal) cache.entries
         (entry_of number version word rule action) so right.1)
-told_right setting journal s stamp number cache _ right so = absurd right
+told_right setting journal s earlier stamp number cache _ right so = absurd right
 
 cache_more : (setting : Setting) (s : ℕ) (before : List Item) (cache : CacheValue) (item : Item)
     → HasPacketsAlone setting before → IsOfPackets setting before item
@@ -539,10 +537,10 @@ cache_more setting s before cache (item.Delivered number) alone of so =
   where
     by_said : (o : Option Body) → said_to before s number ≡ o
         → All (IsRightEntry setting before) (option_map_or
-        (cache_after (stamp_of (before ++ item.Delivered number ∷ []) s) number cache) o
-        cache).entries
+        (cache_after (stamp_of before s) (stamp_of (before ++ item.Delivered number ∷ []) s) number
+        cache) o cache).entries
     by_said None e = so
-    by_said (Some body) e = told_right setting before s
+    by_said (Some body) e = told_right setting before s (stamp_of before s)
         (stamp_of (before ++ item.Delivered number ∷ []) s) number cache body
         (said_brings setting before s number body alone e) so
 cache_more setting s before cache _ alone of so = so
@@ -577,7 +575,7 @@ pub calm : (setting : Setting) (journal : List Item) → IsNet setting.net
 unfolding lookup_at route_from
 calm setting journal net alone =
     let controller : ControllerKeeps [] journal = of_controller setting journal alone in
-    let file : (v : ℕ) → file_of journal v ≡ 1 = file_calm setting journal alone in
+    let policies : PoliciesKeep [] journal = policies_same setting [] journal alone in
     let stamp : (s : ℕ) → stamp_of journal s ≡ 1 = stamp_calm setting journal alone in
     record {
       boot = boot_calm setting journal alone;
@@ -596,11 +594,11 @@ calm setting journal net alone =
       current = controller.current ∙ start_laws.current;
       retired = controller.retired ∙ start_laws.retired;
       count = controller.count ∙ start_laws.count;
-      file = file;
-      policy = λ v. rw (file v) refl;
-      plan = λ v. rw (file v) refl;
-      tables = λ v s. rw (file v) refl;
-      lookup = λ s header. rw (stamp s, file 1) refl;
+      file = policies.file;
+      policy = policies.policy setting;
+      plan = policies.plan setting;
+      tables = λ v s. ap (λ plan. tables_of plan v s) (policies.plan setting v);
+      lookup = λ s header. rw (stamp s, policies.plan setting 1) refl;
       route = λ s targets down there.
           rw (adverts_calm setting journal net alone s there, near_calm setting journal alone s)
           refl;

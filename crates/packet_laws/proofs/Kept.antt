@@ -25,7 +25,7 @@ use Rattle.packet_laws.specs.Calm.{HasPacketsAlone, IsOfPackets}
 use Rattle.packet_laws.specs.OnWay.{IsExiting, IsKept, IsOnLeg, IsOnWay, IsPartitionOf, IsSeeking, IsUnderWay, IsUnknown}
 use Rattle.packet_laws.specs.PacketCauses.{ComesIn, IsPlayedItem, MovesOn, Seeks, TakesExit}
 use Rattle.packet_laws.specs.Words.{PacketWords, names, port_of, told_by, words_of}
-use Rattle.packet_laws.proofs.Calm.{alone_more, current_more, file_more, near_calm, retired_more}
+use Rattle.packet_laws.proofs.Calm.{alone_more, current_more, plan_more, near_calm, retired_more}
 use Rattle.packet_laws.proofs.Words.{words_grow}
 
 -- ---- links
@@ -64,9 +64,9 @@ partition_on : (setting : Setting) (before : List Item) (item : Item) (header : 
     IsPartitionOf setting before header version partition placed
     → IsPartitionOf setting (before ++ item ∷ []) header version partition placed
 partition_on setting before item header version partition placed of own = record {
-  found = rw (file_more setting before item version of) own.found;
+  found = rw (plan_more setting before item version of) own.found;
   number = own.number;
-  first = rw (file_more setting before item version of) own.first;
+  first = rw (plan_more setting before item version of) own.first;
   holds = own.holds;
 }
 

@@ -1,13 +1,13 @@
 -- What the first plan says of a header: the partition whose region holds it, and the rule there
 -- that decides it as the policy does.
-use Rattle.std.proofs.Common.{ℕ, ◌≡◌, ◌<◌, true, Option, Some, None, List, [], ◌∷◌, length, map, get_or, refl, ap, sym, subst, ◌∙◌, arith}
-use Rattle.std.specs.Prelude.{All, Contains, Err, IsOk, IsTrue, Ok, Result, filter, find, option_and_then, option_map, position, slice_get, slice_index_or, unwrap_or}
+use Rattle.std.proofs.Common.{ℕ, ◌≡◌, ◌<◌, true, Option, Some, None, List, [], length, map, get_or, refl, ap, sym, subst, ◌∙◌, arith}
+use Rattle.std.specs.Prelude.{All, Contains, Err, IsOk, IsTrue, Ok, Result, filter, find, option_and_then, option_map, position, slice_get, unwrap_or}
 use Rattle.std.proofs.lemmas.List.Elements.{All-filter}
 use Rattle.std.proofs.lemmas.List.{get_or-map, length-map}
-use Rattle.std.proofs.lemmas.Option.{slice_get-get_or}
+use Rattle.std.proofs.lemmas.Option.{get_or_from_slice_get, slice_get-get_or, slice_get_within}
 use Rattle.five_tuple.specs.Header.{IsHeader, fields_of, number_of}
 use Rattle.five_tuple.specs.declared.header.Header.{Header}
-use Rattle.partition.specs.Plan.{IsPlan, NoPlan, TooManyLeaves, plan_of}
+use Rattle.partition.specs.Plan.{IsPlan, NoPlan, plan_of}
 use Rattle.partition.proofs.CallerLemmas.{plan_holds}
 use Rattle.policy_rules.specs.Partitions.{is_in}
 use Rattle.policy_rules.specs.Policy.{IsPolicy, highest, hit_of, is_highest, row_matches, scan}
@@ -22,52 +22,53 @@ use Rattle.switch_table.specs.Tables.{Placed, part_of, tables_of}
 use Rattle.switch_table.proofs.TableLemmas.{find-there, tables_planned}
 use Rattle.update_machine.specs.Played.{IsSetting, NamesOwnPort}
 use Rattle.update_machine.specs.Setting.{Setting, placed_in, plan_of_file, policy_of_file}
-use Rattle.packet_laws.specs.Calm.{first_plan}
+use Rattle.update_machine.proofs.CallerLemmas.{of_its_file, start_laws}
+use Rattle.packet_laws.specs.Calm.{first_plan, first_policy}
 
 -- ---- the first policy and its plan
-
-abbrev pub first_policy : Setting → List Row
-first_policy setting = policy_of_file setting 1
 
 is_ok : (r : Result (List Placed) NoPlan) → IsOk r → r ≡ Ok (placed_in r)
 is_ok (Ok plan) ok = refl
 is_ok (Err why) ok = absurd cc
 
-first_of : (setting : Setting) (policies : List (List Row))
-    → IsOk (slice_index_or (map (λ rows. plan_of rows setting.net) policies) 0 (Err TooManyLeaves))
-    →
-    (0 < length policies) × (slice_index_or (map (λ rows. plan_of rows setting.net) policies) 0
-    (Err TooManyLeaves) ≡ plan_of (slice_index_or policies 0 []) setting.net)
-first_of setting [] ok = absurd cc
-first_of setting (rows ∷ policies) ok = (omega arith, refl)
-
+-- the first file is there, and its policy has a plan
 pub record IsBegun (setting : Setting) : Type 0 where
   pub some : 0 < length setting.policies
+  pub first : get_or setting.policies 0 [] ≡ first_policy setting
+  pub file : policy_of_file setting 1 ≡ Some (first_policy setting)
   pub policy : IsPolicy (first_policy setting)
+  pub planned : plan_of (first_policy setting) setting.net ≡ Ok (first_plan setting)
   pub plan : IsPlan (first_policy setting) setting.net (first_plan setting)
 
 pub begun : (setting : Setting) → IsSetting setting → IsBegun setting
-begun setting is =
-    let plans : setting.plans ≡ map (λ rows. plan_of rows setting.net) setting.policies =
-    ap (λ (s : Setting). s.plans) is.made in
-    let ok : IsOk (slice_index_or (map (λ rows. plan_of rows setting.net) setting.policies) 0
-    (Err TooManyLeaves)) =
-    subst (λ ps. IsOk (slice_index_or ps 0 (Err TooManyLeaves))) plans is.planned in
-    let first : (0 < length setting.policies)
-    × (slice_index_or (map (λ rows. plan_of rows setting.net) setting.policies) 0
-    (Err TooManyLeaves) ≡ plan_of (slice_index_or setting.policies 0 []) setting.net) =
-    first_of setting setting.policies ok in
-    let own : plan_of_file setting 1 ≡ plan_of (first_policy setting) setting.net =
-    ap (λ ps. slice_index_or ps 0 (Err TooManyLeaves)) plans ∙ first.1 in
-    let planned : plan_of (first_policy setting) setting.net ≡ Ok (first_plan setting) = sym own
-    ∙ is_ok (plan_of_file setting 1) is.planned in
-    let policy : IsPolicy (first_policy setting) = is.sound 0 [] first.0 in
-    record {
-      some = first.0;
-      policy = policy;
-      plan = plan_holds (first_policy setting) setting.net (first_plan setting) policy is.net
-          planned;
-    }
+begun setting is = by (policy_of_file setting 1) refl
+  where
+    by : (o : Option (List Row)) → policy_of_file setting 1 ≡ o → IsBegun setting
+    by None none =
+        let ok : IsOk (plan_of_file setting 1) = is.planned in
+        absurd cc
+    by (Some rows) there =
+        let within : 0 < length setting.policies = slice_get_within setting.policies 0 rows there in
+        let at : get_or setting.policies 0 [] ≡ rows =
+        get_or_from_slice_get setting.policies 0 rows [] there in
+        let own = of_its_file setting [] 1 1 rows (start_laws.file 1) there in
+        let made : setting.plan rows ≡ plan_of rows setting.net =
+        ap (λ (s : Setting). s.plan rows) is.made in
+        let ok : IsOk (setting.plan rows) = rw (there, plan_of_file) at is.planned in
+        let planned : plan_of (first_policy setting) setting.net ≡ Ok (first_plan setting) =
+        ap (λ these. plan_of these setting.net) own.0 ∙ sym made ∙ is_ok (setting.plan rows) ok
+        ∙ ap Ok (sym own.1) in
+        let policy : IsPolicy (first_policy setting) =
+        subst IsPolicy (at ∙ sym own.0) (is.sound 0 [] within) in
+        record {
+          some = within;
+          first = at ∙ sym own.0;
+          file = there ∙ ap Some (sym own.0);
+          policy = policy;
+          planned = planned;
+          plan = plan_holds (first_policy setting) setting.net (first_plan setting) policy is.net
+              planned;
+        }
 
 -- ---- ports of actions
 
@@ -89,7 +90,9 @@ pub scan_named : (setting : Setting) (header : Header) → IsSetting setting
 scan_named setting header is =
     hit_named setting (rows_that_match setting header) (highest (rows_that_match setting header))
     (All-filter (λ row. row_matches row (fields_of header)) (λ row. NamesOwnPort setting row.action)
-    (first_policy setting) (is.ports 0 [] (begun setting is).some)) refl
+    (first_policy setting)
+    (subst (All (λ row. NamesOwnPort setting row.action)) (begun setting is).first
+    (is.ports 0 [] (begun setting is).some))) refl
 
 -- ---- the partition of a header
 

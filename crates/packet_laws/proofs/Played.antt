@@ -29,7 +29,7 @@ use Rattle.update_machine.specs.Pieces.{deliver_items, expire_items, forget_item
 use Rattle.update_machine.specs.Played.{IsPlayedKind, IsPlayed, IsSetting, MayPlay}
 use Rattle.update_machine.specs.Setting.{Setting}
 use Rattle.update_machine.specs.Steps.{present_step, tells_step}
-use Rattle.update_machine.proofs.CallerLemmas.{folded_stays, have_append, last_told_append}
+use Rattle.update_machine.proofs.CallerLemmas.{AreOf, folded_stays, have_append, last_told_append}
 use Rattle.packet_laws.specs.Calm.{HasPacketsAlone, IsCacheBody, IsOfPackets}
 use Rattle.policy_rules.specs.declared.packet.Leg.{Leg}
 use Rattle.policy_rules.specs.declared.packet.Leg.TheVariants.{Seek}
@@ -297,12 +297,8 @@ may_play setting (Forget number) may = tt
 may_play setting (Expire s place) may = tt
 may_play setting _ may = absurd may.kind
 
-abbrev pub ArePlayable : Setting → List StepOfRow → Type 0
-ArePlayable setting [] = ⊤
-ArePlayable setting (next ∷ steps) = IsPlayable setting next.step × ArePlayable setting steps
-
 all_playable : (setting : Setting) (steps : List StepOfRow)
-    → All (λ next. MayPlay setting next.step) steps → ArePlayable setting steps
+    → All (λ next. MayPlay setting next.step) steps → AreOf (IsPlayable setting) steps
 all_playable setting [] may = tt
 all_playable setting (next ∷ steps) may = (
   may_play setting next.step (may 0 next (omega arith)),
@@ -350,7 +346,7 @@ piece_settled setting journal row step is may settled =
     (stepped setting journal row step is may settled)
 
 pub steps_settled : (setting : Setting) (before : List Item) (steps : List StepOfRow)
-    → IsSetting setting → ArePlayable setting steps → IsSettled setting before →
+    → IsSetting setting → AreOf (IsPlayable setting) steps → IsSettled setting before →
     IsSettled setting (after_steps setting before steps)
 steps_settled setting before [] is may settled = settled
 steps_settled setting before (next ∷ steps) is may settled =

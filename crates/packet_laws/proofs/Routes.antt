@@ -12,7 +12,7 @@ use Rattle.failover.specs.Masks.{has}
 use Rattle.failover.specs.Paths.{AreJoined, IsPath, IsRoute, Leads}
 use Rattle.failover.specs.Routes.{route_of}
 use Rattle.failover.proofs.Adverts.{by_origin-first, held-first}
-use Rattle.failover.proofs.MaskLemmas.{has-zero}
+use Rattle.masks.proofs.CallerLemmas.{has-zero}
 use Rattle.failover.proofs.Rows.{has_known}
 use Rattle.failover.proofs.Searching.{known_route_is_route, path_is_route_list}
 use Rattle.net_file.specs.Net.{IsNet, links_of}

@@ -1,6 +1,6 @@
 -- A journal whose items have their causes is a run of the machine.
 use Rattle.std.proofs.Common.{ℕ, ◌≡◌, ◌≢◌, Bool, true, false, if◌then◌else◌, Option, Some, None, List, [], ◌∷◌, ◌++◌, refl, ap, sym, subst, ◌∙◌, arith, inl, inr}
-use Rattle.std.specs.Prelude.{⊤, IsTrue, option_map, slice_get}
+use Rattle.std.specs.Prelude.{⊤, IsTrue, option_map, option_to_list, slice_get}
 use Rattle.std.proofs.lemmas.Bool.{cases_eq, eq-eqb, ne_eqb}
 use Rattle.five_tuple.specs.declared.header.Header.{Header}
 use Rattle.net_file.specs.Net.{IsNet}
@@ -13,15 +13,18 @@ use Rattle.update_machine.specs.Causes.{HaveCauses}
 use Rattle.update_machine.specs.Machine.{Dropped, End, IsRun, LeftBy, Lost, Machine, Packet, Runs, Stuck, Takes, policy_of, start, with_packet}
 use Rattle.update_machine.specs.Marks.{retired_mark}
 use Rattle.update_machine.specs.Packets.{Decision, header_in}
-use Rattle.update_machine.specs.Setting.{Setting, policy_of_file}
+use Rattle.update_machine.specs.Played.{IsSetting}
+use Rattle.update_machine.specs.Setting.{Setting}
+use Rattle.update_machine.specs.Versions.{policy_at}
 use Rattle.update_machine.proofs.CallerLemmas.{have_append}
-use Rattle.packet_laws.specs.Calm.{IsCalm}
+use Rattle.packet_laws.specs.Calm.{IsCalm, first_policy}
 use Rattle.packet_laws.specs.OnWay.{IsUnknown}
 use Rattle.packet_laws.specs.PacketCauses.{IsPlayedItem}
 use Rattle.packet_laws.specs.Words.{PacketWords, names, told_by, words_of}
 use Rattle.packet_laws.proofs.Blocks.{other_number, own_number, words_named, words_other}
 use Rattle.packet_laws.proofs.Calm.{calm}
 use Rattle.packet_laws.proofs.Kept.{kept, unknown}
+use Rattle.packet_laws.proofs.Plans.{begun}
 use Rattle.packet_laws.proofs.Played.{alone_of}
 use Rattle.packet_laws.proofs.Words.{words_grow}
 
@@ -41,7 +44,7 @@ SeenAs None words = words.header ≡ None
 SeenAs (Some packet) words = IsSeen packet words
 
 record Matches (setting : Setting) (machine : Machine) (journal : List Item) : Type 0 where
-  policies : machine.policies ≡ policy_of_file setting 1 ∷ []
+  policies : machine.policies ≡ first_policy setting ∷ []
   mark : machine.mark ≡ 0
   packets : (i : ℕ) → SeenAs (machine.packets i) (words_of journal i)
 
@@ -242,25 +245,26 @@ goes setting machine journal (item.Decided i version rule act how) net causes pl
     (words_of journal i) = words_named i journal decided (own_number i) in
     let first : version ≡ 1 =
     omega (arith, played.cause.not_retired, played.cause.submitted, calm_here.count) in
-    let policy : policy_of machine version ≡ Some (policy_of_file setting 1) =
+    let policy : policy_of machine version ≡ Some (first_policy setting) =
     ap (policy_of machine) first ∙ ap (λ policies. slice_get policies 0) matches.policies in
     let same : played.cause.header ≡ at.0.header = cc (at.2.header, played.cause.at.entered) in
-    let hit : scan (policy_of_file setting 1) at.0.header ≡ record { rule = rule; action = act } =
-    ap (scan (policy_of_file setting 1)) (sym same) ∙ ap (λ rows. scan rows played.cause.header)
-    (sym (calm_here.policy version)) ∙ played.cause.first_match in
+    let hit : scan (first_policy setting) at.0.header ≡ record { rule = rule; action = act } =
+    ap (scan (first_policy setting)) (sym same) ∙ ap (λ rows. scan rows played.cause.header)
+    (sym (calm_here.policy version ∙ ap (policy_at setting []) first))
+    ∙ played.cause.first_match in
     record {
       new = with_packet machine i
           (record at.0 { decision = Some (record { rule = rule; action = act }) });
       takes = record {
         packet = at.0;
-        policy = policy_of_file setting 1;
+        policy = first_policy setting;
         entered = at.1;
         undecided = at.2.decision ∙ ap (option_map hit_in) played.cause.undecided;
         not_ended = at.2.end played.cause.at.travels;
         not_retired = omega (arith, at.2.mark, played.cause.not_retired);
         submitted = policy;
-        first_match = subst (IsFirstMatch (policy_of_file setting 1) at.0.header) hit
-            (first_match-scan (policy_of_file setting 1) at.0.header);
+        first_match = subst (IsFirstMatch (first_policy setting) at.0.header) hit
+            (first_match-scan (first_policy setting) at.0.header);
         after = refl;
       };
       matches = changed_matches setting machine journal decided i
@@ -369,11 +373,15 @@ runs_from setting machine before (item ∷ items) net causes more matches =
     step.matches in
     (rest.0, (step.new, step.takes, rest.1))
 
-matches_at_first : (setting : Setting) → Matches setting (start setting) []
+matches_at_first : (setting : Setting) → IsSetting setting → Matches setting (start setting) []
 unfolding words_of header_in
-matches_at_first setting = record { policies = refl; mark = refl; packets = λ i. refl }
+matches_at_first setting is = record {
+  policies = ap option_to_list (begun setting is).file;
+  mark = refl;
+  packets = λ i. refl;
+}
 
-pub caused_is_run : (setting : Setting) (journal : List Item) → IsNet setting.net
+pub caused_is_run : (setting : Setting) (journal : List Item) → IsSetting setting
     → HaveCauses (IsPlayedItem setting) [] journal → IsRun setting journal
-caused_is_run setting journal net causes = runs_from setting (start setting) [] journal net tt
-    causes (matches_at_first setting)
+caused_is_run setting journal is causes = runs_from setting (start setting) [] journal is.net tt
+    causes (matches_at_first setting is)

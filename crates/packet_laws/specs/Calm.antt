@@ -14,6 +14,7 @@ use Rattle.net_file.specs.Net.{links_of}
 use Rattle.partition.specs.Plan.{Placed}
 use Rattle.policy_rules.specs.Policy.{scan}
 use Rattle.policy_rules.specs.declared.policy.Action.{Action}
+use Rattle.policy_rules.specs.declared.policy.Row.{Row}
 use Rattle.switch_table.specs.Lookup.{lookup_of}
 use Rattle.switch_table.specs.Tables.{tables_of}
 use Rattle.switch_table.specs.declared.cache.CacheEntry.{CacheEntry}
@@ -27,7 +28,7 @@ use Rattle.update_machine.specs.Causes.{HaveCauses}
 use Rattle.update_machine.specs.Links.{near}
 use Rattle.update_machine.specs.Marks.{current_mark, is_member, is_over, known_boot, retired_mark}
 use Rattle.update_machine.specs.Played.{IsPlayedKind}
-use Rattle.update_machine.specs.Setting.{Setting, placed_in, plan_of_file, policy_of_file, switches_of}
+use Rattle.update_machine.specs.Setting.{Setting, switches_of}
 use Rattle.update_machine.specs.Versions.{file_of, holds_version, plan_at, policy_at, stamp_of, tables_at, version_count}
 
 -- ---- cache rules
@@ -81,9 +82,12 @@ IsOfPackets setting before _ = ⊥
 abbrev pub HasPacketsAlone : Setting → List Item → Type 0
 HasPacketsAlone setting journal = HaveCauses (IsOfPackets setting) [] journal
 
--- the plan of the first policy
+-- the first policy and its plan
+abbrev pub first_policy : Setting → List Row
+first_policy setting = policy_at setting [] 1
+
 abbrev pub first_plan : Setting → List Placed
-first_plan setting = placed_in (plan_of_file setting 1)
+first_plan setting = plan_at setting [] 1
 
 -- the neighbours of each switch, and its first advert
 abbrev pub neighbours : Setting → List ℕ
@@ -113,12 +117,12 @@ pub record IsCalm (setting : Setting) (journal : List Item) : Type 0 where
   pub member : (s : ℕ) → is_member journal s ≡ true
   pub current : current_mark journal ≡ 1
   pub retired : retired_mark journal ≡ 0
-  -- there is one version, that of the first file
+  -- there is one version, and no other has a policy
   pub count : version_count journal ≡ 1
-  pub file : (v : ℕ) → file_of journal v ≡ 1
-  pub policy : (v : ℕ) → policy_at setting journal v ≡ policy_of_file setting 1
-  pub plan : (v : ℕ) → plan_at setting journal v ≡ first_plan setting
-  pub tables : (v s : ℕ) → tables_at setting journal v s ≡ tables_of (first_plan setting) v s
+  pub file : (v : ℕ) → file_of journal v ≡ file_of [] v
+  pub policy : (v : ℕ) → policy_at setting journal v ≡ policy_at setting [] v
+  pub plan : (v : ℕ) → plan_at setting journal v ≡ plan_at setting [] v
+  pub tables : (v s : ℕ) → tables_at setting journal v s ≡ tables_at setting [] v s
   -- so a lookup is one in the cache and those tables, and a route one over the network's links
   pub lookup : (s : ℕ) (header : Header) → lookup_at setting journal s header
       ≡ lookup_of (cache_of setting journal s).entries (tables_of (first_plan setting) 1 s) header

@@ -20,6 +20,3 @@ mod plan;
 pub use laws::partition_laws;
 pub use parts::{find, list};
 pub use plan::plan_laws;
-
-#[cfg(test)]
-mod tests;

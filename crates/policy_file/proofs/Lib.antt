@@ -2,4 +2,3 @@ mod Fields
 mod Rows
 mod Plain
 mod Lines
-mod Mask

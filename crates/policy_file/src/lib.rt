@@ -18,8 +18,6 @@ mod error;
 mod ports;
 mod read;
 mod row;
-#[cfg(test)]
-mod tests;
 mod write;
 
 pub use csv_records::ByteRecord;

@@ -2,6 +2,7 @@ ghost use Rattle.std.specs.Prelude.{◌≡◌, ◌<◌, All, IfNone, IfSome, IsT
 ghost use Rattle.std.specs.Result.{result_err};
 ghost use Rattle.policy_file.specs.Ports.{first_without_port, has_port};
 
+use masks::has;
 use policy_rules::{Action, Policy, Row};
 use thiserror::Error;
 
@@ -18,7 +19,7 @@ fn has_port(ports: u64, action: Action) -> bool
 {
     match action {
         Action::Drop => true,
-        Action::Out(port) => port < 64 && (ports >> port) % 2 == 1,
+        Action::Out(port) => port < 64 && has(ports, port),
     }
 }
 

@@ -36,6 +36,3 @@ pub use read::{printed_actions_are_read_back, read_action};
 pub use rule_list::{RulesError, count_words, to_rules};
 pub use rules::{Partition, Rule, Rules, first_hit};
 pub use targets::Targets;
-
-#[cfg(test)]
-mod rule_tests;

@@ -1,5 +1,5 @@
-mod Continuing
+mod Asked
 mod Events
 mod Small
-mod TestEvents
+mod Stepping
 mod Ties

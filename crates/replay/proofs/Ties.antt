@@ -1,16 +1,16 @@
 -- What a world that is as its journal says is.
 use Rattle.std.proofs.Common.{ℕ, ◌≤◌, arith}
-use Rattle.steps.specs.declared.step.TheConstants.{MAX_EVENTS}
+use Rattle.steps.specs.Steps.{max_events}
 use Rattle.update_machine.specs.Packets.{next_packet}
-use Rattle.world.specs.State.{AreTied, IsTied, Tied, WorldValue}
+use Rattle.world.specs.State.{AreTied, IsTied, Tied, WorldValue, setting_at}
 
 pub tie_of : (world : WorldValue) → IsTied world
-    → Tied world.setting world.journal world.switches world.travelling world.packets
+    → Tied (setting_at world) world.journal world.switches world.travelling world.packets
     (record { marks = world.controller.marks; posts = world.bag })
 unfolding AreTied
 tie_of world tied = tied
 
 -- few packets came in, so that another one may
 pub few_packets : (world : WorldValue) (count : ℕ) → IsTied world → world.packets ≤ count
-    → count ≤ MAX_EVENTS → next_packet world.journal ≤ 4_000_000_000
+    → count ≤ max_events → next_packet world.journal ≤ 4_000_000_000
 few_packets world count tied few most = omega (arith, (tie_of world tied).counted, few, most)

@@ -1,16 +1,31 @@
 -- What a play makes of a journal, event by event.
-use Rattle.std.specs.Prelude.{⊤, ℕ, ◌≡◌, Result, Err, List, [], ◌∷◌, ◌++◌}
+use Rattle.std.specs.Prelude.{⊤, ℕ, ◌≡◌, Bool, true, false, Option, Some, None, Result, Err, List, [], ◌∷◌, ◌++◌}
 use Rattle.controller.specs.declared.plan_error.PlanError.{PlanError}
 use Rattle.controller.specs.declared.plan_error.PlanError.TheVariants as why
 use Rattle.journal.specs.declared.item.Item.{Item}
 use Rattle.partition.specs.Plan.{NoPlan, Placed}
 use Rattle.partition.specs.Plan as no_plan
 use Rattle.steps.specs.declared.step.Event.{Event}
-use Rattle.update_machine.specs.Answers.{AreFirstStepsOf, AreStepsOf, StepOfRow, after_steps}
+use Rattle.steps.specs.declared.step.Event.TheVariants.{One, Flush, Drain}
+use Rattle.steps.specs.declared.step.Step.{Step}
+use Rattle.update_machine.specs.Answers.{AreFirstStepsOf, AreStepsOf, StepOfRow, after_steps, next_delivery, next_hop}
 use Rattle.update_machine.specs.Full.{HaveRoom, IsFull}
 use Rattle.update_machine.specs.Setting.{Setting}
+use Rattle.world.specs.State.{comes_in}
 use Rattle.replay.specs.declared.error.ReplayError.{ReplayError}
 use Rattle.replay.specs.declared.error.ReplayError.TheVariants as replayed
+
+-- the step that the event asks for next behind this journal, where it began or has yet to
+abbrev pub next_step : Event → Bool → List Item → Option Step
+next_step (One step) false journal = Some step
+next_step (One step) true journal = None
+next_step Flush is_begun journal = next_delivery journal
+next_step Drain is_begun journal = next_hop journal
+
+-- how many packets the steps of an event bring in, refused ones counted
+abbrev pub brought_in : Event → ℕ
+brought_in (One step) = comes_in step
+brought_in _ = 0
 
 -- behind this journal, the event of the row took all its steps, each of which began with room
 pub record Happens (setting : Setting) (row : ℕ) (event : Event) (before after : List Item)

@@ -13,14 +13,12 @@
 //! ```
 #![tactic(auto)]
 
-mod draining;
 mod error;
-mod flushing;
+mod event_steps;
 mod playing;
 
-pub use draining::drain;
 pub use error::ReplayError;
-pub use flushing::flush;
+pub use event_steps::take_steps;
 pub use journal::{Item, Journal};
 pub use journal_text::text;
 pub use net_file::Net;
@@ -28,6 +26,3 @@ pub use playing::{Played, play, replay};
 pub use policy_rules::Policy;
 pub use steps::{Event, Step};
 pub use world::{PlanError, StepError, World};
-
-#[cfg(test)]
-mod tests;

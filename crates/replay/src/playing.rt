@@ -1,18 +1,16 @@
-ghost use Rattle.std.specs.Prelude.{◌≡◌, ◌≤◌, ◌<◌, ◌+◌, false, All, IfErr, IfOk, IsErrOf, IsOk, OnOk, length, slice_index_or, []};
+ghost use Rattle.std.specs.Prelude.{◌≡◌, ◌≤◌, ◌+◌, All, IfErr, IfOk, IsOk, OnOk, length, slice_index_or, []};
 ghost use Rattle.net_file.specs.Net.{IsNet};
 ghost use Rattle.partition.specs.Plan.{plan_of};
 ghost use Rattle.policy_rules.specs.Policy.{IsPolicy};
-ghost use Rattle.steps.specs.declared.step.TheConstants.{MAX_EVENTS};
+ghost use Rattle.steps.specs.Steps.{max_events};
 ghost use Rattle.update_machine.specs.Full.{IsPlay};
 ghost use Rattle.update_machine.specs.Played.{MayHappen, NamesOwnPort};
 ghost use Rattle.update_machine.specs.Setting.{setting_of};
-ghost use Rattle.world.specs.State.{IsBegun};
-ghost use Rattle.world.specs.declared.error.StepError.TheVariants as step_error;
-ghost use Rattle.replay.specs.Playing.{Happens, IsRefusal, StopsWithin};
+ghost use Rattle.world.specs.State.{IsBegun, setting_at};
+ghost use Rattle.replay.specs.Playing.{IsRefusal};
 
-use crate::draining::drain;
 use crate::error::ReplayError;
-use crate::flushing::flush;
+use crate::event_steps::take_steps;
 use journal::Journal;
 use net_file::Net;
 use policy_rules::Policy;
@@ -47,7 +45,7 @@ pub fn replay(
     requires ports { All (All (λ row. NamesOwnPort (setting_of net.now policies.items)
         row.action)) policies.items }
     requires events { All (MayHappen (setting_of net.now policies.items)) events.now }
-    requires few { length events.now ≤ MAX_EVENTS }
+    requires few { length events.now ≤ max_events }
     ensures play { IfOk result (λ played.
         IsPlay (setting_of net.now policies.items) events.now played.journal played.full) }
     ensures planned { OnOk result
@@ -66,18 +64,18 @@ pub fn replay(
 /// # Errors
 /// Want of memory alone.
 pub fn play(alloc: Global, world: World, events: &[Event]) -> Result<Played, AllocError>
-    requires begun { IsBegun world.setting world }
-    requires events { All (MayHappen world.setting) events.now }
-    requires few { length events.now ≤ MAX_EVENTS }
+    requires begun { IsBegun (setting_at world) world }
+    requires events { All (MayHappen (setting_at world)) events.now }
+    requires few { length events.now ≤ max_events }
     ensures { IfOk result (λ played.
-        IsPlay world.setting events.now played.journal played.full) }
+        IsPlay (setting_at world) events.now played.journal played.full) }
 {
     world.tied();
     let mut world = world;
     let mut row = 0u32;
     for event in events {
         row += 1;
-        match play_event(alloc, &mut world, row, event) {
+        match take_steps(alloc, &mut world, row, event) {
             Ok(()) => {}
             Err(StepError::Full) => {
                 return Ok(Played {
@@ -92,28 +90,4 @@ pub fn play(alloc: Global, world: World, events: &[Event]) -> Result<Played, All
         journal: world.into_journal(),
         full: None,
     })
-}
-
-// Takes all steps of an event of this row.
-fn play_event(alloc: Global, world: &mut World, row: u32, event: &Event) -> Result<(), StepError>
-    requires able { world.old.is_spent ≡ false }
-    requires few { world.old.packets < row }
-    requires small { row ≤ MAX_EVENTS }
-    requires may { MayHappen world.old.setting event.now }
-    ensures setting { world.new.setting ≡ world.old.setting }
-    ensures able { OnOk result (world.new.is_spent ≡ false) }
-    ensures few { OnOk result (world.new.packets ≤ row) }
-    ensures happens { OnOk result (Happens world.old.setting row event.now world.old.journal
-        world.new.journal) }
-    ensures stops { IsErrOf result step_error.Full → StopsWithin world.old.setting row event.now
-        world.old.journal world.new.journal }
-{
-    match event {
-        Event::One(step) => {
-            world.tied();
-            world.step(alloc, row, step)
-        }
-        Event::Drain => drain(alloc, world, row),
-        Event::Flush => flush(alloc, world, row),
-    }
 }

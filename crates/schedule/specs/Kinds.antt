@@ -1,11 +1,10 @@
 -- The kinds of a schedule's rows, each named by a word.
-use Rattle.std.specs.Prelude.{ℕ, ◌≡◌, Bool, true, false, IsTrue, Option, Some, List, find, codes, bytes_eq}
+use Rattle.std.specs.Prelude.{ℕ, ◌≡◌, Bool, true, false, IsTrue, Option, Some, List, [], ◌∷◌, find, codes, bytes_eq}
 use Rattle.steps.specs.declared.step.Event.{Event}
 use Rattle.steps.specs.declared.step.Event.TheVariants.{One, Flush, Drain}
 use Rattle.steps.specs.declared.step.Step.TheVariants as step
 use Rattle.schedule.specs.declared.kind.Kind.{Kind}
 use Rattle.schedule.specs.declared.kind.Kind.TheVariants as kind
-use Rattle.schedule.specs.declared.kind.TheConstants.{KINDS}
 
 -- the word of a kind
 abbrev pub word_of : Kind → List ℕ
@@ -25,9 +24,14 @@ word_of kind.Resend = codes "resend"
 word_of kind.Flush = codes "flush"
 word_of kind.Drain = codes "drain"
 
+abbrev pub kinds : List Kind
+kinds = kind.Packet ∷ kind.Hop ∷ kind.Lose ∷ kind.Deliver ∷ kind.Forget ∷ kind.Expire ∷ kind.Update
+    ∷ kind.LinkDown ∷ kind.LinkUp ∷ kind.Crash ∷ kind.Restart ∷ kind.Confirm ∷ kind.Resend
+    ∷ kind.Flush ∷ kind.Drain ∷ []
+
 -- the kind that a word names
 unfoldable pub kind_of : List ℕ → Option Kind
-kind_of word = find (λ kind. bytes_eq (word_of kind) word) KINDS
+kind_of word = find (λ kind. bytes_eq (word_of kind) word) kinds
 
 -- the kinds that can be played so far
 abbrev pub is_built : Kind → Bool

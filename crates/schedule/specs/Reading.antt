@@ -5,9 +5,8 @@ use Rattle.std.specs.Option.{option_map_or}
 use Rattle.std.specs.Result.{result_err, result_ok}
 use Rattle.csv_records.specs.Texts.{records_of}
 use Rattle.net_file.specs.declared.net.Net.{Net}
-use Rattle.steps.specs.Steps.{IsEvent}
+use Rattle.steps.specs.Steps.{IsEvent, max_events}
 use Rattle.steps.specs.declared.step.Event.{Event}
-use Rattle.steps.specs.declared.step.TheConstants.{MAX_EVENTS}
 use Rattle.schedule.specs.Kinds.{IsBuiltEvent}
 use Rattle.schedule.specs.Refusals.{Refusal}
 use Rattle.schedule.specs.Rows.{event_of, is_heading}
@@ -19,7 +18,7 @@ use Rattle.schedule.specs.declared.error.ScheduleRefusal.TheVariants as why
 -- why a row is refused, if it is: it states no event, or it is row 100,001
 abbrev pub refusal_in : Net → ℕ → ℕ → List (List ℕ) → Option ScheduleRefusal
 refusal_in net files row fields =
-    if nat_lt MAX_EVENTS row then Some why.TooManyRows else result_err (event_of net files fields)
+    if nat_lt max_events row then Some why.TooManyRows else result_err (event_of net files fields)
 
 -- the same with the row's number
 abbrev pub refused_row : Net → ℕ → ℕ × List (List ℕ) → Option Refusal
@@ -68,7 +67,7 @@ IsRefusal events error.NoMemory = ⊤
 pub record AreSound (net : Net) (files : ℕ) (events : List Event) : Type 0 where
   pub steps : All (IsEvent net files) events
   pub built : All IsBuiltEvent events
-  pub few : length events ≤ MAX_EVENTS
+  pub few : length events ≤ max_events
 
 pub record ScheduleLaws : Type 0 where
   pub sound : (net : Net) (files : ℕ) (bytes : List ℕ) (events : List Event)

@@ -8,10 +8,10 @@ use Rattle.net_file.specs.Net.{are_linked, switch_number}
 use Rattle.net_file.specs.Refusals.{require, with_value}
 use Rattle.net_file.specs.declared.net.LinkRow.{LinkRow}
 use Rattle.net_file.specs.declared.net.Net.{Net}
+use Rattle.steps.specs.Steps.{max_number}
 use Rattle.steps.specs.declared.step.Event.{Event}
 use Rattle.steps.specs.declared.step.Event.TheVariants.{One, Flush, Drain}
 use Rattle.steps.specs.declared.step.Step.TheVariants as step
-use Rattle.steps.specs.declared.step.TheConstants.{MAX_NUMBER}
 use Rattle.schedule.specs.Kinds.{is_built, kind_of}
 use Rattle.schedule.specs.declared.error.ScheduleRefusal.{ScheduleRefusal}
 use Rattle.schedule.specs.declared.error.ScheduleRefusal.TheVariants as why
@@ -33,7 +33,7 @@ switch_in net name = ok_or (switch_number net.switches name) why.Switch
 
 -- the number of a packet, a message or a place
 abbrev pub number_in : List ℕ → Result ℕ ScheduleRefusal
-number_in text = ok_or (number_up_to MAX_NUMBER text) why.Number
+number_in text = ok_or (number_up_to max_number text) why.Number
 
 -- a policy file, from 1
 abbrev pub file_in : ℕ → List ℕ → Result ℕ ScheduleRefusal

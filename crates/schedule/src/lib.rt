@@ -17,8 +17,6 @@ mod kind;
 mod laws;
 mod read;
 mod row;
-#[cfg(test)]
-mod tests;
 
 pub use csv_records::ByteRecord;
 pub use error::{ScheduleError, ScheduleRefusal};

@@ -16,8 +16,6 @@ mod output;
 mod scripted;
 mod source;
 mod system;
-#[cfg(test)]
-mod tests;
 
 pub use calm::{CalmShelf, CalmSink};
 pub use output::{Sink, SinkError, write_whole};

@@ -8,6 +8,3 @@ mod lines;
 mod text;
 
 pub use text::{compile_text, table_text};
-
-#[cfg(test)]
-mod tests;

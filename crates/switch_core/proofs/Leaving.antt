@@ -11,12 +11,12 @@ use Rattle.policy_rules.specs.declared.policy.Action.TheVariants.{Drop, Out as O
 use Rattle.net_file.specs.Owners.{port_owner}
 use Rattle.tunnel.specs.Tunnel.{TunnelValue}
 use Rattle.switch_core.specs.AnswerLaws.{route_from, setting_out}
-use Rattle.switch_core.specs.Ends.{Surroundings, cause_of, exit_by, leave_by, next_of, set_out}
+use Rattle.switch_core.specs.Ends.{Site, cause_of, exit_by, leave_by, next_of, set_out}
 use Rattle.switch_core.specs.State.{SwitchValue}
 use Rattle.switch_core.specs.declared.answers.Next.{Next}
 use Rattle.switch_core.specs.declared.answers.Next.TheVariants.{Dropped, Exit, Out, Stuck}
 use Rattle.switch_core.specs.declared.packet.Packet.{Packet}
-use Rattle.switch_core.proofs.Answering.{either_way, sets_out}
+use Rattle.switch_core.proofs.Lookups.{either_way, sets_out}
 
 -- ---- by the port's owner
 
@@ -61,12 +61,12 @@ not_dropped s near packet port (Some owner) is =
     exits s near packet port owner (λ answer. answer ≡ Dropped → ⊥)
     (λ here is. cc) (λ tunnel is. cc) (λ cause is. cc) is
 
-pub next_dropped : (s : SwitchValue) (told : Surroundings) (packet : Packet) (action : Action) →
-    (next_of s told packet action ≡ Dropped) ↔ (action ≡ Drop)
+pub next_dropped : (s : SwitchValue) (site : Site) (packet : Packet) (action : Action) →
+    (next_of s site packet action ≡ Dropped) ↔ (action ≡ Drop)
 unfolding next_of
-next_dropped s told packet Drop = (λ is. refl, λ is. refl)
-next_dropped s told packet (OutBy port) = (
-  λ is. absurd (not_dropped s told.near packet port (port_owner told.ports port) is),
+next_dropped s site packet Drop = (λ is. refl, λ is. refl)
+next_dropped s site packet (OutBy port) = (
+  λ is. absurd (not_dropped s site.near packet port (port_owner site.ports port) is),
   λ is. cc,
 )
 
@@ -81,44 +81,44 @@ out_by_owner s near packet by port (Some owner) is =
     (λ here is. (let same : by ≡ port = cc in ap OutBy same, ap Some here))
     (λ tunnel is. absurd (cc)) (λ cause is. absurd (cc)) is
 
-pub next_out : (s : SwitchValue) (told : Surroundings) (packet : Packet) (action : Action)
+pub next_out : (s : SwitchValue) (site : Site) (packet : Packet) (action : Action)
     (port : ℕ) →
-    (next_of s told packet action ≡ Out port)
-    ↔ ((action ≡ OutBy port) × (port_owner told.ports port ≡ Some s.number))
+    (next_of s site packet action ≡ Out port)
+    ↔ ((action ≡ OutBy port) × (port_owner site.ports port ≡ Some s.number))
 unfolding next_of
-next_out s told packet Drop port = (λ is. absurd (cc), λ both. absurd (cc (both.0)))
-next_out s told packet (OutBy by) port = (
+next_out s site packet Drop port = (λ is. absurd (cc), λ both. absurd (cc (both.0)))
+next_out s site packet (OutBy by) port = (
   λ is.
-      let out = out_by_owner s told.near packet by port (port_owner told.ports by) is in
+      let out = out_by_owner s site.near packet by port (port_owner site.ports by) is in
       let same : by ≡ port = cc (out.0) in
-      (out.0, ap (port_owner told.ports) (sym same) ∙ out.1),
+      (out.0, ap (port_owner site.ports) (sym same) ∙ out.1),
   λ both.
       let same : by ≡ port = cc (both.0) in
-      ap (λ (p : ℕ). next_of s told packet (OutBy p)) same
-      ∙ ap (leave_by s told.near packet port) both.1
-      ∙ leaves_here s told.near packet port s.number refl,
+      ap (λ (p : ℕ). next_of s site packet (OutBy p)) same
+      ∙ ap (leave_by s site.near packet port) both.1
+      ∙ leaves_here s site.near packet port s.number refl,
 )
 
-pub next_exit : (s : SwitchValue) (told : Surroundings) (packet : Packet) (action : Action)
+pub next_exit : (s : SwitchValue) (site : Site) (packet : Packet) (action : Action)
     (port owner : ℕ) → action ≡ OutBy port →
-    port_owner told.ports port ≡ Some owner → owner ≢ s.number →
-    MatchOption (route_from s told.near packet (owner ∷ []))
-    (next_of s told packet action ≡ Stuck NoRoute)
-    (λ route. next_of s told packet action
+    port_owner site.ports port ≡ Some owner → owner ≢ s.number →
+    MatchOption (route_from s site.near packet (owner ∷ []))
+    (next_of s site packet action ≡ Stuck NoRoute)
+    (λ route. next_of s site packet action
     ≡ Exit (setting_out packet (ExitLeg port) (owner ∷ []) route))
 unfolding next_of cause_of
-next_exit s told packet action port owner by has other =
-    let is : next_of s told packet action
-    ≡ exit_by (set_out s told.near packet (ExitLeg port) (owner ∷ [])) =
-    ap (next_of s told packet) by ∙ ap (leave_by s told.near packet port) has
-    ∙ leaves_for s told.near packet port owner other in
-    either_way (route_from s told.near packet (owner ∷ []))
+next_exit s site packet action port owner by has other =
+    let is : next_of s site packet action
+    ≡ exit_by (set_out s site.near packet (ExitLeg port) (owner ∷ [])) =
+    ap (next_of s site packet) by ∙ ap (leave_by s site.near packet port) has
+    ∙ leaves_for s site.near packet port owner other in
+    either_way (route_from s site.near packet (owner ∷ []))
     (λ none. is ∙ ap exit_by none) (λ way some. is ∙ ap exit_by some)
-    (sets_out s told.near packet (ExitLeg port) (owner ∷ []))
+    (sets_out s site.near packet (ExitLeg port) (owner ∷ []))
 
-pub next_no_owner : (s : SwitchValue) (told : Surroundings) (packet : Packet) (action : Action)
-    (port : ℕ) → action ≡ OutBy port → port_owner told.ports port ≡ None →
-    next_of s told packet action ≡ Stuck NoRoute
+pub next_no_owner : (s : SwitchValue) (site : Site) (packet : Packet) (action : Action)
+    (port : ℕ) → action ≡ OutBy port → port_owner site.ports port ≡ None →
+    next_of s site packet action ≡ Stuck NoRoute
 unfolding next_of leave_by
-next_no_owner s told packet action port by none =
-    ap (next_of s told packet) by ∙ ap (leave_by s told.near packet port) none
+next_no_owner s site packet action port by none =
+    ap (next_of s site packet) by ∙ ap (leave_by s site.near packet port) none

@@ -3,8 +3,7 @@ pub mod OwnAdverts
 pub mod Flooding
 pub mod SwitchLaws
 pub mod Holding
-pub mod TestTables
-pub mod Answering
+pub mod Lookups
 pub mod Leaving
 pub mod Arrivals
 pub mod Decisions

@@ -7,11 +7,11 @@ use Rattle.std.specs.Bool.{IsTrue, IsFalse}
 use Rattle.std.specs.Option.{MatchOption}
 use Rattle.std.proofs.lemmas.Option.{get_or_from_slice_get}
 use Rattle.policy_rules.specs.declared.packet.Cause.{Cause}
-use Rattle.failover.proofs.MaskLemmas.{has-zero}
+use Rattle.masks.proofs.CallerLemmas.{has-zero}
 use Rattle.failover.proofs.Rows.{has_known}
 use Rattle.failover.proofs.Searching.{known_route_is_route}
 use Rattle.failover.specs.Links.{is_link, known_links, neighbours_told, told_links}
-use Rattle.failover.specs.Masks.{has}
+use Rattle.masks.specs.Masks.{has}
 use Rattle.failover.specs.Paths.{IsPath, IsRoute}
 use Rattle.failover.specs.Routes.{route_of}
 use Rattle.failover.specs.declared.advert.Advert.{Advert}
@@ -108,6 +108,17 @@ hop_turns s near t other way found some =
 
 -- ---- where it is then
 
+-- a packet stays the same on another route, and with other links down
+same_but : (t : TunnelValue) (route : List ℕ) (place : ℕ) (down : List ℕ) →
+    IsSamePacket t (record t { route = route; place = place; down = down })
+same_but t route place down = record {
+  packet = refl;
+  header = refl;
+  ingress = refl;
+  leg = refl;
+  targets = refl;
+}
+
 -- what holds of each move, and where a packet is stuck, holds of a hop
 each_hop : (s : SwitchValue) (near : ℕ) (t : TunnelValue) (P : Moved → Type 0) →
     ((on : TunnelValue) → IsSamePacket t on → P (moved on (next on))) →
@@ -119,22 +130,10 @@ each_hop s near t P moves stuck = by_found (found_down near (next t))
     by_way : (other : ℕ) (way : Option (List ℕ)) →
         P (moved_along s near (marked_down t other) way)
     by_way other None = stuck other _
-    by_way other (Some way) = moves (on_route (marked_down t other) way) (record {
-      packet = refl;
-      header = refl;
-      ingress = refl;
-      leg = refl;
-      targets = refl;
-    })
+    by_way other (Some way) = moves (on_route (marked_down t other) way) (same_but t way 0 _)
 
     by_found : (found : Option ℕ) → P (hopped_to s near t found)
-    by_found None = moves t (record {
-      packet = refl;
-      header = refl;
-      ingress = refl;
-      leg = refl;
-      targets = refl;
-    })
+    by_found None = moves t (same_but t t.route t.place t.down)
     by_found (Some other) =
         by_way other (route_from_here (marked_down t other) s.database near)
 
@@ -166,13 +165,7 @@ pub hop_same : (s : SwitchValue) (near : ℕ) (t : TunnelValue) →
     IsSamePacket t (hopped s near t).tunnel
 hop_same s near t =
     each_hop s near t (λ m. IsSamePacket t m.tunnel)
-    (λ on same. by_next on (next on) same) (λ other cause. record {
-      packet = refl;
-      header = refl;
-      ingress = refl;
-      leg = refl;
-      targets = refl;
-    })
+    (λ on same. by_next on (next on) same) (λ other cause. same_but t t.route t.place _)
   where
     by_next : (on : TunnelValue) (after : Option ℕ) → IsSamePacket t on →
         IsSamePacket t (moved on after).tunnel
@@ -218,12 +211,12 @@ seen : (adverts : List (Option Advert)) (at near other : ℕ) →
     has (slice_index (told_links adverts at near) at) other ≡ true → IsTrue (has near other)
 unfolding told_links
 seen adverts at near other is =
-    let told = map neighbours_told adverts in
-    elim (cases_lt at (length told)) [
+    let rows = map neighbours_told adverts in
+    elim (cases_lt at (length rows)) [
       | inl below ↦ ap (λ (row : ℕ). has row other)
-          (sym (get_or-set_same told at near 0 below)) ∙ is
-      | inr past ↦ (let len = length-set told at near in
-          let none = get_or_past (set told at near) at 0 (omega (arith, len)) in
+          (sym (get_or-set_same rows at near 0 below)) ∙ is
+      | inr past ↦ (let len = length-set rows at near in
+          let none = get_or_past (set rows at near) at 0 (omega (arith, len)) in
           let no_link : false ≡ true =
           sym (has-zero other) ∙ ap (λ (row : ℕ). has row other) (sym none) ∙ is in
           absurd (cc))

@@ -1,6 +1,6 @@
 -- What a switch answers to packets, as relations in the words of lookups, rules, routes and
 -- tunnels: `x_laws` of the crate ensures that each call's answer is one, and the only one.
-use Rattle.std.specs.Prelude.{ℕ, ◌≡◌, ◌≢◌, ◌+◌, ◌↔◌, ◌⊎◌, Bool, true, false, Option, Some, None, List, [], ◌∷◌, map, slice_get, IsTrue, IsFalse, IsSome, MatchOption}
+use Rattle.std.specs.Prelude.{ℕ, ◌≡◌, ◌≢◌, ◌+◌, ◌↔◌, ◌⊎◌, ◌==◌, if◌then◌else◌, Bool, true, false, Option, Some, None, List, [], ◌∷◌, map, slice_get, IsTrue, IsFalse, IsSome, MatchOption}
 use Rattle.five_tuple.specs.Header.{IsHeader, number_of}
 use Rattle.five_tuple.specs.declared.header.Header.{Header}
 use Rattle.policy_rules.specs.Partitions.{AreSoundPartitions, Placed}
@@ -18,7 +18,7 @@ use Rattle.policy_rules.specs.declared.rules.Partition.{Partition}
 use Rattle.policy_rules.specs.declared.rules.Rule.{Rule}
 use Rattle.net_file.specs.Owners.{port_owner}
 use Rattle.failover.specs.DownSet.{with_link}
-use Rattle.failover.specs.Masks.{has}
+use Rattle.masks.specs.Masks.{has}
 use Rattle.failover.specs.Routes.{route_of}
 use Rattle.tunnel.specs.Moves.{here, next}
 use Rattle.tunnel.specs.Tunnel.{TunnelValue}
@@ -32,17 +32,18 @@ use Rattle.switch_table.specs.declared.search.Found.TheVariants.{Cached, Authori
 use Rattle.switch_table.specs.declared.tables.Tables.{Tables}
 use Rattle.ctrl_msg.specs.declared.message.Body.{Body}
 use Rattle.ctrl_msg.specs.declared.message.Body.TheVariants.{CacheRule}
-use Rattle.switch_core.specs.Arriving.{IsAtAuthority, arrived, packet_of}
+use Rattle.switch_core.specs.Answering.{IsAtAuthority, arrived, entered, looked_up, packet_of}
 use Rattle.switch_core.specs.Deciding.{IsFirstHit, by_entry, by_rule, own_part}
-use Rattle.switch_core.specs.Ends.{Surroundings, cause_of, next_of}
-use Rattle.switch_core.specs.Entering.{entered}
+use Rattle.switch_core.specs.Ends.{Site, cause_of, next_of}
 use Rattle.switch_core.specs.Moving.{Moved, found_down, hopped}
 use Rattle.switch_core.specs.State.{IsSwitch, SwitchValue, held_tables, holds_version, serves, stamp_tables}
+use Rattle.switch_core.specs.declared.answers.Answer.{Answer}
+use Rattle.switch_core.specs.declared.answers.Answer.TheVariants.{Decided, Seek, Stuck}
 use Rattle.switch_core.specs.declared.answers.Arrived.{Arrived}
 use Rattle.switch_core.specs.declared.answers.Arrived.TheVariants as arrival
 use Rattle.switch_core.specs.declared.answers.Decision.{Decision}
 use Rattle.switch_core.specs.declared.answers.Entered.{Entered}
-use Rattle.switch_core.specs.declared.answers.Entered.TheVariants.{Closed, Decided, Seek, Stuck}
+use Rattle.switch_core.specs.declared.answers.Entered.TheVariants as entry
 use Rattle.switch_core.specs.declared.answers.HopEnd.TheVariants as hop
 use Rattle.switch_core.specs.declared.answers.Next.{Next}
 use Rattle.switch_core.specs.declared.answers.Next.TheVariants as goes
@@ -109,140 +110,164 @@ pub record IsByOwnRule (s : SwitchValue) (header : Header) (decision : Decision)
   pub own : OwnRule tables header
   pub decided : decision ≡ by_rule s.number decision.version own.part.number own.rule
 
--- ---- a packet comes in
+-- ---- the answer of a lookup
 
-pub record IsEntryAnswer (s : SwitchValue) (told : Surroundings) (packet : Packet)
-    (answer : Entered) : Type 0 where
-  -- closed exactly where the switch doesn't serve
-  pub closed : (answer ≡ Closed) ↔ IsFalse (serves s)
+-- the rule that goes to a cache where one of these rules decides, by tables of a version: its word
+-- is the widened one
+abbrev pub rule_to_cache : {tables : Tables} {header : Header} → ℕ → OwnRule tables header → Body
+rule_to_cache {tables} {header} version own =
+    CacheRule version (widen (number_of header) own.part.region own.part.rules own.place)
+    own.rule.rule own.rule.action
+
+-- one of these rules decides, by tables of a version, and goes to the cache of the switch where the
+-- packet entered, unless that is this one
+abbrev pub decided_by : (s : SwitchValue) → Site → (packet : Packet) → ℕ →
+    {tables : Tables} → OwnRule tables packet.header → Answer
+decided_by s site packet version own =
+    Decided (by_rule s.number version own.part.number own.rule)
+    (if packet.ingress == s.number then None else Some (rule_to_cache version own))
+    (next_of s site packet own.rule.action)
+
+-- the partition of this number decides by its first rule to hold the header
+pub record IsDecidedIn (s : SwitchValue) (site : Site) (packet : Packet)
+    (version : ℕ) (tables : Tables) (partition : ℕ) (answer : Answer) : Type 0 where
+  pub own : OwnRule tables packet.header
+  pub numbered : own.part.number ≡ partition
+  pub answered : answer ≡ decided_by s site packet version own
+
+-- a switch that is ready looks a packet up under its stamp
+pub record IsAnswer (s : SwitchValue) (site : Site) (packet : Packet)
+    (answer : Answer) : Type 0 where
   -- a cached rule decides with its version, its rule and its action
-  pub cached : (entry : CacheEntry) →
-      IsReady s packet.header → lookup_at s packet.header ≡ Cached entry →
-      answer ≡ Decided (by_entry entry) (next_of s told packet entry.action)
+  pub cached : (entry : CacheEntry) → lookup_at s packet.header ≡ Cached entry →
+      answer ≡ Decided (by_entry entry) None (next_of s site packet entry.action)
   -- an authority rule decides with the stamp's version: the first of its partition to hold the
   -- header
   pub authority : (partition place : ℕ) →
-      IsReady s packet.header → lookup_at s packet.header ≡ Authority partition place →
-      (own : OwnRule (stamp_tables s) packet.header)
-      × (own.part.number ≡ partition) × (own.place ≡ place)
-      × (answer ≡ Decided (by_rule s.number s.stamp partition own.rule)
-      (next_of s told packet own.rule.action))
+      lookup_at s packet.header ≡ Authority partition place →
+      (by : IsDecidedIn s site packet s.stamp (stamp_tables s) partition answer)
+      × (by.own.place ≡ place)
   -- a partition rule sends it to exactly its targets, and it is stuck on that leg exactly where no
   -- route leads to them
   pub redirect : (partition : ℕ) (targets : List ℕ) →
-      IsReady s packet.header → lookup_at s packet.header ≡ Redirect partition targets →
+      lookup_at s packet.header ≡ Redirect partition targets →
       (let leg = SeekLeg s.stamp partition in
-      MatchOption (route_from s told.near packet targets)
-      (answer ≡ Stuck (cause_of s told.near packet.down leg targets) leg)
+      MatchOption (route_from s site.near packet targets)
+      (answer ≡ Stuck (cause_of s site.near packet.down leg targets) leg)
       (λ route. answer ≡ Seek (setting_out packet leg targets route)))
+
+-- the answer of a lookup is one, and the only one
+pub record LookupLaws : Type 0 where
+  pub is : (s : SwitchValue) (site : Site) (packet : Packet) →
+      IsReady s packet.header →
+      IsAnswer s site packet (looked_up s site packet)
+  pub only : (s : SwitchValue) (site : Site) (packet : Packet)
+      (answer : Answer) → IsReady s packet.header → IsAnswer s site packet answer →
+      answer ≡ looked_up s site packet
+
+-- ---- a packet comes in
+
+pub record IsEntry (s : SwitchValue) (site : Site) (packet : Packet)
+    (entered : Entered) : Type 0 where
+  -- closed exactly where the switch doesn't serve
+  pub closed : (entered ≡ entry.Closed) ↔ IsFalse (serves s)
+  -- otherwise it is looked up
+  pub answered : IsReady s packet.header →
+      (answer : Answer) × (entered ≡ entry.Answered answer)
+      × IsAnswer s site packet answer
 
 -- the answer of `enter` is one, and the only one
 pub record EnterLaws : Type 0 where
-  pub is : (s : SwitchValue) (told : Surroundings) (packet : Packet) →
-      IsEntryAnswer s told packet (entered s told packet)
-  pub only : (s : SwitchValue) (told : Surroundings) (packet : Packet) (answer : Entered) →
-      (IsTrue (serves s) → IsReady s packet.header) → IsEntryAnswer s told packet answer →
-      answer ≡ entered s told packet
+  pub is : (s : SwitchValue) (site : Site) (packet : Packet) →
+      IsEntry s site packet (entered s site packet)
+  pub only : (s : SwitchValue) (site : Site) (packet : Packet)
+      (answer : Entered) → (IsTrue (serves s) → IsReady s packet.header) →
+      IsEntry s site packet answer → answer ≡ entered s site packet
 
 -- ---- a packet was decided
 
-pub record IsWayOn (s : SwitchValue) (told : Surroundings) (packet : Packet) (action : Action)
+pub record IsWayOn (s : SwitchValue) (site : Site) (packet : Packet) (action : Action)
     (way : Next) : Type 0 where
   -- dropped exactly where the action is to drop it
   pub dropped : (way ≡ goes.Dropped) ↔ (action ≡ Drop)
   -- out here exactly where the action's port is one of this switch
   pub out : (port : ℕ) → (way ≡ goes.Out port)
-      ↔ ((action ≡ OutBy port) × (port_owner told.ports port ≡ Some s.number))
+      ↔ ((action ≡ OutBy port) × (port_owner site.ports port ≡ Some s.number))
   -- to another switch's port by the route to that switch alone, and stuck exactly where none leads
   -- there
   pub exit : (port owner : ℕ) → action ≡ OutBy port →
-      port_owner told.ports port ≡ Some owner → owner ≢ s.number →
-      MatchOption (route_from s told.near packet (owner ∷ [])) (way ≡ goes.Stuck NoRoute)
+      port_owner site.ports port ≡ Some owner → owner ≢ s.number →
+      MatchOption (route_from s site.near packet (owner ∷ [])) (way ≡ goes.Stuck NoRoute)
       (λ route. way ≡ goes.Exit (setting_out packet (ExitLeg port) (owner ∷ []) route))
   -- no route leads to a port that no switch has
-  pub no_owner : (port : ℕ) → action ≡ OutBy port → port_owner told.ports port ≡ None →
+  pub no_owner : (port : ℕ) → action ≡ OutBy port → port_owner site.ports port ≡ None →
       way ≡ goes.Stuck NoRoute
 
 -- the way on of a packet that was decided is one, and the only one
 pub record ExitLaws : Type 0 where
-  pub is : (s : SwitchValue) (told : Surroundings) (packet : Packet) (action : Action) →
-      IsWayOn s told packet action (next_of s told packet action)
-  pub only : (s : SwitchValue) (told : Surroundings) (packet : Packet) (action : Action)
-      (way : Next) → IsWayOn s told packet action way → way ≡ next_of s told packet action
+  pub is : (s : SwitchValue) (site : Site) (packet : Packet) (action : Action) →
+      IsWayOn s site packet action (next_of s site packet action)
+  pub only : (s : SwitchValue) (site : Site) (packet : Packet) (action : Action)
+      (way : Next) → IsWayOn s site packet action way → way ≡ next_of s site packet action
 
 -- ---- a packet arrives
 
--- the answers are the same, but for a rule for a cache
-abbrev pub AreAlike : Entered → Arrived → Type 0
-AreAlike (Decided decision way) (arrival.Decided other cache onward) =
-    (decision ≡ other) × (way ≡ onward)
-AreAlike (Seek tunnel) (arrival.Seek other) = tunnel ≡ other
-AreAlike (Stuck cause leg) (arrival.Stuck other way) = (cause ≡ other) × (leg ≡ way)
-AreAlike _ _ = ⊥
+pub record IsArrival (s : SwitchValue) (site : Site) (t : TunnelValue)
+    (arrived : Arrived) : Type 0 where
+  -- at the end of its way to a port it leaves by that port
+  pub out : (port : ℕ) → t.leg ≡ ExitLeg port → arrived ≡ arrival.Out port
+  -- on a leg of a version that the switch holds it is decided by that version: by the first rule of
+  -- the leg's partition to hold the header
+  pub decided : (version partition : ℕ) (tables : Tables) →
+      IsArriving s t → t.leg ≡ SeekLeg version partition → held_tables s version ≡ Some tables →
+      (answer : Answer) × (arrived ≡ arrival.Answered answer)
+      × IsDecidedIn s site (packet_of t) version tables partition answer
+  -- where the leg's version isn't held it is looked up anew under the stamp, as if it came in here
+  -- with the links that it found down
+  pub anew : (version partition : ℕ) →
+      IsArriving s t → t.leg ≡ SeekLeg version partition → IsFalse (holds_version s version) →
+      (answer : Answer) × (arrived ≡ arrival.Answered answer)
+      × IsAnswer s site (packet_of t) answer
+
+-- the answer of `arrive` is one, and the only one
+pub record ArriveLaws : Type 0 where
+  pub is : (s : SwitchValue) (site : Site) (t : TunnelValue) →
+      IsArrival s site t (arrived s site t)
+  pub only : (s : SwitchValue) (site : Site) (t : TunnelValue)
+      (answer : Arrived) → IsArriving s t → IsArrival s site t answer →
+      answer ≡ arrived s site t
+
+-- ---- where decisions come from
 
 abbrev pub is_by_authority : How → Bool
 is_by_authority (ByAuthority switch partition) = true
 is_by_authority _ = false
 
--- the rule that a decision by a switch's own rule sends to a cache: its word is the widened one
-abbrev pub rule_to_cache : {s : SwitchValue} {header : Header} {decision : Decision} →
-    IsByOwnRule s header decision → Body
-rule_to_cache {s} {header} {decision} by =
-    let word = widen (number_of header) by.own.part.region by.own.part.rules by.own.place in
-    CacheRule decision.version word decision.rule decision.action
-
-pub record IsArrivalAnswer (s : SwitchValue) (told : Surroundings) (t : TunnelValue)
-    (answer : Arrived) : Type 0 where
-  -- at the end of its way to a port it leaves by that port
-  pub out : (port : ℕ) → t.leg ≡ ExitLeg port → answer ≡ arrival.Out port
-  -- on a leg of a version that the switch holds it is decided by that version: by the first rule of
-  -- the leg's partition to hold the header
-  pub decided : (version partition : ℕ) (tables : Tables) →
-      IsArriving s t → t.leg ≡ SeekLeg version partition → held_tables s version ≡ Some tables →
-      (own : OwnRule tables t.header) × (own.part.number ≡ partition)
-      × (cache : Option Body)
-      × (answer ≡ arrival.Decided (by_rule s.number version partition own.rule) cache
-      (next_of s told (packet_of t) own.rule.action))
-  -- where the leg's version isn't held it is looked up anew under the stamp, as if it came in here
-  -- with the links that it found down
-  pub anew : (version partition : ℕ) →
-      IsArriving s t → t.leg ≡ SeekLeg version partition → IsFalse (holds_version s version) →
-      AreAlike (entered s told (packet_of t)) answer
-  -- a rule is sent to a cache exactly where an authority rule decided, and the packet entered
-  -- elsewhere ..
-  pub sent : (decision : Decision) (cache : Option Body) (way : Next) →
-      IsArriving s t → answer ≡ arrival.Decided decision cache way →
-      IsSome cache ↔ (IsTrue (is_by_authority decision.how) × (t.ingress ≢ s.number))
-  -- .. and it is the rule that decided
-  pub carried : (decision : Decision) (body : Body) (way : Next) →
-      IsArriving s t → answer ≡ arrival.Decided decision (Some body) way →
-      (by : IsByOwnRule s t.header decision) × (body ≡ rule_to_cache by)
-
--- the answer of `arrive` is one, and the only one
-pub record ArriveLaws : Type 0 where
-  pub is : (s : SwitchValue) (told : Surroundings) (t : TunnelValue) →
-      IsArrivalAnswer s told t (arrived s told t)
-  pub only : (s : SwitchValue) (told : Surroundings) (t : TunnelValue) (answer : Arrived) →
-      IsArriving s t → IsArrivalAnswer s told t answer → answer ≡ arrived s told t
-
--- ---- where decisions come from
-
 -- by a cached rule of the stamp's version, or by a rule of the switch's own by the tables of the
 -- decision's version; and the packet goes on as the decision's action says
-pub record IsDecision (s : SwitchValue) (told : Surroundings) (packet : Packet)
-    (decision : Decision) (way : Next) : Type 0 where
+pub record IsDecision (s : SwitchValue) (site : Site) (packet : Packet)
+    (decision : Decision) (cache : Option Body) (way : Next) : Type 0 where
   pub source : IsByCache s packet.header decision ⊎ IsByOwnRule s packet.header decision
-  pub onward : way ≡ next_of s told packet decision.action
+  pub onward : way ≡ next_of s site packet decision.action
+  -- a rule is sent to a cache exactly where an authority rule decided, and the packet entered
+  -- elsewhere ..
+  pub sent : IsSome cache
+      ↔ (IsTrue (is_by_authority decision.how) × (packet.ingress ≢ s.number))
+  -- .. and it is the rule that decided
+  pub carried : (body : Body) → cache ≡ Some body →
+      (by : IsByOwnRule s packet.header decision)
+      × (body ≡ rule_to_cache decision.version by.own)
 
 pub record DecisionLaws : Type 0 where
   -- so is every decision of a packet that comes in or arrives
-  pub on_entry : (s : SwitchValue) (told : Surroundings) (packet : Packet) (decision : Decision)
-      (way : Next) → IsReady s packet.header → entered s told packet ≡ Decided decision way →
-      IsDecision s told packet decision way
-  pub on_arrival : (s : SwitchValue) (told : Surroundings) (t : TunnelValue)
-      (decision : Decision) (cache : Option Body) (way : Next) →
-      IsArriving s t → arrived s told t ≡ arrival.Decided decision cache way →
-      IsDecision s told (packet_of t) decision way
+  pub on_entry : (s : SwitchValue) (site : Site) (packet : Packet)
+      (decision : Decision) (cache : Option Body) (way : Next) → IsReady s packet.header →
+      entered s site packet ≡ entry.Answered (Decided decision cache way) →
+      IsDecision s site packet decision cache way
+  pub on_arrival : (s : SwitchValue) (site : Site) (t : TunnelValue)
+      (decision : Decision) (cache : Option Body) (way : Next) → IsArriving s t →
+      arrived s site t ≡ arrival.Answered (Decided decision cache way) →
+      IsDecision s site (packet_of t) decision cache way
   -- by the tables of a plan, rules of the switch's own decide as the plan's policy does
   pub as_policy : (s : SwitchValue) (header : Header) (decision : Decision) (rows : List Row)
       (plan : List Placed) → AreSoundPartitions rows (map part_of plan) → IsHeader header →

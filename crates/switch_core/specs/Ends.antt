@@ -20,13 +20,13 @@ use Rattle.switch_core.specs.declared.answers.Next.TheVariants.{Dropped, Out, Ex
 use Rattle.switch_core.specs.declared.packet.Packet.{Packet}
 use Rattle.switch_core.specs.State.{SwitchValue}
 
--- what a switch is told with a packet: a mask of the switches to which it has a usable link, and
+-- what a switch is given with a packet: a mask of the switches to which it has a usable link, and
 -- which switch has a port
-pub record Surroundings : Type 0 where
+pub record Site : Type 0 where
   pub near : ℕ
   pub ports : Ports
 
-abbrev pub around : ℕ → Ports → Surroundings
+abbrev pub around : ℕ → Ports → Site
 around near ports = record { near = near; ports = ports }
 
 -- ---- the cause rule
@@ -70,7 +70,7 @@ leave_by s near packet port (Some owner) = if owner == s.number
     else exit_by (set_out s near packet (ExitLeg port) (owner ∷ []))
 
 -- where a packet goes that was decided in this way
-unfoldable pub next_of : SwitchValue → Surroundings → Packet → Action → Next
-next_of s told packet Drop = Dropped
-next_of s told packet (OutBy port) =
-    leave_by s told.near packet port (port_owner told.ports port)
+unfoldable pub next_of : SwitchValue → Site → Packet → Action → Next
+next_of s site packet Drop = Dropped
+next_of s site packet (OutBy port) =
+    leave_by s site.near packet port (port_owner site.ports port)

@@ -1,9 +1,8 @@
 pub mod State
 pub mod Ends
 pub mod Deciding
-pub mod Entering
+pub mod Answering
 pub mod Moving
-pub mod Arriving
 pub mod Hearing
 pub mod Life
 pub mod Laws

@@ -41,8 +41,8 @@ impl Decision {
     }
 }
 
-/// Looks a header up. An authority rule that is found is the first hit of its partition.
-pub fn look_up(cache: &Cache, tables: &Tables, header: &Header) -> Found
+/// What a lookup finds. An authority rule that is found is the first hit of its partition.
+pub fn found_in(cache: &Cache, tables: &Tables, header: &Header) -> Found
     requires { AreSoundTables tables.now }
     ensures found { result ≡ lookup_of cache.now.entries tables.now header.now }
     ensures first_hit { IsFound tables.now header.now result }

@@ -1,14 +1,13 @@
 ghost use Rattle.std.specs.Prelude.{◌≡◌, ◌<◌, OnErr, OnOk, IfOk, IsTrue};
-ghost use Rattle.failover.specs.Masks.{has};
 ghost use Rattle.switch_table.specs.Tables.{AreSoundTables};
 ghost use Rattle.ctrl_msg.specs.declared.message.Body.TheVariants.{Advertise};
 ghost use Rattle.switch_core.specs.Hearing.{IsSoundBody, collected_to, flood, heard, informed, installed, is_news_to, learnt, obeys, opened, opened_at, opened_by, raised_to, replies, replies_to, to_controller};
 
 use crate::answers::{Heard, Replies};
-use crate::hopping::is_near;
 use crate::switch::Switch;
 use ctrl_msg::{Body, Message, Receiver, SharedTables};
 use failover::Advert;
+use masks::has;
 use std::alloc::{AllocError, Global};
 use switch_table::CacheEntry;
 
@@ -207,7 +206,7 @@ fn flood(alloc: Global, near: u64, advert: &Advert) -> Result<Replies, AllocErro
 {
     let mut messages = Vec::new(alloc);
     for other in 0..64 {
-        if is_near(near, other) {
+        if has(near, other) {
             messages.push(Message {
                 to: Receiver::Switch(other),
                 body: Body::Advertise { advert: *advert },

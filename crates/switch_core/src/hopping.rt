@@ -1,11 +1,11 @@
-ghost use Rattle.std.specs.Prelude.{◌≡◌, ◌<◌};
-ghost use Rattle.failover.specs.Masks.{has};
+ghost use Rattle.std.specs.Prelude.{◌≡◌};
 ghost use Rattle.tunnel.specs.Moves.{next};
 ghost use Rattle.switch_core.specs.Moving.{found_down, hopped, rerouted};
 ghost use Rattle.switch_core.specs.State.{counted};
 
 use crate::answers::{Hop, HopEnd};
 use crate::switch::Switch;
+use masks::has;
 use tunnel::Tunnel;
 
 impl Switch {
@@ -26,7 +26,7 @@ impl Switch {
                 found: None,
                 end: HopEnd::Arrive,
             },
-            Some(next) if is_near(near, next) => {
+            Some(next) if has(near, next) => {
                 t.advance();
                 Hop {
                     found: None,
@@ -62,13 +62,4 @@ impl Switch {
             }
         }
     }
-}
-
-/// Whether the mask has this switch.
-#[tactic(auto, using(std::proofs::lemmas::Nat::Bits::shr_and_one), unfolding(failover::specs::Masks::has))]
-pub fn is_near(near: u64, switch: u32) -> bool
-    requires { switch < 64 }
-    ensures { result ≡ has near switch }
-{
-    (near >> switch) & 1 == 1
 }

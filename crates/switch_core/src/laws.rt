@@ -1,4 +1,4 @@
-ghost use Rattle.switch_core.specs.AnswerLaws.{ArriveLaws, DecisionLaws, EnterLaws, ExitLaws, HopLaws};
+ghost use Rattle.switch_core.specs.AnswerLaws.{ArriveLaws, DecisionLaws, EnterLaws, ExitLaws, HopLaws, LookupLaws};
 ghost use Rattle.switch_core.specs.Laws.{SwitchLaws};
 
 /// What the steps of a switch have in common, and when a packet is stuck: a law on the definitions
@@ -7,8 +7,14 @@ pub fn switch_laws()
     ensures { SwitchLaws }
 {}
 
-/// What `Switch::enter` answers, by what the cache and the tables of the stamp say of the header: a
-/// relation that allows one answer. A law on the definition alone.
+/// What a switch answers to a packet by a lookup, by what the cache and the tables of the stamp say
+/// of the header: a relation that allows one answer. A law on the definition alone.
+pub fn lookup_laws()
+    ensures { LookupLaws }
+{}
+
+/// What `Switch::enter` answers, by a lookup: a relation that allows one answer. A law on the
+/// definition alone.
 pub fn enter_laws()
     ensures { EnterLaws }
 {}
@@ -19,14 +25,15 @@ pub fn exit_laws()
     ensures { ExitLaws }
 {}
 
-/// What `Switch::arrive` answers, and when and which rule it sends to a cache: a relation that
+/// What `Switch::arrive` answers, by the tables of the leg's version or by a lookup: a relation that
 /// allows one answer. A law on the definition alone.
 pub fn arrive_laws()
     ensures { ArriveLaws }
 {}
 
-/// By which rules a switch decides packets that come in or arrive, and that by the tables of a plan
-/// its own rules decide as the plan's policy does: a law on the definitions alone.
+/// By which rules a switch decides packets that come in or arrive, when and which rule it sends to a
+/// cache, and that by the tables of a plan its own rules decide as the plan's policy does: a law on
+/// the definitions alone.
 pub fn decision_laws()
     ensures { DecisionLaws }
 {}

@@ -7,21 +7,19 @@
 //!
 //! ```text
 //! let mut switch = Switch::begin(alloc, 0, 256, tables, base)?;
-//! match switch.enter(1, &header, near, &ports) {
-//!     Entered::Seek(mut packet) => {
+//! if let Entered::Answered(answer) = switch.enter(1, &header, near, &ports) {
+//!     if let Answer::Seek(mut packet) = answer {
 //!         let hop = switch.hop(&mut packet, near);
 //!     }
-//!     _ => {}
 //! }
 //! let heard = switch.hear(alloc, 7, &body, near)?;
 //! ```
 #![tactic(auto)]
 
+mod answering;
 mod answers;
-mod arriving;
 mod deciding;
 mod ends;
-mod entering;
 mod hearing;
 mod hopping;
 mod laws;
@@ -29,9 +27,8 @@ mod life;
 mod packet;
 mod switch;
 
-pub use answers::{Arrived, Decision, Entered, Heard, Hop, HopEnd, Next, Replies};
-pub use laws::{arrive_laws, decision_laws, enter_laws, exit_laws, hop_laws, switch_laws};
+pub use answers::{Answer, Arrived, Decision, Entered, Heard, Hop, HopEnd, Next, Replies};
+pub use laws::{
+    arrive_laws, decision_laws, enter_laws, exit_laws, hop_laws, lookup_laws, switch_laws,
+};
 pub use switch::Switch;
-
-#[cfg(test)]
-mod tests;

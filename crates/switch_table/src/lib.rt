@@ -15,8 +15,6 @@ mod items;
 mod queue;
 mod search;
 mod tables;
-#[cfg(test)]
-mod tests;
 
 pub use cache::{Cache, CacheEntry, cache_laws};
 pub use items::CacheItems;

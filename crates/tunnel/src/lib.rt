@@ -23,6 +23,3 @@ pub use failover::{Database, DownSet, Route};
 pub use five_tuple::Header;
 pub use policy_rules::{Leg, Targets};
 pub use way::Tunnel;
-
-#[cfg(test)]
-mod tests;

@@ -23,8 +23,8 @@ use Rattle.update_machine.specs.Pieces.{packet_items, hop_items, lose_items, del
 use Rattle.update_machine.specs.Quiet.{sendings}
 use Rattle.update_machine.specs.Settling.{current_items, open_items, retired_items, settling, installs_to, installs_to_all, resent_by_controller}
 use Rattle.update_machine.specs.Steps.{steps_in, present_step}
-use Rattle.update_machine.specs.Versions.{version_count, file_of, stamp_of, holds_version}
-use Rattle.failover.specs.Masks.{has, marks, mask_of, switches, least_in}
+use Rattle.update_machine.specs.Versions.{version_count, file_of, plan_at, stamp_of, holds_version}
+use Rattle.failover.specs.Masks.{has, mask_where, mask_of, switches, least_in}
 use Rattle.failover.specs.Adverts.{is_news, after_hearing, first_adverts}
 use Rattle.failover.specs.Links.{names, told_links, is_link, known_links, is_isolated}
 use Rattle.failover.specs.Routes.{wider, ball, nearer, onward, links_away, route_to, first_route, route_of}
@@ -32,7 +32,6 @@ use Rattle.failover.specs.DownSet.{has_link, with_link}
 use Rattle.ternary.specs.Word.{holds, meets, meet_of, covers_of, is_fixed_of, free_of}
 use Rattle.cache_maker.specs.Independent.{is_apart, is_independent, widen, widened}
 use Rattle.switch_table.specs.Cache.{same_key}
-use Rattle.net_file.specs.Net.{mask_of as net_mask_of}
 
 -- two switches, whose authority is b; three packets to 10.2.0.1, 10.3.9.9 and 10.1.5.5
 pub cache_rows :
@@ -62,9 +61,9 @@ unfolding own_seq own_advert adverts_known held_adverts route_from is_cut_off bo
     route_place next_switch found_down packet_items hop_items lose_items deliver_items
     forget_items expire_items update_items link_items crash_items restart_items confirm_items
     resend_items piece sendings current_items open_items retired_items settling installs_to
-    installs_to_all resent_by_controller steps_in present_step version_count file_of stamp_of
-    holds_version has marks mask_of switches least_in is_news after_hearing first_adverts names
-    told_links is_link known_links is_isolated wider ball nearer onward links_away route_to
+    installs_to_all resent_by_controller steps_in present_step version_count file_of plan_at
+    stamp_of holds_version has mask_where mask_of switches least_in is_news after_hearing first_adverts
+    names told_links is_link known_links is_isolated wider ball nearer onward links_away route_to
     first_route route_of has_link with_link holds meets meet_of covers_of is_fixed_of free_of
-    is_apart is_independent widen widened same_key net_mask_of lib.Count.count_trailing_zeros
+    is_apart is_independent widen widened same_key lib.Count.count_trailing_zeros
 cache_rows = refl

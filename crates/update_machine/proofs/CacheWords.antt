@@ -10,18 +10,18 @@ use Rattle.ternary.specs.Word.{WordValue, holds}
 use Rattle.journal.specs.declared.item.Item.{Item}
 use Rattle.journal.specs.declared.item.Item.TheVariants as item
 use Rattle.update_machine.specs.Boots.{boot_of, heard, is_up}
-use Rattle.update_machine.specs.Caches.{cache_of, lookup_at}
+use Rattle.update_machine.specs.Caches.{cache_of, lookup_at, raised_from}
 use Rattle.update_machine.specs.Messages.{message_of}
 use Rattle.update_machine.specs.Setting.{Setting}
-use Rattle.update_machine.specs.Versions.{file_of, stamp_of}
-use Rattle.update_machine.proofs.Examples.{all_dropped, any_word, denied, on, one, plan_p, to, two_switches, web}
+use Rattle.update_machine.specs.Versions.{file_of, plan_at, stamp_of}
+use Rattle.update_machine.proofs.Examples.{all_dropped, any_word, by_action, denied, on, one, out_or_drop, plan_p, to, two_switches, web}
 
 -- a and b; the plan of the first policy is on b, that of the second on a
 abbrev moved : Setting
 moved = record {
   net = two_switches;
-  policies = [];
-  plans = Ok plan_p ∷ Ok (on (0 ∷ []) all_dropped) ∷ [];
+  policies = out_or_drop;
+  plan = by_action (Ok plan_p) (Ok (on (0 ∷ []) all_dropped));
 }
 
 -- a hears a cache rule of this version and word, or a stamp
@@ -60,6 +60,15 @@ pub below_the_stamp :
 unfolding cache_of stamp_of heard is_up boot_of message_of same_key
 below_the_stamp = refl
 
+-- an equal or a lower stamp, which comes late, doesn't rise and removes nothing
+pub no_rise : raised_from 2 2 (record { entries = entry 1 1 web ∷ []; capacity = 4 })
+    ≡ record { entries = entry 1 1 web ∷ []; capacity = 4 }
+no_rise = refl
+
+pub a_rise : raised_from 1 2 (record { entries = entry 1 1 web ∷ []; capacity = 4 })
+    ≡ record { entries = []; capacity = 4 }
+a_rise = refl
+
 -- of two entries the one at the place goes
 pub second_expires :
     (cache_of moved (cached 1 1 web ++ cached 2 1 any_word ++ item.Expired 0 1 2 ∷ [])
@@ -91,32 +100,32 @@ empty_at_b = refl
 
 -- a version that was submitted says nothing before its stamp
 pub by_the_stamp : lookup_at moved (item.Submitted 2 2 ∷ []) 0 one ≡ Redirect 0 (1 ∷ [])
-unfolding lookup_at cache_of stamp_of heard is_up boot_of message_of file_of holds
+unfolding lookup_at plan_at cache_of stamp_of heard is_up boot_of message_of file_of holds
 by_the_stamp = refl
 
 pub by_the_next_stamp :
     lookup_at moved (item.Submitted 2 2 ∷ stamped 1 2) 0 one ≡ Authority 0 0
-unfolding lookup_at cache_of stamp_of heard is_up boot_of message_of file_of holds
+unfolding lookup_at plan_at cache_of stamp_of heard is_up boot_of message_of file_of holds
 by_the_next_stamp = refl
 
 -- nor do entries of another version than the stamp
 pub no_entry_of_the_stamp :
     lookup_at moved (item.Submitted 2 2 ∷ cached 1 2 any_word) 0 one ≡ Redirect 0 (1 ∷ [])
-unfolding lookup_at cache_of stamp_of heard is_up boot_of message_of file_of holds same_key
+unfolding lookup_at plan_at cache_of stamp_of heard is_up boot_of message_of file_of holds same_key
 no_entry_of_the_stamp = refl
 
 pub entry_of_the_stamp :
     lookup_at moved (item.Submitted 2 2 ∷ cached 1 2 any_word ++ stamped 2 2) 0 one
     ≡ Cached (entry 1 2 any_word)
-unfolding lookup_at cache_of stamp_of heard is_up boot_of message_of file_of holds same_key
+unfolding lookup_at plan_at cache_of stamp_of heard is_up boot_of message_of file_of holds same_key
 entry_of_the_stamp = refl
 
 -- of two entries that hold a header the first one, and none where none holds it
 pub first_entry_first :
     lookup_at moved (cached 1 1 web ++ cached 2 1 any_word) 0 denied ≡ Cached (entry 1 1 web)
-unfolding lookup_at cache_of stamp_of heard is_up boot_of message_of file_of holds same_key
+unfolding lookup_at plan_at cache_of stamp_of heard is_up boot_of message_of file_of holds same_key
 first_entry_first = refl
 
 pub entry_without_it : lookup_at moved (cached 1 1 web) 0 one ≡ Redirect 0 (1 ∷ [])
-unfolding lookup_at cache_of stamp_of heard is_up boot_of message_of file_of holds same_key
+unfolding lookup_at plan_at cache_of stamp_of heard is_up boot_of message_of file_of holds same_key
 entry_without_it = refl

@@ -6,7 +6,7 @@ use Rattle.ctrl_msg.specs.declared.message.Body.TheVariants as body
 use Rattle.steps.specs.declared.step.Step.TheVariants as step
 use Rattle.journal.specs.declared.item.Item.TheVariants as item
 use Rattle.update_machine.specs.Answers.{after_steps}
-use Rattle.update_machine.proofs.Examples.{advert, at, leaving, link, on, rule, switch, to, to_controller, tables_of}
+use Rattle.update_machine.proofs.Examples.{advert, at, by_action, leaving, link, on, out_or_drop, rule, switch, to, to_controller, tables_of}
 use Rattle.std.proofs.Common.{List}
 use Rattle.std.specs.Prelude.{Ok, codes}
 use Rattle.five_tuple.specs.Header.{header_of}
@@ -30,8 +30,8 @@ use Rattle.update_machine.specs.Pieces.{packet_items, hop_items, lose_items, del
 use Rattle.update_machine.specs.Quiet.{sendings}
 use Rattle.update_machine.specs.Settling.{current_items, open_items, retired_items, settling, installs_to, installs_to_all, resent_by_controller}
 use Rattle.update_machine.specs.Steps.{steps_in, present_step}
-use Rattle.update_machine.specs.Versions.{version_count, file_of, stamp_of, holds_version}
-use Rattle.failover.specs.Masks.{has, marks, mask_of, switches, least_in}
+use Rattle.update_machine.specs.Versions.{version_count, file_of, plan_at, stamp_of, holds_version}
+use Rattle.failover.specs.Masks.{has, mask_where, mask_of, switches, least_in}
 use Rattle.failover.specs.Adverts.{is_news, after_hearing, first_adverts}
 use Rattle.failover.specs.Links.{names, told_links, is_link, known_links, is_isolated}
 use Rattle.failover.specs.Routes.{wider, ball, nearer, onward, links_away, route_to, first_route, route_of}
@@ -39,7 +39,6 @@ use Rattle.failover.specs.DownSet.{has_link, with_link}
 use Rattle.ternary.specs.Word.{holds, meets, meet_of, covers_of, is_fixed_of, free_of}
 use Rattle.cache_maker.specs.Independent.{is_apart, is_independent, widen, widened}
 use Rattle.switch_table.specs.Cache.{same_key}
-use Rattle.net_file.specs.Net.{mask_of as net_mask_of}
 
 abbrev header_1 : Header
 header_1 =
@@ -173,8 +172,8 @@ campus_net = record {
 abbrev campus : Setting
 campus = record {
   net = campus_net;
-  policies = [];
-  plans = Ok plan_1 ∷ Ok plan_2 ∷ [];
+  policies = out_or_drop;
+  plan = by_action (Ok plan_1) (Ok plan_2);
 }
 
 -- four switches in a ring; the journal is that of the whole day
@@ -275,9 +274,9 @@ unfolding own_seq own_advert adverts_known held_adverts route_from is_cut_off bo
     route_place next_switch found_down packet_items hop_items lose_items deliver_items
     forget_items expire_items update_items link_items crash_items restart_items confirm_items
     resend_items piece sendings current_items open_items retired_items settling installs_to
-    installs_to_all resent_by_controller steps_in present_step version_count file_of stamp_of
-    holds_version has marks mask_of switches least_in is_news after_hearing first_adverts names
-    told_links is_link known_links is_isolated wider ball nearer onward links_away route_to
+    installs_to_all resent_by_controller steps_in present_step version_count file_of plan_at
+    stamp_of holds_version has mask_where mask_of switches least_in is_news after_hearing first_adverts
+    names told_links is_link known_links is_isolated wider ball nearer onward links_away route_to
     first_route route_of has_link with_link holds meets meet_of covers_of is_fixed_of free_of
-    is_apart is_independent widen widened same_key net_mask_of lib.Count.count_trailing_zeros
+    is_apart is_independent widen widened same_key lib.Count.count_trailing_zeros
 campus_rows = refl

@@ -1,21 +1,25 @@
 -- Small networks, policies and messages on which the definitions are tried.
-use Rattle.std.proofs.Common.{ℕ, Some, None, List, [], ◌∷◌, Option, ◌-◌, ◌^◌}
-use Rattle.std.specs.Prelude.{Ok, codes}
+use Rattle.std.proofs.Common.{ℕ, Some, None, List, [], ◌∷◌, ◌++◌, Option, ◌-◌, ◌^◌}
+use Rattle.std.specs.Prelude.{Ok, Err, Result, codes, replicate}
 use Rattle.five_tuple.specs.Header.{header_of}
 use Rattle.five_tuple.specs.declared.header.Header.{Header}
+use Rattle.five_tuple.specs.declared.matching.Proto.TheVariants.{Any}
 use Rattle.ternary.specs.Word.{WordValue}
 use Rattle.net_file.specs.declared.net.Net.{Net}
 use Rattle.net_file.specs.declared.net.LinkRow.{LinkRow}
 use Rattle.net_file.specs.declared.net.SwitchRow.{SwitchRow}
-use Rattle.partition.specs.Plan.{Placed}
+use Rattle.partition.specs.Plan.{NoPlan, Placed, TooManyLeaves}
 use Rattle.policy_rules.specs.declared.rules.Rule.{Rule}
 use Rattle.policy_rules.specs.declared.packet.Leaving.{Leaving}
 use Rattle.policy_rules.specs.declared.policy.Action.{Action}
 use Rattle.policy_rules.specs.declared.policy.Action.TheVariants.{Drop, Out}
+use Rattle.policy_rules.specs.declared.policy.Row.{Row}
 use Rattle.ctrl_msg.specs.declared.message.Body.{Body}
 use Rattle.ctrl_msg.specs.declared.message.Body.TheVariants.{Advertise}
 use Rattle.ctrl_msg.specs.declared.message.Message.{Message}
 use Rattle.ctrl_msg.specs.declared.message.Receiver.TheVariants as receiver
+use Rattle.journal.specs.declared.item.Item.{Item}
+use Rattle.journal.specs.declared.item.Item.TheVariants as item
 use Rattle.steps.specs.declared.step.Step.{Step}
 use Rattle.update_machine.specs.Setting.{Setting}
 use Rattle.update_machine.specs.Answers.{StepOfRow}
@@ -40,6 +44,11 @@ abbrev pub leaving : ℕ → Header → ℕ → Option ℕ → Leaving
 leaving packet header version rule =
     record { packet = packet; header = header; version = version; rule = rule }
 
+-- so many versions are there, of which so many are retired
+abbrev pub versions : ℕ → ℕ → List Item
+versions count retired =
+    replicate (count - 1) (item.Submitted 1 2) ++ item.Retired retired ∷ []
+
 -- ---- headers: from 1.2.3.4 to 10.2.0.1, 10.3.9.9 and 10.1.5.5, by TCP from port 5000 to port 80
 
 abbrev pub one : Header
@@ -50,6 +59,32 @@ other = header_of (record { src = 16909060; dst = 167971081; sport = 5000; dport
 
 abbrev pub denied : Header
 denied = header_of (record { src = 16909060; dst = 167838981; sport = 5000; dport = 80; proto = 6 })
+
+-- ---- policies of one row, `100,any,any,any,any,any,ACTION`
+
+abbrev pub all_to : Action → Row
+all_to action = record {
+  priority = 100;
+  src = record { address = 0; len = 0 };
+  dst = record { address = 0; len = 0 };
+  sport = record { low = 0; high = 65535 };
+  dport = record { low = 0; high = 65535 };
+  proto = Any;
+  action = action;
+}
+
+-- the first file lets all out by port 2, the second one drops all
+abbrev pub out_or_drop : List (List Row)
+out_or_drop = (all_to (Out 2) ∷ []) ∷ (all_to Drop ∷ []) ∷ []
+
+-- the plan of the policy that lets out, and of the one that drops
+abbrev pub by_action : Result (List Placed) NoPlan → Result (List Placed) NoPlan → List Row
+    → Result (List Placed) NoPlan
+by_action outs drops [] = Err TooManyLeaves
+by_action outs drops (row ∷ rows) = elim row.action [
+  | Drop ↦ drops
+  | Out port ↦ outs
+]
 
 -- ---- plans of one partition
 
@@ -115,13 +150,14 @@ two_switches =
     network (switch (codes "a") 2 0 ∷ switch (codes "b") 4 100 ∷ []) (link 0 1 ∷ [])
 
 abbrev pub shielded : Setting
-shielded = record { net = two_switches; policies = []; plans = Ok shield_plan ∷ [] }
+shielded =
+    record { net = two_switches; policies = out_or_drop; plan = λ rows. Ok shield_plan }
 
 abbrev pub open_net : Setting
 open_net = record {
   net = two_switches;
-  policies = [];
-  plans = Ok plan_p ∷ Ok plan_q ∷ [];
+  policies = out_or_drop;
+  plan = by_action (Ok plan_p) (Ok plan_q);
 }
 
 -- a-b, a-c, b-d, c-d; d has the port 2, and room
@@ -135,8 +171,8 @@ ring_net =
 abbrev pub ring : Setting
 ring = record {
   net = ring_net;
-  policies = [];
-  plans = Ok (on (3 ∷ []) all_dropped) ∷ [];
+  policies = out_or_drop;
+  plan = λ rows. Ok (on (3 ∷ []) all_dropped);
 }
 
 -- a-b, b-c; c is the authority, and b its backup
@@ -145,14 +181,14 @@ row_of_three = record {
   net = network
       (switch (codes "a") 0 0 ∷ switch (codes "b") 0 10 ∷ switch (codes "c") 4 10 ∷ [])
       (link 0 1 ∷ link 1 2 ∷ []);
-  policies = [];
-  plans = Ok (on (2 ∷ 1 ∷ []) all_dropped) ∷ [];
+  policies = out_or_drop;
+  plan = λ rows. Ok (on (2 ∷ 1 ∷ []) all_dropped);
 }
 
 -- one switch with all ports
 abbrev pub solo : Setting
 solo = record {
   net = network (switch (codes "s0") (2 ^ 64 - 1) 8192 ∷ []) [];
-  policies = [];
-  plans = Ok plan_s ∷ [];
+  policies = out_or_drop;
+  plan = λ rows. Ok plan_s;
 }

@@ -1,27 +1,36 @@
--- What a journal says once more items stand behind it, one law for each of the four folds.
+-- What a journal says once more items stand behind it, one law for each of the folds.
 use Rattle.std.proofs.Common.{◌≡◌, ◌+◌, Bool, Option, Some, None, List, [], ◌∷◌, ◌++◌, refl, ap, ◌∙◌, sym, append_assoc, append-nil}
 use Rattle.std.specs.Option.{option_or}
 use Rattle.std.proofs.lemmas.List.Concat.{flat_map-append}
 use Rattle.std.proofs.lemmas.List.Sums.{sum_by-append}
 use Rattle.journal.specs.declared.item.Item.{Item}
-use Rattle.update_machine.specs.Folds.{all_given, count_of, folded, folded_from, last_told}
+use Rattle.update_machine.specs.Folds.{all_given, count_of, first_told, folded, folded_from, last_told}
+
+pub or_none : {X : Type 0} (o : Option X) → option_or o None ≡ o
+or_none None = refl
+or_none (Some x) = refl
+
+or_assoc : {X : Type 0} (o p q : Option X) → option_or (option_or o p) q ≡ option_or o
+    (option_or p q)
+or_assoc None p q = refl
+or_assoc (Some x) p q = refl
 
 -- the last that was told in two parts is that of the second, or else that of the first
-pub last_told_append : {X : Type 0} (told : Item → Option X) (before items : List Item)
-    → last_told told (before ++ items) ≡ option_or (last_told told items) (last_told told before)
-last_told_append told [] items = sym (or_none (last_told told items))
-  where
-    or_none : {Y : Type 0} (o : Option Y) → option_or o None ≡ o
-    or_none None = refl
-    or_none (Some y) = refl
-last_told_append told (item ∷ before) items = ap (λ o. option_or o (told item))
-    (last_told_append told before items) ∙ or_assoc (last_told told items) (last_told told before)
-    (told item)
-  where
-    or_assoc : {Y : Type 0} (o p q : Option Y) → option_or (option_or o p) q ≡ option_or o
-        (option_or p q)
-    or_assoc None p q = refl
-    or_assoc (Some y) p q = refl
+pub last_told_append : {X : Type 0} (tells : Item → Option X) (before items : List Item)
+    → last_told tells (before ++ items) ≡ option_or (last_told tells items) (last_told tells before)
+last_told_append tells [] items = sym (or_none (last_told tells items))
+last_told_append tells (item ∷ before) items = ap (λ o. option_or o (tells item))
+    (last_told_append tells before items)
+    ∙ or_assoc (last_told tells items) (last_told tells before) (tells item)
+
+-- the first that was told is that of the first part, or else that of the second
+pub first_told_append : {X : Type 0} (tells : Item → Option X) (before items : List Item) →
+    first_told tells (before ++ items)
+    ≡ option_or (first_told tells before) (first_told tells items)
+first_told_append tells [] items = refl
+first_told_append tells (item ∷ before) items =
+    ap (option_or (tells item)) (first_told_append tells before items)
+    ∙ sym (or_assoc (tells item) (first_told tells before) (first_told tells items))
 
 pub count_of_append : (test : Item → Bool) (before items : List Item)
     → count_of test (before ++ items) ≡ count_of test before + count_of test items

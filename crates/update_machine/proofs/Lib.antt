@@ -1,4 +1,4 @@
-mod Examples
+pub mod Examples
 mod CacheRows
 mod BootRows
 mod OverRows
@@ -14,8 +14,10 @@ mod MachineRows
 mod MarkRows
 mod MarkWords
 mod SwitchWords
+mod VersionWords
 mod CacheWords
 mod FoldLemmas
+mod Policies
 mod OneAnswer
 mod Existence
 mod CauseLemmas
@@ -34,6 +36,7 @@ mod Start
 mod KnownLinks
 mod Beginnings
 mod WholeAnswers
+mod EventSteps
 mod OnePlay
 mod SomePlay
 pub mod CallerLemmas

@@ -1,8 +1,7 @@
 -- A run of the abstract machine, computed.
 use Rattle.std.proofs.Common.{◌≡◌, ap, sym, ◌∙◌, Some, None, [], ◌∷◌, refl, arith}
-use Rattle.std.specs.Prelude.{Ok, ◌≤◌}
+use Rattle.std.specs.Prelude.{◌≤◌}
 use Rattle.std.proofs.lemmas.List.Elements.{All-from_recursion}
-use Rattle.five_tuple.specs.declared.matching.Proto.TheVariants.{Any}
 use Rattle.policy_rules.specs.Policy.{IsFirstMatch}
 use Rattle.policy_rules.specs.declared.policy.Action.{Action}
 use Rattle.policy_rules.specs.declared.policy.Action.TheVariants.{Drop, Out}
@@ -11,28 +10,8 @@ use Rattle.steps.specs.declared.step.Step.TheVariants as step
 use Rattle.policy_rules.specs.declared.packet.How.TheVariants as how
 use Rattle.journal.specs.declared.item.Item.TheVariants as item
 use Rattle.update_machine.specs.Machine.{Decides, IsRun, Machine, Packet}
-use Rattle.update_machine.specs.Setting.{Setting}
-use Rattle.update_machine.proofs.Examples.{leaving, one, plan_p, plan_q, two_switches}
+use Rattle.update_machine.proofs.Examples.{all_to, leaving, one, open_net}
 use Rattle.update_machine.proofs.OneAnswer.{some_injective}
-
--- `100,any,any,any,any,any,ACTION`
-abbrev all_to : Action → Row
-all_to action = record {
-  priority = 100;
-  src = record { address = 0; len = 0 };
-  dst = record { address = 0; len = 0 };
-  sport = record { low = 0; high = 65535 };
-  dport = record { low = 0; high = 65535 };
-  proto = Any;
-  action = action;
-}
-
-abbrev two_policies : Setting
-two_policies = record {
-  net = two_switches;
-  policies = (all_to (Out 2) ∷ []) ∷ (all_to Drop ∷ []) ∷ [];
-  plans = Ok plan_p ∷ Ok plan_q ∷ [];
-}
 
 first_match_of : (action : Action)
     → IsFirstMatch (all_to action ∷ []) one (record { rule = Some 100; action = action })
@@ -50,7 +29,7 @@ first_match_of action = (
 -- a packet is decided by version 1; then version 2 comes and 1 is retired, and another packet is
 -- decided by version 2
 pub is_run :
-    IsRun two_policies
+    IsRun open_net
     (item.Row 1 (step.Packet 0 one) ∷ item.Entered 1 0 one
     ∷ item.Decided 1 1 (Some 100) (Out 2) (how.Authority 1 0)
     ∷ item.Left 1 2 (leaving 1 one 1 (Some 100)) ∷ item.Submitted 2 2 ∷ item.Retired 1
@@ -93,7 +72,7 @@ is_run = (
           },
           (
             _,
-            record { newest = refl; after = refl },
+            record { policy = all_to Drop ∷ []; there = refl; newest = refl; after = refl },
             (
               _,
               record { rises = omega arith; below_newest = omega arith; after = refl },

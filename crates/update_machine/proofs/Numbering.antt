@@ -8,12 +8,13 @@ use Rattle.update_machine.specs.Answers.{BeginsAnswer}
 use Rattle.update_machine.specs.Causes.{HaveCauses}
 use Rattle.update_machine.specs.Folds.{all_given, count_of}
 use Rattle.update_machine.specs.Messages.{is_sending, next_message}
-use Rattle.update_machine.specs.Numbers.{AreNumbered, TakesNext, message_number, packet_number}
+use Rattle.update_machine.specs.Numbers.{AreNumbered, TakesNext, VersionsAreNumbered, message_number, packet_number}
 use Rattle.update_machine.specs.Packets.{is_packet, next_packet}
 use Rattle.update_machine.specs.Setting.{Setting}
 use Rattle.update_machine.proofs.AnswerCauses.{begun_has}
 use Rattle.update_machine.proofs.FoldLemmas.{all_given_append, count_of_append}
 use Rattle.update_machine.proofs.NumberPieces.{piece_next}
+use Rattle.update_machine.proofs.Policies.{numbered_at_first, other_more, submitted_more}
 
 range_more : (a n : ℕ) → range_with_len a (n + 1) ≡ range_with_len a n ++ (a + n) ∷ []
 range_more a zero = ap (λ x. x ∷ []) (sym (add-zero a))
@@ -77,6 +78,12 @@ message_more journal (item.Sent number message) next known = counted message_num
 message_more journal other next known = not_counted message_number is_sending journal other refl
     refl known
 
+version_more : (journal : List Item) (item : Item) → TakesNext journal item
+    → VersionsAreNumbered journal → VersionsAreNumbered (journal ++ item ∷ [])
+version_more journal (item.Submitted file version) next known =
+    submitted_more journal file version next known
+version_more journal other next known = other_more journal other refl known
+
 numbered_on : (journal items : List Item) → HaveCauses TakesNext journal items → AreNumbered journal
     → AreNumbered (journal ++ items)
 numbered_on journal [] causes known = subst AreNumbered (sym (append-nil journal)) known
@@ -84,6 +91,7 @@ numbered_on journal (item ∷ items) causes known =
     let more : AreNumbered (journal ++ item ∷ []) = record {
       packets = packet_more journal item causes.0 known.packets;
       messages = message_more journal item causes.0 known.messages;
+      versions = version_more journal item causes.0 known.versions;
     } in
     subst AreNumbered (append_assoc journal (item ∷ []) items)
     (numbered_on (journal ++ item ∷ []) items causes.1 more)
@@ -93,4 +101,4 @@ pub begun_is_numbered : (setting : Setting) (events : List Event) (journal : Lis
     → BeginsAnswer setting events journal → AreNumbered journal
 begun_is_numbered setting events journal begins =
     numbered_on [] journal (begun_has TakesNext setting (piece_next setting) events journal begins)
-    (record { packets = refl; messages = refl })
+    (record { packets = refl; messages = refl; versions = numbered_at_first })

@@ -5,16 +5,15 @@ use Rattle.journal.specs.declared.item.Item.{Item}
 use Rattle.steps.specs.declared.step.Event.{Event}
 use Rattle.update_machine.specs.Answers.{StepOfRow, after_steps}
 use Rattle.update_machine.specs.Folds.{count_of}
-use Rattle.update_machine.specs.Full.{AnswersWithRoom, HasRoom, HaveRoom, IsFull, IsPlay, StopsFull}
+use Rattle.update_machine.specs.Full.{AnswersWithRoom, HasRoom, HaveRoom, IsFull, IsPlay, StopsFull, full_at}
 use Rattle.update_machine.specs.Messages.{is_sending, next_message}
 use Rattle.update_machine.specs.Pieces.{piece}
 use Rattle.update_machine.specs.Setting.{Setting}
-use Rattle.update_machine.specs.declared.full.TheConstants.{FULL_AT}
 use Rattle.update_machine.proofs.Beginnings.{Begins, begins_cons, begins_nil, first_begin_all, first_steps_either}
 use Rattle.update_machine.proofs.OneAnswer.{one_answer}
 
 pub full_by_count : (journal : List Item)
-    → IsFull journal ↔ FULL_AT ≤ count_of is_sending journal
+    → IsFull journal ↔ full_at ≤ count_of is_sending journal
 unfolding next_message
 full_by_count journal = (λ full. omega (arith, full), λ many. omega (arith, many))
 

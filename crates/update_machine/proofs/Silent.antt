@@ -4,8 +4,8 @@ use Rattle.std.specs.Prelude.{◌||◌, IsFalse}
 use Rattle.std.specs.Option.{option_or}
 use Rattle.journal.specs.declared.item.Item.{Item}
 use Rattle.update_machine.specs.Concerns.{NoneConcern}
-use Rattle.update_machine.specs.Folds.{all_given, count_of, folded, last_told}
-use Rattle.update_machine.proofs.FoldLemmas.{all_given_append, count_of_append, folded_append, last_told_append}
+use Rattle.update_machine.specs.Folds.{all_given, count_of, first_told, folded, last_told}
+use Rattle.update_machine.proofs.FoldLemmas.{all_given_append, count_of_append, first_told_append, folded_append, last_told_append, or_none}
 
 -- items that don't concern more than it don't concern it either
 pub fewer : (less more : List Item → Item → Bool) →
@@ -34,17 +34,30 @@ stays word concerns one before (item ∷ items) none =
     ap word (sym (append_assoc before (item ∷ []) items))
     ∙ stays word concerns one (before ++ item ∷ []) items none.1 ∙ one before item none.0
 
-pub last_stays : {X : Type 0} (told : Item → Option X) (concerns : List Item → Item → Bool) →
-    ((before : List Item) (item : Item) → IsFalse (concerns before item) → told item ≡ None) →
+pub last_stays : {X : Type 0} (tells : Item → Option X) (concerns : List Item → Item → Bool) →
+    ((before : List Item) (item : Item) → IsFalse (concerns before item) → tells item ≡ None) →
     (before items : List Item) → NoneConcern concerns before items
-    → last_told told (before ++ items) ≡ last_told told before
-last_stays told concerns silent before items none = stays (last_told told) concerns one before items
-    none
+    → last_told tells (before ++ items) ≡ last_told tells before
+last_stays tells concerns silent before items none = stays (last_told tells) concerns one before
+    items none
   where
     one : (js : List Item) (item : Item) → IsFalse (concerns js item)
-        → last_told told (js ++ item ∷ []) ≡ last_told told js
-    one js item apart = last_told_append told js (item ∷ [])
-        ∙ ap (λ o. option_or o (last_told told js)) (silent js item apart)
+        → last_told tells (js ++ item ∷ []) ≡ last_told tells js
+    one js item apart = last_told_append tells js (item ∷ [])
+        ∙ ap (λ o. option_or o (last_told tells js)) (silent js item apart)
+
+pub first_stays : {X : Type 0} (tells : Item → Option X) (concerns : List Item → Item → Bool) →
+    ((before : List Item) (item : Item) → IsFalse (concerns before item) → tells item ≡ None) →
+    (before items : List Item) → NoneConcern concerns before items
+    → first_told tells (before ++ items) ≡ first_told tells before
+first_stays tells concerns silent before items none = stays (first_told tells) concerns one before
+    items none
+  where
+    one : (js : List Item) (item : Item) → IsFalse (concerns js item)
+        → first_told tells (js ++ item ∷ []) ≡ first_told tells js
+    one js item apart = first_told_append tells js (item ∷ [])
+        ∙ ap (λ o. option_or (first_told tells js) (option_or o None)) (silent js item apart)
+        ∙ or_none (first_told tells js)
 
 pub count_stays : (test : Item → Bool) (concerns : List Item → Item → Bool) →
     ((before : List Item) (item : Item) → IsFalse (concerns before item) → test item ≡ false) →

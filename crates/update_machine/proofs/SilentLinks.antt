@@ -1,7 +1,8 @@
 -- Items that don't concern the links leave as they are the adverts that switches tell, and those
 -- that don't concern a switch either, what it knows of the network.
 use Rattle.std.proofs.Common.{arith, ℕ, ◌≡◌, Bool, true, false, List, [], ◌∷◌, ◌++◌, refl, ap, ◌∙◌, sym, None, append_assoc}
-use Rattle.std.specs.Prelude.{◌==◌, ◌&&◌, not, IsFalse, unwrap_or, if◌then◌else◌, count_by}
+use Rattle.std.specs.Prelude.{◌==◌, ◌&&◌, not, IsFalse, Some, option_and_then, unwrap_or, if◌then◌else◌, count_by}
+use Rattle.std.specs.Option.{option_map_or}
 use Rattle.five_tuple.specs.declared.header.Header.{Header}
 use Rattle.journal.specs.declared.item.Item.{Item}
 use Rattle.journal.specs.declared.item.Item.TheVariants as item
@@ -10,12 +11,13 @@ use Rattle.update_machine.specs.Boots.{boot_of, heard, is_up, tells_boot, tells_
 use Rattle.update_machine.specs.Caches.{cache_of, lookup_at}
 use Rattle.update_machine.specs.Concerns.{NoneConcern, concerns_known, concerns_links, concerns_lookups, concerns_policies, concerns_switch, concerns_waiting}
 use Rattle.update_machine.specs.Laws.{KnownKeeps, LinksKeep, PoliciesKeep, SwitchKeeps}
+use Rattle.update_machine.specs.Folds.{first_told}
 use Rattle.update_machine.specs.Links.{near}
 use Rattle.update_machine.specs.Quiet.{is_waited_for, tells_waited_for}
-use Rattle.update_machine.specs.Setting.{Setting}
+use Rattle.update_machine.specs.Setting.{Setting, placed_in, policy_of_file}
 use Rattle.update_machine.specs.Steps.{StepItems, steps_in}
-use Rattle.update_machine.specs.Versions.{file_of, is_submission, stamp_of, tells_file, version_count}
-use Rattle.update_machine.proofs.Silent.{count_stays, fewer, last_stays, neither_left, neither_right, stays}
+use Rattle.update_machine.specs.Versions.{file_of, is_submission, plan_at, policy_at, stamp_of, tells_file, version_count}
+use Rattle.update_machine.proofs.Silent.{count_stays, fewer, first_stays, last_stays, neither_left, neither_right, stays}
 use Rattle.update_machine.proofs.SilentSteps.{weight_stays}
 use Rattle.update_machine.proofs.SilentSwitches.{link_stays, near_stays, switch_keeps}
 
@@ -181,8 +183,13 @@ count_silent before item apart = apart
 file_stays : (before items : List Item) → NoneConcern concerns_policies before items → (v : ℕ)
     → file_of (before ++ items) v ≡ file_of before v
 unfolding file_of
-file_stays before items none v = ap (λ o. unwrap_or o 1)
-    (last_stays (tells_file v) concerns_policies (file_silent v) before items none)
+file_stays before items none v = by_test (v == 1)
+  where
+    by_test : (b : Bool) → (if b then Some 1 else first_told (tells_file v) (before ++ items))
+        ≡ (if b then Some 1 else first_told (tells_file v) before)
+    by_test true = refl
+    by_test false =
+        first_stays (tells_file v) concerns_policies (file_silent v) before items none
 
 policy_count_stays : (before items : List Item) → NoneConcern concerns_policies before items
     → version_count (before ++ items) ≡ version_count before
@@ -193,15 +200,21 @@ policy_count_stays before items none =
 
 pub policies_keep : (before items : List Item) → NoneConcern concerns_policies before items
     → PoliciesKeep before (before ++ items)
+unfolding policy_at plan_at
 policies_keep before items none = record {
   count = policy_count_stays before items none;
   file = file_stays before items none;
+  policy = λ setting v. ap (λ o. unwrap_or (option_and_then (policy_of_file setting) o) [])
+      (file_stays before items none v);
+  plan = λ setting v. ap (λ o. option_map_or (λ rows. placed_in (setting.plan rows))
+      (option_and_then (policy_of_file setting) o) [])
+      (file_stays before items none v);
 }
 
 pub lookup_stays : (setting : Setting) (s : ℕ) (header : Header) (before items : List Item)
     → NoneConcern (concerns_lookups s) before items
     → lookup_at setting (before ++ items) s header ≡ lookup_at setting before s header
-unfolding lookup_at
+unfolding lookup_at plan_at
 lookup_stays setting s header before items none =
     let switch : SwitchKeeps setting s before (before ++ items) =
     switch_keeps setting s before items (fewer (concerns_switch s) (concerns_lookups s)

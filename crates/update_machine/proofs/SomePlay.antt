@@ -7,11 +7,10 @@ use Rattle.steps.specs.declared.step.Event.{Event}
 use Rattle.steps.specs.declared.step.Event.TheVariants.{One, Flush, Drain}
 use Rattle.steps.specs.declared.step.Step.{Step}
 use Rattle.update_machine.specs.Answers.{AnswersSoFar, AreAll, AreAnswered, AreFirstSteps, AreFirstStepsOf, AreSome, AreStepsOf, BeginsAnswer, StepOfRow, after_steps, next_delivery, next_hop}
-use Rattle.update_machine.specs.Full.{HasPlay, HaveRoom, IsFull, StopsFull}
+use Rattle.update_machine.specs.Full.{HasPlay, HaveRoom, IsFull, StopsFull, full_at}
 use Rattle.update_machine.specs.Messages.{next_message}
 use Rattle.update_machine.specs.Pieces.{piece}
 use Rattle.update_machine.specs.Setting.{Setting}
-use Rattle.update_machine.specs.declared.full.TheConstants.{FULL_AT}
 use Rattle.update_machine.proofs.Beginnings.{Begins, begins_cons, begins_nil}
 use Rattle.update_machine.proofs.OnePlay.{nil_front}
 use Rattle.update_machine.proofs.WholeAnswers.{all_are_first, begins_itself}
@@ -148,7 +147,7 @@ record FirstFull (setting : Setting) (before : List Item) (steps : List StepOfRo
 room_or_full : (setting : Setting) (before : List Item) (steps : List StepOfRow)
     → HaveRoom setting before steps ⊎ FirstFull setting before steps
 room_or_full setting before [] = inl tt
-room_or_full setting before (step ∷ steps) = elim (cases_lt FULL_AT (next_message before)) [
+room_or_full setting before (step ∷ steps) = elim (cases_lt full_at (next_message before)) [
   | inl full ↦ inr (record {
     done = [];
     next = step;

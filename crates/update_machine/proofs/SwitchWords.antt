@@ -3,8 +3,7 @@ use Rattle.std.proofs.Common.{ℕ, ◌≡◌, Some, None, List, [], ◌∷◌, �
 use Rattle.ctrl_msg.specs.declared.message.Body.{Body}
 use Rattle.ctrl_msg.specs.declared.message.Body.TheVariants.{Collect, Install, Stamp}
 use Rattle.failover.specs.Adverts.{after_hearing, first_adverts, is_news}
-use Rattle.failover.specs.Masks.{switches}
-use Rattle.net_file.specs.Net.{mask_of as net_mask_of}
+use Rattle.failover.specs.Masks.{mask_of, mask_where, switches}
 use Rattle.steps.specs.declared.step.Step.TheVariants as step
 use Rattle.journal.specs.declared.item.Item.{Item}
 use Rattle.journal.specs.declared.item.Item.TheVariants as item
@@ -14,7 +13,7 @@ use Rattle.update_machine.specs.Links.{is_link_up, near}
 use Rattle.update_machine.specs.Messages.{is_deliverable, is_forgotten, message_of, next_waiting, was_delivered}
 use Rattle.update_machine.specs.Packets.{next_travelling, travels}
 use Rattle.update_machine.specs.Steps.{steps_in}
-use Rattle.update_machine.specs.Versions.{file_of, holds_version, stamp_of}
+use Rattle.update_machine.specs.Versions.{holds_version, stamp_of}
 use Rattle.update_machine.proofs.Examples.{advert, one, open_net, plan_p, ring, tables_of, to}
 
 -- switch a is told this
@@ -90,34 +89,23 @@ pub holds_none_in_boot_2 : holds_version restarted 0 1 ≡ false
 unfolding holds_version heard is_up boot_of message_of
 holds_none_in_boot_2 = refl
 
-abbrev submitted : List Item
-submitted = item.Submitted 3 2 ∷ item.Submitted 1 3 ∷ []
-
-pub file_of_2 : file_of submitted 2 ≡ 3
-unfolding file_of
-file_of_2 = refl
-
-pub file_of_3 : file_of submitted 3 ≡ 1
-unfolding file_of
-file_of_3 = refl
-
 -- ---- links
 
 -- in the ring a has links to b and c
 pub near_at_first : near ring [] 0 ≡ 6
-unfolding near is_link_up serves net_mask_of
+unfolding near is_link_up serves mask_of mask_where switches
 near_at_first = refl
 
 pub near_without_b : near ring (item.Down 1 ∷ []) 0 ≡ 4
-unfolding near is_link_up serves net_mask_of
+unfolding near is_link_up serves mask_of mask_where switches
 near_without_b = refl
 
 pub near_without_itself : near ring (item.Down 0 ∷ []) 0 ≡ 0
-unfolding near is_link_up serves net_mask_of
+unfolding near is_link_up serves mask_of mask_where switches
 near_without_itself = refl
 
 pub near_without_link : near ring (item.LinkIs 0 2 false ∷ []) 0 ≡ 2
-unfolding near is_link_up serves net_mask_of
+unfolding near is_link_up serves mask_of mask_where switches
 near_without_link = refl
 
 -- ---- adverts
@@ -129,7 +117,7 @@ failing =
     ∷ item.Row 2 (step.LinkUp 0 2) ∷ item.LinkIs 0 2 true ∷ []
 
 pub seq_of_steps : own_seq ring failing 0 ≡ 3
-unfolding own_seq steps_in near is_link_up serves is_up boot_of net_mask_of
+unfolding own_seq steps_in near is_link_up serves is_up boot_of mask_of mask_where switches
 seq_of_steps = refl
 
 -- what changed in an earlier boot doesn't count
@@ -137,43 +125,43 @@ pub seq_in_boot_2 :
     own_seq ring (failing ++ item.Row 3 (step.Crash 0) ∷ item.Down 0 ∷ item.Row 4 (step.Restart 0)
     ∷ item.Booted 0 2 ∷ item.Row 5 (step.Deliver 9) ∷ item.Opened 0 1 ∷ []) 0
     ≡ 1
-unfolding own_seq steps_in near is_link_up serves is_up boot_of net_mask_of
+unfolding own_seq steps_in near is_link_up serves is_up boot_of mask_of mask_where switches
 seq_in_boot_2 = refl
 
 pub seq_down : own_seq ring (failing ++ item.Row 3 (step.Crash 0) ∷ item.Down 0 ∷ []) 0 ≡ 0
-unfolding own_seq steps_in near is_link_up serves is_up boot_of net_mask_of
+unfolding own_seq steps_in near is_link_up serves is_up boot_of mask_of mask_where switches
 seq_down = refl
 
 -- the first advert of b counts in boot 1, until a newer one is heard; an older one changes nothing
 pub first_of_b :
     advert_known open_net [] 0 1 ≡ Some (record { origin = 1; boot = 1; seq = 1; up = 1 })
 unfolding adverts_known own_advert own_seq steps_in near is_link_up serves is_up boot_of heard
-    message_of first_adverts after_hearing is_news switches net_mask_of
+    message_of first_adverts after_hearing is_news switches mask_of mask_where
 first_of_b = refl
 
 pub newer_of_b :
     advert_known open_net (told 1 (advert 1 1 3 0) ++ told 2 (advert 1 1 2 1)) 0 1
     ≡ Some (record { origin = 1; boot = 1; seq = 3; up = 0 })
 unfolding adverts_known own_advert own_seq steps_in near is_link_up serves is_up boot_of heard
-    message_of first_adverts after_hearing is_news switches net_mask_of
+    message_of first_adverts after_hearing is_news switches mask_of mask_where
 newer_of_b = refl
 
 pub newer_boot_of_b :
     advert_known open_net (told 1 (advert 1 1 3 0) ++ told 2 (advert 1 2 1 1)) 0 1
     ≡ Some (record { origin = 1; boot = 2; seq = 1; up = 1 })
 unfolding adverts_known own_advert own_seq steps_in near is_link_up serves is_up boot_of heard
-    message_of first_adverts after_hearing is_news switches net_mask_of
+    message_of first_adverts after_hearing is_news switches mask_of mask_where
 newer_boot_of_b = refl
 
 -- in boot 2 it knows of none, nor of itself
 pub none_of_b_in_boot_2 : advert_known open_net restarted 0 1 ≡ None
 unfolding adverts_known own_advert own_seq steps_in near is_link_up serves is_up boot_of heard
-    message_of first_adverts after_hearing is_news switches net_mask_of
+    message_of first_adverts after_hearing is_news switches mask_of mask_where
 none_of_b_in_boot_2 = refl
 
 pub none_of_itself_in_boot_2 : advert_known open_net restarted 0 0 ≡ None
 unfolding adverts_known own_advert own_seq steps_in near is_link_up serves is_up boot_of heard
-    message_of first_adverts after_hearing is_news switches net_mask_of
+    message_of first_adverts after_hearing is_news switches mask_of mask_where
 none_of_itself_in_boot_2 = refl
 
 -- of itself it knows its own, whatever it hears
@@ -181,7 +169,7 @@ pub own_of_a :
     advert_known open_net (told 1 (advert 0 1 9 0)) 0 0
     ≡ Some (record { origin = 0; boot = 1; seq = 1; up = 2 })
 unfolding adverts_known own_advert own_seq steps_in near is_link_up serves is_up boot_of heard
-    message_of first_adverts after_hearing is_news switches net_mask_of
+    message_of first_adverts after_hearing is_news switches mask_of mask_where
 own_of_a = refl
 
 -- ---- messages

@@ -1,7 +1,8 @@
 -- The answer to a schedule: the pieces of the steps that its events take, one after another. The
 -- notion is our own.
-use Rattle.std.specs.Prelude.{⊤, ℕ, ◌≡◌, ◌+◌, ◌⊎◌, Option, Some, None, option_map, List, [], ◌∷◌, ◌++◌, length, take}
+use Rattle.std.specs.Prelude.{⊤, ℕ, ◌≡◌, ◌+◌, ◌⊎◌, Option, Some, None, option_map, List, [], ◌∷◌, ◌++◌, length, take, All}
 use Rattle.journal.specs.declared.item.Item.{Item}
+use Rattle.steps.specs.Steps.{IsStep}
 use Rattle.steps.specs.declared.step.Event.{Event}
 use Rattle.steps.specs.declared.step.Event.TheVariants.{One, Flush, Drain}
 use Rattle.steps.specs.declared.step.Step.{Step}
@@ -21,6 +22,12 @@ abbrev pub after_steps : Setting → List Item → List StepOfRow → List Item
 after_steps setting before [] = before
 after_steps setting before (next ∷ steps) =
     after_steps setting (before ++ piece setting before next.row next.step) steps
+
+-- the journal is the pieces of steps of the network, whatever steps, one after another
+pub record IsReached (setting : Setting) (journal : List Item) : Type 0 where
+  pub steps : List StepOfRow
+  pub own : All (λ next. IsStep setting.net (length setting.policies) next.step) steps
+  pub written : journal ≡ after_steps setting [] steps
 
 -- ---- flush and drain
 

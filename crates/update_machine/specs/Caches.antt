@@ -1,6 +1,6 @@
 -- The cache of a switch, and what it says of a header (Yu, Rexford, Freedman and Wang, "Scalable
 -- Flow-Based Networking with DIFANE", SIGCOMM 2010).
-use Rattle.std.specs.Prelude.{ℕ, ◌==◌, if◌then◌else◌, List, [], ◌∷◌, ◌++◌}
+use Rattle.std.specs.Prelude.{ℕ, ◌==◌, nat_lt, if◌then◌else◌, List, [], ◌∷◌, ◌++◌}
 use Rattle.std.specs.Option.{option_map_or}
 use Rattle.ctrl_msg.specs.declared.message.Body.{Body}
 use Rattle.ctrl_msg.specs.declared.message.Body.TheVariants.{OpenAt, Stamp, CacheRule}
@@ -15,10 +15,14 @@ use Rattle.update_machine.specs.Folds.{folded}
 use Rattle.update_machine.specs.Setting.{Setting}
 use Rattle.update_machine.specs.Versions.{stamp_of, tables_at}
 
--- what a delivered body makes of the cache, under the stamp after its delivery: a cache rule is
--- taken in, and a new stamp removes the entries of lower versions
-abbrev pub cache_after : ℕ → ℕ → CacheValue → Body → CacheValue
-cache_after stamp number cache (CacheRule version word rule action) =
+-- a stamp that rises removes the entries of lower versions
+abbrev pub raised_from : ℕ → ℕ → CacheValue → CacheValue
+raised_from earlier stamp cache = if nat_lt earlier stamp then raised stamp cache else cache
+
+-- what a delivered body makes of the cache, under the stamps before and after its delivery: a cache
+-- rule is taken in, and the stamp may rise
+abbrev pub cache_after : ℕ → ℕ → ℕ → CacheValue → Body → CacheValue
+cache_after earlier stamp number cache (CacheRule version word rule action) =
     accepted stamp
     (record {
       version = version;
@@ -27,9 +31,9 @@ cache_after stamp number cache (CacheRule version word rule action) =
       action = action;
       message = number;
     }) cache
-cache_after stamp number cache (OpenAt boot version) = raised stamp cache
-cache_after stamp number cache (Stamp boot version) = raised stamp cache
-cache_after stamp number cache _ = cache
+cache_after earlier stamp number cache (OpenAt boot version) = raised_from earlier stamp cache
+cache_after earlier stamp number cache (Stamp boot version) = raised_from earlier stamp cache
+cache_after earlier stamp number cache _ = cache
 
 abbrev pub changes_cache : ℕ → List Item → CacheValue → Item → CacheValue
 changes_cache s before cache (item.Down switch) = if switch == s then cleared cache else cache
@@ -39,7 +43,8 @@ changes_cache s before cache (item.Expired switch place message) =
     if switch == s then expired place cache else cache
 changes_cache s before cache (item.Delivered number) =
     let stamp = stamp_of (before ++ item.Delivered number ∷ []) s in
-    option_map_or (cache_after stamp number cache) (said_to before s number) cache
+    option_map_or (cache_after (stamp_of before s) stamp number cache) (said_to before s number)
+    cache
 changes_cache s before cache _ = cache
 
 -- the cache of the switch: what its deliveries and timeouts made of the empty one in its boot

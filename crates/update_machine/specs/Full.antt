@@ -6,16 +6,19 @@ use Rattle.update_machine.specs.Answers.{Answers, AreFirstSteps, StepOfRow, afte
 use Rattle.update_machine.specs.Messages.{next_message}
 use Rattle.update_machine.specs.Pieces.{piece}
 use Rattle.update_machine.specs.Setting.{Setting}
-use Rattle.update_machine.specs.declared.full.TheConstants.{FULL_AT}
+
+-- so many messages fill a journal
+abbrev pub full_at : ℕ
+full_at = 990_000
 
 -- so many messages were sent that no step begins behind this journal: messages are numbered from 1,
 -- so the next one has a number above their count
 abbrev pub IsFull : List Item → Type 0
-IsFull journal = FULL_AT < next_message journal
+IsFull journal = full_at < next_message journal
 
 -- a step may begin behind this journal
 abbrev pub HasRoom : List Item → Type 0
-HasRoom journal = next_message journal ≤ FULL_AT
+HasRoom journal = next_message journal ≤ full_at
 
 -- each of these steps begins with room, the first one behind this journal
 abbrev pub HaveRoom : Setting → List Item → List StepOfRow → Type 0

@@ -1,5 +1,5 @@
 -- The laws of words over journals: each is ensured by a function of the crate that has no body.
-use Rattle.std.specs.Prelude.{ℕ, ◌≡◌, ◌≢◌, ◌<◌, ◌≤◌, ◌↔◌, true, false, ◌==◌, None, option_to_list, IsTrue, List, [], ◌∷◌, ◌++◌, length, map}
+use Rattle.std.specs.Prelude.{ℕ, ◌≡◌, ◌≢◌, ◌<◌, ◌≤◌, ◌↔◌, true, false, ◌==◌, if◌then◌else◌, Some, None, option_to_list, IsTrue, List, [], ◌∷◌, ◌++◌, length, map}
 use Rattle.failover.specs.Adverts.{IsNewest, first_advert, first_adverts, held}
 use Rattle.failover.specs.DownSet.{no_links}
 use Rattle.failover.specs.Paths.{IsIsolated, IsRoute}
@@ -22,7 +22,7 @@ use Rattle.update_machine.specs.Packets.{decision_of, found_down, header_in, ing
 use Rattle.update_machine.specs.Quiet.{is_waited_for, sendings}
 use Rattle.update_machine.specs.Setting.{Setting, switches_of}
 use Rattle.update_machine.specs.Steps.{present_step}
-use Rattle.update_machine.specs.Versions.{file_of, holds_version, stamp_of, tables_at, version_count}
+use Rattle.update_machine.specs.Versions.{file_of, holds_version, plan_at, policy_at, stamp_of, tables_at, version_count}
 
 -- nothing is said of a packet that didn't come in
 pub record PacketStarts (i : ℕ) : Type 0 where
@@ -53,7 +53,7 @@ pub record StartLaws : Type 0 where
   pub stamp : (s : ℕ) → stamp_of [] s ≡ 1
   pub versions : (s v : ℕ) → holds_version [] s v ≡ (v == 1)
   pub count : version_count [] ≡ 1
-  pub file : (v : ℕ) → file_of [] v ≡ 1
+  pub file : (v : ℕ) → file_of [] v ≡ (if v == 1 then Some 1 else None)
   pub known : (s : ℕ) → known_boot [] s ≡ 1
   pub over : (s : ℕ) → is_over [] s ≡ false
   pub member : (s : ℕ) → is_member [] s ≡ true
@@ -159,10 +159,13 @@ pub record PacketsKeep (before after : List Item) : Type 0 where
   pub next : next_packet after ≡ next_packet before
   pub travelling : next_travelling after ≡ next_travelling before
 
--- those that submit no policy, the versions
+-- those that submit no policy, the versions and their policies
 pub record PoliciesKeep (before after : List Item) : Type 0 where
   pub count : version_count after ≡ version_count before
   pub file : (v : ℕ) → file_of after v ≡ file_of before v
+  pub policy : (setting : Setting) (v : ℕ) →
+      policy_at setting after v ≡ policy_at setting before v
+  pub plan : (setting : Setting) (v : ℕ) → plan_at setting after v ≡ plan_at setting before v
 
 pub record ConcernLaws : Type 0 where
   pub switch : (setting : Setting) (s : ℕ) (before items : List Item) →

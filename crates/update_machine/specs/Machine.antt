@@ -2,7 +2,7 @@
 -- nothing else. It has policies, a mark and packets; it knows no switch, link, table or message.
 -- The notion of a version that decides a whole packet is that of Reitblatt, Foster, Rexford,
 -- Schlesinger and Walker, "Abstractions for Network Update".
-use Rattle.std.specs.Prelude.{⊤, ℕ, ◌≡◌, ◌+◌, ◌-◌, ◌<◌, if◌then◌else◌, ◌==◌, Option, Some, None, option_map, List, [], ◌∷◌, ◌++◌, length, slice_get}
+use Rattle.std.specs.Prelude.{⊤, ℕ, ◌≡◌, ◌+◌, ◌-◌, ◌<◌, if◌then◌else◌, ◌==◌, Option, Some, None, option_map, option_to_list, List, [], ◌∷◌, ◌++◌, length, slice_get}
 use Rattle.five_tuple.specs.declared.header.Header.{Header}
 use Rattle.policy_rules.specs.Policy.{IsFirstMatch}
 use Rattle.policy_rules.specs.declared.policy.Row.{Row}
@@ -33,10 +33,10 @@ pub record Machine : Type 0 where
   pub mark : ℕ
   pub packets : ℕ → Option Packet
 
--- it begins with the first policy, the mark 0 and no packet
+-- it begins with the policy of the first file, the mark 0 and no packet
 abbrev pub start : Setting → Machine
 start setting = record {
-  policies = policy_of_file setting 1 ∷ [];
+  policies = option_to_list (policy_of_file setting 1);
   mark = 0;
   packets = λ _. None;
 }
@@ -51,8 +51,11 @@ with_packet machine number packet = record machine {
   packets = λ other. if other == number then Some packet else machine.packets other;
 }
 
--- a new policy is the newest version, and carries its number
-pub record Submits (old : Machine) (version : ℕ) (policy : List Row) (new : Machine) : Type 0 where
+-- the policy that a file names, which must be there, is the newest version and carries its number
+pub record Submits (old : Machine) (version : ℕ) (named : Option (List Row)) (new : Machine)
+    : Type 0 where
+  pub policy : List Row
+  pub there : named ≡ Some policy
   pub newest : version ≡ length old.policies + 1
   pub after : new ≡ record old { policies = old.policies ++ policy ∷ [] }
 

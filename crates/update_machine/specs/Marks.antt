@@ -139,6 +139,13 @@ abbrev pub all_acked : Setting → List Item → ℕ → Bool
 all_acked setting journal version =
     list_all (λ s. has_acked journal s version) (members setting journal)
 
+-- so many versions may be there and not retired, and so many in all
+abbrev pub most_live : ℕ
+most_live = 8
+
+abbrev pub most_versions : ℕ
+most_versions = 64
+
 -- the versions above the current one, ascending
 abbrev pub later_versions : List Item → List ℕ
 later_versions journal =

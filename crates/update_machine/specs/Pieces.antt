@@ -16,7 +16,7 @@ use Rattle.update_machine.specs.Boots.{boot_of, is_up, serves}
 use Rattle.update_machine.specs.Caches.{cache_of}
 use Rattle.update_machine.specs.Deliveries.{advert_to, delivery_items, link_changes, to_controller}
 use Rattle.update_machine.specs.Links.{is_link_up, near, switches_in}
-use Rattle.update_machine.specs.Marks.{retired_mark}
+use Rattle.update_machine.specs.Marks.{most_live, most_versions, retired_mark}
 use Rattle.update_machine.specs.Messages.{is_deliverable, sends}
 use Rattle.update_machine.specs.Moves.{lookup_items, move_items, put}
 use Rattle.update_machine.specs.Packets.{next_packet, packets_at, standing, travels}
@@ -71,7 +71,8 @@ expire_items setting s place journal =
 
 -- ---- policies
 
--- the code of a policy's refusal: it has no plan, or there are eight live versions, or 64 in all
+-- the code of a policy's refusal: it has no plan, or no more versions may be live, or no more may
+-- be there in all
 abbrev pub plan_code : NoPlan → ℕ
 plan_code (TooManyWords words) = 12
 plan_code TooManyLeaves = 14
@@ -79,8 +80,8 @@ plan_code (NoRoom partition) = 15
 
 abbrev pub marks_code : List Item → Option ℕ
 marks_code journal =
-    if version_count journal - retired_mark journal == 8 then Some 16
-    else if version_count journal == 64 then Some 17
+    if version_count journal - retired_mark journal == most_live then Some 16
+    else if version_count journal == most_versions then Some 17
     else None
 
 abbrev pub update_code : Setting → List Item → ℕ → Option ℕ

@@ -1,35 +1,40 @@
 -- What a journal is read against.
-use Rattle.std.specs.Prelude.{ℕ, ◌-◌, Result, Ok, Err, List, [], length, map, slice_index_or}
+use Rattle.std.specs.Prelude.{ℕ, ◌-◌, ◌==◌, if◌then◌else◌, Option, Some, None, Result, Ok, Err, List, [], length, slice_get}
 use Rattle.std.specs.List.{range_with_len}
 use Rattle.net_file.specs.declared.net.Net.{Net}
 use Rattle.partition.specs.Plan.{NoPlan, Placed, TooManyLeaves, plan_of}
 use Rattle.policy_rules.specs.declared.policy.Row.{Row}
 
--- the network; the policies of the files, in order; and the plan of each on the network, if there
--- is one
+-- the network; the policies of the files, in order; and the plan of the rows of a policy on the
+-- network, if it has one
 pub record Setting : Type 0 where
   pub net : Net
   pub policies : List (List Row)
-  pub plans : List (Result (List Placed) NoPlan)
+  pub plan : List Row → Result (List Placed) NoPlan
 
 -- the setting of these policies on this network
 abbrev pub setting_of : Net → List (List Row) → Setting
 setting_of net policies = record {
   net = net;
   policies = policies;
-  plans = map (λ rows. plan_of rows net) policies;
+  plan = λ rows. plan_of rows net;
 }
 
 -- the numbers of the switches, ascending
 abbrev pub switches_of : Setting → List ℕ
 switches_of setting = range_with_len 0 (length setting.net.switches)
 
--- files are numbered from 1; a file that isn't there has no rows
-abbrev pub policy_of_file : Setting → ℕ → List Row
-policy_of_file setting file = slice_index_or setting.policies (file - 1) []
+-- files are numbered from 1; a file that isn't there names no policy
+abbrev pub policy_of_file : Setting → ℕ → Option (List Row)
+policy_of_file setting file =
+    if file == 0 then None else slice_get setting.policies (file - 1)
 
+-- and has no plan
 abbrev pub plan_of_file : Setting → ℕ → Result (List Placed) NoPlan
-plan_of_file setting file = slice_index_or setting.plans (file - 1) (Err TooManyLeaves)
+plan_of_file setting file = elim (policy_of_file setting file) [
+  | None ↦ Err TooManyLeaves
+  | Some rows ↦ setting.plan rows
+]
 
 -- the partitions of a plan with their targets; none where there is no plan
 abbrev pub placed_in : Result (List Placed) NoPlan → List Placed

@@ -1,26 +1,31 @@
 //! Laws on journals: functions without a body, whose contracts are facts of the definitions alone.
-ghost use Rattle.std.specs.Prelude.{◌≡◌, ◌+◌, ◌++◌, ◌↔◌, ◌≤◌, ℕ, Bool, Option, List, [], ◌∷◌, length, map};
+ghost use Rattle.std.specs.Prelude.{◌≡◌, ◌+◌, ◌++◌, ◌↔◌, ◌≤◌, ℕ, Bool, Option, Some, List, [], ◌∷◌, length, map, IsTrue};
 ghost use Rattle.std.specs.Option.{option_or};
+ghost use Rattle.policy_rules.specs.declared.policy.Row.{Row};
 ghost use Rattle.journal.specs.declared.item.Item.{Item};
 ghost use Rattle.steps.specs.declared.step.Event.{Event};
 ghost use Rattle.steps.specs.declared.step.Event.TheVariants.{One};
 ghost use Rattle.steps.specs.declared.step.Step.{Step};
 ghost use Rattle.update_machine.specs.Answers.{Answers, AnswersSoFar, AreAnswered, AreStepsOf, BeginsAnswer, HaveSteps, StepOfRow, after_steps};
-ghost use Rattle.update_machine.specs.Full.{HasPlay, IsFull, IsPlay, StopsFull};
+ghost use Rattle.update_machine.specs.Full.{HasPlay, IsFull, IsPlay, StopsFull, full_at};
 ghost use Rattle.update_machine.specs.Laws.{ConcernLaws, KnownLinkLaws, StartLaws};
 ghost use Rattle.update_machine.specs.Messages.{is_sending};
 ghost use Rattle.update_machine.specs.Numbers.{AreNumbered};
-ghost use Rattle.update_machine.specs.Setting.{Setting};
-ghost use Rattle.update_machine.specs.Folds.{all_given, count_of, folded, folded_from, last_told};
+ghost use Rattle.update_machine.specs.Setting.{Setting, placed_in, policy_of_file};
+ghost use Rattle.update_machine.specs.Folds.{all_given, count_of, first_told, folded, folded_from, last_told};
+ghost use Rattle.update_machine.specs.Versions.{file_of, is_version, plan_at, policy_at};
 ghost use Rattle.update_machine.specs.declared.full.TheConstants.{FULL_AT};
 
-/// What a journal says, once more items stand behind it: a law for each of the four folds, over
+/// What a journal says, once more items stand behind it: a law for each of the five folds, over
 /// whatever an item tells.
-#[tactic(auto, using(crate::proofs::FoldLemmas::last_told_append, crate::proofs::FoldLemmas::folded_append))]
+#[tactic(auto, using(crate::proofs::FoldLemmas::last_told_append, crate::proofs::FoldLemmas::first_told_append, crate::proofs::FoldLemmas::folded_append))]
 pub fn journals_grow<X>()
-    ensures last { (told : Item → Option X) (before items : List Item)
-        → last_told told (before ++ items)
-        ≡ option_or (last_told told items) (last_told told before) }
+    ensures last { (tells : Item → Option X) (before items : List Item)
+        → last_told tells (before ++ items)
+        ≡ option_or (last_told tells items) (last_told tells before) }
+    ensures first { (tells : Item → Option X) (before items : List Item)
+        → first_told tells (before ++ items)
+        ≡ option_or (first_told tells before) (first_told tells items) }
     ensures count { (test : Item → Bool) (before items : List Item)
         → count_of test (before ++ items) ≡ count_of test before + count_of test items }
     ensures given { (gives : Item → List X) (before items : List Item)
@@ -59,7 +64,8 @@ pub fn answers_exist()
 
 /// A schedule has at most one play, and one if it has an answer: where a play stops full, no other
 /// one goes on or stops elsewhere. What it leaves answers as far as it goes, and so begins an
-/// answer. A journal is full exactly where so many of its items are messages that were sent.
+/// answer. A journal is full exactly where so many of its items are messages that were sent: as
+/// many as the code's constant says.
 pub fn plays_are_one()
     ensures one { (setting : Setting) (events : List Event) (one other : List Item)
         (stop halt : Option ℕ) → IsPlay setting events one stop → IsPlay setting events other halt
@@ -70,14 +76,33 @@ pub fn plays_are_one()
         → StopsFull setting events journal row → AnswersSoFar setting events journal }
     ensures begins { (setting : Setting) (events : List Event) (journal : List Item) (row : ℕ)
         → StopsFull setting events journal row → BeginsAnswer setting events journal }
-    ensures full { (journal : List Item) → IsFull journal ↔ FULL_AT ≤ count_of is_sending journal }
+    ensures full { (journal : List Item) → IsFull journal ↔ full_at ≤ count_of is_sending journal }
+    ensures constant { FULL_AT ≡ full_at }
 {}
 
-/// In an answer, and in each beginning of one, packets and messages are numbered from 1 without a
-/// gap.
+/// In an answer, and in each beginning of one, packets, messages and versions are numbered from 1
+/// without a gap.
 pub fn answers_are_numbered()
     ensures { (setting : Setting) (events : List Event) (journal : List Item)
         → BeginsAnswer setting events journal → AreNumbered journal }
+{}
+
+/// A version that is there keeps its policy and its plan, whatever items come behind; in an answer
+/// each version from 1 to their count is there (`answers_are_numbered`). The plan is that of the
+/// policy, which a file names.
+pub fn versions_keep_policies()
+    ensures there { (before items : List Item) (version : ℕ) → IsTrue (is_version before version)
+        → IsTrue (is_version (before ++ items) version) }
+    ensures policy { (setting : Setting) (before items : List Item) (version : ℕ)
+        → IsTrue (is_version before version)
+        → policy_at setting (before ++ items) version ≡ policy_at setting before version }
+    ensures plan { (setting : Setting) (before items : List Item) (version : ℕ)
+        → IsTrue (is_version before version)
+        → plan_at setting (before ++ items) version ≡ plan_at setting before version }
+    ensures of_file { (setting : Setting) (journal : List Item) (version file : ℕ) (rows : List Row)
+        → file_of journal version ≡ Some file → policy_of_file setting file ≡ Some rows
+        → (policy_at setting journal version ≡ rows)
+        × (plan_at setting journal version ≡ placed_in (setting.plan rows)) }
 {}
 
 /// What a journal without items says.

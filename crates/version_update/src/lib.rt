@@ -23,6 +23,3 @@ mod switches;
 pub use laws::{record_laws, settling_laws};
 pub use marks::{Marks, Settled, SubmitError};
 pub use record::Phase;
-
-#[cfg(test)]
-mod tests;

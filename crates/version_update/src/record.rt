@@ -1,6 +1,8 @@
 ghost use Rattle.std.specs.Prelude.{◌≡◌, ◌<◌, ◌≤◌, ◌↔◌, IsTrue};
 ghost use Rattle.version_update.specs.Record.{is_member, is_joining, has_acked, first_record, takes_hello, after_hello, takes_installed, after_installed, takes_stamped, after_stamped, after_over, opens_at, opened_at};
 
+use masks::has;
+
 /// How a switch stands to the versions of a policy.
 #[derive(Clone, Copy, Debug, PartialEq, Eq)]
 pub enum Phase {
@@ -51,7 +53,7 @@ impl SwitchRecord {
         requires last { version ≤ 64 }
         ensures { result ≡ has_acked self.now version }
     {
-        (self.acked >> (version - 1)) & 1 == 1
+        has(self.acked, version - 1)
     }
 
     pub fn hello(&mut self, boot: u32) -> bool

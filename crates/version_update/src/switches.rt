@@ -7,14 +7,14 @@ ghost use Rattle.version_update.specs.declared.record.SwitchRecord.{SwitchRecord
 
 use crate::record::SwitchRecord;
 
-/// Where this is to be told, the members, as bits at their numbers; else none.
-pub fn members_where(told: bool, switches: &[SwitchRecord]) -> u64
+/// Where a number rose, the members, as bits at their numbers; else none.
+pub fn members_where(rose: bool, switches: &[SwitchRecord]) -> u64
     requires { length switches.now ≤ 64 }
-    ensures { Names result (λ (known : SwitchRecord). told && is_member known.phase) switches.now }
+    ensures { Names result (λ (known : SwitchRecord). rose && is_member known.phase) switches.now }
 {
     let mut mask = 0;
     for (s, known) in switches.iter().enumerate() {
-        mask |= u64::from(told && known.is_member()) << s;
+        mask |= u64::from(rose && known.is_member()) << s;
     }
     mask
 }

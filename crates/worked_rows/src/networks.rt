@@ -22,6 +22,11 @@ const TWO_PAIRS: &str = "switch = [{ name = \"a\", ports = [1] }, \
     { name = \"b\", ports = [2], authority = 100 }, { name = \"c\" }, { name = \"d\" }]\n\
     link = [{ ends = [\"a\", \"c\"] }, { ends = [\"b\", \"d\"] }]\n";
 
+/// Four switches in two pairs; the one that decides is in the pair without the rule's port.
+const PORT_APART: &str = "switch = [{ name = \"a\", ports = [1] }, \
+    { name = \"b\", authority = 100 }, { name = \"c\" }, { name = \"d\", ports = [2] }]\n\
+    link = [{ ends = [\"a\", \"b\"] }, { ends = [\"c\", \"d\"] }]\n";
+
 const TWO_ROWS: &str = "priority,src,dst,sport,dport,proto,action\n\
     200,any,10.1.0.0/16,any,80,tcp,drop\n\
     100,any,10.0.0.0/8,any,any,tcp,out:2\n";
@@ -30,6 +35,8 @@ const ONE_ROW: &str = "priority,src,dst,sport,dport,proto,action\n\
     100,any,any,any,any,any,out:2\n";
 
 const ONE_PACKET: &str = "event,arguments\npacket,a,1.2.3.4,10.2.0.1,5000,80,tcp\n";
+
+const PACKET_AND_DRAIN: &str = "event,arguments\npacket,a,1.2.3.4,10.2.0.1,5000,80,tcp\ndrain\n";
 
 /// A cache rule is sent, delivered and met, isn't met where an earlier row says otherwise, and
 /// times out.
@@ -107,6 +114,18 @@ const NO_ROUTE: &str = "row 1: packet a 1.2.3.4 10.2.0.1 5000 80 tcp\n\
     \x20 entered 1 a\n\
     \x20 stuck 1 a no-route\n";
 
+/// It is decided, and finds no route to its port.
+const NO_EXIT: &str = "row 1: packet a 1.2.3.4 10.2.0.1 5000 80 tcp\n\
+    \x20 entered 1 a\n\
+    \x20 tunnelled 1 v1 part 0 via a b\n\
+    row 2: hop 1\n\
+    \x20 hopped 1 b\n\
+    row 2: hop 1\n\
+    \x20 decided 1 v1 rule 100 out:2 authority b part 0\n\
+    \x20 sent 1 a cache version 1 word 00000000000000000000000000/00000000000000000000000000 \
+    rule 100 out:2\n\
+    \x20 stuck 1 b no-route\n";
+
 fn named(alloc: Global, name: &str, content: &str) -> Result<(String, Vec<u8>), AllocError> {
     Ok((
         String::from_str(alloc, name)?,
@@ -144,6 +163,7 @@ fn replays_over_switches(rt: HostRuntime) -> Result<(), Fail> {
         (PUSHED_OUT, TWO_ROWS, SMALL_CACHES, PUSHED_OUT_JOURNAL),
         (ONE_PACKET, ONE_ROW, UNLINKED, NO_AUTHORITY),
         (ONE_PACKET, ONE_ROW, TWO_PAIRS, NO_ROUTE),
+        (PACKET_AND_DRAIN, ONE_ROW, PORT_APART, NO_EXIT),
     ] {
         let (status, written, told) = played(rt.alloc(), schedule, policy, net)?;
         assert_eq!(rt; status, 0);

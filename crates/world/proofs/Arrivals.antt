@@ -16,7 +16,8 @@ use Rattle.policy_rules.specs.declared.rules.Partition.{Partition}
 use Rattle.policy_rules.specs.declared.rules.Rule.{Rule}
 use Rattle.journal.specs.declared.item.Item.{Item}
 use Rattle.journal.specs.declared.item.Item.TheVariants as item
-use Rattle.switch_core.specs.Arriving.{arrived, arrived_at, sought_in}
+use Rattle.switch_core.specs.Answering.{arrived, decided_at, decided_in}
+use Rattle.switch_core.specs.declared.answers.Answer.TheVariants.{Decided}
 use Rattle.switch_core.specs.Deciding.{by_rule, cache_rule, first_place, no_rule, rule_in}
 use Rattle.switch_core.specs.Ends.{around, next_of}
 use Rattle.switch_core.specs.declared.answers.Arrived.{Arrived}
@@ -78,17 +79,17 @@ pub answers_rule : (setting : Setting) (cache : CacheValue)
     → (ours : IsOurs setting s header partition placed)
     → arrived (calm_switch setting cache handled s) (around near ports)
     (on_leg setting i words header ingress (Seek 1 partition)).tunnel
-    ≡ arrived.Decided (by_rule s 1 placed.0.number ours.rule)
+    ≡ arrived.Answered (Decided (by_rule s 1 placed.0.number ours.rule)
     (cache_rule s (packet_on setting i words header ingress) 1 (part_of placed) ours.place)
     (next_of (calm_switch setting cache handled s) (around near ports)
-    (packet_on setting i words header ingress) ours.rule.action)
-unfolding arrived sought_in arrived_at
+    (packet_on setting i words header ingress) ours.rule.action))
+unfolding arrived decided_in decided_at
 answers_rule setting cache s handled i near partition ingress ports words header placed ours =
     let answer : Partition → ℕ → Rule → Arrived =
-    λ part place rule. arrived.Decided (by_rule s 1 part.number rule)
+    λ part place rule. arrived.Answered (Decided (by_rule s 1 part.number rule)
     (cache_rule s (packet_on setting i words header ingress) 1 part place)
     (next_of (calm_switch setting cache handled s) (around near ports)
-    (packet_on setting i words header ingress) rule.action) in
+    (packet_on setting i words header ingress) rule.action)) in
     ap (λ part. answer part (first_place header part) (rule_in part (first_place header part)))
     ours.facts.own
     ∙ ap (λ place. answer (part_of placed) place (rule_in (part_of placed) place)) ours.first
@@ -169,7 +170,7 @@ decides_law setting journal net alone calm cache s handled i partition ingress t
     (place_is setting journal calm partition ours.place header (header_at journal i) placed
     (header_is journal i header entered) ours.facts.at ours.first)
     ∙ ap (λ rule. authority_items setting i s rule journal)
-    (rule_of setting journal calm s 1 partition ours.place ours.rule placed ours.facts)
+    (rule_of setting journal calm s partition ours.place ours.rule placed ours.facts)
     ∙ authority_law setting journal net alone cache s handled there ports owners packet is found own
     ∙ ap (arrived_items (next_message journal) (standing_at s t) t)
     (sym (answers_rule setting cache s handled i (near_of setting s) partition ingress ports

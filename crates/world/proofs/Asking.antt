@@ -2,8 +2,8 @@
 use Rattle.std.proofs.Common.{ℕ, ◌≡◌, ◌<◌, Some, None, List, refl, ap, sym, subst, ◌∙◌, length, get_or, arith}
 use Rattle.std.specs.Prelude.{slice_index, IsTrue}
 use Rattle.journal.specs.declared.item.Item.{Item}
-use Rattle.switch_core.specs.Arriving.{IsAtAuthority}
-use Rattle.switch_core.specs.Entering.{CanLookUp}
+use Rattle.steps.specs.declared.step.Step.TheVariants.{Hop}
+use Rattle.switch_core.specs.Answering.{CanLookUp, IsAtAuthority}
 use Rattle.switch_core.specs.State.{SwitchValue, serves}
 use Rattle.switch_core.specs.Moving.{found_down}
 use Rattle.tunnel.specs.Moves.{here, next}
@@ -12,7 +12,7 @@ use Rattle.update_machine.specs.Caches.{cache_of}
 use Rattle.update_machine.specs.Handled.{handled_count}
 use Rattle.update_machine.specs.Setting.{Setting}
 use Rattle.packet_laws.specs.Words.{words_of}
-use Rattle.world.specs.Parts.{AreSound, AreTiedIn, control_in, setting_in}
+use Rattle.world.specs.Parts.{AreSound, IsReady, control_in, setting_in}
 use Rattle.world.specs.State.{AreTied, Control}
 use Rattle.world.specs.Travelling.{Travellers, traveller}
 use Rattle.world.specs.declared.parts.Parts.{Parts}
@@ -105,21 +105,23 @@ within_here control setting journal switches before count i t s tied its at =
 -- all that a switch must be to be asked
 pub record CanAsk (setting : Setting) (t : Traveller) (s near : ℕ) (switch : SwitchValue) : Type 0
   where
-    pub told : near ≡ near_of setting s
+    pub masks : near ≡ near_of setting s
     pub usable : found_down near (next t.tunnel) ≡ None
     pub serving : IsTrue (serves switch)
     pub stamped : CanLookUp switch
     pub authority : next t.tunnel ≡ None
         → IsAtAuthority switch t.tunnel.header t.tunnel.leg
 
-pub can_ask : (parts : Parts) (i : ℕ) (t : Traveller) (s : ℕ) (switch : SwitchValue)
-    → AreSound parts → AreTiedIn parts → traveller parts.log.travelling i ≡ Some t
-    → s ≡ here t.tunnel → switch ≡ get_or parts.switches.items s switch
+pub can_ask : (parts : Parts) (journal : List Item) (i : ℕ) (t : Traveller) (s : ℕ)
+    (switch : SwitchValue) → IsReady journal (Hop i) parts
+    → traveller parts.log.travelling i ≡ Some t → s ≡ here t.tunnel
+    → switch ≡ get_or parts.switches.items s switch
     → CanAsk (setting_in parts) t s (slice_index parts.near s) switch
-can_ask parts i t s switch sound tied its at own =
+can_ask parts journal i t s switch ready its at own =
+    let sound : AreSound parts = ready.sound in
+    let tied = ready.tied in
     let control : Control = control_in parts in
     let setting : Setting = setting_in parts in
-    let journal : List Item = parts.log.journal in
     let switches : List SwitchValue = parts.switches.items in
     let before : Travellers = parts.log.travelling in
     let standing : IsStanding setting journal i t =
@@ -127,16 +129,16 @@ can_ask parts i t s switch sound tied its at own =
     let place : ℕ = standing.way.under_way.place in
     let here_it : s ≡ place = at ∙ stands_at setting journal i t standing in
     let handled : ℕ = handled_count journal place in
-    let told : slice_index parts.near place ≡ near_of setting place =
+    let masks : slice_index parts.near place ≡ near_of setting place =
     near_here parts place sound standing.way.under_way.now in
     let cache : CacheValue = cache_of setting journal place in
     let is : switch ≡ calm_switch setting cache handled place =
     own ∙ ap (λ p. get_or switches p switch) here_it
     ∙ switch_here control setting journal switches before parts.packets i t tied standing switch in
     record {
-      told = ap (slice_index parts.near) here_it ∙ told ∙ ap (near_of setting) (sym here_it);
+      masks = ap (slice_index parts.near) here_it ∙ masks ∙ ap (near_of setting) (sym here_it);
       usable = usable_here setting journal i t (slice_index parts.near s) standing
-          (ap (slice_index parts.near) here_it ∙ told);
+          (ap (slice_index parts.near) here_it ∙ masks);
       serving = serving_here setting cache place handled switch is;
       stamped = stamped_here setting cache place handled switch is;
       authority = λ last. authority_here control setting journal switches before parts.packets i t

@@ -1,6 +1,6 @@
 -- At the end of its route a packet is at one of its leg's targets, which has the partition that it
 -- seeks.
-use Rattle.std.proofs.Common.{ℕ, ◌≡◌, ◌+◌, ◌-◌, ◌<◌, ◌≤◌, true, Option, Some, None, List, refl, ap, sym, subst, ◌∙◌, length, get_or, arith, find, position, inl, inr, ◌⊎◌}
+use Rattle.std.proofs.Common.{ℕ, ◌≡◌, ◌+◌, ◌-◌, ◌<◌, ◌≤◌, true, Option, Some, None, List, refl, ap, sym, subst, ◌∙◌, length, get_or, arith, find, position, inl, inr, ◌⊎◌, []}
 use Rattle.std.specs.Prelude.{⊤, unwrap_or, slice_get, nat_eq, IsTrue, IsSomeAnd}
 use Rattle.std.specs.List.{list_any}
 use Rattle.std.proofs.lemmas.Bool.{cases_lt}
@@ -15,7 +15,7 @@ use Rattle.policy_rules.specs.declared.rules.Partition.{Partition}
 use Rattle.policy_rules.specs.declared.rules.Rule.{Rule}
 use Rattle.journal.specs.declared.item.Item.{Item}
 use Rattle.journal.specs.declared.item.Item.TheVariants as item
-use Rattle.switch_core.specs.Arriving.{IsAtAuthority}
+use Rattle.switch_core.specs.Answering.{IsAtAuthority}
 use Rattle.switch_core.specs.Deciding.{no_part, own_part}
 use Rattle.switch_table.specs.Cache.{CacheValue}
 use Rattle.switch_table.specs.Lookup.{authority_of, lookup_in, table_lookup}
@@ -24,6 +24,7 @@ use Rattle.update_machine.specs.Messages.{next_message}
 use Rattle.update_machine.specs.Moves.{cache_rule}
 use Rattle.update_machine.specs.Played.{IsSetting}
 use Rattle.update_machine.specs.Setting.{Setting}
+use Rattle.update_machine.specs.Versions.{plan_at}
 use Rattle.packet_laws.specs.Calm.{HasPacketsAlone, IsCalm, IsOfPackets, first_plan}
 use Rattle.packet_laws.specs.OnWay.{IsOnLeg}
 use Rattle.packet_laws.specs.Words.{PacketWords}
@@ -41,7 +42,7 @@ pub record IsOurs (setting : Setting) (s : ℕ) (header : Header) (partition : �
   pub rule : Rule
   pub first : unwrap_or (position (is_held (number_of header)) placed.0.rules) 0 ≡ place
   pub holds : IsTrue (is_in header (part_of placed))
-  pub facts : IsRuleOf setting s 1 partition place rule placed
+  pub facts : IsRuleOf setting s partition place rule placed
   pub mine : own_part (tables_of (first_plan setting) 1 s) partition ≡ Some (part_of placed)
   pub right : (journal : List Item) (ingress : ℕ) → ingress < length setting.net.switches
       → HasPacketsAlone setting journal → IsOfPackets setting journal
@@ -74,13 +75,13 @@ ours setting s header placed is sound found target =
     subst (IsSaid setting s) says (said_law setting s header is sound) in
     let other : said.1 ≡ placed = some_same (slice_get (first_plan setting) placed.0.number)
     said.1 placed said.2.at finds.at in
-    let at_place : IsRuleOf setting s 1 placed.0.number place said.0 placed =
-    subst (IsRuleOf setting s 1 placed.0.number place said.0) other said.2 in
+    let at_place : IsRuleOf setting s placed.0.number place said.0 placed =
+    subst (IsRuleOf setting s placed.0.number place said.0) other said.2 in
     let rule : said.0 ≡ finds.rule = some_same (slice_get placed.0.rules place) said.0 finds.rule
     at_place.there (ap (slice_get placed.0.rules) finds.position ∙ finds.ruled) in
-    let facts : IsRuleOf setting s 1 placed.0.number finds.place finds.rule placed =
-    subst (λ at. IsRuleOf setting s 1 placed.0.number at finds.rule placed) finds.position
-    (subst (λ rule. IsRuleOf setting s 1 placed.0.number place rule placed) rule at_place) in
+    let facts : IsRuleOf setting s placed.0.number finds.place finds.rule placed =
+    subst (λ at. IsRuleOf setting s placed.0.number at finds.rule placed) finds.position
+    (subst (λ rule. IsRuleOf setting s placed.0.number place rule placed) rule at_place) in
     record {
       place = finds.place;
       rule = finds.rule;
@@ -134,12 +135,13 @@ at_end setting journal s words header (Seek version partition) is calm sound on 
     last_here words.route words.hops s on.leads.ends.target stands last on.leads.ends.last in
     let own : has_target s on.placed ≡ true =
     subst (λ at. IsTrue (list_any (nat_eq at) on.placed.1)) target on.leads.ends.own in
+    let first : version ≡ 1 = omega (arith, on.not_retired, on.current, calm.current) in
     let found : find (λ other. is_in header (part_of other)) (first_plan setting)
     ≡ Some on.placed =
     subst (λ plan. find (λ (p : Placed). is_in header (part_of p)) plan ≡ Some on.placed)
-    (calm.plan version) on.own.first in
+    (calm.plan version ∙ ap (plan_at setting []) first) on.own.first in
     record {
-      first = omega (arith, on.not_retired, on.current, calm.current);
+      first = first;
       undecided = on.undecided;
       placed = on.placed;
       ours = subst (λ number. IsOurs setting s header number on.placed) on.own.number

@@ -1,9 +1,9 @@
 -- A message is delivered or forgotten.
-use Rattle.std.proofs.Common.{ℕ, ◌≡◌, ◌≢◌, ◌<◌, ◌≤◌, ◌==◌, Bool, true, false, if◌then◌else◌, Option, Some, None, List, [], ◌∷◌, ◌++◌, refl, ap, sym, subst, ◌∙◌, length, get_or, set, append_assoc, Bor, arith, eq-eqb, eqb-true}
+use Rattle.std.proofs.Common.{ℕ, ◌≡◌, ◌≢◌, ◌<◌, ◌≤◌, ◌==◌, Bool, true, false, if◌then◌else◌, Option, Some, None, List, [], ◌∷◌, ◌++◌, refl, ap, sym, subst, ◌∙◌, length, get_or, set, append_assoc, arith, eq-eqb, eqb-true}
 use Rattle.std.specs.Prelude.{not, ◌&&◌, is_some, option_map}
-use Rattle.std.specs.Option.{option_copied, option_and_then, option_map_or}
+use Rattle.std.specs.Option.{option_and_then, option_map_or}
 use Rattle.std.proofs.lemmas.List.{get_or-set_other, get_or-set_same, length-set}
-use Rattle.bag.specs.Posts.{Post, delivered, forgotten, message_of as message_in, remembered, with_changed}
+use Rattle.bag.specs.Posts.{Post, message_of as message_in, remembered, with_delivered, with_forgotten}
 use Rattle.ctrl_msg.specs.declared.message.Body.{Body}
 use Rattle.ctrl_msg.specs.declared.message.Body.TheVariants.{CacheRule}
 use Rattle.ctrl_msg.specs.declared.message.Message.{Message}
@@ -40,7 +40,7 @@ use Rattle.world.proofs.Steps.{calls_in, played_more}
 
 abbrev flagged : Bool → Bool → Option Message → Option Post
 flagged was gone o =
-    option_map (λ (m : Message). record { message = m; delivered = was; forgotten = gone }) o
+    option_map (λ (m : Message). (m, record { delivered = was; forgotten = gone })) o
 
 deliverable_as : (journal : List Item) (posts : List Post) (n : ℕ) → IsBagOf journal posts
     → is_deliverable journal n ≡ is_some (message_in posts n)
@@ -68,12 +68,6 @@ sent_as journal posts n message bag is =
     by_flag None was gone none = absurd cc
     by_flag (Some m) was true none = absurd cc
     by_flag (Some m) was false some = some
-
--- whether there is one, by what a look-up answered
-pub held_some : {X : Type 0} (o : Option (Bor X)) (held : Option X) (none b : Bool)
-    → option_copied o ≡ held → is_some o ≡ not none → none ≡ b → is_some held ≡ not b
-held_some None held none b copied some is = ap is_some (sym copied) ∙ some ∙ ap not is
-held_some (Some x) held none b copied some is = ap is_some (sym copied) ∙ some ∙ ap not is
 
 -- ---- pieces
 
@@ -147,7 +141,7 @@ cache_delivered : (setting : Setting) (journal : List Item) (row s q n : ℕ) (b
     → message_of journal n ≡ Some (record { to = receiver.Switch s; body = body })
     → BringsRule setting journal (receiver.Switch s) body
     → cache_of setting (grown journal row (Deliver n) (item.Delivered n)) q
-    ≡ (if s == q then cache_after 1 n (cache_of setting journal q) body
+    ≡ (if s == q then cache_after 1 1 n (cache_of setting journal q) body
     else cache_of setting journal q)
 unfolding cache_of
 cache_delivered setting journal row s q n body calm calmer sent right =
@@ -157,6 +151,9 @@ cache_delivered setting journal row s q n body calm calmer sent right =
     ap (λ js. stamp_of js q)
     (append_assoc journal (item.Row row (Deliver n) ∷ []) (item.Delivered n ∷ []))
     ∙ calmer.stamp q in
+    let earlier : stamp_of rowed q ≡ 1 =
+    (switch_keeps setting q journal (item.Row row (Deliver n) ∷ []) (refl, tt)).stamp
+    ∙ calm.stamp q in
     let up : is_up rowed q ≡ true =
     (switch_keeps setting q journal (item.Row row (Deliver n) ∷ []) (refl, tt)).up ∙ calm.up q in
     let said : said_to rowed q n ≡ (if s == q then Some body else None) =
@@ -164,11 +161,13 @@ cache_delivered setting journal row s q n body calm calmer sent right =
     right in
     folded_append (changes_cache q) start journal
     (item.Row row (Deliver n) ∷ item.Delivered n ∷ [])
-    ∙ ap (λ stamp. option_map_or (cache_after stamp n (cache_of setting journal q))
+    ∙ ap (λ earlier. option_map_or (cache_after earlier (stamp_of (rowed ++ item.Delivered n ∷ []) q)
+    n (cache_of setting journal q)) (said_to rowed q n) (cache_of setting journal q)) earlier
+    ∙ ap (λ stamp. option_map_or (cache_after 1 stamp n (cache_of setting journal q))
     (said_to rowed q n) (cache_of setting journal q)) stamp
-    ∙ ap (λ o. option_map_or (cache_after 1 n (cache_of setting journal q)) o
+    ∙ ap (λ o. option_map_or (cache_after 1 1 n (cache_of setting journal q)) o
     (cache_of setting journal q)) said
-    ∙ by_test (s == q) (cache_after 1 n (cache_of setting journal q))
+    ∙ by_test (s == q) (cache_after 1 1 n (cache_of setting journal q))
     (cache_of setting journal q)
   where
     by_test : (b : Bool) (f : Body → CacheValue) (c : CacheValue)
@@ -180,7 +179,7 @@ cache_delivered setting journal row s q n body calm calmer sent right =
 heard_right : (setting : Setting) (journal : List Item) (s n handled : ℕ) (cache : CacheValue)
     (body : Body) → BringsRule setting journal (receiver.Switch s) body
     → heard (calm_switch setting cache handled s) n body
-    ≡ calm_switch setting (cache_after 1 n cache body) handled s
+    ≡ calm_switch setting (cache_after 1 1 n cache body) handled s
 unfolding heard obeys
 heard_right setting journal s n handled cache (CacheRule version word rule action) right = refl
 heard_right setting journal s n handled cache _ right = absurd right
@@ -265,9 +264,9 @@ delivered_switch : (setting : Setting) (journal : List Item) (switches : List Sw
 delivered_switch setting journal switches row n s q body own changed d true is calm calmer sent
     right there own_is changed_is its =
     let new : List Item = grown journal row (Deliver n) (item.Delivered n) in
-    let cache : cache_after 1 n (cache_of setting journal s) body ≡ cache_of setting new s =
+    let cache : cache_after 1 1 n (cache_of setting journal s) body ≡ cache_of setting new s =
     sym (cache_delivered setting journal row s s n body calm calmer sent right
-    ∙ ap (λ b. if b then cache_after 1 n (cache_of setting journal s) body
+    ∙ ap (λ b. if b then cache_after 1 1 n (cache_of setting journal s) body
     else cache_of setting journal s) (eq-eqb s s refl)) in
     let P : ℕ → Type 0 = λ k. get_or (set switches s changed) k d
     ≡ calm_switch setting (cache_of setting new k) (handled_count journal k) k in
@@ -283,7 +282,7 @@ delivered_switch setting journal switches row n s q body own changed d false is 
     let other : q ≢ s = λ e. let yes : (s == q) ≡ true = eq-eqb s q (sym e) in cc in
     let cache : cache_of setting new q ≡ cache_of setting journal q =
     cache_delivered setting journal row s q n body calm calmer sent right
-    ∙ ap (λ b. if b then cache_after 1 n (cache_of setting journal q) body
+    ∙ ap (λ b. if b then cache_after 1 1 n (cache_of setting journal q) body
     else cache_of setting journal q) is in
     get_or-set_other switches s q changed d other ∙ its
     ∙ ap (λ c. calm_switch setting c (handled_count journal q) q) (sym cache)
@@ -298,7 +297,7 @@ pub delivered_tied : (control : Control) (setting : Setting) (journal : List Ite
     ≡ item.Row row (Deliver n) ∷ item.Delivered n ∷ [])
     × AreTied setting (grown journal row (Deliver n) (item.Delivered n))
     (set switches s changed) before count
-    (record control { posts = with_changed delivered control.posts n })
+    (record control { posts = with_delivered control.posts n })
 unfolding AreTied
 delivered_tied control setting journal switches before count row n s message own changed tied may
     there to own_at changed_is =
@@ -319,7 +318,7 @@ delivered_tied control setting journal switches before count row n s message own
     (deliver_ready control setting journal switches before count n s message tied there to).0 in
     let rowed : List Item = journal ++ item.Row row (Deliver n) ∷ [] in (
       is,
-      tied_one control (with_changed delivered control.posts n) setting journal switches
+      tied_one control (with_delivered control.posts n) setting journal switches
           (set switches s changed) before count row (Deliver n) (item.Delivered n) tied (record {
             may = may;
             piece_is = is;
@@ -335,7 +334,7 @@ delivered_tied control setting journal switches before count row n s message own
                 (own_at ∙ own_switch control setting journal switches before count tied s own
                 within) changed_is
                 (own_switch control setting journal switches before count tied q d below);
-            bag = subst (λ js. IsBagOf js (with_changed delivered control.posts n))
+            bag = subst (λ js. IsBagOf js (with_delivered control.posts n))
                 (append_assoc journal (item.Row row (Deliver n) ∷ []) (item.Delivered n ∷ []))
                 (bag_delivered rowed control.posts n held.within
                 (bag_on journal (item.Row row (Deliver n) ∷ []) control.posts (refl, tt)
@@ -389,7 +388,7 @@ pub forgotten_tied : (control : Control) (setting : Setting) (journal : List Ite
     → (piece setting journal row (Forget n)
     ≡ item.Row row (Forget n) ∷ item.Forgotten n ∷ [])
     × AreTied setting (grown journal row (Forget n) (item.Forgotten n)) switches before count
-    (record control { posts = with_changed forgotten control.posts n })
+    (record control { posts = with_forgotten control.posts n })
 unfolding AreTied
 forgotten_tied control setting journal switches before count row n tied may there =
     let rowed : List Item = journal ++ item.Row row (Forget n) ∷ [] in
@@ -399,7 +398,7 @@ forgotten_tied control setting journal switches before count row n tied may ther
     ∙ ap (λ b. item.Row row (Forget n) ∷ (if b then item.Forgotten n ∷ [] else nothing))
     (deliverable_as journal control.posts n tied.bag ∙ there) in (
       is,
-      tied_one control (with_changed forgotten control.posts n) setting journal switches
+      tied_one control (with_forgotten control.posts n) setting journal switches
           switches before count row (Forget n) (item.Forgotten n) tied (record {
             may = may;
             piece_is = is;
@@ -413,7 +412,7 @@ forgotten_tied control setting journal switches before count row n tied may ther
                 (switch_keeps setting q journal
                 (item.Row row (Forget n) ∷ item.Forgotten n ∷ []) (refl, (refl, tt))).cache
                 (own_switch control setting journal switches before count tied q d below);
-            bag = subst (λ js. IsBagOf js (with_changed forgotten control.posts n))
+            bag = subst (λ js. IsBagOf js (with_forgotten control.posts n))
                 (append_assoc journal (item.Row row (Forget n) ∷ []) (item.Forgotten n ∷ []))
                 (bag_forgotten rowed control.posts n (some_within control.posts n there)
                 (bag_on journal (item.Row row (Forget n) ∷ []) control.posts (refl, tt)

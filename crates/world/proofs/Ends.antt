@@ -30,6 +30,7 @@ abbrev pub at_switch : ℕ → Packet → Standing
 at_switch s packet = record {
   packet = packet.number;
   header = packet.header;
+  ingress = packet.ingress;
   switch = s;
   down = packet.down;
 }

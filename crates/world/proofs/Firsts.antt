@@ -5,6 +5,10 @@ use Rattle.std.specs.List.{range_with_len}
 use Rattle.std.proofs.lemmas.Bool.{ltb-true}
 use Rattle.std.proofs.lemmas.List.{ext_get_or}
 use Rattle.std.proofs.lemmas.List.FromFn.{get_or-map-range_with_len}
+use Rattle.controller.specs.Controller.{ControllerValue, first_controller, kept_tables}
+use Rattle.controller.specs.Plan.{PlanValue}
+use Rattle.switch_table.specs.Tables.{tables_of}
+use Rattle.switch_table.specs.declared.tables.Tables.{Tables}
 use Rattle.failover.proofs.Adverts.{by_origin-first, held-first}
 use Rattle.failover.specs.Adverts.{first_advert, first_adverts, first_of, is_newer}
 use Rattle.failover.specs.declared.advert.Advert.{Advert}
@@ -61,3 +65,12 @@ first_near net near sound are =
     are s (omega (arith, within, sound.few_switches))
     ∙ sym (get_or-map-range_with_len (links_of net.links) 0 (length net.switches) s s 0 within
     (omega arith)))
+
+-- the first controller's tables of version 1 are those of its plan
+pub first_tables : (net : Net) (controller : ControllerValue) (plan : PlanValue)
+    (tables : Tables) (s : ℕ) → controller ≡ first_controller (length net.switches) plan
+    → kept_tables controller 1 s ≡ Some tables → tables ≡ tables_of plan.placed 1 s
+first_tables net controller plan tables s is found =
+    let same : Some tables ≡ Some (tables_of plan.placed 1 s) =
+    sym found ∙ ap (λ (c : ControllerValue). kept_tables c 1 s) is in
+    cc

@@ -15,7 +15,9 @@ use Rattle.journal.specs.declared.item.Item.{Item}
 use Rattle.journal.specs.declared.item.Item.TheVariants as item
 use Rattle.switch_core.specs.Deciding.{by_entry, by_rule, part_numbered, rule_in}
 use Rattle.switch_core.specs.Ends.{around, cause_of, exit_by, leave_by, next_of, set_out}
-use Rattle.switch_core.specs.Entering.{enter_seeking, entered_by, seek_by}
+use Rattle.switch_core.specs.Answering.{answer_by, decided_at, seek_by}
+use Rattle.switch_core.specs.declared.answers.Answer.{Answer}
+use Rattle.switch_core.specs.declared.answers.Answer.TheVariants as answer
 use Rattle.switch_core.specs.State.{SwitchValue}
 use Rattle.switch_core.specs.declared.answers.Decision.{Decision}
 use Rattle.switch_core.specs.declared.answers.Entered.{Entered}
@@ -29,18 +31,20 @@ use Rattle.tunnel.specs.Moves.{begun}
 use Rattle.tunnel.specs.Tunnel.{TunnelValue}
 use Rattle.switch_table.specs.Cache.{CacheValue}
 use Rattle.update_machine.specs.Marks.{retired_mark}
+use Rattle.update_machine.specs.Messages.{sent_from}
 use Rattle.update_machine.specs.Packets.{no_switch, owner, targets_in}
 use Rattle.update_machine.specs.Setting.{Setting}
 use Rattle.packet_laws.specs.Calm.{first_plan}
 use Rattle.packet_laws.specs.OnWay.{IsUnknown}
 use Rattle.packet_laws.specs.Words.{PacketWords, told_by}
-use Rattle.world.specs.Writing.{decided_items, decided_traveller, entered_items, entered_traveller}
+use Rattle.world.specs.Writing.{answer_items, answer_traveller, cache_message, entered_items, entered_traveller, messages_in}
 use Rattle.world.specs.declared.log.Standing.{Standing}
 use Rattle.world.proofs.Calmness.{calm_switch}
 use Rattle.world.proofs.Ends.{at_switch}
 use Rattle.world.proofs.Entering.{IsSaid}
 use Rattle.world.proofs.Legs.{near_of}
-use Rattle.world.proofs.Own.{GoesOn, decided_goes}
+use Rattle.world.proofs.Others.{sends_unnamed}
+use Rattle.world.proofs.Own.{GoesOn, IsSeen, decided_goes}
 use Rattle.world.proofs.Words.{first_targets, traveller_by, words_along}
 
 -- ---- once it is decided
@@ -103,15 +107,14 @@ pub record IsWay (setting : Setting) (at : Standing) (tunnel : TunnelValue) : Ty
   pub version : ℕ
   pub partition : ℕ
   pub route : List ℕ
-  pub is : tunnel ≡ begun at.packet at.header at.switch (Seek version partition)
+  pub is : tunnel ≡ begun at.packet at.header at.ingress (Seek version partition)
       (first_targets setting (Seek version partition)) route at.down
 
-abbrev pub IsComing : Setting → Standing → Entered → Type 0
-IsComing setting at entered.Closed = ⊤
-IsComing setting at (entered.Decided decision onward) =
-    GoesOn setting at at.switch decision onward
-IsComing setting at (entered.Seek tunnel) = IsWay setting at tunnel
-IsComing setting at (entered.Stuck cause leg) = ⊤
+abbrev pub IsComing : Setting → Standing → Answer → Type 0
+IsComing setting at (answer.Decided decision cache onward) =
+    GoesOn setting at at.ingress decision onward
+IsComing setting at (answer.Seek tunnel) = IsWay setting at tunnel
+IsComing setting at (answer.Stuck cause leg) = ⊤
 
 seek_goes : (setting : Setting) (packet : Packet) (partition : ℕ) (targets : List ℕ)
     (cause : Cause) (route : Option (List ℕ)) → targets_in (first_plan setting) partition ≡ targets
@@ -131,19 +134,20 @@ pub found_goes : (setting : Setting) (cache : CacheValue) (handled : ℕ) (ports
     (packet : Packet) (what : Found) → AreOwners setting.net.switches ports
     → IsSaid setting packet.ingress what
     → IsComing setting (at_switch packet.ingress packet)
-    (entered_by (calm_switch setting cache handled packet.ingress)
+    (answer_by (calm_switch setting cache handled packet.ingress)
     (around (near_of setting packet.ingress) ports) packet
     (tables_of (first_plan setting) 1 packet.ingress) what)
-unfolding entered_by enter_seeking set_out
+unfolding answer_by decided_at set_out
 found_goes setting cache handled ports packet (found.Cached entry) owners said =
     let s : ℕ = packet.ingress in
     next_goes setting (calm_switch setting cache handled s) (near_of setting s) ports packet s
     (by_entry entry) entry.action owners refl
 found_goes setting cache handled ports packet (found.Authority partition place) owners said =
     let s : ℕ = packet.ingress in
-    let rule = rule_in (part_numbered (tables_of (first_plan setting) 1 s) partition) place in
+    let part = part_numbered (tables_of (first_plan setting) 1 s) partition in
+    let rule = rule_in part place in
     next_goes setting (calm_switch setting cache handled s) (near_of setting s) ports packet s
-    (by_rule s 1 partition rule) rule.action owners refl
+    (by_rule s 1 part.number rule) rule.action owners refl
 found_goes setting cache handled ports packet (found.Redirect partition targets) owners said =
     let s : ℕ = packet.ingress in
     let switch : SwitchValue = calm_switch setting cache handled s in
@@ -154,42 +158,62 @@ found_goes setting cache handled ports packet (found.Redirect partition targets)
     (route_of switch.database s targets (near_of setting s) packet.down) leads
 
 -- so what is known of it then is what the items say
-by_way : (setting : Setting) (before : List Item) (at : Standing) (version partition : ℕ)
-    (route : List ℕ) (words : PacketWords) → IsUnknown words → words.found ≡ at.down
-    → (let tunnel : TunnelValue = begun at.packet at.header at.switch (Seek version partition)
+by_way : (setting : Setting) (before : List Item) (number : ℕ) (at : Standing)
+    (version partition : ℕ) (route : List ℕ) (words : PacketWords) → IsSeen at at.ingress words
+    → words.decision ≡ None
+    → (let tunnel : TunnelValue = begun at.packet at.header at.ingress (Seek version partition)
     (first_targets setting (Seek version partition)) route at.down in
-    entered_traveller (entered.Seek tunnel)
+    answer_traveller 0 None (answer.Seek tunnel)
     ≡ traveller_by setting at.packet
-    (words_along at.packet before (entered_items at (entered.Seek tunnel)) words))
-by_way setting before at version partition route words unknown unmarked =
+    (words_along at.packet before (answer_items number at (answer.Seek tunnel)) words))
+by_way setting before number at version partition route words seen undecided =
     let own : (at.packet == at.packet) ≡ true = eq-eqb _ _ refl in
-    rw (own, unknown.decision, unmarked) refl
+    rw (own, undecided, seen.on, seen.header, seen.came, seen.found) refl
 
-pub entered_goes : (setting : Setting) (before : List Item) (at : Standing) (answer : Entered)
-    (words : PacketWords) → IsUnknown words → words.found ≡ at.down
-    → IsComing setting at answer
-    → entered_traveller answer
+answer_goes : (setting : Setting) (before : List Item) (number : ℕ) (at : Standing)
+    (what : Answer) (words : PacketWords) → IsSeen at at.ingress words → words.decision ≡ None
+    → IsComing setting at what
+    → answer_traveller 0 None what
     ≡ traveller_by setting at.packet
-    (words_along at.packet before (entered_items at answer) words)
-entered_goes setting before at entered.Closed words unknown unmarked comes =
-    rw unknown.travels refl
-entered_goes setting before at (entered.Decided decision onward) words unknown unmarked comes =
-    let own : (at.packet == at.packet) ≡ true = eq-eqb _ _ refl in
-    let came : Item = item.Entered at.packet at.switch at.header in
-    let P : Bool → Type 0 = λ b. decided_traveller decision onward
-    ≡ traveller_by setting at.packet (words_along at.packet (before ++ came ∷ [])
-    (decided_items at decision [] onward)
-    (if b then told_by (retired_mark before) came words else words)) in
-    subst P (sym own)
-    (decided_goes setting (before ++ came ∷ []) [] at at.switch decision onward
-    (told_by (retired_mark before) came words) tt
-    (record { on = refl; header = refl; came = refl; found = unmarked }) comes)
-entered_goes setting before at (entered.Seek tunnel) words unknown unmarked comes =
-    let P : TunnelValue → Type 0 = λ t. entered_traveller (entered.Seek t)
+    (words_along at.packet before (answer_items number at what) words)
+answer_goes setting before number at (answer.Decided decision cache onward) words seen undecided
+    comes =
+    decided_goes setting before
+    (sent_from number (messages_in (cache_message at.ingress cache))) at at.ingress decision onward
+    words (sends_unnamed at.packet number (cache_message at.ingress cache)) seen comes
+answer_goes setting before number at (answer.Seek tunnel) words seen undecided comes =
+    let P : TunnelValue → Type 0 = λ t. answer_traveller 0 None (answer.Seek t)
     ≡ traveller_by setting at.packet
-    (words_along at.packet before (entered_items at (entered.Seek t)) words) in
+    (words_along at.packet before (answer_items number at (answer.Seek t)) words) in
     subst P (sym comes.is)
-    (by_way setting before at comes.version comes.partition comes.route words unknown unmarked)
-entered_goes setting before at (entered.Stuck cause leg) words unknown unmarked comes =
+    (by_way setting before number at comes.version comes.partition comes.route words seen undecided)
+answer_goes setting before number at (answer.Stuck cause leg) words seen undecided comes =
     let own : (at.packet == at.packet) ≡ true = eq-eqb _ _ refl in
     rw own refl
+
+-- a packet that just came in
+abbrev pub GoesIn : Setting → Standing → Entered → Type 0
+GoesIn setting at entered.Closed = ⊤
+GoesIn setting at (entered.Answered what) =
+    (at.ingress ≡ at.switch) × IsComing setting at what
+
+pub entered_goes : (setting : Setting) (before : List Item) (number : ℕ) (at : Standing)
+    (what : Entered) (words : PacketWords) → IsUnknown words → words.found ≡ at.down
+    → GoesIn setting at what
+    → entered_traveller what
+    ≡ traveller_by setting at.packet
+    (words_along at.packet before (entered_items number at what) words)
+entered_goes setting before number at entered.Closed words unknown unmarked comes =
+    rw unknown.travels refl
+entered_goes setting before number at (entered.Answered what) words unknown unmarked comes =
+    let own : (at.packet == at.packet) ≡ true = eq-eqb _ _ refl in
+    let came : Item = item.Entered at.packet at.switch at.header in
+    let P : Bool → Type 0 = λ b. answer_traveller 0 None what
+    ≡ traveller_by setting at.packet (words_along at.packet (before ++ came ∷ [])
+    (answer_items number at what)
+    (if b then told_by (retired_mark before) came words else words)) in
+    subst P (sym own)
+    (answer_goes setting (before ++ came ∷ []) number at what
+    (told_by (retired_mark before) came words)
+    (record { on = refl; header = refl; came = ap Some (sym comes.0); found = unmarked })
+    unknown.decision comes.1)

@@ -1,5 +1,5 @@
 -- A hop of a packet on its way: what it writes, and how it keeps the tie of a world to its journal.
-use Rattle.std.proofs.Common.{ℕ, ◌≡◌, ◌≢◌, ◌+◌, ◌-◌, ◌^◌, ◌<◌, ◌==◌, Bool, true, false, ◌&&◌, if◌then◌else◌, Option, Some, None, List, [], ◌∷◌, ◌++◌, refl, ap, sym, subst, ◌∙◌, append_assoc, length, get_or, set, min, cond, arith, eq-eqb, eqb-true}
+use Rattle.std.proofs.Common.{ℕ, ◌≡◌, ◌≢◌, ◌+◌, ◌-◌, ◌^◌, ◌<◌, ◌==◌, Bool, true, false, ◌&&◌, if◌then◌else◌, Option, Some, None, List, [], ◌∷◌, ◌++◌, refl, ap, sym, subst, ◌∙◌, length, get_or, set, min, cond, arith, eq-eqb, eqb-true}
 use Rattle.std.specs.Prelude.{is_some, unwrap_or, slice_get}
 use Rattle.std.proofs.lemmas.Bool.Decides.{nat_tests}
 use Rattle.std.proofs.lemmas.List.Sums.{sum_by-cons}
@@ -15,7 +15,7 @@ use Rattle.journal.specs.declared.item.Item.{Item}
 use Rattle.journal.specs.declared.item.Item.TheVariants as item
 use Rattle.steps.specs.declared.step.Step.TheVariants.{Hop}
 use Rattle.switch_core.specs.Ends.{around}
-use Rattle.switch_core.specs.Arriving.{arrived}
+use Rattle.switch_core.specs.Answering.{arrived}
 use Rattle.switch_core.specs.State.{SwitchValue, counted}
 use Rattle.switch_core.specs.declared.answers.Arrived.{Arrived}
 use Rattle.tunnel.specs.Moves.{advanced, here, next}
@@ -57,7 +57,7 @@ use Rattle.world.proofs.Others.{NoneName, arrived_other, unnamed}
 use Rattle.world.proofs.Played.{played_alone, played_calm}
 use Rattle.world.proofs.Posting.{posts_in}
 use Rattle.world.proofs.Steps.{NoRows, calls_in}
-use Rattle.world.proofs.Tying.{Steps, idle, tied_more, tied_silent, with_calls}
+use Rattle.world.proofs.Tying.{Steps, idle, numbered, tied_more, tied_silent, with_calls}
 use Rattle.world.proofs.Words.{calm_traveller, traveller_by, words_along}
 
 -- ---- what it writes
@@ -452,14 +452,8 @@ asked_of control setting journal switches before count i t s switch near_it port
     }
 
 -- the number of the next message
-numbered : (control : Control) (setting : Setting) (journal : List Item)
-    (switches : List SwitchValue) (before : Travellers) (count : ℕ)
-    → AreTied setting journal switches before count control
-    → next_message journal ≡ length control.posts + 1
-unfolding AreTied
-numbered control setting journal switches before count tied = tied.bag.many
 
-pub hop_written : (control : Control) (setting : Setting) (journal new : List Item)
+pub hop_tied : (control : Control) (setting : Setting) (journal : List Item)
     (switches : List SwitchValue)
     (before after : Travellers) (count row i : ℕ) (t : Traveller) (s : ℕ)
     (switch other : SwitchValue) (near_it : ℕ) (ports : Ports)
@@ -468,13 +462,13 @@ pub hop_written : (control : Control) (setting : Setting) (journal new : List It
     → switch ≡ get_or switches s switch → near_it ≡ near_of setting s
     → other ≡ hopped_switch switch (next t.tunnel)
     → WithOne before i (hop_traveller (counted switch) near_it ports t (next t.tunnel)) after
-    → new ≡ journal ++ item.Row row (Hop i) ∷ []
-    ++ hop_items (length control.posts + 1) (counted switch) near_it ports t (next t.tunnel)
-    → AreTied setting new (set switches s other) after count (record control {
+    → AreTied setting (journal ++ item.Row row (Hop i)
+    ∷ hop_items (length control.posts + 1) (counted switch) near_it ports t (next t.tunnel))
+    (set switches s other) after count (record control {
       posts = control.posts ++ hop_posts (counted switch) near_it ports t (next t.tunnel);
     })
-hop_written control setting journal new switches before after count row i t s switch other near_it
-    ports tied may its owners at own told answered without is =
+hop_tied control setting journal switches before after count row i t s switch other near_it ports
+    tied may its owners at own told answered without =
     let standing_it : IsStanding setting journal i t =
     standing_of control setting journal switches before count i t tied its in
     let asked : IsAsked setting journal i t switch near_it ports =
@@ -484,11 +478,6 @@ hop_written control setting journal new switches before after count row i t s sw
     let same : s ≡ place = at ∙ stands_at setting journal i t asked.standing in
     let number : ℕ = next_message journal in
     let items : List Item = hop_items number (counted switch) near_it ports t (next t.tunnel) in
-    let all : new ≡ journal ++ item.Row row (Hop i) ∷ items =
-    is ∙ ap (λ n. journal ++ item.Row row (Hop i) ∷ []
-    ++ hop_items n (counted switch) near_it ports t (next t.tunnel))
-    (sym (numbered control setting journal switches before count tied))
-    ∙ append_assoc journal (item.Row row (Hop i) ∷ []) items in
     let of : IsOfHop row i (goes_further (next t.tunnel)) items =
     items_of_hop row i number (counted switch) near_it ports t (next t.tunnel) in
     let last : SwitchValue = hopped_switch switch (next t.tunnel) in
@@ -502,8 +491,10 @@ hop_written control setting journal new switches before after count row i t s sw
     (hop_steps control setting journal switches before after count row i t switch near_it ports tied
     may asked (next t.tunnel) refl without)
     (omega (arith, of.packets)) in
-    subst (λ js. AreTied setting js (set switches s other) after count
-    (record control { posts = posts })) (sym all)
+    subst (λ n. AreTied setting (journal ++ item.Row row (Hop i)
+    ∷ hop_items n (counted switch) near_it ports t (next t.tunnel)) (set switches s other) after
+    count (record control { posts = posts }))
+    (numbered control setting journal switches before count tied)
     (subst (λ w. AreTied setting (journal ++ item.Row row (Hop i) ∷ items) (set switches s w)
     after count (record control { posts = posts })) (sym answered)
     (subst (λ p. AreTied setting (journal ++ item.Row row (Hop i) ∷ items) (set switches p last)
@@ -546,22 +537,20 @@ left_piece setting journal row i off =
       | true ↦ move_items setting i (unwrap_or (place_of new i) 0) new
     ]) (ap (λ (words : PacketWords). words.travels) (same_words journal row i i) ∙ off)
 
-pub hop_left : (control : Control) (setting : Setting) (journal new : List Item)
+pub hop_left : (control : Control) (setting : Setting) (journal : List Item)
     (switches : List SwitchValue) (before : Travellers) (count row i : ℕ)
     → AreTied setting journal switches before count control → MayPlay setting (Hop i)
     → is_some (traveller before i) ≡ false
-    → new ≡ journal ++ item.Row row (Hop i) ∷ [] ++ item.Nothing ∷ []
-    → (new ≡ journal ++ piece setting journal row (Hop i))
-    × AreTied setting new switches before count control
+    → (piece setting journal row (Hop i) ≡ item.Row row (Hop i) ∷ item.Nothing ∷ [])
+    × AreTied setting (journal ++ item.Row row (Hop i) ∷ item.Nothing ∷ []) switches before count
+    control
 unfolding AreTied
-hop_left control setting journal new switches before count row i tied may resting is =
+hop_left control setting journal switches before count row i tied may resting =
     let calm_now : IsCalm setting journal = played_calm setting journal tied.sound tied.played in
     let off : travels journal i ≡ false =
     sym (ap is_some (tied.packet i) ∙ travels_as setting journal i) ∙ resting in
     let piece_is : piece setting journal row (Hop i) ≡ item.Row row (Hop i) ∷ item.Nothing ∷ [] =
     left_piece setting journal row i off in
-    let all : new ≡ journal ++ item.Row row (Hop i) ∷ item.Nothing ∷ [] =
-    is ∙ append_assoc journal (item.Row row (Hop i) ∷ []) (item.Nothing ∷ []) in
     let kept : AreTied setting (journal ++ item.Row row (Hop i) ∷ item.Nothing ∷ []) switches
     before count control =
     tied_silent control setting journal switches switches before before count count row (Hop i)
@@ -576,10 +565,7 @@ hop_left control setting journal new switches before count row i tied may restin
           ∙ ap (λ calls. with_calls calls (get_or switches s d))
           (sym (no_calls journal row i s off));
       travels = λ q. tied.packet q ∙ calm_traveller setting journal calm_now q;
-    }) (omega arith) refl in (
-      all ∙ ap (λ items. journal ++ items) (sym piece_is),
-      subst (λ js. AreTied setting js switches before count control) (sym all) kept,
-    )
+    }) (omega arith) refl in (piece_is, kept)
   where
     no_calls : (journal : List Item) (row i s : ℕ) → travels journal i ≡ false
         → calls_in s journal (item.Row row (Hop i) ∷ item.Nothing ∷ []) ≡ 0

@@ -4,7 +4,7 @@ use Rattle.five_tuple.specs.declared.header.Header.{Header}
 use Rattle.policy_rules.specs.declared.packet.Cause.{Cause}
 use Rattle.policy_rules.specs.declared.packet.Leg.{Leg}
 use Rattle.policy_rules.specs.declared.packet.Leg.TheVariants.{Seek, Exit}
-use Rattle.switch_core.specs.Arriving.{IsAtAuthority}
+use Rattle.switch_core.specs.Answering.{IsAtAuthority}
 use Rattle.switch_core.specs.Moving.{Moved, found_down, hopped, moved}
 use Rattle.switch_core.specs.State.{SwitchValue, counted}
 use Rattle.switch_core.specs.declared.answers.HopEnd.TheVariants.{Arrive, Move, Stuck}
@@ -24,6 +24,12 @@ pub arrives : (s : SwitchValue) (near : ℕ) (t : TunnelValue)
     → found_down near (next t) ≡ None → (hopped s near t).end ≡ Arrive → next t ≡ None
 arrives s near t usable is =
     arrives_at t (next t) (ap (λ (m : Moved). m.end) (sym (hop_moves s near t usable)) ∙ is)
+
+pub stays_at_end : (s : SwitchValue) (near : ℕ) (t : TunnelValue)
+    → found_down near (next t) ≡ None → next t ≡ None → (hopped s near t).tunnel ≡ t
+stays_at_end s near t usable none =
+    ap (λ (m : Moved). m.tunnel) (hop_moves s near t usable)
+    ∙ ap (λ onward. (moved t onward).tunnel) none
 
 moves_to : (t : TunnelValue) (onward : Option ℕ) (other : ℕ) → (moved t onward).end ≡ Move other
     → onward ≡ Some other

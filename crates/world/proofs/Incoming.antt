@@ -1,6 +1,5 @@
 -- A packet that comes in: its whole step keeps the tie.
 use Rattle.std.proofs.Common.{ℕ, ◌≡◌, ◌≢◌, ◌+◌, ◌-◌, ◌^◌, ◌<◌, ◌≤◌, ◌==◌, Bool, true, false, if◌then◌else◌, cond, List, [], ◌∷◌, ◌++◌, refl, ap, sym, subst, ◌∙◌, length, get_or, set, min, eqb-true, eq-eqb, arith}
-use Rattle.std.specs.Prelude.{OnOk, Result}
 use Rattle.std.proofs.lemmas.List.{get_or-set_other, get_or-set_same, get_or_default, length-set}
 use Rattle.std.proofs.lemmas.List.Sums.{sum_by-cons}
 use Rattle.failover.specs.DownSet.{no_links}
@@ -11,7 +10,7 @@ use Rattle.net_file.specs.declared.ports.Ports.{Ports}
 use Rattle.journal.specs.declared.item.Item.{Item}
 use Rattle.journal.specs.declared.item.Item.TheVariants as item
 use Rattle.steps.specs.declared.step.Step.TheVariants.{Packet as PacketStep}
-use Rattle.switch_core.specs.Entering.{CanLookUp, entered, incoming}
+use Rattle.switch_core.specs.Answering.{CanLookUp, entered, incoming, looked_up}
 use Rattle.switch_core.specs.State.{SwitchValue, counted}
 use Rattle.switch_core.specs.declared.answers.Entered.{Entered}
 use Rattle.switch_core.specs.declared.answers.Entered.TheVariants as entered
@@ -21,7 +20,6 @@ use Rattle.update_machine.specs.Caches.{cache_of}
 use Rattle.update_machine.specs.Folds.{count_of}
 use Rattle.update_machine.specs.Handled.{handled_count, is_entry_at, most_handled}
 use Rattle.update_machine.specs.Messages.{next_message}
-use Rattle.update_machine.specs.Moves.{takes_route}
 use Rattle.update_machine.specs.Packets.{is_packet, next_packet}
 use Rattle.update_machine.specs.Pieces.{packet_items, piece}
 use Rattle.update_machine.specs.Played.{IsPlayed, IsSetting, MayPlay}
@@ -29,24 +27,22 @@ use Rattle.update_machine.specs.Setting.{Setting}
 use Rattle.packet_laws.specs.Calm.{IsCalm, first_plan}
 use Rattle.packet_laws.specs.OnWay.{IsUnknown}
 use Rattle.packet_laws.specs.Words.{words_of}
-use Rattle.packet_laws.proofs.Plans.{begun}
 use Rattle.world.specs.Packets.{coming_in, entry}
 use Rattle.world.specs.State.{AreTied, Control, switch_of}
 use Rattle.world.specs.Travelling.{Travellers, WithOne, traveller}
-use Rattle.world.specs.Writing.{end_of, entered_items, entered_traveller}
+use Rattle.world.specs.Writing.{answer_items, entered_items, entered_posts, entered_traveller}
 use Rattle.world.specs.declared.log.Standing.{Standing}
 use Rattle.world.proofs.Calmness.{calm_at, calm_switch_of}
 use Rattle.world.proofs.Coming.{come_law}
 use Rattle.world.proofs.Entering.{IsSaid}
-use Rattle.world.proofs.Goings.{IsComing, entered_goes, found_goes}
-use Rattle.world.proofs.Later.{AreLater, end_later, entered_sends, later_entries, later_packets, later_rows, route_later}
+use Rattle.world.proofs.Goings.{GoesIn, entered_goes, found_goes}
+use Rattle.world.proofs.Later.{AreLater, answer_later, entered_sends, later_entries, later_packets, later_rows}
 use Rattle.world.proofs.Legs.{near_of}
 use Rattle.world.proofs.Others.{entered_other, unnamed}
 use Rattle.world.proofs.Played.{played_alone, played_calm, played_found, played_unknown}
 use Rattle.world.proofs.Owners.{looked_law}
 use Rattle.world.proofs.Steps.{NoRow, NoRows, calls_in}
-use Rattle.world.proofs.Tying.{idle, tied_silent, with_calls}
-use Rattle.world.proofs.Writing.{both_ok, grown_more}
+use Rattle.world.proofs.Tying.{idle, tied_more, with_calls}
 use Rattle.world.proofs.Words.{calm_traveller, traveller_by, words_along}
 
 -- ---- one packet comes in, and then none
@@ -71,23 +67,13 @@ once s first items row packet enters later = record {
       omega (arith, sum, same, later_entries q items later);
 }
 
-pub entered_once : (at : Standing) (answer : Entered)
-    → ComesOnce at.switch (entered_items at answer)
-entered_once at entered.Closed =
+pub entered_once : (number : ℕ) (at : Standing) (what : Entered)
+    → ComesOnce at.switch (entered_items number at what)
+entered_once number at entered.Closed =
     once at.switch (item.Closed at.packet at.switch) [] tt refl (λ q. refl) tt
-entered_once at (entered.Decided decision onward) =
-    once at.switch (item.Entered at.packet at.switch at.header)
-    (item.Decided at.packet decision.version decision.rule decision.action decision.how
-    ∷ end_of at decision onward ∷ []) tt refl (λ q. refl)
-    ((tt, refl, λ q. refl), (end_later at decision onward, tt))
-entered_once at (entered.Seek tunnel) =
-    once at.switch (item.Entered at.packet at.switch at.header)
-    (takes_route at.packet tunnel.leg tunnel.route ∷ []) tt refl (λ q. refl)
-    (route_later at.packet tunnel.leg tunnel.route, tt)
-entered_once at (entered.Stuck cause leg) =
-    once at.switch (item.Entered at.packet at.switch at.header)
-    (item.Stuck at.packet at.switch cause leg at.down ∷ []) tt refl (λ q. refl)
-    ((tt, refl, λ q. refl), tt)
+entered_once number at (entered.Answered what) =
+    once at.switch (item.Entered at.packet at.switch at.header) (answer_items number at what) tt
+    refl (λ q. refl) (answer_later number at what)
 
 -- ---- the switches
 
@@ -125,30 +111,30 @@ answered setting journal switches s q own d false is there its each =
 
 -- ---- the packets
 
-along : (setting : Setting) (journal : List Item) (row : ℕ) (header : Header) (at : Standing)
-    (answer : Entered) (before : Travellers) (q : ℕ) (b : Bool) → (q == at.packet) ≡ b
+along : (setting : Setting) (journal : List Item) (row number : ℕ) (header : Header)
+    (at : Standing) (answer : Entered) (before : Travellers) (q : ℕ) (b : Bool) → (q == at.packet) ≡ b
     → IsUnknown (words_of journal at.packet) → (words_of journal at.packet).found ≡ at.down
-    → IsComing setting at answer
+    → GoesIn setting at answer
     → traveller before q ≡ traveller_by setting q (words_of journal q)
     → (if b then entered_traveller answer else traveller before q)
     ≡ traveller_by setting q
-    (words_along q journal (item.Row row (PacketStep at.switch header) ∷ entered_items at answer)
+    (words_along q journal (item.Row row (PacketStep at.switch header) ∷ entered_items number at answer)
     (words_of journal q))
-along setting journal row header at answer before q true is unknown unmarked comes was =
+along setting journal row number header at answer before q true is unknown unmarked comes was =
     let first : Item = item.Row row (PacketStep at.switch header) in
     let same : at.packet ≡ q = sym (eqb-true q at.packet is) in
     let P : ℕ → Type 0 = λ k. entered_traveller answer
     ≡ traveller_by setting k
-    (words_along k journal (first ∷ entered_items at answer) (words_of journal k)) in
+    (words_along k journal (first ∷ entered_items number at answer) (words_of journal k)) in
     subst P same
-    (entered_goes setting (journal ++ first ∷ []) at answer (words_of journal at.packet) unknown
+    (entered_goes setting (journal ++ first ∷ []) number at answer (words_of journal at.packet) unknown
     unmarked comes)
-along setting journal row header at answer before q false is unknown unmarked comes was =
+along setting journal row number header at answer before q false is unknown unmarked comes was =
     let first : Item = item.Row row (PacketStep at.switch header) in
     let other : (at.packet == q) ≡ false = not_same (at.packet == q) refl in
     was
-    ∙ ap (traveller_by setting q) (sym (unnamed q journal (first ∷ entered_items at answer)
-    (words_of journal q) (refl, entered_other q at answer other)))
+    ∙ ap (traveller_by setting q) (sym (unnamed q journal (first ∷ entered_items number at answer)
+    (words_of journal q) (refl, entered_other q number at answer other)))
   where
     not_same : (c : Bool) → (at.packet == q) ≡ c → c ≡ false
     not_same false e = refl
@@ -164,12 +150,16 @@ abbrev pub Comes : Control → Setting → List Item → List SwitchValue → Tr
     → Ports → SwitchValue → ℕ → Type 0
 Comes control setting journal switches after count row s header ports own near =
     (piece setting journal row (PacketStep s header)
-    ≡ item.Row row (PacketStep s header) ∷ entered_items (coming_in (count + 1) header own.number)
+    ≡ item.Row row (PacketStep s header)
+    ∷ entered_items (next_message journal) (coming_in (count + 1) header own.number)
     (entry own near ports (count + 1) header))
     × AreTied setting (journal ++ item.Row row (PacketStep s header)
-    ∷ entered_items (coming_in (count + 1) header own.number)
-    (entry own near ports (count + 1) header)) (set switches s (counted own)) after (count +
-    1) control
+    ∷ entered_items (next_message journal) (coming_in (count + 1) header own.number)
+    (entry own near ports (count + 1) header)) (set switches s (counted own)) after (count + 1)
+    (record control {
+      posts = control.posts ++ entered_posts (coming_in (count + 1) header own.number)
+          (entry own near ports (count + 1) header);
+    })
 
 -- what a switch finds for the packet
 said_by : (setting : Setting) (journal : List Item) (s : ℕ) (header : Header)
@@ -188,7 +178,8 @@ piece_calm : (control : Control) (setting : Setting) (journal : List Item)
     → AreTied setting journal switches before count control → MayPlay setting (PacketStep s header)
     → AreOwners setting.net.switches ports
     → piece setting journal row (PacketStep s header)
-    ≡ item.Row row (PacketStep s header) ∷ entered_items (coming_in (count + 1) header s)
+    ≡ item.Row row (PacketStep s header)
+    ∷ entered_items (next_message journal) (coming_in (count + 1) header s)
     (entry (calm_at setting journal handled s) (near_of setting s) ports (count + 1) header)
 unfolding AreTied piece
 piece_calm control setting journal switches before count row s handled header ports tied may
@@ -211,7 +202,7 @@ come_calm : (control : Control) (setting : Setting) (journal : List Item)
     (entry (calm_at setting journal handled s) (near_of setting s) ports (count + 1) header)) after
     → Comes control setting journal switches after count row s header ports
     (calm_at setting journal handled s) (near_of setting s)
-unfolding AreTied entered
+unfolding AreTied entered looked_up
 come_calm control setting journal switches before after count row s handled header ports tied may
     owners there its with =
     let i : ℕ = count + 1 in
@@ -219,29 +210,35 @@ come_calm control setting journal switches before after count row s handled head
     let at : Standing = coming_in i header s in
     let answer : Entered = entry own (near_of setting s) ports i header in
     let first : Item = item.Row row (PacketStep s header) in
-    let items : List Item = entered_items at answer in
+    let number : ℕ = next_message journal in
+    let items : List Item = entered_items number at answer in
     let calm : IsCalm setting journal = played_calm setting journal tied.sound tied.played in
     let unmarked : (words_of journal i).found ≡ no_links =
     played_found setting journal tied.sound tied.played i in
     let unknown : IsUnknown (words_of journal i) =
     played_unknown setting journal tied.sound tied.played i (omega (arith, tied.counted)) in
     let said = said_by setting journal s header tied.sound tied.played may.own.1 in
-    let comes : IsComing setting at answer =
-    found_goes setting (cache_of setting journal s) handled ports (incoming own i header)
-    (lookup_of (cache_of setting journal s).entries (tables_of (first_plan setting) 1 s) header)
-    owners said in
+    let comes : GoesIn setting at answer = (
+      refl,
+      found_goes setting (cache_of setting journal s) handled ports (incoming own i header)
+          (lookup_of (cache_of setting journal s).entries (tables_of (first_plan setting) 1 s)
+          header) owners said,
+    ) in
     let is : piece setting journal row (PacketStep s header) ≡ first ∷ items =
     piece_calm control setting journal switches before count row s handled header ports tied may
     owners in
-    let once : ComesOnce s items = entered_once at answer in
+    let once : ComesOnce s items = entered_once number at answer in
+    let sends = entered_sends number at answer in
     let sum = sum_by-cons (λ x. cond (is_packet x) 1 0) first items in (
       is,
-      tied_silent control setting journal switches (set switches s (counted own)) before after count
-          (count + 1) row (PacketStep s header) items tied (record {
+      subst (λ posts. AreTied setting (journal ++ first ∷ items) (set switches s (counted own)) after
+          (count + 1) (record control { posts = control.posts ++ posts })) sends.1
+          (tied_more control setting journal switches (set switches s (counted own)) before after
+          count (count + 1) row (PacketStep s header) items tied (record {
             may = may;
             piece_is = is;
             one_row = once.rows;
-            sends = (entered_sends (next_message journal) at answer).0;
+            sends = sends.0;
             as_many = length-set switches s (counted own);
             calls = λ q d below.
                 answered setting journal switches s q own d (s == q) refl there its
@@ -249,9 +246,9 @@ come_calm control setting journal switches before after count row s handled head
                 ∙ ap (λ calls. with_calls calls (get_or switches q d))
                 (sym (called s q journal row header items once));
             travels = λ q. with q
-                ∙ along setting journal row header at answer before q (q == i) refl unknown
+                ∙ along setting journal row number header at answer before q (q == i) refl unknown
                 unmarked comes (tied.packet q ∙ calm_traveller setting journal calm q);
-          }) (omega (arith, sum, once.one)) (entered_sends (next_message journal) at answer).1,
+          }) (omega (arith, sum, once.one))),
     )
 
 -- its switch is there, and can be asked
@@ -301,13 +298,15 @@ pub come_piece : (control : Control) (setting : Setting) (journal : List Item)
     → AreOwners setting.net.switches ports → near ≡ near_of setting s
     → own ≡ get_or switches s own
     → piece setting journal row (PacketStep s header)
-    ≡ item.Row row (PacketStep s header) ∷ entered_items (coming_in (count + 1) header own.number)
+    ≡ item.Row row (PacketStep s header)
+    ∷ entered_items (next_message journal) (coming_in (count + 1) header own.number)
     (entry own near ports (count + 1) header)
 come_piece control setting journal switches before count row s header ports own near tied may owners
     masks its =
     let handled : ℕ = handled_count journal s in
     let P : SwitchValue → ℕ → Type 0 = λ own near. piece setting journal row (PacketStep s header)
-    ≡ item.Row row (PacketStep s header) ∷ entered_items (coming_in (count + 1) header own.number)
+    ≡ item.Row row (PacketStep s header)
+    ∷ entered_items (next_message journal) (coming_in (count + 1) header own.number)
     (entry own near ports (count + 1) header) in
     subst (λ own. P own near)
     (sym (own_calm control setting journal switches before count s header own tied may its))
@@ -339,30 +338,3 @@ come_tied control setting journal switches before after count row s header ports
     (come_calm control setting journal switches before after count row s handled header ports tied
     may owners there))
     (sym its) with
-
-pub come_kept : {T E : Type 0} (r : Result T E) (control : Control) (setting : Setting)
-    (journal begun new : List Item)
-    (switches : List SwitchValue) (before after : Travellers) (count row s : ℕ) (header : Header)
-    (ports : Ports) (own changed : SwitchValue) (near : ℕ)
-    → AreTied setting journal switches before count control → MayPlay setting (PacketStep s header)
-    → AreOwners setting.net.switches ports → near ≡ near_of setting s
-    → own ≡ get_or switches s own → changed ≡ counted own
-    → begun ≡ journal ++ item.Row row (PacketStep s header) ∷ []
-    → OnOk r (new ≡ begun ++ entered_items (coming_in (count + 1) header own.number)
-    (entry own near ports (count + 1) header))
-    → OnOk r (WithOne before (count + 1)
-    (entered_traveller (entry own near ports (count + 1) header)) after)
-    → OnOk r (AreTied setting new (set switches s changed) after (count + 1) control)
-come_kept r control setting journal begun new switches before after count row s header ports own
-    changed near tied may owners masks its changed_is row_is written travels =
-    let first : Item = item.Row row (PacketStep s header) in
-    let items : List Item = entered_items (coming_in (count + 1) header own.number)
-    (entry own near ports (count + 1) header) in
-    both_ok r (λ grown with.
-    subst (λ js. AreTied setting js (set switches s changed) after (count + 1) control)
-    (sym (grown_more journal begun new items first row_is grown))
-    (subst (λ one. AreTied setting (journal ++ first ∷ items) (set switches s one) after
-    (count + 1) control)
-    (sym changed_is)
-    (come_tied control setting journal switches before after count row s header ports own near tied
-    may owners masks its with).1)) written travels

@@ -3,15 +3,17 @@
 use Rattle.std.proofs.Common.{ℕ, ◌≡◌, ◌+◌, false, Option, Some, None, cond, List, [], ◌∷◌, refl, ap, map, arith}
 use Rattle.std.specs.Prelude.{⊤}
 use Rattle.std.proofs.lemmas.List.Sums.{sum_by-cons}
-use Rattle.bag.specs.Posts.{posted}
+use Rattle.bag.specs.Posts.{Post, posted}
 use Rattle.ctrl_msg.specs.declared.message.Message.{Message}
 use Rattle.net_file.specs.declared.ports.Ports.{Ports}
 use Rattle.policy_rules.specs.declared.packet.Leg.{Leg}
 use Rattle.policy_rules.specs.declared.packet.Leg.TheVariants.{Seek, Exit}
 use Rattle.journal.specs.declared.item.Item.{Item}
-use Rattle.switch_core.specs.Arriving.{arrived}
+use Rattle.switch_core.specs.Answering.{arrived}
 use Rattle.switch_core.specs.Ends.{around}
 use Rattle.switch_core.specs.State.{SwitchValue}
+use Rattle.switch_core.specs.declared.answers.Answer.{Answer}
+use Rattle.switch_core.specs.declared.answers.Answer.TheVariants as answer
 use Rattle.switch_core.specs.declared.answers.Arrived.{Arrived}
 use Rattle.switch_core.specs.declared.answers.Arrived.TheVariants as arrived
 use Rattle.switch_core.specs.declared.answers.Decision.{Decision}
@@ -25,7 +27,7 @@ use Rattle.update_machine.specs.Messages.{sent_from}
 use Rattle.update_machine.specs.Moves.{takes_route}
 use Rattle.update_machine.specs.Packets.{is_packet}
 use Rattle.world.specs.Packets.{arrival_items, arrival_posts, hop_items, hop_posts, standing_at}
-use Rattle.world.specs.Writing.{arrived_items, arrived_posts, cache_message, decided_items, end_of, entered_items, messages_in}
+use Rattle.world.specs.Writing.{answer_items, answer_posts, arrived_items, arrived_posts, cache_message, decided_items, end_of, entered_items, entered_posts, messages_in}
 use Rattle.world.specs.declared.log.Standing.{Standing}
 use Rattle.world.specs.declared.travelling.Traveller.{Traveller}
 use Rattle.world.proofs.Posting.{SendFrom, posts_in}
@@ -79,14 +81,18 @@ decided_later number at decision None onward =
 decided_later number at decision (Some message) onward =
     ((tt, refl, λ q. refl), ((tt, refl, λ q. refl), (end_later at decision onward, tt)))
 
-pub arrived_later : (number : ℕ) (at : Standing) (t : Traveller) (answer : Arrived)
-    → AreLater (arrived_items number at t answer)
-arrived_later number at t (arrived.Out port) = ((tt, refl, λ q. refl), tt)
-arrived_later number at t (arrived.Decided decision cache onward) =
-    decided_later number at decision (cache_message t.tunnel.ingress cache) onward
-arrived_later number at t (arrived.Seek tunnel) =
+pub answer_later : (number : ℕ) (at : Standing) (what : Answer)
+    → AreLater (answer_items number at what)
+answer_later number at (answer.Decided decision cache onward) =
+    decided_later number at decision (cache_message at.ingress cache) onward
+answer_later number at (answer.Seek tunnel) =
     (route_later at.packet tunnel.leg tunnel.route, tt)
-arrived_later number at t (arrived.Stuck cause leg) = ((tt, refl, λ q. refl), tt)
+answer_later number at (answer.Stuck cause leg) = ((tt, refl, λ q. refl), tt)
+
+pub arrived_later : (number : ℕ) (at : Standing) (t : Traveller) (what : Arrived)
+    → AreLater (arrived_items number at t what)
+arrived_later number at t (arrived.Out port) = ((tt, refl, λ q. refl), tt)
+arrived_later number at t (arrived.Answered what) = answer_later number at what
 
 -- ---- none moves the packet on
 
@@ -109,14 +115,14 @@ unfolding sent_from
 decided_still number at decision None onward = end_still at decision onward
 decided_still number at decision (Some message) onward = end_still at decision onward
 
-pub arrived_still : (number : ℕ) (at : Standing) (t : Traveller) (answer : Arrived)
-    → stays_on_way (arrived_items number at t answer) ≡ false
+pub arrived_still : (number : ℕ) (at : Standing) (t : Traveller) (what : Arrived)
+    → stays_on_way (arrived_items number at t what) ≡ false
 arrived_still number at t (arrived.Out port) = refl
-arrived_still number at t (arrived.Decided decision cache onward) =
-    decided_still number at decision (cache_message t.tunnel.ingress cache) onward
-arrived_still number at t (arrived.Seek tunnel) =
+arrived_still number at t (arrived.Answered (answer.Decided decision cache onward)) =
+    decided_still number at decision (cache_message at.ingress cache) onward
+arrived_still number at t (arrived.Answered (answer.Seek tunnel)) =
     route_still at.packet tunnel.leg tunnel.route
-arrived_still number at t (arrived.Stuck cause leg) = refl
+arrived_still number at t (arrived.Answered (answer.Stuck cause leg)) = refl
 
 -- ---- what is sent
 
@@ -137,14 +143,6 @@ end_sends number at decision (next.Exit tunnel) =
     route_sends number at.packet tunnel.leg tunnel.route
 end_sends number at decision (next.Stuck cause) = (tt, refl)
 
-pub entered_sends : (number : ℕ) (at : Standing) (answer : Entered)
-    → SendNone number (entered_items at answer)
-entered_sends number at entered.Closed = (tt, refl)
-entered_sends number at (entered.Decided decision onward) = end_sends number at decision onward
-entered_sends number at (entered.Seek tunnel) =
-    route_sends number at.packet tunnel.leg tunnel.route
-entered_sends number at (entered.Stuck cause leg) = (tt, refl)
-
 decided_sends : (number : ℕ) (at : Standing) (decision : Decision) (message : Option Message)
     (onward : Next)
     → (let items : List Item =
@@ -157,15 +155,26 @@ decided_sends number at decision (Some message) onward =
     ((refl, rest.0), ap (λ posts. posted message ∷ posts) rest.1)
 
 -- the message of the answer, under this number
-pub arrived_sends : (number : ℕ) (at : Standing) (t : Traveller) (answer : Arrived)
-    → SendFrom number (arrived_items number at t answer)
-    × (posts_in (arrived_items number at t answer) ≡ arrived_posts t answer)
-arrived_sends number at t (arrived.Out port) = (tt, refl)
-arrived_sends number at t (arrived.Decided decision cache onward) =
-    decided_sends number at decision (cache_message t.tunnel.ingress cache) onward
-arrived_sends number at t (arrived.Seek tunnel) =
+abbrev pub SendPosts : ℕ → List Item → List Post → Type 0
+SendPosts number items posts = SendFrom number items × (posts_in items ≡ posts)
+
+answer_sends : (number : ℕ) (at : Standing) (what : Answer)
+    → SendPosts number (answer_items number at what) (answer_posts at what)
+answer_sends number at (answer.Decided decision cache onward) =
+    decided_sends number at decision (cache_message at.ingress cache) onward
+answer_sends number at (answer.Seek tunnel) =
     route_sends number at.packet tunnel.leg tunnel.route
-arrived_sends number at t (arrived.Stuck cause leg) = (tt, refl)
+answer_sends number at (answer.Stuck cause leg) = (tt, refl)
+
+pub entered_sends : (number : ℕ) (at : Standing) (what : Entered)
+    → SendPosts number (entered_items number at what) (entered_posts at what)
+entered_sends number at entered.Closed = (tt, refl)
+entered_sends number at (entered.Answered what) = answer_sends number at what
+
+arrived_sends : (number : ℕ) (at : Standing) (t : Traveller) (what : Arrived)
+    → SendPosts number (arrived_items number at t what) (arrived_posts at what)
+arrived_sends number at t (arrived.Out port) = (tt, refl)
+arrived_sends number at t (arrived.Answered what) = answer_sends number at what
 
 pub hop_sends : (number : ℕ) (switch : SwitchValue) (near : ℕ) (ports : Ports) (t : Traveller)
     (goes_on : Option ℕ)

@@ -7,7 +7,7 @@ use Rattle.journal.specs.declared.item.Item.{Item}
 use Rattle.update_machine.specs.Packets.{next_packet, next_travelling, travels}
 use Rattle.update_machine.specs.Setting.{Setting}
 use Rattle.packet_laws.specs.Words.{words_of}
-use Rattle.world.specs.State.{AreTied, IsTied, WorldValue, traveller_in, traveller_of}
+use Rattle.world.specs.State.{AreTied, IsTied, WorldValue, setting_at, traveller_in, traveller_of}
 use Rattle.world.specs.Travelling.{IsNextFrom, Travellers, traveller}
 use Rattle.world.proofs.Played.{played_unknown}
 
@@ -98,6 +98,6 @@ pub least_travels_in : (world : WorldValue) (next : Option ℕ) → IsTied world
     → IsNextFrom world.travelling 1 next → next ≡ next_travelling world.journal
 unfolding AreTied words_of
 least_travels_in world next tied least =
-    least_travels world.setting world.journal world.travelling next tied.packet
-    (λ i new. (played_unknown world.setting world.journal tied.sound tied.played i new).travels)
+    least_travels (setting_at world) world.journal world.travelling next tied.packet
+    (λ i new. (played_unknown (setting_at world) world.journal tied.sound tied.played i new).travels)
     least

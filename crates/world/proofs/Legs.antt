@@ -62,6 +62,7 @@ pub leg_law : (setting : Setting) (journal : List Item) → IsCalm setting journ
     ≡ set_item (record {
       packet = packet.number;
       header = packet.header;
+      ingress = packet.ingress;
       switch = s;
       down = packet.down;
     }) leg (set_out (calm_switch setting cache handled s) (near_of setting s) packet leg
@@ -94,6 +95,7 @@ leg_law setting journal calm cache s handled there packet found leg =
         ≡ set_item (record {
           packet = packet.number;
           header = packet.header;
+          ingress = packet.ingress;
           switch = s;
           down = packet.down;
         }) leg (ok_or (option_map (λ way. begun packet.number packet.header packet.ingress leg

@@ -27,10 +27,10 @@ pub mod Goings
 pub mod Later
 pub mod Incoming
 pub mod OverParts
-pub mod TestWorlds
 pub mod Marked
 pub mod Posting
 pub mod OneItem
+pub mod Frame
 pub mod Delivering
 pub mod Expiring
 pub mod Tables

@@ -1,5 +1,5 @@
 -- A packet is lost.
-use Rattle.std.proofs.Common.{ℕ, ◌≡◌, ◌==◌, Bool, true, false, if◌then◌else◌, Some, None, List, [], ◌∷◌, ◌++◌, refl, ap, sym, subst, ◌∙◌, append_assoc, eqb-true, arith}
+use Rattle.std.proofs.Common.{ℕ, ◌≡◌, ◌==◌, Bool, true, false, if◌then◌else◌, Some, None, List, [], ◌∷◌, ◌++◌, refl, ap, sym, ◌∙◌, eqb-true, arith}
 use Rattle.std.specs.Prelude.{is_some}
 use Rattle.std.proofs.lemmas.Bool.Decides.{nat_tests}
 use Rattle.journal.specs.declared.item.Item.{Item}
@@ -135,38 +135,3 @@ not_lost control setting journal switches before after count row i tied may rest
                 ∙ stayed setting journal row i q (q == i) refl off;
           }) (omega arith) refl,
     )
-
--- ---- the step
-
-pub lost_written : (control : Control) (setting : Setting) (journal new : List Item)
-    (switches : List SwitchValue) (before after : Travellers) (count row i : ℕ)
-    → AreTied setting journal switches before count control → MayPlay setting (Lose i)
-    → is_some (traveller before i) ≡ true → WithOne before i None after
-    → new ≡ journal ++ item.Row row (Lose i) ∷ [] ++ item.Lost i ∷ []
-    → (new ≡ journal ++ piece setting journal row (Lose i))
-    × AreTied setting new switches after count control
-lost_written control setting journal new switches before after count row i tied may travelling
-    without
-    is =
-    let both = lost control setting journal switches before after count row i tied may travelling
-    without in
-    let all : new ≡ journal ++ item.Row row (Lose i) ∷ item.Lost i ∷ [] =
-    is ∙ append_assoc journal (item.Row row (Lose i) ∷ []) (item.Lost i ∷ []) in
-    let P : List Item → Type 0 = λ js. AreTied setting js switches after count control in
-    (all ∙ ap (λ items. journal ++ items) (sym both.0), subst P (sym all) both.1)
-
-pub not_lost_written : (control : Control) (setting : Setting) (journal new : List Item)
-    (switches : List SwitchValue) (before after : Travellers) (count row i : ℕ)
-    → AreTied setting journal switches before count control → MayPlay setting (Lose i)
-    → is_some (traveller before i) ≡ false → WithOne before i None after
-    → new ≡ journal ++ item.Row row (Lose i) ∷ [] ++ item.Nothing ∷ []
-    → (new ≡ journal ++ piece setting journal row (Lose i))
-    × AreTied setting new switches after count control
-not_lost_written control setting journal new switches before after count row i tied may resting
-    without is =
-    let both = not_lost control setting journal switches before after count row i tied may resting
-    without in
-    let all : new ≡ journal ++ item.Row row (Lose i) ∷ item.Nothing ∷ [] =
-    is ∙ append_assoc journal (item.Row row (Lose i) ∷ []) (item.Nothing ∷ []) in
-    let P : List Item → Type 0 = λ js. AreTied setting js switches after count control in
-    (all ∙ ap (λ items. journal ++ items) (sym both.0), subst P (sym all) both.1)

@@ -1,7 +1,5 @@
 -- A step that writes one item, by which no packet moves and no switch answers a call.
-use Rattle.std.proofs.Common.{ℕ, ◌≡◌, ◌<◌, List, [], ◌∷◌, ◌++◌, ap, sym, subst, ◌∙◌, length, get_or, arith}
-use Rattle.std.specs.Prelude.{Err, Ok, OnErr, OnOk, Result}
-use Rattle.std.proofs.lemmas.Result.{on_ok_weaker}
+use Rattle.std.proofs.Common.{ℕ, ◌≡◌, ◌<◌, List, [], ◌∷◌, ◌++◌, ap, sym, ◌∙◌, length, get_or, arith}
 use Rattle.bag.specs.Posts.{Post}
 use Rattle.journal.specs.declared.item.Item.{Item}
 use Rattle.journal.specs.declared.item.Item.TheVariants as item
@@ -19,12 +17,10 @@ use Rattle.packet_laws.specs.Calm.{IsCalm}
 use Rattle.packet_laws.specs.Words.{words_of}
 use Rattle.world.specs.State.{AreTied, Control, IsBagOf}
 use Rattle.world.specs.Travelling.{Travellers}
-use Rattle.world.specs.Writing.{IsPart}
 use Rattle.world.proofs.Calmness.{calm_switch, calm_switch_of}
 use Rattle.world.proofs.Played.{played_calm}
 use Rattle.world.proofs.Steps.{NoRow, calls_in}
 use Rattle.world.proofs.Tying.{behind, idle_count, tied_taken}
-use Rattle.world.proofs.Writing.{grown_more, part_row}
 use Rattle.world.proofs.Words.{calm_traveller, traveller_by, words_along}
 
 -- the journal behind the step
@@ -88,34 +84,3 @@ own_switch control setting journal switches before count tied s d there =
     tied.each s d there
     ∙ calm_switch_of setting journal (played_calm setting journal tied.sound tied.played) s
     (omega (arith, there, tied.many))
-
--- ---- over the journal that was written
-
-pub one_ties : {T E : Type 0} (r : Result T E) (control : Control) (posts : List Post)
-    (setting : Setting) (journal begun new : List Item) (switches : List SwitchValue)
-    (travelling : Travellers) (count row : ℕ) (step : Step) (one : Item)
-    → posts ≡ control.posts → begun ≡ journal ++ item.Row row step ∷ []
-    → AreTied setting (grown journal row step one) switches travelling count control
-    → OnOk r (new ≡ begun ++ one ∷ [])
-    → OnOk r (AreTied setting new switches travelling count (record control { posts = posts }))
-one_ties r control posts setting journal begun new switches travelling count row step one same
-    row_is
-    tied = on_ok_weaker r (λ pushed.
-    subst (λ js. AreTied setting js switches travelling count (record control { posts = posts }))
-    (sym (grown_more journal begun new (one ∷ []) (item.Row row step) row_is pushed))
-    (subst (λ ps. AreTied setting (grown journal row step one) switches travelling count
-    (record control { posts = ps })) (sym same) tied))
-
-pub row_part : {T E : Type 0} (r : Result T E) (setting : Setting) (journal begun new : List Item)
-    (row : ℕ) (step : Step) → begun ≡ journal ++ item.Row row step ∷ [] → OnErr r (new ≡ begun)
-    → OnErr r (IsPart journal (piece setting journal row step) new)
-row_part (Ok x) setting journal begun new row step row_is unchanged = tt
-row_part (Err e) setting journal begun new row step row_is unchanged =
-    part_row setting journal new row step (unchanged ∙ row_is)
-
-pub row_alone : {T E : Type 0} (r : Result T E) (setting : Setting) (journal begun : List Item)
-    (row : ℕ) (step : Step) → begun ≡ journal ++ item.Row row step ∷ []
-    → OnErr r (IsPart journal (piece setting journal row step) begun)
-row_alone (Ok x) setting journal begun row step row_is = tt
-row_alone (Err e) setting journal begun row step row_is = part_row setting journal begun row step
-    row_is

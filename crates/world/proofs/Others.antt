@@ -5,6 +5,8 @@ use Rattle.ctrl_msg.specs.declared.message.Message.{Message}
 use Rattle.policy_rules.specs.declared.packet.Leg.{Leg}
 use Rattle.policy_rules.specs.declared.packet.Leg.TheVariants.{Seek, Exit}
 use Rattle.journal.specs.declared.item.Item.{Item}
+use Rattle.switch_core.specs.declared.answers.Answer.{Answer}
+use Rattle.switch_core.specs.declared.answers.Answer.TheVariants as answer
 use Rattle.switch_core.specs.declared.answers.Arrived.{Arrived}
 use Rattle.switch_core.specs.declared.answers.Arrived.TheVariants as arrived
 use Rattle.switch_core.specs.declared.answers.Decision.{Decision}
@@ -16,7 +18,7 @@ use Rattle.update_machine.specs.Marks.{retired_mark}
 use Rattle.update_machine.specs.Messages.{sent_from}
 use Rattle.update_machine.specs.Moves.{takes_route}
 use Rattle.packet_laws.specs.Words.{PacketWords, names, told_by}
-use Rattle.world.specs.Writing.{arrived_items, cache_message, end_of, entered_items, messages_in}
+use Rattle.world.specs.Writing.{answer_items, arrived_items, cache_message, end_of, entered_items, messages_in}
 use Rattle.world.specs.declared.log.Standing.{Standing}
 use Rattle.world.specs.declared.travelling.Traveller.{Traveller}
 use Rattle.world.proofs.Words.{words_along}
@@ -69,26 +71,27 @@ end_other q at decision (next.Exit tunnel) other =
     route_other q at.packet tunnel.leg tunnel.route other
 end_other q at decision (next.Stuck cause) other = other
 
-pub entered_other : (q : ℕ) (at : Standing) (answer : Entered) → (at.packet == q) ≡ false
-    → NoneName q (entered_items at answer)
-entered_other q at entered.Closed other = (refl, tt)
-entered_other q at (entered.Decided decision onward) other =
-    (other, (other, (end_other q at decision onward other, tt)))
-entered_other q at (entered.Seek tunnel) other =
-    (other, (route_other q at.packet tunnel.leg tunnel.route other, tt))
-entered_other q at (entered.Stuck cause leg) other = (other, (other, tt))
-
-pub arrived_other : (q number : ℕ) (at : Standing) (traveller : Traveller) (answer : Arrived)
-    → (at.packet == q) ≡ false → NoneName q (arrived_items number at traveller answer)
-arrived_other q number at traveller (arrived.Out port) other = (other, tt)
-arrived_other q number at traveller (arrived.Decided decision cache onward) other = (
+answer_other : (q number : ℕ) (at : Standing) (what : Answer) → (at.packet == q) ≡ false
+    → NoneName q (answer_items number at what)
+answer_other q number at (answer.Decided decision cache onward) other = (
   other,
-  none_more q
-      (sent_from number (messages_in (cache_message traveller.tunnel.ingress cache)))
+  none_more q (sent_from number (messages_in (cache_message at.ingress cache)))
       (end_of at decision onward ∷ [])
-      (sends_unnamed q number (cache_message traveller.tunnel.ingress cache))
+      (sends_unnamed q number (cache_message at.ingress cache))
       (end_other q at decision onward other, tt),
 )
-arrived_other q number at traveller (arrived.Seek tunnel) other =
+answer_other q number at (answer.Seek tunnel) other =
     (route_other q at.packet tunnel.leg tunnel.route other, tt)
-arrived_other q number at traveller (arrived.Stuck cause leg) other = (other, tt)
+answer_other q number at (answer.Stuck cause leg) other = (other, tt)
+
+pub entered_other : (q number : ℕ) (at : Standing) (what : Entered) → (at.packet == q) ≡ false
+    → NoneName q (entered_items number at what)
+entered_other q number at entered.Closed other = (refl, tt)
+entered_other q number at (entered.Answered what) other =
+    (other, answer_other q number at what other)
+
+pub arrived_other : (q number : ℕ) (at : Standing) (traveller : Traveller) (what : Arrived)
+    → (at.packet == q) ≡ false → NoneName q (arrived_items number at traveller what)
+arrived_other q number at traveller (arrived.Out port) other = (other, tt)
+arrived_other q number at traveller (arrived.Answered what) other =
+    answer_other q number at what other

@@ -1,5 +1,5 @@
 -- The actions of the first plan's rules name ports that switches have.
-use Rattle.std.proofs.Common.{ℕ, ◌≡◌, ◌<◌, ◌^◌, ◌==◌, Option, Some, None, List, [], ◌∷◌, refl, ap, sym, subst, ◌∙◌, length, map, find, filter, get_or, arith, All}
+use Rattle.std.proofs.Common.{ℕ, ◌≡◌, ◌<◌, ◌^◌, ◌==◌, Option, Some, None, List, [], ◌∷◌, refl, ap, sym, subst, ◌∙◌, length, map, find, filter, get_or, arith, All, eqb-true}
 use Rattle.std.specs.Prelude.{◌&&◌, is_some, option_map}
 use Rattle.std.specs.Bool.{IsTrue}
 use Rattle.std.specs.Option.{IsSomeAnd, option_map_or}
@@ -30,8 +30,10 @@ use Rattle.switch_table.proofs.TableLemmas.{find-there, tables_are_sound, tables
 use Rattle.ternary.specs.Word.{holds}
 use Rattle.journal.specs.declared.item.Item.{Item}
 use Rattle.update_machine.specs.Played.{IsSetting, NamesOwnPort}
-use Rattle.update_machine.specs.Setting.{Setting, policy_of_file}
-use Rattle.packet_laws.specs.Calm.{IsCalm, IsRightEntry, first_plan}
+use Rattle.update_machine.specs.Setting.{Setting}
+use Rattle.update_machine.specs.Versions.{policy_at}
+use Rattle.packet_laws.specs.Calm.{IsCalm, IsRightEntry, first_plan, first_policy}
+use Rattle.packet_laws.proofs.Plans.{begun}
 use Rattle.world.proofs.Ends.{HasOwner}
 use Rattle.world.proofs.Entering.{IsSaid}
 use Rattle.world.proofs.Plans.{first_plan_holds, has_targets}
@@ -70,21 +72,27 @@ first_names : (setting : Setting) (policies : List (List Row))
 first_names setting [] names = All-nil (λ (row : Row). NamesOwnPort setting row.action)
 first_names setting (rows ∷ policies) names = names 0 [] (omega arith)
 
+first_ports : (setting : Setting) → IsSetting setting
+    → All (λ row. NamesOwnPort setting row.action) (first_policy setting)
+first_ports setting is =
+    subst (λ rows. All (λ (row : Row). NamesOwnPort setting row.action) rows)
+    (begun setting is).first (first_names setting setting.policies is.ports)
+
 -- ---- what the tables say
 
 rule_named : (setting : Setting) (header : Header) (rule : Rule) → IsSetting setting
-    → Some (hit_of_rule rule) ≡ Some (scan (policy_of_file setting 1) header)
+    → Some (hit_of_rule rule) ≡ Some (scan (first_policy setting) header)
     → HasOwner setting rule.action
 rule_named setting header rule is says =
-    let same : scan (policy_of_file setting 1) header ≡ hit_of_rule rule = cc in
+    let same : scan (first_policy setting) header ≡ hit_of_rule rule = cc in
     subst (λ (hit : Hit). HasOwner setting hit.action) same
-    (scan_named setting (policy_of_file setting 1) header
-    (first_names setting setting.policies is.ports))
+    (scan_named setting (first_policy setting) header
+    (first_ports setting is))
 
 -- by what they say: an authority rule, or a redirection
 by_found : (setting : Setting) (s : ℕ) (header : Header) (what : Found) → IsSetting setting
-    → IsPlan (policy_of_file setting 1) setting.net (first_plan setting)
-    → Leads (policy_of_file setting 1) (first_plan setting) 1 header what
+    → IsPlan (first_policy setting) setting.net (first_plan setting)
+    → Leads (first_policy setting) (first_plan setting) 1 header what
     → IsFound (tables_of (first_plan setting) 1 s) header what
     → plan_lookup (first_plan setting) s header ≡ Some what
     → IsSaid setting s what
@@ -100,7 +108,7 @@ by_found setting s header (found.Authority partition place) is holds leads own p
     by_rule : (rule : Option Rule) (part : Option Partition)
         → rule_at (map part_of (first_plan setting)) partition place ≡ rule
         → own_part (tables_of (first_plan setting) 1 s) partition ≡ part
-        → option_map hit_of_rule rule ≡ Some (scan (policy_of_file setting 1) header)
+        → option_map hit_of_rule rule ≡ Some (scan (first_policy setting) header)
         → IsSomeAnd part (λ part. IsFirstHit header part place)
         → IsSaid setting s (found.Authority partition place)
     by_rule None part there mine decides hit = absurd cc
@@ -123,7 +131,7 @@ by_found setting s header (found.Authority partition place) is holds leads own p
 pub said_law : (setting : Setting) (s : ℕ) (header : Header) → IsSetting setting → IsHeader header
     → IsSaid setting s (table_lookup (tables_of (first_plan setting) 1 s) header)
 said_law setting s header is sound =
-    let rows : List Row = policy_of_file setting 1 in
+    let rows : List Row = first_policy setting in
     let plan : List Placed = first_plan setting in
     let holds : IsPlan rows setting.net plan = first_plan_holds setting is in
     let few : length plan < 2 ^ 32 = omega (arith, holds.few) in
@@ -154,7 +162,8 @@ looked_law setting journal s header entries is sound calm right =
         let rule : IsRightEntry setting journal entry =
         All-contains (IsRightEntry setting journal) entries entry right there.0 in
         subst (λ (hit : Hit). HasOwner setting hit.action)
-        (sym (ap (λ rows. scan rows header) (calm.policy entry.version))
+        (sym (ap (λ rows. scan rows header)
+        (calm.policy entry.version ∙ ap (policy_at setting []) (eqb-true _ _ (and_parts _ _ there.1).0)))
         ∙ rule.decides header sound (and_parts _ _ there.1).1)
-        (scan_named setting (policy_of_file setting 1) header
-        (first_names setting setting.policies is.ports))
+        (scan_named setting (first_policy setting) header
+        (first_ports setting is))

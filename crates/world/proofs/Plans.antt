@@ -1,46 +1,21 @@
 -- The first plan of a setting: sound partitions, each at the place of its number.
-use Rattle.std.proofs.Common.{ℕ, ◌≡◌, ◌<◌, Some, List, [], ◌∷◌, refl, ap, sym, subst, ◌∙◌, length, map, get_or, arith, All, Contains, slice_get}
-use Rattle.std.specs.Prelude.{Result, Ok, Err, IsOk}
+use Rattle.std.proofs.Common.{ℕ, ◌≡◌, ◌<◌, Some, List, [], ap, sym, ◌∙◌, length, map, get_or, arith, All, Contains, slice_get}
 use Rattle.std.proofs.lemmas.List.{get_or-map, length-map}
 use Rattle.std.proofs.lemmas.Option.{slice_get-get_or}
-use Rattle.net_file.specs.Net.{IsNet}
 use Rattle.net_file.specs.declared.net.Net.{Net}
-use Rattle.partition.specs.Plan.{IsPlan, NoPlan, TooManyLeaves, Placed, plan_of}
-use Rattle.partition.proofs.CallerLemmas.{plan_holds}
+use Rattle.partition.specs.Plan.{IsPlan, Placed}
 use Rattle.policy_rules.specs.Partitions.{AreNumbered}
-use Rattle.policy_rules.specs.Policy.{IsPolicy}
 use Rattle.policy_rules.specs.declared.policy.Row.{Row}
 use Rattle.policy_rules.specs.declared.rules.Partition.{Partition}
 use Rattle.switch_table.specs.Tables.{part_of}
 use Rattle.update_machine.specs.Played.{IsSetting}
-use Rattle.update_machine.specs.Setting.{Setting, placed_in, policy_of_file}
-use Rattle.packet_laws.specs.Calm.{first_plan}
-
-holds_of : (net : Net) (rows : List Row) (plan : Result (List Placed) NoPlan) → IsNet net
-    → IsPolicy rows → IsOk plan → plan_of rows net ≡ plan → IsPlan rows net (placed_in plan)
-holds_of net rows (Ok plan) sound policy ok is = plan_holds rows net plan policy sound is
-holds_of net rows (Err why) sound policy ok is = absurd cc
-
-by_policies : (net : Net) (policies : List (List Row)) → IsNet net → All IsPolicy policies
-    → IsOk (get_or (map (λ rows. plan_of rows net) policies) 0 (Err TooManyLeaves))
-    → IsPlan (get_or policies 0 []) net
-    (placed_in (get_or (map (λ rows. plan_of rows net) policies) 0 (Err TooManyLeaves)))
-by_policies net [] sound all ok = absurd cc
-by_policies net (rows ∷ policies) sound all ok =
-    holds_of net rows (plan_of rows net) sound (all 0 [] (omega arith)) ok refl
+use Rattle.update_machine.specs.Setting.{Setting}
+use Rattle.packet_laws.specs.Calm.{first_plan, first_policy}
+use Rattle.packet_laws.proofs.Plans.{begun}
 
 pub first_plan_holds : (setting : Setting) → IsSetting setting
-    → IsPlan (policy_of_file setting 1) setting.net (first_plan setting)
-first_plan_holds setting is =
-    let plans : setting.plans ≡ map (λ rows. plan_of rows setting.net) setting.policies =
-    ap (λ (s : Setting). s.plans) is.made in
-    let P : List (Result (List Placed) NoPlan)
-    → Type 0 = λ all. IsPlan (get_or setting.policies 0 [])
-    setting.net (placed_in (get_or all 0 (Err TooManyLeaves))) in
-    let Q : List (Result (List Placed) NoPlan)
-    → Type 0 = λ all. IsOk (get_or all 0 (Err TooManyLeaves)) in
-    subst P (sym plans)
-    (by_policies setting.net setting.policies is.net is.sound (subst Q plans is.planned))
+    → IsPlan (first_policy setting) setting.net (first_plan setting)
+first_plan_holds setting is = (begun setting is).plan
 
 -- a member of the plan stands at the place of its number
 pub at_number : (plan : List Placed) (placed : Placed) → AreNumbered (map part_of plan)

@@ -4,8 +4,10 @@ use Rattle.std.specs.Prelude.{⊤, IsFalse, is_some, nat_lt, option_map, slice_g
 use Rattle.std.specs.Option.{option_and_then, option_or}
 use Rattle.std.proofs.lemmas.Bool.Decides.{nat_tests}
 use Rattle.std.proofs.lemmas.Option.{slice_get_within}
-use Rattle.bag.specs.Posts.{Post, delivered, forgotten, message_of as message_in, post_of, posted, remembered, with_changed}
-use Rattle.bag.proofs.CallerLemmas.{length_changed, post_of_changed, post_of_pushed}
+use Rattle.bag.specs.Deliveries.{delivered, forgotten}
+use Rattle.bag.specs.Numbered.{numbered, with_changed}
+use Rattle.bag.specs.Posts.{Post, message_of as message_in, posted, remembered, with_delivered, with_forgotten, with_status}
+use Rattle.bag.proofs.Numbered.{length_changed, numbered_changed, numbered_pushed}
 use Rattle.ctrl_msg.specs.declared.message.Message.{Message}
 use Rattle.journal.specs.declared.item.Item.{Item}
 use Rattle.journal.specs.declared.item.Item.TheVariants as item
@@ -100,7 +102,7 @@ sent_flags before n message = (
 
 sent_post : (n : ℕ) (before : List Item) (posts : List Post) (message : Message) (b : Bool)
     → (n == length posts + 1) ≡ b → IsBagOf before posts
-    → (if b then Some (posted message) else post_of posts n)
+    → (if b then Some (posted message) else numbered posts n)
     ≡ post_in (before ++ item.Sent (length posts + 1) message ∷ []) n
 unfolding post_in
 sent_post n before posts message true is bag =
@@ -136,7 +138,7 @@ bag_sent before posts message bag =
     ))))
     in record {
       many = omega (arith, sending_one before k message, bag.many, more);
-      each = λ n. post_of_pushed posts (posted message) n
+      each = λ n. numbered_pushed posts (posted message) n
           ∙ sent_post n before posts message (n == k) refl bag;
       undelivered = λ n past. (keeps n past).delivered
           ∙ bag.undelivered n (omega (arith, more, past));
@@ -175,10 +177,10 @@ ChangesOne change k before item =
 changed_post : (change : Post → Post) (k n : ℕ) (before : List Item) (posts : List Post)
     (item : Item) (b : Bool) → (n == k) ≡ b → ChangesOne change k before item
     → IsBagOf before posts
-    → (if b then option_map change (post_of posts n) else post_of posts n)
+    → (if b then option_map change (numbered posts n) else numbered posts n)
     ≡ post_in (before ++ item ∷ []) n
 changed_post change k n before posts item true is changes bag =
-    let P : ℕ → Type 0 = λ m. option_map change (post_of posts m)
+    let P : ℕ → Type 0 = λ m. option_map change (numbered posts m)
     ≡ post_in (before ++ item ∷ []) m in
     subst P (sym (eqb-true n k is)) (ap (option_map change) (bag.each k) ∙ sym changes.1)
 changed_post change k n before posts item false is changes bag =
@@ -197,7 +199,7 @@ bag_changed change k before posts item changes posted_it as_many bag =
     λ n past. number_on n before item (changes.0 n
     (ne_eqb k n (λ own. absurd (omega (arith, same, past, own, posted_it))))) in record {
       many = as_many ∙ bag.many ∙ ap (λ count. count + 1) (sym same);
-      each = λ n. post_of_changed change posts k n
+      each = λ n. numbered_changed change posts k n
           ∙ changed_post change k n before posts item (n == k) refl changes bag;
       undelivered = λ n past. (keeps n past).delivered
           ∙ bag.undelivered n (omega (arith, same, past));
@@ -207,11 +209,11 @@ bag_changed change k before posts item changes posted_it as_many bag =
 
 -- what is said of a message that an item doesn't send, by its flags
 flagged : (o : Option Message) (change : Post → Post) (was now : Bool × Bool)
-    → ((m : Message) → change (record { message = m; delivered = was.0; forgotten = was.1 })
-    ≡ record { message = m; delivered = now.0; forgotten = now.1 })
-    → option_map (λ (m : Message). record { message = m; delivered = now.0; forgotten = now.1 }) o
+    → ((m : Message) → change (m, record { delivered = was.0; forgotten = was.1 })
+    ≡ (m, record { delivered = now.0; forgotten = now.1 }))
+    → option_map (λ (m : Message). (m, record { delivered = now.0; forgotten = now.1 })) o
     ≡ option_map change
-    (option_map (λ (m : Message). record { message = m; delivered = was.0; forgotten = was.1 }) o)
+    (option_map (λ (m : Message). (m, record { delivered = was.0; forgotten = was.1 })) o)
 flagged None change was now same = refl
 flagged (Some m) change was now same = ap Some (sym (same m))
 
@@ -241,28 +243,28 @@ forgotten_words before k = (
 
 pub bag_delivered : (before : List Item) (posts : List Post) (k : ℕ) → k ≤ length posts
     → IsBagOf before posts
-    → IsBagOf (before ++ item.Delivered k ∷ []) (with_changed delivered posts k)
+    → IsBagOf (before ++ item.Delivered k ∷ []) (with_delivered posts k)
 unfolding post_in
 bag_delivered before posts k posted_it bag =
     let words = delivered_words before k in
-    bag_changed delivered k before posts (item.Delivered k) (
+    bag_changed (with_status delivered) k before posts (item.Delivered k) (
       λ n apart. apart,
       rw (words.0, words.1, delivering_one before k)
-          (flagged (message_of before k) delivered
+          (flagged (message_of before k) (with_status delivered)
           (was_delivered before k, is_forgotten before k) (true, is_forgotten before k)
           (λ m. refl)),
     ) posted_it words.2 bag
 
 pub bag_forgotten : (before : List Item) (posts : List Post) (k : ℕ) → k ≤ length posts
     → IsBagOf before posts
-    → IsBagOf (before ++ item.Forgotten k ∷ []) (with_changed forgotten posts k)
+    → IsBagOf (before ++ item.Forgotten k ∷ []) (with_forgotten posts k)
 unfolding post_in
 bag_forgotten before posts k posted_it bag =
     let words = forgotten_words before k in
-    bag_changed forgotten k before posts (item.Forgotten k) (
+    bag_changed (with_status forgotten) k before posts (item.Forgotten k) (
       λ n apart. apart,
       rw (words.0, words.1, forgetting_one before k)
-          (flagged (message_of before k) forgotten
+          (flagged (message_of before k) (with_status forgotten)
           (was_delivered before k, is_forgotten before k) (was_delivered before k, true)
           (λ m. refl)),
     ) posted_it words.2 bag
@@ -346,7 +348,7 @@ bag_sends number before (x ∷ items) posts of is bag =
 
 -- ---- the start
 
-none_posted : (n : ℕ) → post_of [] n ≡ None
+none_posted : (n : ℕ) → numbered {X = Post} [] n ≡ None
 none_posted zero = refl
 none_posted (suc place) = refl
 

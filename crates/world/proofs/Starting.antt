@@ -16,7 +16,8 @@ use Rattle.update_machine.specs.Played.{IsSetting, MayPlay, NamesOwnPort}
 use Rattle.update_machine.specs.Setting.{Setting, plan_of_file, setting_of}
 use Rattle.update_machine.specs.Steps.{steps_in}
 use Rattle.version_update.specs.Marks.{MarksValue, first_marks}
-use Rattle.packet_laws.specs.Calm.{IsCalm, first_plan}
+use Rattle.packet_laws.specs.Calm.{IsCalm, first_plan, first_policy}
+use Rattle.packet_laws.proofs.Plans.{begun}
 use Rattle.packet_laws.proofs.Calm.{calm}
 use Rattle.world.specs.Marks.{AreMarksOf}
 use Rattle.world.specs.State.{AreTied, switch_begun, traveller_in}
@@ -49,6 +50,16 @@ setting_begun net policies plan sound some rows ports is =
       planned = subst IsOk (sym there) refl;
     }
 
+-- the plan of the first version is that of the first policy
+first_of : (setting : Setting) (policies : List (List Row)) (net : Net) (plan : List Placed)
+    → plan_of (first_policy setting) net ≡ Ok (first_plan setting)
+    → get_or policies 0 [] ≡ first_policy setting → plan_of (get_or policies 0 []) net ≡ Ok plan
+    → first_plan setting ≡ plan
+first_of setting policies net plan planned first is =
+    let same : Ok (first_plan setting) ≡ Ok plan =
+    sym planned ∙ ap (λ rows. plan_of rows net) (sym first) ∙ is in
+    cc
+
 pub begun_tied : (net : Net) (policies : List (List Row)) (plan : List Placed)
     (switches : List SwitchValue) (marks : MarksValue) → IsNet net
     → 1 ≤ length policies → All IsPolicy policies
@@ -61,12 +72,14 @@ pub begun_tied : (net : Net) (policies : List (List Row)) (plan : List Placed)
 unfolding AreTied traveller_in travels next_packet
 begun_tied net policies plan switches marks sound some rows ports is made marked =
     let setting : Setting = setting_of net policies in
-    let first : first_plan setting ≡ plan = rw (planned_first net policies some, is) refl in
+    let own : IsSetting setting = setting_begun net policies plan sound some rows ports is in
+    let first : first_plan setting ≡ plan = first_of setting policies net plan
+    (begun setting own).planned (begun setting own).first is in
     let quiet : IsCalm setting [] = calm setting [] sound tt in
     let many : length switches ≡ length net.switches =
     ap length made ∙ length-map-range_with_len (switch_begun net plan) 0 (length net.switches) in
     record {
-      sound = setting_begun net policies plan sound some rows ports is;
+      sound = own;
       played = record {
         steps = [];
         may = All-nil (λ next. MayPlay setting next.step);

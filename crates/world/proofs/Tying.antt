@@ -124,6 +124,14 @@ tied_taken control more setting journal switches others before after count next 
       bag = taken.bag;
     }
 
+-- the next message's number
+pub numbered : (control : Control) (setting : Setting) (journal : List Item)
+    (switches : List SwitchValue) (before : Travellers) (count : ℕ)
+    → AreTied setting journal switches before count control
+    → next_message journal ≡ length control.posts + 1
+unfolding AreTied
+numbered control setting journal switches before count tied = tied.bag.many
+
 -- ---- a step of packets
 
 -- a switch whose cache is as the journal says has it behind such a step

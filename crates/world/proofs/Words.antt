@@ -8,7 +8,8 @@ use Rattle.journal.specs.declared.item.Item.{Item}
 use Rattle.update_machine.specs.Marks.{retired_mark}
 use Rattle.update_machine.specs.Packets.{owner, targets_in, targets_of, leg_of}
 use Rattle.update_machine.specs.Setting.{Setting}
-use Rattle.packet_laws.specs.Calm.{IsCalm, first_plan}
+use Rattle.update_machine.specs.Versions.{plan_at}
+use Rattle.packet_laws.specs.Calm.{IsCalm}
 use Rattle.packet_laws.specs.Words.{PacketWords, names, told_by, words_of}
 use Rattle.packet_laws.proofs.Words.{words_grow}
 use Rattle.world.specs.State.{traveller_in, traveller_of}
@@ -29,9 +30,10 @@ words_all i before (item ∷ items) =
     ∙ words_all i (before ++ item ∷ []) items
     ∙ ap (words_along i (before ++ item ∷ []) items) (words_grow i before item)
 
--- the targets of a leg by the first plan
+-- the targets of a leg by the plans that are there at the start
 abbrev pub first_targets : Setting → Leg → List ℕ
-first_targets setting (Seek version partition) = targets_in (first_plan setting) partition
+first_targets setting (Seek version partition) =
+    targets_in (plan_at setting [] version) partition
 first_targets setting (Exit port) = owner setting port ∷ []
 
 pub calm_targets : (setting : Setting) (journal : List Item) → IsCalm setting journal

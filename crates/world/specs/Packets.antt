@@ -6,9 +6,8 @@ use Rattle.five_tuple.specs.declared.header.Header.{Header}
 use Rattle.journal.specs.declared.item.Item.{Item}
 use Rattle.journal.specs.declared.item.Item.TheVariants as item
 use Rattle.net_file.specs.declared.ports.Ports.{Ports}
-use Rattle.switch_core.specs.Arriving.{arrived}
+use Rattle.switch_core.specs.Answering.{arrived, entered, incoming}
 use Rattle.switch_core.specs.Ends.{around}
-use Rattle.switch_core.specs.Entering.{entered, incoming}
 use Rattle.switch_core.specs.State.{SwitchValue, counted}
 use Rattle.switch_core.specs.declared.answers.Entered.{Entered}
 use Rattle.world.specs.Travelling.{moved_on}
@@ -21,6 +20,7 @@ abbrev pub coming_in : ℕ → Header → ℕ → Standing
 coming_in packet header switch = record {
   packet = packet;
   header = header;
+  ingress = switch;
   switch = switch;
   down = no_links;
 }
@@ -35,6 +35,7 @@ abbrev pub standing_at : ℕ → Traveller → Standing
 standing_at switch traveller = record {
   packet = traveller.tunnel.packet;
   header = traveller.tunnel.header;
+  ingress = traveller.tunnel.ingress;
   switch = switch;
   down = traveller.tunnel.down;
 }
@@ -48,7 +49,7 @@ arrival_items number s near ports traveller =
 
 unfoldable pub arrival_posts : SwitchValue → ℕ → Ports → Traveller → List Post
 arrival_posts s near ports traveller =
-    arrived_posts traveller (arrived s (around near ports) traveller.tunnel)
+    arrived_posts (standing_at s.number traveller) (arrived s (around near ports) traveller.tunnel)
 
 unfoldable pub arrival : SwitchValue → ℕ → Ports → Traveller → Option Traveller
 arrival s near ports traveller =

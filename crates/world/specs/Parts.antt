@@ -1,9 +1,16 @@
 -- The parts of a world, and what holds of them.
-use Rattle.std.specs.Prelude.{◌≡◌, Bool, false}
+use Rattle.std.specs.Prelude.{ℕ, ◌≡◌, ◌+◌, ◌-◌, ◌^◌, ◌<◌, ◌≤◌, Bool, false, List, [], ◌∷◌, ◌++◌, length, OnErr, OnOk, Result}
+use Rattle.journal.specs.declared.item.Item.{Item}
+use Rattle.journal.specs.declared.item.Item.TheVariants as item
 use Rattle.net_file.specs.Net.{IsNet}
 use Rattle.net_file.specs.Owners.{AreOwners}
+use Rattle.steps.specs.declared.step.Step.{Step}
+use Rattle.update_machine.specs.Packets.{next_packet}
+use Rattle.update_machine.specs.Pieces.{piece}
+use Rattle.update_machine.specs.Played.{MayPlay}
 use Rattle.update_machine.specs.Setting.{Setting, setting_of}
-use Rattle.world.specs.State.{AreNear, AreTied, Control, WorldValue}
+use Rattle.world.specs.State.{AreNear, AreTied, Control, WorldValue, comes_in}
+use Rattle.world.specs.Writing.{IsPart}
 use Rattle.world.specs.declared.parts.Parts.{Parts}
 
 abbrev pub setting_in : Parts → Setting
@@ -24,6 +31,8 @@ AreTiedIn parts =
     AreTied (setting_in parts) parts.log.journal parts.switches.items parts.log.travelling
     parts.packets (control_in parts)
 
+-- ---- one step
+
 -- the network, the policies and the controller stay, and what is told of them
 pub record KeepNet (before after : Parts) : Type 0 where
   pub same_net : after.net ≡ before.net
@@ -32,10 +41,49 @@ pub record KeepNet (before after : Parts) : Type 0 where
   pub same_near : after.near ≡ before.near
   pub same_controller : after.controller ≡ before.controller
 
+-- a step may be played on the parts, which are as this journal says
+pub record IsReady (before : List Item) (step : Step) (parts : Parts) : Type 0 where
+  pub sound : AreSound parts
+  pub tied : AreTied (setting_in parts) before parts.switches.items parts.log.travelling
+      parts.packets (control_in parts)
+  pub may : MayPlay (setting_in parts) step
+  pub few : next_packet before ≤ 4_000_000_000
+  pub room : length parts.log.bag < 2 ^ 32 - 1
+
+-- and its row was written behind that journal
+pub record Begins (before : List Item) (row : ℕ) (step : Step) (parts : Parts) : Type 0 where
+  pub ready : IsReady before step parts
+  pub rowed : parts.log.journal ≡ before ++ item.Row row step ∷ []
+
+-- the parts behind the step: its items are written, and the parts are as the journal says then;
+-- where memory ran out, a part of the items is written
+pub record Goes {T E : Type 0} (result : Result T E) (before : List Item) (row : ℕ) (step : Step)
+    (old new : Parts) : Type 0 where
+  pub net : KeepNet old new
+  pub counted : OnOk result (new.packets ≡ old.packets + comes_in step)
+  pub written : OnOk result (new.log.journal ≡ before ++ piece (setting_in old) before row step)
+  pub tied : OnOk result (AreTiedIn new)
+  pub part : OnErr result (IsPart before (piece (setting_in old) before row step) new.log.journal)
+
+-- the step was begun
+pub record HasBegun (step : Step) (parts : Parts) : Type 0 where
+  pub before : List Item
+  pub row : ℕ
+  pub begins : Begins before row step parts
+
+-- a step that was begun is played
+abbrev pub Plays : {T E : Type 0} → Step → Result T E → Parts → Parts → Type 0
+Plays step result old new =
+    (before : List Item) (row : ℕ) → Begins before row step old
+    → Goes result before row step old new
+
+-- ---- a world
+
 -- a world as contracts see it
 abbrev pub value_of : Parts → Bool → WorldValue
 value_of parts is_spent = record {
-  setting = setting_in parts;
+  net = parts.net;
+  policies = parts.policies.items;
   journal = parts.log.journal;
   switches = parts.switches.items;
   travelling = parts.log.travelling;

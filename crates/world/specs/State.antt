@@ -2,12 +2,15 @@
 -- packet that travels is on its way.
 use Rattle.std.specs.Prelude.{ℕ, ◌≡◌, ◌+◌, ◌<◌, Bool, false, map, slice_index, ◌==◌, if◌then◌else◌, Option, Some, None, option_map, unwrap_or, List, [], ◌∷◌, ◌++◌, filter, filter_map, fold, length, slice_index_or}
 use Rattle.std.specs.List.{list_any, range_with_len}
-use Rattle.bag.specs.Posts.{Post, post_of}
-use Rattle.controller.specs.Controller.{ControllerValue}
+use Rattle.bag.specs.Numbered.{numbered}
+use Rattle.bag.specs.Posts.{Post}
+use Rattle.controller.specs.Controller.{ControllerValue, first_controller}
+use Rattle.controller.specs.Plan.{PlanValue}
 use Rattle.ctrl_msg.specs.declared.message.Body.{Body}
 use Rattle.ctrl_msg.specs.declared.message.Body.TheVariants.{Install, Collect}
 use Rattle.policy_rules.specs.declared.packet.Leg.{Leg}
 use Rattle.policy_rules.specs.declared.packet.Leg.TheVariants.{Exit}
+use Rattle.policy_rules.specs.declared.policy.Row.{Row}
 use Rattle.journal.specs.declared.item.Item.{Item}
 use Rattle.failover.specs.Adverts.{first_adverts}
 use Rattle.net_file.specs.Net.{links_of}
@@ -26,7 +29,7 @@ use Rattle.update_machine.specs.Messages.{is_forgotten, message_of, next_message
 use Rattle.update_machine.specs.Moves.{header_at}
 use Rattle.update_machine.specs.Packets.{decision_of, found_down, ingress_of, leg_of, next_packet, route_in, route_place, targets_of, travels}
 use Rattle.update_machine.specs.Played.{IsPlayed, IsSetting}
-use Rattle.update_machine.specs.Setting.{Setting}
+use Rattle.update_machine.specs.Setting.{Setting, setting_of}
 use Rattle.update_machine.specs.Versions.{greatest, holds_version, stamp_of, tables_at}
 use Rattle.version_update.specs.Marks.{MarksValue}
 use Rattle.world.specs.Marks.{AreMarksOf}
@@ -34,8 +37,8 @@ use Rattle.world.specs.Travelling.{Travellers, traveller}
 use Rattle.world.specs.declared.travelling.Traveller.{Traveller}
 
 pub record WorldValue : Type 0 where
-  -- the network and the policies
-  pub setting : Setting
+  pub net : Net
+  pub policies : List (List Row)
   pub journal : List Item
   pub switches : List SwitchValue
   pub travelling : Travellers
@@ -46,6 +49,10 @@ pub record WorldValue : Type 0 where
   pub controller : ControllerValue
   -- memory ran out within a step, so that no further one is taken
   pub is_spent : Bool
+
+-- what its journal is read against
+abbrev pub setting_at : WorldValue → Setting
+setting_at world = setting_of world.net world.policies
 
 -- ---- what a switch is
 
@@ -129,17 +136,19 @@ traveller_in setting journal i =
 
 -- what the journal says of the message of a number, if it was sent
 unfoldable pub post_in : List Item → ℕ → Option Post
-post_in journal n = option_map (λ message. record {
-  message = message;
-  delivered = was_delivered journal n;
-  forgotten = is_forgotten journal n;
-}) (message_of journal n)
+post_in journal n = option_map (λ message. (
+  message,
+  record {
+    delivered = was_delivered journal n;
+    forgotten = is_forgotten journal n;
+  },
+)) (message_of journal n)
 
 -- the posts are the messages that the journal says, and of no number behind them does it tell a
 -- delivery or that it is forgotten
 pub record IsBagOf (journal : List Item) (posts : List Post) : Type 0 where
   pub many : next_message journal ≡ length posts + 1
-  pub each : (n : ℕ) → post_of posts n ≡ post_in journal n
+  pub each : (n : ℕ) → numbered posts n ≡ post_in journal n
   pub undelivered : (n : ℕ) → length posts < n → was_delivered journal n ≡ false
   pub remembered : (n : ℕ) → length posts < n → is_forgotten journal n ≡ false
 
@@ -174,7 +183,7 @@ AreTied setting journal switches travelling count control =
 -- a world is as its journal says
 abbrev pub IsTied : WorldValue → Type 0
 IsTied world =
-    AreTied world.setting world.journal world.switches world.travelling world.packets (record {
+    AreTied (setting_at world) world.journal world.switches world.travelling world.packets (record {
       marks = world.controller.marks;
       posts = world.bag;
     })
@@ -189,9 +198,14 @@ switch_begun net plan s = begun s net.cache (tables_of plan 1 s)
     (first_adverts (map (links_of net.links) (range_with_len 0 (length net.switches)))
     (length net.switches))
 
+-- the network's controller as it begins, with some plan
+abbrev pub IsFirst : Net → ControllerValue → Type 0
+IsFirst net controller =
+    (plan : PlanValue) × (controller ≡ first_controller (length net.switches) plan)
+
 -- nothing happened yet
 pub record IsBegun (setting : Setting) (world : WorldValue) : Type 0 where
-  pub own : world.setting ≡ setting
+  pub own : setting_at world ≡ setting
   pub silent : world.journal ≡ []
   pub able : world.is_spent ≡ false
 

@@ -10,6 +10,8 @@ use Rattle.policy_rules.specs.declared.policy.Action.{Action}
 use Rattle.policy_rules.specs.declared.policy.Action.TheVariants as action
 use Rattle.journal.specs.declared.item.Item.{Item}
 use Rattle.journal.specs.declared.item.Item.TheVariants as item
+use Rattle.switch_core.specs.declared.answers.Answer.{Answer}
+use Rattle.switch_core.specs.declared.answers.Answer.TheVariants as answer
 use Rattle.switch_core.specs.declared.answers.Arrived.{Arrived}
 use Rattle.switch_core.specs.declared.answers.Arrived.TheVariants as arrived
 use Rattle.switch_core.specs.declared.answers.Decision.{Decision}
@@ -63,27 +65,7 @@ decided_traveller decision (next.Exit tunnel) =
     Some (record { tunnel = tunnel; version = decision.version; rule = decision.rule })
 decided_traveller decision _ = None
 
--- ---- as it comes in
-
-abbrev pub entered_items : Standing → Entered → List Item
-entered_items at entered.Closed = item.Closed at.packet at.switch ∷ []
-entered_items at (entered.Decided decision onward) =
-    item.Entered at.packet at.switch at.header ∷ decided_items at decision [] onward
-entered_items at (entered.Seek tunnel) =
-    item.Entered at.packet at.switch at.header
-    ∷ takes_route at.packet tunnel.leg tunnel.route ∷ []
-entered_items at (entered.Stuck cause leg) =
-    item.Entered at.packet at.switch at.header
-    ∷ item.Stuck at.packet at.switch cause leg at.down ∷ []
-
-abbrev pub entered_traveller : Entered → Option Traveller
-entered_traveller entered.Closed = None
-entered_traveller (entered.Decided decision onward) = decided_traveller decision onward
-entered_traveller (entered.Seek tunnel) =
-    Some (record { tunnel = tunnel; version = 0; rule = None })
-entered_traveller (entered.Stuck cause leg) = None
-
--- ---- messages
+-- ---- by the answer of a lookup
 
 -- one message or none, as a list
 abbrev pub messages_in : Option Message → List Message
@@ -95,33 +77,60 @@ abbrev pub cache_message : ℕ → Option Body → Option Message
 cache_message ingress cache =
     option_map (λ body. record { to = receiver.Switch ingress; body = body }) cache
 
--- ---- at the end of its route
-
 -- the message of the answer, if there is one
-abbrev pub arrived_message : Traveller → Arrived → Option Message
-arrived_message traveller (arrived.Decided decision cache onward) =
-    cache_message traveller.tunnel.ingress cache
-arrived_message traveller _ = None
+abbrev pub answer_message : Standing → Answer → Option Message
+answer_message at (answer.Decided decision cache onward) = cache_message at.ingress cache
+answer_message at _ = None
 
 -- where the next message has this number
-abbrev pub arrived_items : ℕ → Standing → Traveller → Arrived → List Item
-arrived_items number at traveller (arrived.Out port) =
-    leaves at traveller.version traveller.rule port ∷ []
-arrived_items number at traveller (arrived.Decided decision cache onward) =
-    decided_items at decision
-    (sent_from number (messages_in (cache_message traveller.tunnel.ingress cache))) onward
-arrived_items number at traveller (arrived.Seek tunnel) =
+abbrev pub answer_items : ℕ → Standing → Answer → List Item
+answer_items number at (answer.Decided decision cache onward) =
+    decided_items at decision (sent_from number (messages_in (cache_message at.ingress cache)))
+    onward
+answer_items number at (answer.Seek tunnel) =
     takes_route at.packet tunnel.leg tunnel.route ∷ []
-arrived_items number at traveller (arrived.Stuck cause leg) =
+answer_items number at (answer.Stuck cause leg) =
     item.Stuck at.packet at.switch cause leg at.down ∷ []
 
 -- what it posts
-abbrev pub arrived_posts : Traveller → Arrived → List Post
-arrived_posts traveller answer = map posted (messages_in (arrived_message traveller answer))
+abbrev pub answer_posts : Standing → Answer → List Post
+answer_posts at what = map posted (messages_in (answer_message at what))
+
+-- where the packet had this version and this rule
+abbrev pub answer_traveller : ℕ → Option ℕ → Answer → Option Traveller
+answer_traveller version rule (answer.Decided decision cache onward) =
+    decided_traveller decision onward
+answer_traveller version rule (answer.Seek tunnel) =
+    Some (record { tunnel = tunnel; version = version; rule = rule })
+answer_traveller version rule (answer.Stuck cause leg) = None
+
+-- ---- as it comes in
+
+abbrev pub entered_items : ℕ → Standing → Entered → List Item
+entered_items number at entered.Closed = item.Closed at.packet at.switch ∷ []
+entered_items number at (entered.Answered what) =
+    item.Entered at.packet at.switch at.header ∷ answer_items number at what
+
+abbrev pub entered_posts : Standing → Entered → List Post
+entered_posts at entered.Closed = []
+entered_posts at (entered.Answered what) = answer_posts at what
+
+abbrev pub entered_traveller : Entered → Option Traveller
+entered_traveller entered.Closed = None
+entered_traveller (entered.Answered what) = answer_traveller 0 None what
+
+-- ---- at the end of its route
+
+abbrev pub arrived_items : ℕ → Standing → Traveller → Arrived → List Item
+arrived_items number at traveller (arrived.Out port) =
+    leaves at traveller.version traveller.rule port ∷ []
+arrived_items number at traveller (arrived.Answered what) = answer_items number at what
+
+abbrev pub arrived_posts : Standing → Arrived → List Post
+arrived_posts at (arrived.Out port) = []
+arrived_posts at (arrived.Answered what) = answer_posts at what
 
 abbrev pub arrived_traveller : Traveller → Arrived → Option Traveller
 arrived_traveller traveller (arrived.Out port) = None
-arrived_traveller traveller (arrived.Decided decision cache onward) =
-    decided_traveller decision onward
-arrived_traveller traveller (arrived.Seek tunnel) = Some (record traveller { tunnel = tunnel })
-arrived_traveller traveller (arrived.Stuck cause leg) = None
+arrived_traveller traveller (arrived.Answered what) =
+    answer_traveller traveller.version traveller.rule what

@@ -1,11 +1,11 @@
 ghost use Rattle.std.specs.Prelude.{◌≡◌, ◌<◌, ℕ, length, map, slice_index_or, IfOk, IfErr};
 ghost use Rattle.std.specs.List.{range_with_len};
-ghost use Rattle.controller.specs.declared.plan_error.PlanError.TheVariants.{NoMemory};
+ghost use Rattle.controller.specs.Controller.{first_controller};
+ghost use Rattle.controller.specs.Plan.{PlanValue};
 ghost use Rattle.net_file.specs.Net.{IsNet, links_of};
-ghost use Rattle.world.specs.State.{AreNear, switch_begun};
+ghost use Rattle.world.specs.State.{AreNear, IsFirst, switch_begun};
 
-use controller::{Plan, PlanError, tables_of};
-use ctrl_msg::SharedTables;
+use controller::Controller;
 use failover::Database;
 use net_file::Net;
 use std::alloc::{AllocError, Global};
@@ -23,7 +23,7 @@ pub fn near_masks(net: &Net) -> [u64; 64]
     near
 }
 
-/// All switches in their first boot, with the tables of the plan as version 1.
+/// All switches in their first boot, each with the controller's tables of version 1, shared.
 ///
 /// # Errors
 /// Want of memory alone.
@@ -31,20 +31,21 @@ pub fn near_masks(net: &Net) -> [u64; 64]
 pub fn switches_of(
     alloc: Global,
     net: &Net,
-    plan: &Plan,
+    controller: &Controller,
     near: &[u64; 64],
 ) -> Result<Vec<Switch>, AllocError>
     requires net { IsNet net.now }
     requires near { AreNear net.now near.now }
-    ensures { IfOk result (λ switches. switches.items
-        ≡ map (switch_begun net.now plan.now.placed)
+    requires first { IsFirst net.now controller.now }
+    ensures { IfOk result (λ switches. (plan : PlanValue)
+        → controller.now ≡ first_controller (length net.now.switches) plan
+        → switches.items ≡ map (switch_begun net.now plan.placed)
         (range_with_len 0 (length net.now.switches))) }
 {
     let count = net.switches.rows().len();
     let mut switches = Vec::with_capacity(alloc, count)?;
     for number in 0..count {
-        let tables = tables_of(alloc, plan, 1, number as u32)?;
-        let tables = SharedTables::new(alloc, tables)?;
+        let tables = controller.tables(alloc, 1, number as u32)?;
         let base = Database::begin(near, count as u32);
         switches.push(Switch::begin(alloc, number as u32, net.cache, tables, base)?)?;
     }

@@ -29,6 +29,3 @@ pub use controller::PlanError;
 pub use error::StepError;
 pub use travelling::Traveller;
 pub use world::World;
-
-#[cfg(test)]
-mod tests;

@@ -28,6 +28,8 @@ pub struct Log {
 pub struct Standing {
     pub packet: u32,
     pub header: Header,
+    /// The switch where it came in.
+    pub ingress: u32,
     pub switch: u32,
     /// The links that it found down.
     pub down: DownSet,

@@ -1,12 +1,11 @@
 ghost use Rattle.std.specs.Prelude.{◌≡◌, ◌+◌, ◌-◌, ◌^◌, ◌<◌, ◌++◌, Some, None, IsTrue, OnOk, OnErr, length};
-ghost use Rattle.switch_core.specs.Arriving.{IsAtAuthority};
-ghost use Rattle.switch_core.specs.Entering.{CanLookUp};
+ghost use Rattle.switch_core.specs.Answering.{CanLookUp, IsAtAuthority};
 ghost use Rattle.switch_core.specs.Moving.{found_down};
 ghost use Rattle.switch_core.specs.State.{counted, serves};
 ghost use Rattle.tunnel.specs.Moves.{next};
 ghost use Rattle.world.specs.Packets.{arrival, arrival_items, arrival_posts, coming_in, entry, hop_items, hop_posts, hop_traveller, hopped_switch};
 ghost use Rattle.world.specs.Travelling.{WithOne, traveller as traveller_of};
-ghost use Rattle.world.specs.Writing.{IsPart, arrived_items, arrived_posts, arrived_traveller, cache_message, entered_items, entered_traveller};
+ghost use Rattle.world.specs.Writing.{IsPart, answer_items, answer_posts, answer_traveller, arrived_items, arrived_posts, arrived_traveller, cache_message, entered_items, entered_posts, entered_traveller};
 
 use crate::log::{Log, Standing};
 use crate::travelling::Traveller;
@@ -14,7 +13,7 @@ use five_tuple::Header;
 use journal::{Body, DownSet, Item, Message, Receiver};
 use net_file::Ports;
 use std::alloc::{AllocError, Global};
-use switch_core::{Arrived, Entered, HopEnd, Switch};
+use switch_core::{Answer, Arrived, Entered, HopEnd, Switch};
 
 /// A packet comes in at the switch, which is asked what becomes of it there.
 ///
@@ -29,22 +28,28 @@ pub fn enter(
     near: u64,
     ports: &Ports,
 ) -> Result<(), AllocError>
-    requires { CanLookUp switch.old }
-    ensures written { OnOk result (log.new.journal
-        ≡ log.old.journal ++ entered_items (coming_in packet header.now switch.old.number)
+    requires stamped { CanLookUp switch.old }
+    requires few { length log.old.bag < 2 ^ 32 - 1 }
+    ensures written { OnOk result (log.new.journal ≡ log.old.journal
+        ++ entered_items (length log.old.bag + 1)
+        (coming_in packet header.now switch.old.number)
+        (entry switch.old near ports.now packet header.now)) }
+    ensures posted { OnOk result (log.new.bag ≡ log.old.bag
+        ++ entered_posts (coming_in packet header.now switch.old.number)
         (entry switch.old near ports.now packet header.now)) }
     ensures travels { OnOk result (WithOne log.old.travelling packet
         (entered_traveller (entry switch.old near ports.now packet header.now))
         log.new.travelling) }
     ensures part { OnErr result (IsPart log.old.journal
-        (entered_items (coming_in packet header.now switch.old.number)
+        (entered_items (length log.old.bag + 1)
+        (coming_in packet header.now switch.old.number)
         (entry switch.old near ports.now packet header.now)) log.new.journal) }
-    ensures unsent { OnOk result (log.new.bag ≡ log.old.bag) }
     ensures counted { switch.new ≡ counted switch.old }
 {
     let at = Standing {
         packet,
         header: *header,
+        ingress: switch.number(),
         switch: switch.number(),
         down: DownSet::empty(),
     };
@@ -53,88 +58,121 @@ pub fn enter(
 }
 
 // The packet came in, and the switch gave this answer.
-#[tactic(auto, unfolding(update_machine::specs::Messages::sent_from))]
 fn note_entered(
     alloc: Global,
     log: &mut Log,
     at: &Standing,
     entered: Entered,
 ) -> Result<(), AllocError>
+    requires few { length log.old.bag < 2 ^ 32 - 1 }
     ensures written { OnOk result (log.new.journal
-        ≡ log.old.journal ++ entered_items at.now entered) }
+        ≡ log.old.journal ++ entered_items (length log.old.bag + 1) at.now entered) }
+    ensures posted { OnOk result (log.new.bag
+        ≡ log.old.bag ++ entered_posts at.now entered) }
     ensures travels { OnOk result (WithOne log.old.travelling at.now.packet
         (entered_traveller entered) log.new.travelling) }
     ensures part { OnErr result (IsPart log.old.journal
-        (entered_items at.now entered) log.new.journal) }
-    ensures unsent { OnOk result (log.new.bag ≡ log.old.bag) }
+        (entered_items (length log.old.bag + 1) at.now entered) log.new.journal) }
 {
-    if let Entered::Closed = entered {
-        return log.end(
-            at.packet,
-            Item::Closed {
+    match entered {
+        Entered::Closed => {
+            log.end(
+                at.packet,
+                Item::Closed {
+                    packet: at.packet,
+                    switch: at.switch,
+                },
+            )
+        }
+        Entered::Answered(answer) => {
+            log.journal.push(Item::Entered {
                 packet: at.packet,
                 switch: at.switch,
-            },
-        );
+                header: at.header,
+            })?;
+            note_answer(alloc, log, at, 0, None, answer)
+        }
     }
-    log.journal.push(Item::Entered {
-        packet: at.packet,
-        switch: at.switch,
-        header: at.header,
-    })?;
-    match entered {
-        Entered::Closed => Ok(()),
-        Entered::Decided { decision, next } => log.decided(alloc, at, decision, None, next),
-        Entered::Seek(tunnel) => {
+}
+
+// The lookup gave this answer, where the packet had this version and this rule.
+fn note_answer(
+    alloc: Global,
+    log: &mut Log,
+    at: &Standing,
+    version: u32,
+    rule: Option<u32>,
+    answer: Answer,
+) -> Result<(), AllocError>
+    requires few { length log.old.bag < 2 ^ 32 - 1 }
+    ensures written { OnOk result (log.new.journal ≡ log.old.journal
+        ++ answer_items (length log.old.bag + 1) at.now answer) }
+    ensures posted { OnOk result (log.new.bag ≡ log.old.bag ++ answer_posts at.now answer) }
+    ensures travels { OnOk result (WithOne log.old.travelling at.now.packet
+        (answer_traveller version rule answer) log.new.travelling) }
+    ensures part { OnErr result (IsPart log.old.journal
+        (answer_items (length log.old.bag + 1) at.now answer) log.new.journal) }
+{
+    match answer {
+        Answer::Decided {
+            decision,
+            cache,
+            next,
+        } => {
+            let message = cache_message(at.ingress, cache);
+            log.decided(alloc, at, decision, message, next)
+        }
+        Answer::Seek(tunnel) => {
             let traveller = Traveller {
                 tunnel,
-                version: 0,
-                rule: None,
+                version,
+                rule,
             };
             log.set_out(alloc, at.packet, &traveller)
         }
-        Entered::Stuck { cause, leg } => log.stuck(alloc, at, cause, leg),
+        Answer::Stuck { cause, leg } => log.stuck(alloc, at, cause, leg),
     }
 }
 
 /// A packet on its way that stands at the switch moves on over a link that is usable, or is at the
 /// end of its route.
 ///
+/// A move takes no memory but the journal's.
+///
 /// # Errors
 /// Want of memory alone; a part of the items is written then.
 pub fn hop(
     alloc: Global,
     log: &mut Log,
-    traveller: &Traveller,
+    traveller: &mut Traveller,
     switch: &mut Switch,
     near: u64,
     ports: &Ports,
 ) -> Result<(), AllocError>
-    requires known { traveller_of log.old.travelling traveller.now.tunnel.packet
-        ≡ Some traveller.now }
-    requires usable { found_down near (next traveller.now.tunnel) ≡ None }
+    requires known { traveller_of log.old.travelling traveller.old.tunnel.packet
+        ≡ Some traveller.old }
+    requires usable { found_down near (next traveller.old.tunnel) ≡ None }
     requires serving { IsTrue (serves switch.old) }
     requires stamped { CanLookUp switch.old }
-    requires authority { next traveller.now.tunnel ≡ None →
-        IsAtAuthority switch.old traveller.now.tunnel.header traveller.now.tunnel.leg }
+    requires authority { next traveller.old.tunnel ≡ None →
+        IsAtAuthority switch.old traveller.old.tunnel.header traveller.old.tunnel.leg }
     requires few { length log.old.bag < 2 ^ 32 - 1 }
     ensures written { OnOk result (log.new.journal
         ≡ log.old.journal ++ hop_items (length log.old.bag + 1) (counted switch.old) near
-        ports.now traveller.now (next traveller.now.tunnel)) }
+        ports.now traveller.old (next traveller.old.tunnel)) }
     ensures posted { OnOk result (log.new.bag
-        ≡ log.old.bag ++ hop_posts (counted switch.old) near ports.now traveller.now
-        (next traveller.now.tunnel)) }
-    ensures travels { OnOk result (WithOne log.old.travelling traveller.now.tunnel.packet
-        (hop_traveller (counted switch.old) near ports.now traveller.now
-        (next traveller.now.tunnel)) log.new.travelling) }
+        ≡ log.old.bag ++ hop_posts (counted switch.old) near ports.now traveller.old
+        (next traveller.old.tunnel)) }
+    ensures travels { OnOk result (WithOne log.old.travelling traveller.old.tunnel.packet
+        (hop_traveller (counted switch.old) near ports.now traveller.old
+        (next traveller.old.tunnel)) log.new.travelling) }
     ensures part { OnErr result (IsPart log.old.journal
-        (hop_items (length log.old.bag + 1) (counted switch.old) near ports.now traveller.now
-        (next traveller.now.tunnel)) log.new.journal) }
-    ensures counted { switch.new ≡ hopped_switch switch.old (next traveller.now.tunnel) }
+        (hop_items (length log.old.bag + 1) (counted switch.old) near ports.now traveller.old
+        (next traveller.old.tunnel)) log.new.journal) }
+    ensures counted { switch.new ≡ hopped_switch switch.old (next traveller.old.tunnel) }
 {
     let packet = traveller.tunnel.packet;
-    let mut tunnel = traveller.tunnel;
-    let hop = switch.hop(&mut tunnel, near);
+    let hop = switch.hop(&mut traveller.tunnel, near);
     match hop.end {
         HopEnd::Arrive => arrive(alloc, log, traveller, switch, near, ports),
         HopEnd::Move(next) => {
@@ -181,6 +219,7 @@ fn arrive(
     let at = Standing {
         packet: traveller.tunnel.packet,
         header: traveller.tunnel.header,
+        ingress: traveller.tunnel.ingress,
         switch: switch.number(),
         down: traveller.tunnel.down,
     };
@@ -199,8 +238,7 @@ fn note_arrived(
     requires few { length log.old.bag < 2 ^ 32 - 1 }
     ensures written { OnOk result (log.new.journal ≡ log.old.journal
         ++ arrived_items (length log.old.bag + 1) at.now traveller.now arrived) }
-    ensures posted { OnOk result (log.new.bag
-        ≡ log.old.bag ++ arrived_posts traveller.now arrived) }
+    ensures posted { OnOk result (log.new.bag ≡ log.old.bag ++ arrived_posts at.now arrived) }
     ensures travels { OnOk result (WithOne log.old.travelling at.now.packet
         (arrived_traveller traveller.now arrived) log.new.travelling) }
     ensures part { OnErr result (IsPart log.old.journal
@@ -213,23 +251,9 @@ fn note_arrived(
                 at.leaves(traveller.version, traveller.rule, port),
             )
         }
-        Arrived::Decided {
-            decision,
-            cache,
-            next,
-        } => {
-            let message = cache_message(traveller.tunnel.ingress, cache);
-            log.decided(alloc, at, decision, message, next)
+        Arrived::Answered(answer) => {
+            note_answer(alloc, log, at, traveller.version, traveller.rule, answer)
         }
-        Arrived::Seek(tunnel) => {
-            let onward = Traveller {
-                tunnel,
-                version: traveller.version,
-                rule: traveller.rule,
-            };
-            log.set_out(alloc, at.packet, &onward)
-        }
-        Arrived::Stuck { cause, leg } => log.stuck(alloc, at, cause, leg),
     }
 }
 

@@ -10,7 +10,7 @@ ghost use Rattle.update_machine.specs.Pieces.{piece};
 ghost use Rattle.update_machine.specs.Played.{MayPlay, NamesOwnPort};
 ghost use Rattle.update_machine.specs.Setting.{setting_of};
 ghost use Rattle.world.specs.declared.error.StepError.TheVariants.{Full, NoMemory};
-ghost use Rattle.world.specs.State.{IsBegun, IsTied, comes_in};
+ghost use Rattle.world.specs.State.{IsBegun, IsTied, comes_in, setting_at};
 ghost use Rattle.world.specs.Travelling.{IsNextFrom, traveller};
 ghost use Rattle.world.specs.Writing.{IsPart};
 
@@ -33,7 +33,7 @@ use update_machine::FULL_AT;
 /// A network of switches with its controller, the packets on their way in it, and the journal of
 /// what happened.
 ///
-/// Contracts see the setting, the journal, the switches, the packets on their way, the messages,
+/// Contracts see the network, the policies, the journal, the switches, the packets on their way, the messages,
 /// how many packets there were, the controller, and whether memory ran out within a step.
 #[derive(Drop)]
 pub struct World {
@@ -58,7 +58,6 @@ impl World {
     ///
     /// # Errors
     /// Why the first policy has no plan on the network.
-    #[tactic(auto, using(crate::proofs::Starting::begun_tied))]
     pub fn begin(alloc: Global, net: &Net, policies: Vec<Policy>) -> Result<World, PlanError>
         requires net { IsNet net.now }
         requires some { 1 ≤ length policies.items }
@@ -71,8 +70,8 @@ impl World {
     {
         let plan = compile(alloc, &policies[0], net)?;
         let near = near_masks(net);
-        let switches = switches_of(alloc, net, &plan, &near)?;
         let controller = Controller::begin(alloc, net, plan)?;
+        let switches = switches_of(alloc, net, &controller, &near)?;
         let parts = Parts {
             net: net.clone()?,
             policies,
@@ -101,15 +100,15 @@ impl World {
     /// Otherwise want of memory alone: the journal has a part of the step's items then, and each
     /// further step is answered so at once, full or not, and changes nothing.
     pub fn step(&mut self, alloc: Global, row: u32, step: &Step) -> Result<(), StepError>
-        requires may { HasRoom self.old.journal → MayPlay self.old.setting step.now }
+        requires may { HasRoom self.old.journal → MayPlay (setting_at self.old) step.now }
         requires few { next_packet self.old.journal ≤ 4_000_000_000 }
-        ensures setting { self.new.setting ≡ self.old.setting }
+        ensures setting { setting_at self.new ≡ setting_at self.old }
         ensures written { OnOk result (self.new.journal ≡ self.old.journal
-            ++ piece self.old.setting self.old.journal row step.now) }
+            ++ piece (setting_at self.old) self.old.journal row step.now) }
         ensures counted { OnOk result (self.new.packets ≡ self.old.packets + comes_in step.now) }
         ensures goes_on { OnOk result (self.new.is_spent ≡ false) }
         ensures part { OnErr result (IsPart self.old.journal
-            (piece self.old.setting self.old.journal row step.now) self.new.journal) }
+            (piece (setting_at self.old) self.old.journal row step.now) self.new.journal) }
         ensures room { OnOk result (HasRoom self.old.journal) }
         ensures full { IsErrOf result Full → IsFull self.old.journal }
         ensures refused { self.old.is_spent ≡ false → IsFull self.old.journal

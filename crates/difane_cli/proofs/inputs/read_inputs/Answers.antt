@@ -1,3 +1,4 @@
+use Rattle.world.specs.State.{setting_at}
 use Rattle.std.proofs.Common.{◌∙◌, ap, refl}
 use Rattle.difane_cli.specs.Commands.{replay_named}
 use Rattle.difane_cli.specs.Inputs.{net_reads}
@@ -34,7 +35,7 @@ pub returns-clause-value : goal.returns-clause-value
 returns-clause-value g c =
     let net_files = c.in_ok-net.ensures.shelf.same_files in
     inputs_are _ _ _ (replay_named c.args.words) c.in_ok-net.net c.in_ok-policy.policy
-    c.in_ok-events.events.items c.in_ok-world.world.setting _ net_files
+    c.in_ok-events.events.items (setting_at c.in_ok-world.world) _ net_files
     (c.in_ok-events.ensures.shelf.same_files ∙ net_files) c.port_mask.ensures
     c.in_ok-net.ensures.value c.in_ok-events.ensures.value c.in_ok-policy.ensures.value
     c.in_ok-world.ensures.value c.in_ok-world.ensures.begun.own
@@ -52,5 +53,5 @@ returns-clause-ready g c =
 pub returns-clause-asked : goal.returns-clause-asked
 returns-clause-asked g c =
     asked_for (replay_named c.args.words) c.in_ok-net.net c.in_ok-policy.policy
-    c.in_ok-events.events.items c.in_ok-world.world.setting c.in_ok-net.ensures.named
+    c.in_ok-events.events.items (setting_at c.in_ok-world.world) c.in_ok-net.ensures.named
     c.in_ok-world.ensures.begun.own c.in_ok-world.ensures.sound c.in_ok-events.ensures.sound

@@ -1,4 +1,4 @@
-use Rattle.std.proofs.Common.{List, subst}
+use Rattle.std.proofs.Common.{List, ap, subst}
 use Rattle.steps.specs.declared.step.Event.{Event}
 use Rattle.update_machine.specs.Full.{IsPlay}
 use Rattle.difane_cli.specs.Commands.{inputs_stated}
@@ -21,7 +21,8 @@ returns-clause-outcome g c = λ command known asked read.
     let written = c.write_journal-written.ensures in
     rw c.after.ensures (replayed command known inputs journal full _ _ _ answer
     (rw c.requires.net written.whole) (rw c.requires.net written.part)
-    (rw c.requires.net written.some))
+    (rw c.requires.net written.some)
+    (rw c.requires.net (λ none. ap (λ k. g.K.Sink.state k) (written.untouched none))))
 
 pub returns-clause-worked : goal.returns-clause-worked
 returns-clause-worked g c =

@@ -3,6 +3,10 @@ use Rattle.difane_cli.specs.Run.{GainedSome}
 use Rattle.difane_cli.proofs.Gains.{some_on_err}
 use Rattle.difane_cli.proofs.playing.write_block.Goals as goal
 
+pub returns-clause-untouched : goal.returns-clause-untouched
+returns-clause-untouched g c = λ none.
+    (c.write_whole.ensures.no_bytes (c.deref.ensures.value ∙ c.in_ok-text.ensures ∙ none)).1
+
 pub returns-clause-some : goal.returns-clause-some
 returns-clause-some g c =
     let before = (g.K.Sink.state c.args.out.now).bytes in

@@ -1,17 +1,18 @@
 use Rattle.std.proofs.Common.{◌∙◌, ap, arith, ◌<◌}
 use Rattle.std.specs.Int.Bits.{bit_xor}
-use Rattle.failover.specs.Masks.{only_if, least_in}
-use Rattle.failover.proofs.MaskLemmas.{least_lt}
+use Rattle.masks.specs.Masks.{only_if, least_in}
+use Rattle.masks.proofs.CallerLemmas.{least_lt}
 use Rattle.failover.proofs.RowLoop.{row_begins, row_ends, row_goes_on, less, first_left}
 use Rattle.failover.proofs.links.link_row.Goals as goal
 
 pub loop-rest-init : goal.loop-rest-init
-loop-rest-init c = row_begins c.args.told.now c.args.down.now c.args.one (c.fits-told c.args.one)
+loop-rest-init c = row_begins c.args.neighbours.now c.args.down.now c.args.one
+    (c.fits-neighbours c.args.one)
 
 pub loop-rest-preserved : goal.loop-rest-preserved
 unfolding least_in
 loop-rest-preserved c =
-    row_goes_on c.args.told.now c.args.down.now c.args.one c.loop-rest.row c.loop-rest.rest
+    row_goes_on c.args.neighbours.now c.args.down.now c.args.one c.loop-rest.row c.loop-rest.rest
     (least_in c.loop-rest.rest) _ _ c.loop-rest.invariant
     (first_left c.loop-rest.rest c.loop-rest.invariant.rest_fits c.loop-rest-test.true)
     (least_lt c.loop-rest.rest (omega arith) c.loop-rest.invariant.rest_fits)
@@ -27,5 +28,6 @@ loop-rest-smaller c =
     gone
 
 pub returns : goal.returns
-returns c = row_ends c.args.told.now c.args.down.now c.args.one c.loop-rest.row c.loop-rest.rest
+returns c = row_ends c.args.neighbours.now c.args.down.now c.args.one c.loop-rest.row
+    c.loop-rest.rest
     c.loop-rest.invariant c.loop-rest-test.false

@@ -4,4 +4,4 @@ use Rattle.failover.proofs.links.link_rows.Given as goal
 
 abbrev pub invariant-loop-one : goal.invariant-loop-one
 invariant-loop-one l = (length l.rows ≡ 64)
-    × ((k : ℕ) → k < l.one → get_or l.rows k 0 ≡ link_row l.told l.down k)
+    × ((k : ℕ) → k < l.one → get_or l.rows k 0 ≡ link_row l.neighbours l.down k)

@@ -15,7 +15,7 @@ pub returns-then-wide-ball-clause-none : goal.returns-then-wide-ball-clause-none
 returns-then-wide-ball-clause-none c =
     no_more c.args.links.now c.args.target c.loop-k.k c.loop-k.ball _ c.args.from
     c.loop-k.invariant.here c.wider-wide.ensures c.if-wide-ball.true
-    (sym c.has.ensures ∙ c.if-has.false) c.loop-k.invariant.before
+    (sym c.has.ensures.has ∙ c.if-has.false) c.loop-k.invariant.before
 
 pub loop-k-preserved : goal.loop-k-preserved
 loop-k-preserved c = record {
@@ -25,7 +25,7 @@ loop-k-preserved c = record {
   balls = more_balls c.args.links.now c.args.target c.loop-k.balls c.loop-k.k c.loop-k.ball
       (omega (arith, c.loop-k.invariant.places)) c.loop-k.invariant.here c.loop-k.invariant.balls;
   before = before_more c.args.links.now c.args.target c.loop-k.k c.loop-k.ball c.args.from
-      c.loop-k.invariant.here (sym c.has.ensures ∙ c.if-has.false) c.loop-k.invariant.before;
+      c.loop-k.invariant.here (sym c.has.ensures.has ∙ c.if-has.false) c.loop-k.invariant.before;
 }
 
 pub returns-clause-none : goal.returns-clause-none

@@ -1,5 +1,5 @@
 use Rattle.std.proofs.Common.{◌≡◌, ℕ, ◌<◌, false, length}
-use Rattle.failover.specs.Masks.{has}
+use Rattle.masks.specs.Masks.{has}
 use Rattle.failover.specs.Routes.{ball}
 use Rattle.failover.specs.Search.{AreBalls}
 use Rattle.failover.proofs.search.distance.Given as goal

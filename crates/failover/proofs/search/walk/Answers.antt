@@ -1,6 +1,6 @@
 use Rattle.std.proofs.Common.{ℕ, ◌≡◌, ◌+◌, ◌-◌, List, ◌∷◌, ◌++◌, take, replicate, get_or, sym, ◌∙◌, ap, subst, arith, length}
 use Rattle.failover.specs.RouteList.{IsRouteList}
-use Rattle.failover.specs.Masks.{least_in}
+use Rattle.masks.specs.Masks.{least_in}
 use Rattle.failover.specs.Routes.{nearer}
 use Rattle.failover.specs.Search.{along}
 use Rattle.failover.proofs.Walking.{length-along, left_at, below_in, along-next, written_more, written_route}

@@ -2,7 +2,7 @@ use Rattle.std.proofs.Common.{ℕ, ◌++◌, Bool, List, [], ap, sym, ◌∙◌,
 use Rattle.std.specs.Prelude.{codes, filter, if◌then◌else◌}
 use Rattle.std.specs.List.{range_with_len}
 use Rattle.std.specs.String.{string_bytes}
-use Rattle.failover.specs.Masks.{has}
+use Rattle.masks.specs.Masks.{has}
 use Rattle.net_file.specs.Names.{name_of, names_text}
 use Rattle.journal_text.proofs.MaskLemmas.{names_more}
 use Rattle.journal_text.proofs.names.push_switches.Goals as goal
@@ -14,7 +14,7 @@ loop-s-preserved c =
     let before : List ℕ = names_text c.args.net.now
     (filter (has c.args.mask) (range_with_len 0 c.loop-s.s)) in
     c.in_ok-push_if.ensures
-    ∙ ap (λ b. string_bytes c.loop-s.text ++ named b) c.is_in.ensures
+    ∙ ap (λ b. string_bytes c.loop-s.text ++ named b) c.has.ensures.has
     ∙ ap (λ t. t ++ named (has c.args.mask c.loop-s.s)) c.loop-s.invariant
     ∙ append_assoc (string_bytes c.args.text.now) before (named (has c.args.mask c.loop-s.s))
     ∙ ap (λ t. string_bytes c.args.text.now ++ t)

@@ -16,7 +16,7 @@ returns-then-has-clause-new c =
     sym (are_new_is c.args.taken c.args.earlier.now _ c.requires ∙ inv.fresh
     ∙ ap (are_fresh c.loop-value.seen)
     (ports_more _ _ _ c.in-Some.port left c.in-Some.ensures.port)
-    ∙ fresh_stop c.loop-value.seen c.in-Some.port _ (sym c.has.ensures ∙ c.if-has.true))
+    ∙ fresh_stop c.loop-value.seen c.in-Some.port _ (sym c.has.ensures.bit ∙ c.if-has.true))
 
 pub returns-clause-new : goal.returns-clause-new
 returns-clause-new c =
@@ -46,7 +46,7 @@ loop-value-preserved c =
             fresh = rw (w.seen-is, w.with-seen.ensures.bits)
                 (inv.fresh ∙ ap (are_fresh c.loop-value.seen) more
                 ∙ fresh_next c.loop-value.seen w.in-Some.port _
-                (sym w.has.ensures ∙ w.if-has.false));
+                (sym w.has.ensures.bit ∙ w.if-has.false));
             small = rw w.ports-is w.with-ports.ensures.small;
             ports = λ k. rw (w.ports-is, w.with-ports.ensures.bits)
                 (inv.ports k ∙ ap (λ ports. in_mask c.loop-value.ports k

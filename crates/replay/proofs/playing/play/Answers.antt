@@ -1,8 +1,10 @@
+use Rattle.world.specs.State.{setting_at}
 use Rattle.std.proofs.Common.{◌+◌, ◌∙◌, Some, None, Err, ap, refl, sym, subst, arith}
 use Rattle.std.proofs.lemmas.List.{drop_all}
 use Rattle.update_machine.specs.Full.{IsPlay}
 use Rattle.update_machine.specs.Packets.{next_packet}
 use Rattle.update_machine.proofs.CallerLemmas.{start_laws}
+use Rattle.replay.proofs.Asked.{brought_few}
 use Rattle.replay.proofs.Events.{PlaysOn, plays_from_start, plays_no_more, plays_on_by, stops_by}
 use Rattle.replay.proofs.Ties.{tie_of}
 use Rattle.replay.proofs.playing.play.Goals as goal
@@ -21,7 +23,7 @@ loop-event-init c =
         start_laws.packets,
       );
       plays_on = λ whole stop rest.
-          subst (λ journal. PlaysOn world.setting journal 1 c.args.events.now whole stop)
+          subst (λ journal. PlaysOn (setting_at world) journal 1 c.args.events.now whole stop)
           begun.silent rest;
     }
 
@@ -31,20 +33,20 @@ loop-event-preserved c =
       rows = ap (λ n. n + 1) so_far.rows;
       setting = c.in-Ok.ensures.setting ∙ so_far.setting;
       able = c.in-Ok.ensures.able;
-      packets = c.in-Ok.ensures.few;
+      packets = omega (arith, c.in-Ok.ensures.packets, brought_few, so_far.packets);
       plays_on = λ whole stop rest. so_far.plays_on whole stop
-          (plays_on_by c.args.world.setting c.loop-event.world.journal
-          c.play_event.new.world.journal whole (c.loop-event.row + 1) c.args.events.now
+          (plays_on_by (setting_at c.args.world) c.loop-event.world.journal
+          c.take_steps.new.world.journal whole (c.loop-event.row + 1) c.args.events.now
           c.loop-event.event-index _ stop c.loop-event-test.true
           (rw so_far.setting at c.in-Ok.ensures.happens) rest);
     }
 
 pub returns-in-Err-Full : goal.returns-in-Err-Full
 returns-in-Err-Full c =
-    let setting = c.args.world.setting in
+    let setting = setting_at c.args.world in
     let so_far = c.loop-event.invariant in
     let row = c.loop-event.row + 1 in
-    let after = c.play_event.new.world.journal in
+    let after = c.take_steps.new.world.journal in
     let stops = rw so_far.setting at c.in-Err-Full.ensures.stops (ap Err c.in-Err-Full.field-0-is)
     in
     subst (λ played. IsPlay setting c.args.events.now played (Some row))
@@ -56,7 +58,7 @@ returns-in-Err-Full c =
 
 pub returns : goal.returns
 returns c =
-    let setting = c.args.world.setting in
+    let setting = setting_at c.args.world in
     let journal = c.loop-event.world.journal in
     let row = c.loop-event.row + 1 in
     let none = drop_all c.loop-event.event-index c.args.events.now c.loop-event-test.false in

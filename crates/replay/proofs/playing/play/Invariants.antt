@@ -1,3 +1,4 @@
+use Rattle.world.specs.State.{setting_at}
 use Rattle.std.proofs.Common.{ℕ, ◌≡◌, ◌+◌, ◌≤◌, Option, [], List, drop, false}
 use Rattle.journal.specs.declared.item.Item.{Item}
 use Rattle.replay.proofs.Events.{PlaysOn}
@@ -6,10 +7,10 @@ use Rattle.replay.proofs.playing.play.Given as goal
 abbrev pub invariant-loop-event : goal.invariant-loop-event
 invariant-loop-event l = record {
   rows : l.row ≡ l.event-index;
-  setting : l.world.setting ≡ l.fn.world.setting;
+  setting : setting_at l.world ≡ setting_at l.fn.world;
   able : l.world.is_spent ≡ false;
   packets : l.world.packets ≤ l.row;
   plays_on : (whole : List Item) (stop : Option ℕ)
-      → PlaysOn l.fn.world.setting l.world.journal (l.row + 1) (drop l.event-index l.events) whole
-      stop → PlaysOn l.fn.world.setting [] 1 l.events whole stop;
+      → PlaysOn (setting_at l.fn.world) l.world.journal (l.row + 1) (drop l.event-index l.events) whole
+      stop → PlaysOn (setting_at l.fn.world) [] 1 l.events whole stop;
 }

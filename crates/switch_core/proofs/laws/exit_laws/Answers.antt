@@ -4,11 +4,11 @@ use Rattle.switch_core.proofs.laws.exit_laws.Goals as goal
 
 pub returns : goal.returns
 returns c = record {
-  is = λ s told packet action. record {
-    dropped = next_dropped s told packet action;
-    out = next_out s told packet action;
-    exit = next_exit s told packet action;
-    no_owner = next_no_owner s told packet action;
+  is = λ s site packet action. record {
+    dropped = next_dropped s site packet action;
+    out = next_out s site packet action;
+    exit = next_exit s site packet action;
+    no_owner = next_no_owner s site packet action;
   };
   only = one_way_on;
 }

@@ -1,3 +1,4 @@
+use Rattle.std.proofs.Common.{refl}
 use Rattle.update_machine.proofs.OnePlay.{full_by_count, one_play}
 use Rattle.update_machine.proofs.SomePlay.{play_exists, stop_begins, stop_so_far}
 use Rattle.update_machine.proofs.laws.plays_are_one.Goals as goal
@@ -9,4 +10,5 @@ returns c = record {
   so_far = stop_so_far;
   begins = stop_begins;
   full = full_by_count;
+  constant = refl;
 }

@@ -3,20 +3,20 @@ use Rattle.std.specs.Int.{from_bool}
 use Rattle.version_update.specs.Record.{is_member}
 use Rattle.version_update.proofs.Masks.{Names-more}
 use Rattle.version_update.proofs.switches.members_where.Goals as goal
-use Rattle.version_update.proofs.switches.members_where.Goals.{then-told, else-told}
+use Rattle.version_update.proofs.switches.members_where.Goals.{then-rose, else-rose}
 
-and_told : (told member : Bool) → told ≡ true → member ≡ (told && member)
-and_told told member e = rw e refl
+and_rose : (rose member : Bool) → rose ≡ true → member ≡ (rose && member)
+and_rose rose member e = rw e refl
 
-and_untold : (told member : Bool) → told ≡ false → told ≡ (told && member)
-and_untold told member e = rw e refl
+and_not_rose : (rose member : Bool) → rose ≡ false → rose ≡ (rose && member)
+and_not_rose rose member e = rw e refl
 
 pub loop-s-preserved : goal.loop-s-preserved
 loop-s-preserved c =
-    let named : c.if-told.from ≡ (c.args.told && is_member _) =
-    elim c.if-told.branch [
-      | then-told w ↦ w.from-is ∙ w.is_member.ensures ∙ and_told c.args.told _ w.if-told.true
-      | else-told w ↦ w.from-is ∙ and_untold c.args.told _ w.if-told.false
+    let named : c.if-rose.from ≡ (c.args.rose && is_member _) =
+    elim c.if-rose.branch [
+      | then-rose w ↦ w.from-is ∙ w.is_member.ensures ∙ and_rose c.args.rose _ w.if-rose.true
+      | else-rose w ↦ w.from-is ∙ and_not_rose c.args.rose _ w.if-rose.false
     ] in
     Names-more _ _ _ c.args.switches.now c.loop-s.s _ _ (omega arith) (omega arith) refl
     (c.from.ensures ∙ ap from_bool named) c.loop-s.invariant

@@ -6,4 +6,4 @@ use Rattle.version_update.proofs.switches.members_where.Given as goal
 
 -- the mask names those of the switches so far
 abbrev pub invariant-loop-s : goal.invariant-loop-s
-invariant-loop-s l = Names l.mask (λ known. l.told && is_member known.phase) (take l.s l.switches)
+invariant-loop-s l = Names l.mask (λ known. l.rose && is_member known.phase) (take l.s l.switches)

@@ -7,7 +7,7 @@ use Rattle.net_file.specs.Net.{links_of}
 use Rattle.switch_table.specs.Tables.{tables_of}
 use Rattle.switch_table.specs.declared.tables.Tables.{Tables}
 use Rattle.world.specs.State.{switch_begun}
-use Rattle.world.proofs.Firsts.{first_near, first_own}
+use Rattle.world.proofs.Firsts.{first_near, first_own, first_tables}
 use Rattle.world.proofs.beginning.switches_of.Goals as goal
 
 pub begin-requires-clause-own : goal.begin-requires-clause-own
@@ -19,12 +19,16 @@ begin-requires-clause-own c =
     subst (λ base. HasOwnUpTo base c.loop-number.number 1 1) (sym c.begin-base.ensures)
     (first_own c.args.near.now (length c.rows-count.result.now) c.loop-number.number below)
 
+pub begin-requires-clause-version : goal.begin-requires-clause-version
+begin-requires-clause-version c =
+    ap (λ (tables : Tables). tables.version) (first_tables c.args.net.now c.args.controller.now
+    c.requires.first.0 _ c.loop-number.number c.requires.first.1 c.in_ok-tables.ensures.tables)
+
 pub loop-number-preserved : goal.loop-number-preserved
-loop-number-preserved c =
+loop-number-preserved c = λ plan is.
     let number = c.loop-number.number in
     let net = c.args.net.now in
-    let plan = c.args.plan.now.placed in
-    let each : ℕ → SwitchValue = switch_begun net plan in
+    let each : ℕ → SwitchValue = switch_begun net plan.placed in
     let many : length c.rows-count.result.now ≡ length net.switches =
     ap length c.rows-count.ensures in
     let told : c.begin-base.result ≡ first_adverts (map (links_of net.links)
@@ -32,12 +36,12 @@ loop-number-preserved c =
     c.begin-base.ensures
     ∙ ap (first_adverts c.args.near.now) many
     ∙ first_near net c.args.near.now c.requires.net c.requires.near in
-    let is : c.in_ok-begin.field-0 ≡ each number =
+    let one : c.in_ok-begin.field-0 ≡ each number =
     c.in_ok-begin.ensures
     ∙ ap (λ (tables : Tables). begun number net.cache tables c.begin-base.result)
-    (c.in_ok-tables-2.ensures ∙ c.in_ok-tables.ensures.tables)
-    ∙ ap (begun number net.cache (tables_of plan 1 number)) told in
+    (first_tables net c.args.controller.now plan _ number is c.in_ok-tables.ensures.tables)
+    ∙ ap (begun number net.cache (tables_of plan.placed 1 number)) told in
     c.in_ok-push.ensures.items
-    ∙ ap (λ all. all ++ c.in_ok-begin.field-0 ∷ []) c.loop-number.invariant
-    ∙ ap (λ s. map each (range_with_len 0 number) ++ s ∷ []) is
+    ∙ ap (λ all. all ++ c.in_ok-begin.field-0 ∷ []) (c.loop-number.invariant plan is)
+    ∙ ap (λ s. map each (range_with_len 0 number) ++ s ∷ []) one
     ∙ sym (map-range_with_len_more each 0 number number (omega arith))

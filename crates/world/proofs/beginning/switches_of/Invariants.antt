@@ -1,8 +1,11 @@
-use Rattle.std.proofs.Common.{◌≡◌, map}
+use Rattle.std.proofs.Common.{◌≡◌, length, map}
 use Rattle.std.specs.List.{range_with_len}
+use Rattle.controller.specs.Controller.{first_controller}
+use Rattle.controller.specs.Plan.{PlanValue}
 use Rattle.world.specs.State.{switch_begun}
 use Rattle.world.proofs.beginning.switches_of.Given as goal
 
 abbrev pub invariant-loop-number : goal.invariant-loop-number
-invariant-loop-number l = l.switches.items ≡ map (switch_begun l.net l.plan.placed)
-    (range_with_len 0 l.number)
+invariant-loop-number l = (plan : PlanValue)
+    → l.controller ≡ first_controller (length l.net.switches) plan
+    → l.switches.items ≡ map (switch_begun l.net plan.placed) (range_with_len 0 l.number)

@@ -5,7 +5,7 @@ use Rattle.std.specs.Option.{IsSomeAnd}
 use Rattle.std.specs.declared.alloc.AllocError.{AllocError}
 use Rattle.std.proofs.lemmas.Option.{slice_get_within}
 use Rattle.journal.specs.declared.item.Item.TheVariants.{Hopped}
-use Rattle.switch_core.specs.Arriving.{IsAtAuthority}
+use Rattle.switch_core.specs.Answering.{IsAtAuthority}
 use Rattle.switch_core.specs.State.{SwitchValue, counted}
 use Rattle.tunnel.specs.Moves.{next}
 use Rattle.tunnel.specs.Tunnel.{TunnelValue}
@@ -13,7 +13,7 @@ use Rattle.world.specs.Packets.{hop_items, hop_posts, hop_traveller, hopped_swit
 use Rattle.world.specs.Travelling.{GoesOn, WithOne, moved_on, traveller}
 use Rattle.world.specs.declared.travelling.Traveller.{Traveller}
 use Rattle.world.specs.Writing.{IsPart}
-use Rattle.world.proofs.Hopping.{arrives, authority_counted, moves, not_stuck}
+use Rattle.world.proofs.Hopping.{arrives, authority_counted, moves, not_stuck, stays_at_end}
 use Rattle.world.proofs.packets.hop.Goals as goal
 
 pub unreachable-requires : goal.unreachable-requires
@@ -24,64 +24,86 @@ pub arrive-requires-clause-authority : goal.arrive-requires-clause-authority
 arrive-requires-clause-authority c =
     let none : next c.args.traveller.now.tunnel ≡ None =
     arrives _ _ _ c.requires.usable (sym c.hop-hop.ensures.end ∙ c.in-Arrive.is) in
-    let P : SwitchValue → Type 0 = λ s. IsAtAuthority s c.args.traveller.now.tunnel.header
-    c.args.traveller.now.tunnel.leg in
-    subst P (sym c.hop-hop.ensures.after)
+    let same : c.hop-hop.new.t ≡ c.args.traveller.now.tunnel =
+    c.hop-hop.ensures.tunnel ∙ stays_at_end _ _ _ c.requires.usable none in
+    let P : SwitchValue → TunnelValue → Type 0 = λ s t. IsAtAuthority s t.header t.leg in
+    subst (P c.hop-hop.new.self) (sym same)
+    (subst (λ s. P s c.args.traveller.now.tunnel) (sym c.hop-hop.ensures.after)
     (authority_counted c.args.switch.now c.args.traveller.now.tunnel.header
-    c.args.traveller.now.tunnel.leg (c.requires.authority none))
+    c.args.traveller.now.tunnel.leg (c.requires.authority none)))
 
 pub returns-in-Arrive-clause-written : goal.returns-in-Arrive-clause-written
 returns-in-Arrive-clause-written c =
     let none : next c.args.traveller.now.tunnel ≡ None =
     arrives _ _ _ c.requires.usable (sym c.hop-hop.ensures.end ∙ c.in-Arrive.is) in
-    let P : SwitchValue → Type 0 = λ s. OnOk c.arrive.result (c.arrive.new.log.journal
+    let same : ◌≡◌ {A = Traveller} (record c.args.traveller.now { tunnel = c.hop-hop.new.t })
+    c.args.traveller.now =
+    ap (λ t. record c.args.traveller.now { tunnel = t })
+    (c.hop-hop.ensures.tunnel ∙ stays_at_end _ _ _ c.requires.usable none) in
+    let P : SwitchValue → Traveller → Type 0 = λ s t. OnOk c.arrive.result (c.arrive.new.log.journal
     ≡ c.args.log.now.journal ++ hop_items (length c.args.log.now.bag + 1) s c.args.near
-    c.args.ports.now c.args.traveller.now None) in
+    c.args.ports.now t None) in
     let Q : Option ℕ → Type 0 = λ onward. OnOk c.arrive.result (c.arrive.new.log.journal
     ≡ c.args.log.now.journal ++ hop_items (length c.args.log.now.bag + 1)
     (counted c.args.switch.now) c.args.near c.args.ports.now c.args.traveller.now onward) in
-    subst Q (sym none) (subst P c.hop-hop.ensures.after c.arrive.ensures.written)
+    subst Q (sym none) (subst (λ s. P s c.args.traveller.now) c.hop-hop.ensures.after
+    (subst (P c.hop-hop.new.self) same c.arrive.ensures.written))
 
 pub returns-in-Arrive-clause-posted : goal.returns-in-Arrive-clause-posted
 returns-in-Arrive-clause-posted c =
     let none : next c.args.traveller.now.tunnel ≡ None =
     arrives _ _ _ c.requires.usable (sym c.hop-hop.ensures.end ∙ c.in-Arrive.is) in
-    let P : SwitchValue → Type 0 = λ s. OnOk c.arrive.result (c.arrive.new.log.bag
+    let same : ◌≡◌ {A = Traveller} (record c.args.traveller.now { tunnel = c.hop-hop.new.t })
+    c.args.traveller.now =
+    ap (λ t. record c.args.traveller.now { tunnel = t })
+    (c.hop-hop.ensures.tunnel ∙ stays_at_end _ _ _ c.requires.usable none) in
+    let P : SwitchValue → Traveller → Type 0 = λ s t. OnOk c.arrive.result (c.arrive.new.log.bag
     ≡ c.args.log.now.bag ++ hop_posts s c.args.near c.args.ports.now
-    c.args.traveller.now None) in
+    t None) in
     let Q : Option ℕ → Type 0 = λ onward. OnOk c.arrive.result (c.arrive.new.log.bag
     ≡ c.args.log.now.bag ++ hop_posts (counted c.args.switch.now) c.args.near
     c.args.ports.now c.args.traveller.now onward) in
-    subst Q (sym none) (subst P c.hop-hop.ensures.after c.arrive.ensures.posted)
+    subst Q (sym none) (subst (λ s. P s c.args.traveller.now) c.hop-hop.ensures.after
+    (subst (P c.hop-hop.new.self) same c.arrive.ensures.posted))
 
 pub returns-in-Arrive-clause-travels : goal.returns-in-Arrive-clause-travels
 returns-in-Arrive-clause-travels c =
     let none : next c.args.traveller.now.tunnel ≡ None =
     arrives _ _ _ c.requires.usable (sym c.hop-hop.ensures.end ∙ c.in-Arrive.is) in
-    let P : SwitchValue → Type 0 = λ s. OnOk c.arrive.result (WithOne
-    c.args.log.now.travelling c.args.traveller.now.tunnel.packet
-    (hop_traveller s c.args.near c.args.ports.now c.args.traveller.now None)
+    let same : ◌≡◌ {A = Traveller} (record c.args.traveller.now { tunnel = c.hop-hop.new.t })
+    c.args.traveller.now =
+    ap (λ t. record c.args.traveller.now { tunnel = t })
+    (c.hop-hop.ensures.tunnel ∙ stays_at_end _ _ _ c.requires.usable none) in
+    let P : SwitchValue → Traveller → Type 0 = λ s t. OnOk c.arrive.result (WithOne
+    c.args.log.now.travelling t.tunnel.packet
+    (hop_traveller s c.args.near c.args.ports.now t None)
     c.arrive.new.log.travelling) in
     let Q : Option ℕ → Type 0 = λ onward. OnOk c.arrive.result (WithOne
     c.args.log.now.travelling c.args.traveller.now.tunnel.packet
     (hop_traveller (counted c.args.switch.now) c.args.near c.args.ports.now
     c.args.traveller.now onward) c.arrive.new.log.travelling) in
-    subst Q (sym none) (subst P c.hop-hop.ensures.after c.arrive.ensures.travels)
+    subst Q (sym none) (subst (λ s. P s c.args.traveller.now) c.hop-hop.ensures.after
+    (subst (P c.hop-hop.new.self) same c.arrive.ensures.travels))
 
 pub returns-in-Arrive-clause-part : goal.returns-in-Arrive-clause-part
 returns-in-Arrive-clause-part c =
     let none : next c.args.traveller.now.tunnel ≡ None =
     arrives _ _ _ c.requires.usable (sym c.hop-hop.ensures.end ∙ c.in-Arrive.is) in
-    let P : SwitchValue → Type 0 = λ s. OnErr c.arrive.result (IsPart c.args.log.now.journal
+    let same : ◌≡◌ {A = Traveller} (record c.args.traveller.now { tunnel = c.hop-hop.new.t })
+    c.args.traveller.now =
+    ap (λ t. record c.args.traveller.now { tunnel = t })
+    (c.hop-hop.ensures.tunnel ∙ stays_at_end _ _ _ c.requires.usable none) in
+    let P : SwitchValue → Traveller → Type 0 = λ s t. OnErr c.arrive.result (IsPart c.args.log.now.journal
     (hop_items (length c.args.log.now.bag + 1) s c.args.near c.args.ports.now
-    c.args.traveller.now None)
+    t None)
     c.arrive.new.log.journal) in
     let Q : Option ℕ → Type 0 = λ onward. OnErr c.arrive.result (IsPart
     c.args.log.now.journal
     (hop_items (length c.args.log.now.bag + 1) (counted c.args.switch.now) c.args.near
     c.args.ports.now
     c.args.traveller.now onward) c.arrive.new.log.journal) in
-    subst Q (sym none) (subst P c.hop-hop.ensures.after c.arrive.ensures.part)
+    subst Q (sym none) (subst (λ s. P s c.args.traveller.now) c.hop-hop.ensures.after
+    (subst (P c.hop-hop.new.self) same c.arrive.ensures.part))
 
 pub returns-in-Arrive-clause-counted : goal.returns-in-Arrive-clause-counted
 returns-in-Arrive-clause-counted c =

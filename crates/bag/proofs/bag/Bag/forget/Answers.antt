@@ -1,20 +1,19 @@
-use Rattle.std.proofs.Common.{subst, arith}
-use Rattle.bag.specs.Posts.{IsFirstWaiting, forgotten}
-use Rattle.bag.proofs.Waiting.{changed_is_bag, changed_from}
+use Rattle.std.proofs.Common.{List, ap, ◌∙◌}
+use Rattle.std.specs.List.{zip}
+use Rattle.bag.specs.Deliveries.{forgotten}
+use Rattle.bag.specs.Posts.{Post, is_deliverable, with_forgotten}
+use Rattle.bag.proofs.Zipped.{deliverable_same, zip_changed}
 use Rattle.bag.proofs.bag.Bag.forget.Goals as goal
 
-pub invariant_of-self : goal.invariant_of-self
-invariant_of-self c =
-    changed_is_bag forgotten _ c.args.number _ _ c.args.self.now _ (λ post. grind arith)
+pub forget-requires : goal.forget-requires
+forget-requires c =
+    deliverable_same c.self.inside.messages.items c.self.inside.deliveries c.args.number
     c.self.invariant
-    c.self.view_is
-    (changed_from forgotten _ _ c.args.number _ _ c.requires c.self.view_is
-    c.index_mut.ensures.value c.forget.ensures)
-    (subst (λ slots. IsFirstWaiting slots c.self.inside.passed
-    c.first_waiting-self-inside.result)
-    c.deref.ensures.value c.first_waiting-self-inside.ensures)
+    ∙ ap (λ (posts : List Post). is_deliverable posts c.args.number) c.self.view_is ∙ c.requires
 
 pub returns : goal.returns
 returns c =
-    changed_from forgotten _ _ c.args.number _ _ c.requires c.self.view_is c.index_mut.ensures.value
-    c.forget.ensures
+    ap (zip c.self.inside.messages.items) c.forget.ensures
+    ∙ zip_changed forgotten c.self.inside.messages.items c.self.inside.deliveries c.args.number
+    c.self.invariant
+    ∙ ap (λ (posts : List Post). with_forgotten posts c.args.number) c.self.view_is

@@ -1,6 +1,6 @@
 use Rattle.std.proofs.Common.{None, arith}
 use Rattle.std.proofs.lemmas.List.FromFn.{fill_by_all}
-use Rattle.failover.specs.Masks.{switches}
+use Rattle.masks.specs.Masks.{switches}
 use Rattle.failover.specs.Adverts.{first_of, first_adverts}
 use Rattle.failover.proofs.database.Database.begin.Goals as goal
 

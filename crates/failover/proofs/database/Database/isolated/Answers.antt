@@ -4,5 +4,6 @@ use Rattle.failover.proofs.database.Database.isolated.Goals as goal
 pub returns-then-target-at-clause-isolated : goal.returns-then-target-at-clause-isolated
 returns-then-target-at-clause-isolated c =
     isolated_answer c.args.self.now c.args.at c.args.target c.args.near c.args.down.now
-    c.told.result _ c.told.ensures.places c.told.ensures.told c.is_linkless.ensures
+    c.neighbours.result _ c.neighbours.ensures.places c.neighbours.ensures.neighbours
+    c.is_linkless.ensures
     c.if-target-at.true

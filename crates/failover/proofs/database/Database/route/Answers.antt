@@ -1,5 +1,5 @@
 use Rattle.std.proofs.Common.{ap, ◌∙◌, List, ℕ, map, sym, subst, Option}
-use Rattle.failover.specs.Masks.{switches}
+use Rattle.masks.specs.Masks.{switches}
 use Rattle.failover.specs.Links.{known_links, link_row}
 use Rattle.failover.specs.Paths.{IsRoute}
 use Rattle.failover.specs.Routes.{route_of, first_route}
@@ -13,7 +13,8 @@ returns-clause-value c =
     c.items.ensures.list
     ∙ ap (λ links. first_route links c.args.from c.args.targets.now)
     (c.link_rows-links.ensures ∙ ap
-    (λ told. map (link_row told c.args.down.now) switches) c.told.ensures.told)
+    (λ neighbours. map
+    (link_row neighbours c.args.down.now) switches) c.neighbours.ensures.neighbours)
 
 pub returns-clause-route : goal.returns-clause-route
 returns-clause-route c =

@@ -4,7 +4,7 @@ use Rattle.failover.proofs.down_set.DownSet.has.Goals as goal
 
 pub returns-then-high-lt-SWITCHES : goal.returns-then-high-lt-SWITCHES
 returns-then-high-lt-SWITCHES c = rw (← c.self.view_is) (record {
-  link = c.has.ensures ∙ has_link-here _ _ _ _ _ c.min-low.ensures c.max-high.ensures;
+  link = c.has.ensures.has ∙ has_link-here _ _ _ _ _ c.min-low.ensures c.max-high.ensures;
   set = c.self.invariant;
 })
 

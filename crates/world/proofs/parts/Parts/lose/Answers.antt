@@ -1,50 +1,27 @@
-use Rattle.std.proofs.Common.{[], ◌∷◌, ◌++◌, ap, sym, ◌∙◌}
-use Rattle.std.proofs.lemmas.Result.{on_ok_weaker}
+use Rattle.std.proofs.Common.{refl, sym, ◌∙◌, arith, rules}
 use Rattle.journal.specs.declared.item.Item.TheVariants as item
-use Rattle.world.specs.Parts.{setting_in}
-use Rattle.world.proofs.Losing.{lost_written, not_lost_written}
+use Rattle.steps.specs.declared.step.Step.TheVariants.{Lose}
+use Rattle.world.specs.Parts.{control_in, setting_in}
+use Rattle.world.proofs.Frame.{goes_one}
+use Rattle.world.proofs.Losing.{lost, not_lost}
 use Rattle.world.proofs.parts.Parts.lose.Goals as goal
 
-pub returns-then-remove-clause-written : goal.returns-then-remove-clause-written
-returns-then-remove-clause-written c =
-    let log = c.args.self.now.log in
-    on_ok_weaker c.push-then-remove.result
-    (λ grown. (lost_written _ (setting_in c.args.self.now) log.journal
-    c.push-then-remove.new.self c.args.self.now.switches.items log.travelling
-    c.remove.new.self c.args.self.now.packets c.args.row c.args.packet c.requires.tied
-    c.requires.may (sym c.remove.ensures.was ∙ c.if-remove.true) c.remove.ensures.after
-    (grown ∙ ap (λ js. js ++ item.Lost c.args.packet ∷ []) c.in_ok-push.ensures.pushed)).0)
-    c.push-then-remove.ensures.pushed
+pub returns-then-not-remove : goal.returns-then-not-remove
+returns-then-not-remove c = λ before row begins.
+    let self = c.args.self.now in
+    goes_one c.push.result before row (Lose c.args.packet) self _ begins (search rules) item.Nothing
+    self.log.bag refl (omega arith)
+    (not_lost (control_in self) (setting_in self) before self.switches.items self.log.travelling
+    c.remove.new.self self.packets row c.args.packet begins.ready.tied begins.ready.may
+    (sym c.remove.ensures.was ∙ c.if-not-remove.true) c.remove.ensures.after)
+    c.push.ensures.pushed c.push.ensures.unchanged
 
-pub returns-then-remove-clause-tied : goal.returns-then-remove-clause-tied
-returns-then-remove-clause-tied c =
-    let log = c.args.self.now.log in
-    on_ok_weaker c.push-then-remove.result
-    (λ grown. (lost_written _ (setting_in c.args.self.now) log.journal
-    c.push-then-remove.new.self c.args.self.now.switches.items log.travelling
-    c.remove.new.self c.args.self.now.packets c.args.row c.args.packet c.requires.tied
-    c.requires.may (sym c.remove.ensures.was ∙ c.if-remove.true) c.remove.ensures.after
-    (grown ∙ ap (λ js. js ++ item.Lost c.args.packet ∷ []) c.in_ok-push.ensures.pushed)).1)
-    c.push-then-remove.ensures.pushed
-
-pub returns-else-remove-clause-written : goal.returns-else-remove-clause-written
-returns-else-remove-clause-written c =
-    let log = c.args.self.now.log in
-    on_ok_weaker c.push-else-remove.result
-    (λ grown. (not_lost_written _ (setting_in c.args.self.now) log.journal
-    c.push-else-remove.new.self c.args.self.now.switches.items log.travelling
-    c.remove.new.self c.args.self.now.packets c.args.row c.args.packet c.requires.tied
-    c.requires.may (sym c.remove.ensures.was ∙ c.if-remove.false) c.remove.ensures.after
-    (grown ∙ ap (λ js. js ++ item.Nothing ∷ []) c.in_ok-push.ensures.pushed)).0)
-    c.push-else-remove.ensures.pushed
-
-pub returns-else-remove-clause-tied : goal.returns-else-remove-clause-tied
-returns-else-remove-clause-tied c =
-    let log = c.args.self.now.log in
-    on_ok_weaker c.push-else-remove.result
-    (λ grown. (not_lost_written _ (setting_in c.args.self.now) log.journal
-    c.push-else-remove.new.self c.args.self.now.switches.items log.travelling
-    c.remove.new.self c.args.self.now.packets c.args.row c.args.packet c.requires.tied
-    c.requires.may (sym c.remove.ensures.was ∙ c.if-remove.false) c.remove.ensures.after
-    (grown ∙ ap (λ js. js ++ item.Nothing ∷ []) c.in_ok-push.ensures.pushed)).1)
-    c.push-else-remove.ensures.pushed
+pub returns : goal.returns
+returns c = λ before row begins.
+    let self = c.args.self.now in
+    goes_one c.push-2.result before row (Lose c.args.packet) self _ begins (search rules)
+    (item.Lost c.args.packet) self.log.bag refl (omega arith)
+    (lost (control_in self) (setting_in self) before self.switches.items self.log.travelling
+    c.remove.new.self self.packets row c.args.packet begins.ready.tied begins.ready.may
+    (sym c.remove.ensures.was ∙ c.if-not-remove.false) c.remove.ensures.after)
+    c.push-2.ensures.pushed c.push-2.ensures.unchanged

@@ -1,58 +1,47 @@
-use Rattle.std.proofs.Common.{arith}
-use Rattle.journal.specs.declared.item.Item.TheVariants as item
+use Rattle.std.proofs.Common.{refl, arith, rules}
+use Rattle.std.proofs.lemmas.Result.{on_ok_weaker}
 use Rattle.steps.specs.declared.step.Step.TheVariants.{Packet as PacketStep}
-use Rattle.world.specs.Parts.{setting_in}
+use Rattle.world.specs.Parts.{control_in, setting_in}
+use Rattle.world.proofs.Frame.{goes}
 use Rattle.world.proofs.Incoming.{come_asked, come_fits, come_ready}
 use Rattle.world.proofs.OverParts.{come_is, come_ties}
-use Rattle.world.proofs.Writing.{step_part, step_written}
 use Rattle.world.proofs.parts.Parts.packet.Goals as goal
 
 pub overflow_add-self : goal.overflow_add-self
 overflow_add-self c =
     let self = c.args.self.now in
-    let fits = come_fits _ (setting_in self) self.log.journal self.switches.items
-    self.log.travelling self.packets c.requires.tied c.requires.few in
+    let fits = come_fits (control_in self) (setting_in self) c.requires.before self.switches.items
+    self.log.travelling self.packets c.requires.begins.ready.tied c.requires.begins.ready.few in
     omega (arith, fits)
 
 pub index_mut-requires : goal.index_mut-requires
 index_mut-requires c =
     let self = c.args.self.now in
-    let there = come_ready _ (setting_in self) self.log.journal self.switches.items
-    self.log.travelling self.packets c.args.switch c.args.header.now c.requires.tied
-    c.requires.may in
+    let there = come_ready (control_in self) (setting_in self) c.requires.before
+    self.switches.items self.log.travelling self.packets c.args.switch c.args.header.now
+    c.requires.begins.ready.tied c.requires.begins.ready.may in
     omega (arith, there, self.switches.ok.0)
 
 pub enter-requires : goal.enter-requires
 enter-requires c =
     let self = c.args.self.now in
-    come_asked _ (setting_in self) self.log.journal self.switches.items self.log.travelling
-    self.packets c.args.switch c.args.header.now c.index_mut.result.now c.requires.tied
-    c.requires.may c.index_mut.ensures.value
+    record {
+      stamped = come_asked (control_in self) (setting_in self) c.requires.before
+          self.switches.items self.log.travelling self.packets c.args.switch c.args.header.now
+          c.index_mut.result.now c.requires.begins.ready.tied c.requires.begins.ready.may
+          c.index_mut.ensures.value;
+      few = c.requires.begins.ready.room;
+    }
 
-pub returns-clause-written : goal.returns-clause-written
-returns-clause-written c =
+pub returns : goal.returns
+returns c = λ before row begins.
     let self = c.args.self.now in
-    step_written c.enter.result self.log.journal c.push.new.self c.enter.new.log.journal _ _
-    (item.Row c.args.row (PacketStep c.args.switch c.args.header.now))
-    (come_is self c.args.row c.args.switch c.args.header.now c.index_mut.result.now
-    c.requires.sound c.requires.tied c.requires.may c.index_mut.ensures.value)
-    c.in_ok-push.ensures.pushed
-    c.enter.ensures.written
-
-pub returns-clause-tied : goal.returns-clause-tied
-returns-clause-tied c =
-    come_ties c.enter.result c.args.self.now c.args.row c.args.switch c.args.header.now
-    c.index_mut.result.now c.enter.new.switch c.push.new.self c.enter.new.log.journal
-    c.enter.new.log.travelling c.enter.new.log.bag c.requires.sound c.requires.tied c.requires.may
-    c.index_mut.ensures.value c.enter.ensures.counted c.in_ok-push.ensures.pushed
-    c.enter.ensures.written c.enter.ensures.travels c.enter.ensures.unsent
-
-pub returns-clause-part : goal.returns-clause-part
-returns-clause-part c =
-    let self = c.args.self.now in
-    step_part c.enter.result self.log.journal c.push.new.self c.enter.new.log.journal _ _
-    (item.Row c.args.row (PacketStep c.args.switch c.args.header.now))
-    (come_is self c.args.row c.args.switch c.args.header.now c.index_mut.result.now
-    c.requires.sound c.requires.tied c.requires.may c.index_mut.ensures.value)
-    c.in_ok-push.ensures.pushed
-    c.enter.ensures.part
+    goes c.enter.result before row (PacketStep c.args.switch c.args.header.now) self _ begins
+    (search rules) _
+    (come_is self before row c.args.switch c.args.header.now c.index_mut.result.now begins.ready
+    c.index_mut.ensures.value)
+    (on_ok_weaker c.enter.result (λ done. refl) c.enter.ensures.written)
+    c.enter.ensures.written c.enter.ensures.part
+    (come_ties self before row c.args.switch c.args.header.now c.index_mut.result.now begins.ready
+    c.index_mut.ensures.value c.enter.result c.enter.new.switch c.enter.new.log.travelling
+    c.enter.new.log.bag c.enter.ensures.counted c.enter.ensures.travels c.enter.ensures.posted)

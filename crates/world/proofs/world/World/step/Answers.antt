@@ -1,17 +1,25 @@
-use Rattle.std.proofs.Common.{subst, sym, arith}
+use Rattle.std.proofs.Common.{◌≤◌, subst, sym, arith}
 use Rattle.update_machine.specs.Full.{HasRoom, IsFull}
+use Rattle.update_machine.specs.Packets.{next_packet}
 use Rattle.update_machine.specs.Played.{MayPlay}
-use Rattle.world.specs.State.{WorldValue}
+use Rattle.world.specs.State.{WorldValue, setting_at}
 use Rattle.world.proofs.Filling.{has_room, is_full, not_full}
 use Rattle.world.proofs.world.World.step.Goals as goal
 
-pub play-requires-clause-may : goal.play-requires-clause-may
-play-requires-clause-may c =
+pub play-requires : goal.play-requires
+play-requires c =
     let room = subst (λ (w : WorldValue). HasRoom w.journal) c.self.view_is
     (has_room _ _ _ _ _ _ (c.self.invariant.tied c.if-self.false)
     (omega (arith, c.sent.ensures, c.if-sent-ge-FULL_AT.false))) in
-    subst (λ (w : WorldValue). MayPlay w.setting c.args.step.now) (sym c.self.view_is)
-    (c.requires.may room)
+    record {
+      sound = c.self.invariant.sound;
+      tied = c.self.invariant.tied c.if-self.false;
+      may = subst (λ (w : WorldValue). MayPlay (setting_at w) c.args.step.now) (sym c.self.view_is)
+          (c.requires.may room);
+      few = subst (λ (w : WorldValue). next_packet w.journal ≤ 4_000_000_000) (sym c.self.view_is)
+          c.requires.few;
+      room = omega (arith, c.sent.ensures, c.if-sent-ge-FULL_AT.false);
+    }
 
 pub returns-then-sent-ge-FULL_AT-clause-full : goal.returns-then-sent-ge-FULL_AT-clause-full
 returns-then-sent-ge-FULL_AT-clause-full c = λ is.

@@ -1,0 +1,14 @@
+-- Things that are numbered from 1 in the order in which they came.
+use Rattle.std.specs.Prelude.{ℕ, Option, None, List, zero, suc, set, slice_get}
+use Rattle.std.specs.Option.{option_map_or}
+
+-- the one of a number
+abbrev pub numbered : {X : Type 0} → List X → ℕ → Option X
+numbered xs zero = None
+numbered xs (suc place) = slice_get xs place
+
+-- the one of a number is changed, where there is one
+abbrev pub with_changed : {X : Type 0} → (X → X) → List X → ℕ → List X
+with_changed change xs zero = xs
+with_changed change xs (suc place) =
+    option_map_or (λ x. set xs place (change x)) (slice_get xs place) xs

@@ -1,0 +1,183 @@
+//! Networks read from TOML text, and refused.
+ghost use Rattle.std.specs.Prelude.{IfOk};
+ghost use Rattle.net_file.specs.Net.{IsNet};
+
+use net_file::{Net, NetError, is_name, read_net, solo};
+use std::alloc::{AllocError, Global};
+use std::test::Fail;
+
+// The code and the row of a refusal.
+fn refusal(outcome: Result<Net, NetError>) -> Option<(u32, u32)> {
+    match outcome {
+        Err(NetError::Refused { refusal, row }) => Some((refusal.code(), row)),
+        _ => None,
+    }
+}
+
+// Whether the network has the switches `a`, with port 1, and `b`, with ports 2 and 63 and room 100,
+// and their link.
+fn is_pair(net: &Net) -> bool {
+    let [a, b] = net.switches.rows() else {
+        return false;
+    };
+    let [link] = net.links.rows() else {
+        return false;
+    };
+    a.name.bytes() == b"a".as_slice()
+        && a.ports == 2
+        && a.room == 0
+        && b.name.bytes() == b"b".as_slice()
+        && b.ports == 9223372036854775812
+        && b.room == 100
+        && link.joins(0, 1)
+        && net.leaf_rules == 64
+        && net.backups == 0
+        && net.cache == 256
+}
+
+fn states_pair(alloc: Global, text: &str) -> bool {
+    match read_net(alloc, text.as_bytes()) {
+        Ok(net) => is_pair(&net),
+        Err(_) => false,
+    }
+}
+
+#[test]
+fn reads_each_spelling(rt: HostRuntime) -> Result<(), Fail> {
+    let alloc = rt.alloc();
+    for text in [
+        "[[switch]]\nname = \"a\"\nports = [1]\n[[switch]]\nname = \"b\"\nports = [2, 63]\n\
+          authority = 100\n[[link]]\nends = [\"a\", \"b\"]\n",
+        "\u{feff}other = 1.5\r\n[[switch]]\r\nname = \"a\"\r\nports = [1]\r\nrack = 4\r\n\
+          [[switch]]\r\nname = \"b\"\r\nports = [63, 2]\r\nauthority = 100\r\n[[link]]\r\n\
+          ends = [\"b\", \"a\"]\r\ncable = true\r\n",
+        "switch = [{name = \"a\", ports = [1], at.rack = 4}, \
+          {name = \"b\", ports = [2, 63], authority = 100}]\nlink = [{ends = [\"a\", \"b\"]}]",
+    ] {
+        assert!(rt; states_pair(alloc, text), "at {text}");
+    }
+    Ok(())
+}
+
+#[test]
+fn refuses_with_code_and_row(rt: HostRuntime) -> Result<(), Fail> {
+    let alloc = rt.alloc();
+    let pair =
+        "[[switch]]\nname = \"a\"\n[[switch]]\nname = \"b\"\n[[link]]\nends = [\"a\", \"b\"]\n\
+          [[link]]\n";
+    for (before, after, code, row) in [
+        ("", "", 2, 0),
+        ("switch", "", 1, 0),
+        ("cache = 9223372036854775808", "", 1, 0),
+        ("leaf_rules = true\nbackups = 4", "", 3, 0),
+        ("leaf_rules = 0\nbackups = 1.0", "", 4, 0),
+        ("backups = 4\ncache = \"1\"", "", 4, 0),
+        ("cache = 65537", "", 4, 0),
+        ("switch = []", "", 4, 0),
+        ("switch = 1979-05-27", "", 3, 0),
+        ("switch = [1]", "", 3, 1),
+        ("[[switch]]\nports = 1", "", 2, 1),
+        ("[[switch]]\nname = \"controller\"", "", 4, 1),
+        ("[[switch]]\nname = \"a\"\nports = [64, true]", "", 3, 1),
+        (
+            "[[switch]]\nname = \"a\"\nports = [-1]\nauthority = true",
+            "",
+            4,
+            1,
+        ),
+        (
+            "[[switch]]\nname = \"a\"\nports = [1]\n[[switch]]\nname = \"a\"\nports = [1]",
+            "",
+            6,
+            2,
+        ),
+        ("[[switch]]\nname = \"a\"\nports = [1, 1]", "", 7, 1),
+        (
+            "[[switch]]\nname = \"a\"\nports = [1]\n[[switch]]\nname = \"b\"\nports = [1]",
+            "",
+            7,
+            2,
+        ),
+        (pair, "ends = [\"a\"]", 3, 102),
+        (pair, "", 2, 102),
+        (pair, "ends = [\"a\", \"c\"]", 5, 102),
+        (pair, "ends = [\"b\", \"b\"]", 8, 102),
+        (pair, "ends = [\"b\", \"a\"]", 9, 102),
+    ] {
+        let text = format!(in alloc; "{before}\n{after}\n")?;
+        assert_eq!(rt;
+            refusal(read_net(alloc, text.as_bytes())),
+            Some((code, row)),
+            "at {text}"
+        );
+    }
+    assert_eq!(rt; refusal(read_net(alloc, &[255])), Some((1, 0)));
+    Ok(())
+}
+
+// The head of a text, and so many values in the array that it opens.
+fn with_many(alloc: Global, head: &str, count: u32) -> Result<String, AllocError> {
+    let mut text = String::from_str(alloc, head)?;
+    for _ in 0..count {
+        text.push_str("1,")?;
+    }
+    text.push_str("]")?;
+    Ok(text)
+}
+
+#[test]
+fn counts_switches_and_links(rt: HostRuntime) -> Result<(), Fail> {
+    let alloc = rt.alloc();
+    let links = "switch = [{name = \"a\"}]\nlink = [";
+    for (head, count) in [("switch = [", 65), (links, 257)] {
+        let text = with_many(alloc, head, count)?;
+        assert_eq!(rt; refusal(read_net(alloc, text.as_bytes())), Some((10, 0)));
+    }
+    Ok(())
+}
+
+// Three switches in a row, a, c and b.
+fn three(alloc: Global) -> Result<Net, NetError>
+    ensures { IfOk result IsNet }
+{
+    let text = "[[switch]]\nname = \"a\"\nports = [1]\n[[switch]]\nname = \"b\"\nports = [63]\n\
+          [[switch]]\nname = \"c\"\n[[link]]\nends = [\"a\", \"c\"]\n[[link]]\n\
+          ends = [\"c\", \"b\"]\n";
+    read_net(alloc, text.as_bytes())
+}
+
+#[test]
+fn answers_on_names(rt: HostRuntime) -> Result<(), Fail> {
+    let alloc = rt.alloc();
+    let net = three(alloc)?;
+    assert_eq!(rt; net.number(b"c"), Some(2));
+    assert_eq!(rt; net.number(b"d"), None);
+    let mut names = String::new(alloc);
+    net.push_names(&mut names, &[2, 0, 3])?;
+    assert_eq!(rt; names.as_str(), " c a ");
+    assert!(rt; is_name(b"edge0-1") && !is_name(b"controller") && !is_name(b"1a"));
+    Ok(())
+}
+
+#[test]
+fn answers_on_ports_and_links(rt: HostRuntime) -> Result<(), Fail> {
+    let net = three(rt.alloc())?;
+    assert_eq!(rt; net.links_of(0), 4);
+    assert_eq!(rt; net.links_of(2), 3);
+    assert_eq!(rt; net.port_mask(), 9223372036854775810);
+    let ports = net.ports();
+    assert_eq!(rt; ports.owner(63), Some(1));
+    assert_eq!(rt; ports.owner(2), None);
+    Ok(())
+}
+
+#[test]
+fn answers_on_copies_and_one_switch(rt: HostRuntime) -> Result<(), Fail> {
+    let alloc = rt.alloc();
+    let copy = three(alloc)?.clone()?;
+    assert_eq!(rt; copy.number(b"b"), Some(1));
+    let solo = solo(alloc)?;
+    assert_eq!(rt; solo.number(b"s0"), Some(0));
+    assert_eq!(rt; solo.port_mask(), u64::MAX);
+    Ok(())
+}

@@ -1,0 +1,119 @@
+//! Schedules read from CSV text, and refused.
+use five_tuple::Fields;
+use net_file::read_net;
+use schedule::{Event, Header, Kind, ScheduleError, Step, read_kind, read_schedule};
+use std::alloc::{AllocError, Global};
+use std::test::Fail;
+
+// Two switches and the link between them, and a third one without links.
+const NETWORK: &[u8] = b"switch = [{ name = 'a', ports = [1] }, { name = 'b' }, { name = 'c' }]
+link = [{ ends = ['b', 'a'] }]";
+
+// The rows of a whole run, of which the sixth cannot be played yet.
+const DAY: &str = "packet,a,10.0.1.5,10.0.2.10,40000,443,tcp
+drain
+flush
+packet,a,10.0.1.6,10.0.2.10,40001,443,tcp
+drain
+linkdown,b,d
+flush
+";
+
+fn under_heading(alloc: Global, rows: &str) -> Result<Vec<u8>, AllocError> {
+    let text = format!(in alloc; "event,arguments\n{rows}")?;
+    Ok(text.into_bytes())
+}
+
+// The code and the row of a refusal.
+fn refusal(outcome: Result<Vec<Event>, ScheduleError>) -> Option<(u32, u32)> {
+    match outcome {
+        Err(ScheduleError::Refused { refusal, row }) => Some((refusal.code(), row)),
+        _ => None,
+    }
+}
+
+#[test]
+fn reads_events(rt: HostRuntime) -> Result<(), Fail> {
+    let alloc = rt.alloc();
+    let net = read_net(alloc, NETWORK)?;
+    let text = b"\xef\xbb\xbf\"event\",arguments\r\n
+packet,b,10.0.1.5,10.0.2.10,40000,443,tcp
+\"hop\",1
+
+lose,999999999\r
+deliver,2
+forget,0
+expire,c,65536
+flush
+drain";
+    let events = read_schedule(alloc, text, &net, 1)?;
+    let header = Header::pack(&Fields {
+        src: 0x0a00_0105,
+        dst: 0x0a00_020a,
+        sport: 40000,
+        dport: 443,
+        proto: 6,
+    });
+    assert!(rt;
+        events.as_slice()
+            == [
+                Event::One(Step::Packet { switch: 1, header }),
+                Event::One(Step::Hop { packet: 1 }),
+                Event::One(Step::Lose {
+                    packet: 999_999_999
+                }),
+                Event::One(Step::Deliver { message: 2 }),
+                Event::One(Step::Forget { message: 0 }),
+                Event::One(Step::Expire {
+                    switch: 2,
+                    place: 65536
+                }),
+                Event::Flush,
+                Event::Drain,
+            ]
+            .as_slice()
+    );
+    assert!(rt; read_schedule(alloc, b"event,arguments\n", &net, 1)?.is_empty());
+    assert_eq!(rt; read_kind(b"linkup"), Some(Kind::LinkUp));
+    assert_eq!(rt; read_kind(b"link"), None);
+    Ok(())
+}
+
+#[test]
+fn refuses_with_code_and_row(rt: HostRuntime) -> Result<(), Fail> {
+    let alloc = rt.alloc();
+    let net = read_net(alloc, NETWORK)?;
+    let day = under_heading(alloc, DAY)?;
+    assert_eq!(rt; refusal(read_schedule(alloc, &day, &net, 2)), Some((10, 6)));
+    assert_eq!(rt; refusal(read_schedule(alloc, b"", &net, 1)), Some((1, 0)));
+    assert_eq!(rt;
+        refusal(read_schedule(alloc, b"event,arguments,\n", &net, 1)),
+        Some((1, 0))
+    );
+    for (row, code) in [
+        ("drain,now", 2),
+        ("packet,z,1.2.3.4,10.2.0.1,any,80", 2),
+        ("skip,1,2,3", 3),
+        ("packet,z,1.2.3,10.2.0.1,5000,80,tcp", 4),
+        ("hop,1000000000", 5),
+        ("lose,01", 5),
+        ("deliver,1000000000", 5),
+        ("forget,", 5),
+        ("expire,a,-1", 5),
+        ("expire,0,a", 4),
+        ("expire,a", 2),
+        ("flush,1", 2),
+        ("packet,a,1.2.3.4,10.2.0.1,any,80,tcp", 6),
+        ("packet,a,1.2.3.4/32,10.2.0.1,5000,80,tcp", 6),
+        ("linkdown,a,z,a", 10),
+    ] {
+        let rows = format!(in alloc; "drain\n{row}\nskip\n")?;
+        let text = under_heading(alloc, rows.as_str())?;
+        assert_eq!(rt;
+            refusal(read_schedule(alloc, &text, &net, 1)),
+            Some((code, 2)),
+            "at {row}"
+        );
+    }
+    Ok(())
+}

@@ -1,0 +1,72 @@
+-- The plan of a version that is kept, and the tables that it gives.
+use Rattle.std.proofs.Common.{ℕ, suc, zero, ◌≡◌, ◌+◌, ◌-◌, ◌<◌, ◌≤◌, ◌==◌, Bool, true, false, if◌then◌else◌, Option, Some, None, List, [], ◌∷◌, length, get_or, map, refl, ap, sym, subst, ◌∙◌, ◌⊎◌, inl, inr, ◌≢◌, arith, eq-eqb, eqb-true}
+use Rattle.std.specs.Prelude.{find, option_map}
+use Rattle.std.specs.List.{range_with_len}
+use Rattle.std.proofs.lemmas.Bool.{cases_eq, false≢true}
+use Rattle.std.proofs.lemmas.List.{length-map}
+use Rattle.std.proofs.lemmas.List.FromFn.{length-range_with_len}
+use Rattle.controller.specs.Controller.{KeptPlan, ControllerValue, IsController, kept_tables}
+use Rattle.controller.specs.Plan.{IsSoundPlan}
+use Rattle.switch_table.specs.Tables.{tables_of}
+
+-- where the versions ascend by one, each stands at its place
+found_at_place : (plans : List KeptPlan) (first n v : ℕ) (d : KeptPlan)
+    → map (λ (kept : KeptPlan). kept.version) plans ≡ range_with_len first n → first ≤ v
+    → v < first + n
+    → find (λ (kept : KeptPlan). kept.version == v) plans ≡ Some (get_or plans (v - first) d)
+found_at_place plans first zero v d are low high = absurd (omega (arith, low, high))
+found_at_place [] first (suc n) v d are low high = absurd cc
+found_at_place (kept ∷ plans) first (suc n) v d are low high =
+    by_test (kept.version == v) refl (cases_eq first v)
+    (λ above. found_at_place plans (first + 1) n v d rest above (omega (arith, high)))
+  where
+    its : kept.version ≡ first
+    its = cc
+
+    rest : map (λ (kept : KeptPlan). kept.version) plans ≡ range_with_len (first + 1) n
+    rest = cc
+
+    by_test : (b : Bool) → (kept.version == v) ≡ b → (first ≡ v) ⊎ (first ≢ v)
+        → (first + 1 ≤ v → find (λ (kept : KeptPlan). kept.version == v) plans
+        ≡ Some (get_or plans (v - (first + 1)) d))
+        → (if b then Some kept else find (λ (kept : KeptPlan). kept.version == v) plans)
+        ≡ Some (get_or (kept ∷ plans) (v - first) d)
+    by_test true is at later =
+        let same : kept.version ≡ v = eqb-true _ _ is in
+        let place : v - first ≡ 0 = omega (arith, same, its) in
+        rw place refl
+    by_test false is (inl same) later = absurd (false≢true (sym is ∙ eq-eqb _ _ (its ∙ same)))
+    by_test false is (inr other) later =
+        let place : v - first ≡ suc (v - (first + 1)) = omega (arith, low, other) in
+        rw place (later (omega (arith, low, other)))
+
+module _ (controller : ControllerValue) (is : IsController controller) (version : ℕ)
+    (low : controller.marks.current ≤ version) (high : version ≤ controller.marks.count) where
+  count_is : length controller.plans ≡ controller.marks.count + 1 - controller.marks.current
+  count_is = sym (length-map controller.plans (λ (kept : KeptPlan). kept.version))
+      ∙ ap length is.versions
+      ∙ length-range_with_len controller.marks.current
+      (controller.marks.count + 1 - controller.marks.current)
+
+  pub kept_there : version - controller.marks.current < length controller.plans
+  kept_there = omega (arith, count_is, low, high)
+
+  -- the plan at the version's place
+  kept_at : (d : KeptPlan) → find (λ (kept : KeptPlan). kept.version == version) controller.plans
+      ≡ Some (get_or controller.plans (version - controller.marks.current) d)
+  kept_at d = found_at_place controller.plans controller.marks.current
+      (controller.marks.count + 1 - controller.marks.current) version d is.versions low
+      (omega (arith, low, high))
+
+  pub kept_tables_are : (kept : KeptPlan) (s : ℕ)
+      → kept ≡ get_or controller.plans (version - controller.marks.current) kept
+      → kept_tables controller version s ≡ Some (tables_of kept.plan.placed kept.version s)
+  kept_tables_are kept s at =
+      ap (option_map (λ (kept : KeptPlan). tables_of kept.plan.placed kept.version s))
+      (kept_at kept ∙ ap Some (sym at))
+
+  pub kept_sound : (kept : KeptPlan)
+      → kept ≡ get_or controller.plans (version - controller.marks.current) kept
+      → IsSoundPlan kept.plan
+  kept_sound kept at =
+      subst (λ (kept : KeptPlan). IsSoundPlan kept.plan) (sym at) (is.sound _ kept kept_there)

@@ -1,0 +1,54 @@
+-- The tables are those of the plan at the version's place.
+use Rattle.std.proofs.Common.{◌≡◌, ◌≤◌, ◌-◌, Some, length, get_or, ap, subst, sym, ◌∙◌, arith}
+use Rattle.std.proofs.lemmas.Result.{IfOk-weaker}
+use Rattle.switch_table.specs.Tables.{AreSoundTables, tables_of}
+use Rattle.controller.specs.Controller.{ControllerValue, KeptPlan, kept_tables}
+use Rattle.controller.proofs.Kept.{kept_sound, kept_tables_are, kept_there}
+use Rattle.controller.proofs.controller.Controller.tables.Goals as goal
+
+pub index-requires : goal.index-requires
+index-requires c =
+    let own : ControllerValue =
+    record { marks = c.self.inside.marks; plans = c.self.inside.versions.items } in
+    let there = kept_there own c.self.invariant.1 c.args.version
+    (subst (λ (w : ControllerValue). w.marks.current ≤ c.args.version) (sym c.self.view_is)
+    c.requires.first)
+    (subst (λ (w : ControllerValue). c.args.version ≤ w.marks.count) (sym c.self.view_is)
+    c.requires.last) in
+    omega (arith, there, c.current.ensures.current)
+
+pub returns-clause-tables : goal.returns-clause-tables
+returns-clause-tables c =
+    let own : ControllerValue =
+    record { marks = c.self.inside.marks; plans = c.self.inside.versions.items } in
+    let kept : KeptPlan = c.index.result.now in
+    let at : kept ≡ get_or own.plans (c.args.version - own.marks.current) kept =
+    c.index.ensures
+    ∙ ap (λ current. get_or own.plans (c.args.version - current) kept) c.current.ensures.current in
+    let are : kept_tables own c.args.version c.args.s
+    ≡ Some (tables_of kept.plan.placed kept.version c.args.s) =
+    kept_tables_are own c.self.invariant.1 c.args.version
+    (subst (λ (w : ControllerValue). w.marks.current ≤ c.args.version) (sym c.self.view_is)
+    c.requires.first)
+    (subst (λ (w : ControllerValue). c.args.version ≤ w.marks.count) (sym c.self.view_is)
+    c.requires.last) kept c.args.s at in
+    IfOk-weaker c.tables.result _ _ (λ tables is.
+    ap (λ w. kept_tables w c.args.version c.args.s) (sym c.self.view_is) ∙ are
+    ∙ ap Some (sym is)) c.tables.ensures
+
+pub returns-clause-sound : goal.returns-clause-sound
+returns-clause-sound c =
+    let own : ControllerValue =
+    record { marks = c.self.inside.marks; plans = c.self.inside.versions.items } in
+    let kept : KeptPlan = c.index.result.now in
+    let at : kept ≡ get_or own.plans (c.args.version - own.marks.current) kept =
+    c.index.ensures
+    ∙ ap (λ current. get_or own.plans (c.args.version - current) kept) c.current.ensures.current in
+    let is = kept_sound own c.self.invariant.1 c.args.version
+    (subst (λ (w : ControllerValue). w.marks.current ≤ c.args.version) (sym c.self.view_is)
+    c.requires.first)
+    (subst (λ (w : ControllerValue). c.args.version ≤ w.marks.count) (sym c.self.view_is)
+    c.requires.last) kept at in
+    IfOk-weaker c.tables.result _ _ (λ tables same. subst AreSoundTables (sym same)
+    (c.tables_laws.ensures.sound kept.plan.policy kept.plan.placed kept.version c.args.s is.sound
+    is.covers is.few is.few_rules)) c.tables.ensures

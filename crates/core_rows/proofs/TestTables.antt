@@ -1,0 +1,90 @@
+-- The tables that tests use are sound: one region has all headers, and one rule decides them.
+use Rattle.std.proofs.Common.{◌≡◌, ◌<◌, ◌^◌, ◌==◌, ◌∙◌, ℕ, Bool, true, false, cond, Option, Some, None, is_some, List, [], ◌∷◌, length, map, slice_get, refl, sym, subst, arith, All, get_or, eq-eqb, lit<}
+use Rattle.std.specs.Bool.{IsTrue}
+use Rattle.std.specs.Option.{IfSome, IsSomeAnd}
+use Rattle.five_tuple.specs.Header.{number_of}
+use Rattle.five_tuple.specs.declared.header.Header.{Header}
+use Rattle.ternary.specs.Word.{any_word, holds}
+use Rattle.ternary.proofs.CallerLemmas.{any_holds, covers_reflexive}
+use Rattle.policy_rules.specs.Partitions.{LastCovers, is_in}
+use Rattle.policy_rules.specs.declared.packet.Leg.TheVariants.{Seek}
+use Rattle.policy_rules.specs.declared.policy.Action.TheVariants.{Out}
+use Rattle.policy_rules.specs.declared.rules.Partition.{Partition}
+use Rattle.policy_rules.specs.declared.rules.Rule.{Rule}
+use Rattle.failover.specs.declared.advert.Advert.{Advert}
+use Rattle.switch_table.specs.Tables.{AreSoundTables}
+use Rattle.switch_table.specs.declared.tables.PartRow.{PartRow}
+use Rattle.switch_table.specs.declared.tables.Tables.{Tables}
+use Rattle.switch_core.specs.Answering.{CanLookUp, IsAtAuthority}
+use Rattle.switch_core.specs.Deciding.{own_part}
+use Rattle.switch_core.specs.State.{SwitchValue, begun, held_tables, holds_version}
+
+abbrev pub whole_row : PartRow
+whole_row = record { region = any_word; targets = 1 ∷ [] }
+
+abbrev whole_rule : Rule
+whole_rule = record { word = any_word; rank = 0; rule = Some 100; action = Out 2 }
+
+abbrev pub whole_part : Partition
+whole_part = record { number = 0; region = any_word; rules = whole_rule ∷ [] }
+
+all_one : {X : Type 0} (P : X → Type 0) (x : X) → P x → All P (x ∷ [])
+all_one P x is k d within =
+    let zero : k ≡ 0 = omega arith in
+    subst (λ (n : ℕ). P (get_or (x ∷ []) n d)) (sym zero) is
+
+pub sound_ingress : (t : Tables) → t.parts ≡ whole_row ∷ [] → t.auth ≡ [] → AreSoundTables t
+sound_ingress t parts auth = record {
+  one = λ header is. rw (parts, any_holds (number_of header)) refl;
+  numbers = rw auth (λ k d within. absurd (omega arith));
+  distinct = rw auth (λ i j d less within. absurd (omega arith));
+  covers = rw auth (λ k d within. absurd (omega arith));
+  few_rows = rw parts (lit< tt);
+  few_rules = rw auth (λ k d within. absurd (omega arith));
+}
+
+pub sound_authority : (t : Tables) → t.parts ≡ whole_row ∷ [] → t.auth ≡ whole_part ∷ [] →
+    AreSoundTables t
+sound_authority t parts auth = record {
+  one = λ header is. rw (parts, any_holds (number_of header)) refl;
+  numbers = rw (parts, auth) (all_one (λ (part : Partition).
+      slice_get (map (λ (row : PartRow). row.region) (whole_row ∷ [])) part.number
+      ≡ Some part.region) whole_part refl);
+  distinct = rw auth (λ i j d less within. absurd (omega arith));
+  covers = rw auth (all_one LastCovers whole_part
+      ([], whole_rule, refl, covers_reflexive any_word));
+  few_rows = rw parts (lit< tt);
+  few_rules = rw auth (all_one (λ (part : Partition). length part.rules < 2 ^ 32) whole_part
+      (lit< tt));
+}
+
+pub own_whole : (t : Tables) → t.auth ≡ whole_part ∷ [] → (header : Header) →
+    IsSomeAnd (own_part t 0) (λ part. IsTrue (is_in header part))
+own_whole t auth header = rw auth (any_holds (number_of header))
+
+-- a switch that begins with them
+pub at_authority : (t : Tables) (capacity : ℕ) (base : List (Option Advert)) →
+    ((header : Header) → IsSomeAnd (own_part t 0) (λ part. IsTrue (is_in header part))) →
+    (header : Header) → IsAtAuthority (begun 1 capacity t base) header (Seek 1 0)
+at_authority t capacity base own header = by_test (t.version == 1)
+  where
+    by_test : (test : Bool) → IfSome (cond test (Some t) None)
+        (λ tables. IsSomeAnd (own_part tables 0) (λ part. IsTrue (is_in header part)))
+    by_test true = own header
+    by_test false = tt
+
+pub looks_up : (t : Tables) (capacity : ℕ) (base : List (Option Advert)) → t.version ≡ 1 →
+    CanLookUp (begun 1 capacity t base)
+looks_up t capacity base version serving = rw (eq-eqb t.version 1 version) refl
+
+-- a leg of a version that the switch doesn't have
+pub not_held : (s : SwitchValue) (header : Header) (version partition : ℕ) (holds : Bool) →
+    holds ≡ holds_version s version → holds ≡ false →
+    IsAtAuthority s header (Seek version partition)
+not_held s header version partition holds is other =
+    by_tables (held_tables s version) (sym is ∙ other)
+  where
+    by_tables : (tables : Option Tables) → is_some tables ≡ false → IfSome tables
+        (λ t. IsSomeAnd (own_part t partition) (λ part. IsTrue (is_in header part)))
+    by_tables (Some tables) h = absurd (cc)
+    by_tables None h = tt

@@ -1,0 +1,65 @@
+//! Caches by calls, and tables that a clone shares.
+use policy_rules::{Action, Targets};
+use std::test::Fail;
+use switch_table::{Cache, CacheEntry, PartRow, PartRows, Partitions, Tables};
+use ternary::Word;
+
+fn entry(version: u32, address: u128, message: u32) -> Result<CacheEntry, Fail> {
+    let value = (address << 40) | 6;
+    let mask = (address << 40) | (0xff00_0000 << 40) | 0xff;
+    Ok(CacheEntry {
+        version,
+        word: Word::new(value, mask).ok_or("word")?,
+        rule: Some(100),
+        action: Action::Out(2),
+        message,
+    })
+}
+
+// The message of the first entry.
+fn first_message(cache: &Cache) -> Option<u32> {
+    let entry = cache.entries().next()?;
+    Some(entry.message)
+}
+
+#[test]
+fn the_first_entry_goes_from_a_full_cache(rt: HostRuntime) -> Result<(), Fail> {
+    let mut cache = Cache::new(rt.alloc(), 1);
+    cache.accept(1, entry(1, 0x0a02_0000, 1)?)?;
+    cache.accept(1, entry(1, 0x0a04_0000, 2)?)?;
+    assert_eq!(rt; first_message(&cache), Some(2));
+    assert_eq!(rt; cache.expire(0), Some(2));
+    assert_eq!(rt; cache.expire(0), None);
+    Ok(())
+}
+
+#[test]
+fn entries_of_old_versions_go(rt: HostRuntime) -> Result<(), Fail> {
+    let mut cache = Cache::new(rt.alloc(), 4);
+    cache.accept(1, entry(1, 0x0a02_0000, 1)?)?;
+    cache.accept(1, entry(2, 0x0a02_0000, 2)?)?;
+    cache.accept(1, entry(1, 0x0a02_0000, 3)?)?;
+    cache.raise(2);
+    cache.accept(2, entry(1, 0x0a02_0000, 4)?)?;
+    assert_eq!(rt; first_message(&cache), Some(2));
+    cache.clear();
+    assert_eq!(rt; first_message(&cache), None);
+    Ok(())
+}
+
+#[test]
+fn clones_share_the_rows(rt: HostRuntime) -> Result<(), Fail> {
+    let row = PartRow {
+        region: Word::any(),
+        targets: Targets::new(&[0]).ok_or("targets")?,
+    };
+    let rows = PartRows::new(vec![in rt.alloc(); row]?)?;
+    let tables = Tables {
+        version: 1,
+        parts: rows.clone()?,
+        auth: Partitions::new(Vec::new(rt.alloc())),
+    };
+    assert_eq!(rt; tables.parts.items().len(), 1);
+    assert!(rt; tables.auth.items().is_empty());
+    Ok(())
+}

@@ -1,0 +1,35 @@
+-- The codes by which a command refuses a file as a whole or for what another file says, and the most
+-- bytes of a file. They are the program's own, and docs/CODES.md lists them beside those of rows.
+use Rattle.std.specs.Prelude.{ℕ}
+
+-- a file has at most so many bytes
+abbrev pub most_bytes : ℕ
+most_bytes = 16_777_216
+
+-- there is no such file
+abbrev pub missing : ℕ
+missing = 0
+
+-- it has more bytes
+abbrev pub too_long : ℕ
+too_long = 20
+
+-- the rows of the first policy have too many words
+abbrev pub too_many_words : ℕ
+too_many_words = 12
+
+-- a row names a port that the network lacks
+abbrev pub no_port : ℕ
+no_port = 13
+
+-- the tree of the first policy has too many leaves
+abbrev pub too_many_leaves : ℕ
+too_many_leaves = 14
+
+-- too few switches have room for a partition
+abbrev pub no_room : ℕ
+no_room = 15
+
+-- the network lacks the switch
+abbrev pub no_switch : ℕ
+no_switch = 21

@@ -1,0 +1,99 @@
+use Rattle.std.proofs.Common.{◌∙◌, ap, Err, refl, subst, sym, arith}
+use Rattle.world.specs.State.{WorldValue, setting_at}
+use Rattle.world.specs.declared.error.StepError.TheVariants.{Full}
+use Rattle.replay.specs.Playing.{StopsWithin}
+use Rattle.replay.proofs.Asked.{asked, brought_all, none_yet}
+use Rattle.replay.proofs.Stepping.{begins_next, happens_whole, on_err, same_error, stops_next, took_next, took_none}
+use Rattle.replay.proofs.Ties.{few_packets, tie_of}
+use Rattle.replay.proofs.event_steps.take_steps.Goals as goal
+
+pub loop-next-init : goal.loop-next-init
+loop-next-init c = record {
+  setting = refl;
+  able = c.requires.able;
+  packets = omega (arith, none_yet c.args.event.now);
+  took = took_none (setting_at c.args.world.now) c.args.row c.args.event.now c.args.world.now.journal;
+}
+
+pub step-requires-clause-few : goal.step-requires-clause-few
+step-requires-clause-few c =
+    let so_far = c.loop-next.invariant in
+    let world = c.loop-next.world in
+    let tied = c.tied.ensures so_far.able in
+    let next = asked c.drains_end.ensures.fewer c.flushes_end.ensures.fewer world c.args.row
+    c.args.event.now c.loop-next.is_begun c.in-Some.next tied (sym c.in-Some.ensures) in
+    few_packets world c.args.world.now.packets tied
+    (omega (arith, so_far.packets, next.none)) c.requires.few
+
+pub step-requires-clause-may : goal.step-requires-clause-may
+step-requires-clause-may c =
+    let so_far = c.loop-next.invariant in
+    let world = c.loop-next.world in
+    let tied = c.tied.ensures so_far.able in
+    let next = asked c.drains_end.ensures.fewer c.flushes_end.ensures.fewer world c.args.row
+    c.args.event.now c.loop-next.is_begun c.in-Some.next tied (sym c.in-Some.ensures) in
+    next.may (rw so_far.setting c.requires.may)
+    (omega (arith, (tie_of world tied).counted, so_far.packets, next.none, c.requires.few))
+
+pub loop-next-smaller : goal.loop-next-smaller
+loop-next-smaller c =
+    let so_far = c.loop-next.invariant in
+    let world = c.loop-next.world in
+    let tied = c.tied.ensures so_far.able in
+    let next = asked c.drains_end.ensures.fewer c.flushes_end.ensures.fewer world c.args.row
+    c.args.event.now c.loop-next.is_begun c.in-Some.next tied (sym c.in-Some.ensures) in
+    rw c.in_ok-step.ensures.written next.fewer
+
+pub loop-next-preserved : goal.loop-next-preserved
+loop-next-preserved c =
+    let so_far = c.loop-next.invariant in
+    let world = c.loop-next.world in
+    let tied = c.tied.ensures so_far.able in
+    let is = sym c.in-Some.ensures in
+    let next = asked c.drains_end.ensures.fewer c.flushes_end.ensures.fewer world c.args.row
+    c.args.event.now c.loop-next.is_begun c.in-Some.next tied is in record {
+      setting = c.in_ok-step.ensures.setting ∙ so_far.setting;
+      able = c.in_ok-step.ensures.goes_on;
+      packets = omega (
+        arith,
+        c.in_ok-step.ensures.counted,
+        so_far.packets,
+        next.none,
+        next.brought,
+      );
+      took = took_next (setting_at c.args.world.now) c.args.row c.args.event.now c.loop-next.is_begun
+          c.args.world.now.journal world.journal c.step.new.self.journal c.in-Some.next so_far.took
+          is c.in_ok-step.ensures.room (rw so_far.setting at c.in_ok-step.ensures.written);
+    }
+
+pub returns-in_err-step-clause-part : goal.returns-in_err-step-clause-part
+returns-in_err-step-clause-part c =
+    let so_far = c.loop-next.invariant in
+    on_err c.from_residual.result _
+    (begins_next (setting_at c.args.world.now) c.args.row c.args.event.now c.loop-next.is_begun
+    c.args.world.now.journal c.loop-next.world.journal c.step.new.self.journal c.in-Some.next
+    so_far.took (sym c.in-Some.ensures) (rw so_far.setting at c.in_err-step.ensures.part))
+
+pub returns-in_err-step-clause-stops : goal.returns-in_err-step-clause-stops
+returns-in_err-step-clause-stops c = λ is.
+    let full = ap Err (same_error c.from_residual.result _ Full c.from_residual.ensures.1 is) in
+    subst (λ (world : WorldValue). StopsWithin (setting_at c.args.world.now) c.args.row
+    c.args.event.now c.args.world.now.journal world.journal)
+    (sym (c.in_err-step.ensures.unchanged full))
+    (stops_next (setting_at c.args.world.now) c.args.row c.args.event.now c.loop-next.is_begun
+    c.args.world.now.journal c.loop-next.world.journal c.in-Some.next
+    c.loop-next.invariant.took (sym c.in-Some.ensures) (c.in_err-step.ensures.full full))
+
+pub returns-clause-happens : goal.returns-clause-happens
+returns-clause-happens c =
+    happens_whole (setting_at c.args.world.now) c.args.row c.args.event.now c.loop-next.is_begun
+    c.args.world.now.journal c.loop-next.world.journal c.loop-next.invariant.took
+    (sym c.next_of.ensures ∙ c.in_default.is)
+
+pub returns-clause-packets : goal.returns-clause-packets
+returns-clause-packets c = omega (
+  arith,
+  c.loop-next.invariant.packets,
+  brought_all c.args.event.now c.loop-next.is_begun c.loop-next.world.journal
+      (sym c.next_of.ensures ∙ c.in_default.is),
+)

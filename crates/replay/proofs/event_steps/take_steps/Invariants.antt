@@ -1,0 +1,16 @@
+use Rattle.world.specs.State.{setting_at}
+use Rattle.std.proofs.Common.{◌≡◌, ◌+◌, false}
+use Rattle.replay.proofs.Asked.{brought_so_far, steps_left}
+use Rattle.replay.proofs.Stepping.{Took}
+use Rattle.replay.proofs.event_steps.take_steps.Given as goal
+
+abbrev pub invariant-loop-next : goal.invariant-loop-next
+invariant-loop-next l = record {
+  setting : setting_at l.world ≡ setting_at l.fn.world;
+  able : l.world.is_spent ≡ false;
+  packets : l.world.packets ≡ l.fn.world.packets + brought_so_far l.event l.is_begun;
+  took : Took (setting_at l.fn.world) l.row l.event l.is_begun l.fn.world.journal l.world.journal;
+}
+
+abbrev pub decreases-loop-next : goal.decreases-loop-next
+decreases-loop-next l = steps_left l.event l.is_begun l.world.journal

@@ -1,0 +1,68 @@
+ghost use Rattle.std.specs.Prelude.{◌≡◌, ◌+◌, ◌≤◌, false, IsErrOf, OnErr, OnOk};
+ghost use Rattle.steps.specs.Steps.{max_events};
+ghost use Rattle.update_machine.specs.Played.{MayHappen};
+ghost use Rattle.world.specs.declared.error.StepError.TheVariants.{Full};
+ghost use Rattle.replay.specs.Playing.{Begins, Happens, StopsWithin, brought_in, next_step};
+ghost use Rattle.world.specs.State.{setting_at};
+
+use drain_laws::{drains_end, flushes_end};
+use std::alloc::Global;
+use steps::{Event, Step};
+use world::{StepError, World};
+
+/// Takes all steps of an event of this row: the one that it names; for a drain a hop of the least
+/// packet that travels, until none travels; for a flush a delivery of the least message that waits,
+/// until none waits, those that are sent meanwhile among them.
+///
+/// # Errors
+/// `Full` where a step would begin behind a full journal, which has the steps before it; otherwise
+/// want of memory alone, and the journal has first steps of the event and a part of the next one.
+pub fn take_steps(
+    alloc: Global,
+    world: &mut World,
+    row: u32,
+    event: &Event,
+) -> Result<(), StepError>
+    requires able { world.old.is_spent ≡ false }
+    requires few { world.old.packets ≤ max_events }
+    requires may { MayHappen (setting_at world.old) event.now }
+    ensures setting { setting_at world.new ≡ setting_at world.old }
+    ensures able { OnOk result (world.new.is_spent ≡ false) }
+    ensures packets { OnOk result (world.new.packets
+        ≡ world.old.packets + brought_in event.now) }
+    ensures happens { OnOk result (Happens (setting_at world.old) row event.now world.old.journal
+        world.new.journal) }
+    ensures stops { IsErrOf result Full → StopsWithin (setting_at world.old) row event.now
+        world.old.journal world.new.journal }
+    ensures part { OnErr result (Begins (setting_at world.old) row event.now world.old.journal
+        world.new.journal) }
+{
+    let mut is_begun = false;
+    while let Some(next) = next_of(world, event, is_begun) {
+        drains_end();
+        flushes_end();
+        world.tied();
+        world.step(alloc, row, &next)?;
+        is_begun = true;
+    }
+    Ok(())
+}
+
+// The step that the event asks for next, where it began or has yet to.
+fn next_of(world: &World, event: &Event, is_begun: bool) -> Option<Step>
+    requires { world.now.is_spent ≡ false }
+    ensures { result ≡ next_step event.now is_begun world.now.journal }
+{
+    match event {
+        Event::One(_) if is_begun => None,
+        Event::One(step) => Some(*step),
+        Event::Drain => {
+            let packet = world.next_travelling(1)?;
+            Some(Step::Hop { packet })
+        }
+        Event::Flush => {
+            let message = world.next_waiting(1)?;
+            Some(Step::Deliver { message })
+        }
+    }
+}

@@ -1,0 +1,120 @@
+-- What a switch answers to a packet that comes in, or that is at the end of its route, as functions:
+-- both by the answer of one lookup (Yu, Rexford, Freedman and Wang, "Scalable Flow-Based Networking
+-- with DIFANE", SIGCOMM 2010). What they say are the relations of `AnswerLaws`, which allow no other
+-- answer.
+use Rattle.std.specs.Prelude.{⊤, ℕ, ◌≡◌, None, if◌then◌else◌, IsSomeAnd, IsTrue, IfSome, Result, Ok, Err}
+use Rattle.std.specs.Option.{option_map_or}
+use Rattle.five_tuple.specs.declared.header.Header.{Header}
+use Rattle.policy_rules.specs.Partitions.{is_in}
+use Rattle.policy_rules.specs.declared.packet.Leg.{Leg}
+use Rattle.policy_rules.specs.declared.packet.Leg.TheVariants.{Seek as SeekLeg, Exit as ExitLeg}
+use Rattle.policy_rules.specs.declared.packet.Cause.{Cause}
+use Rattle.policy_rules.specs.declared.rules.Partition.{Partition}
+use Rattle.failover.specs.DownSet.{no_links}
+use Rattle.tunnel.specs.Tunnel.{TunnelValue}
+use Rattle.switch_table.specs.Lookup.{lookup_of}
+use Rattle.switch_table.specs.declared.tables.Tables.{Tables}
+use Rattle.switch_table.specs.declared.search.Found.{Found}
+use Rattle.switch_table.specs.declared.search.Found.TheVariants.{Cached, Authority, Redirect}
+use Rattle.switch_core.specs.declared.answers.Answer.{Answer}
+use Rattle.switch_core.specs.declared.answers.Answer.TheVariants.{Decided, Seek, Stuck}
+use Rattle.switch_core.specs.declared.answers.Arrived.{Arrived}
+use Rattle.switch_core.specs.declared.answers.Arrived.TheVariants as arrival
+use Rattle.switch_core.specs.declared.answers.Entered.{Entered}
+use Rattle.switch_core.specs.declared.answers.Entered.TheVariants as entry
+use Rattle.switch_core.specs.declared.packet.Packet.{Packet}
+use Rattle.switch_core.specs.Deciding.{by_entry, by_rule, cache_rule, first_place, own_part, part_numbered, rule_in}
+use Rattle.switch_core.specs.Ends.{Site, next_of, set_out}
+use Rattle.switch_core.specs.State.{SwitchValue, held_tables, holds_version, serves, stamp_tables}
+
+-- ---- the answer of a lookup
+
+-- the rule at a place of one of the switch's own partitions decides
+unfoldable pub decided_at : SwitchValue → Site → Packet → ℕ → Partition → ℕ → Answer
+decided_at s site packet version part place =
+    let rule = rule_in part place in
+    Decided (by_rule s.number version part.number rule)
+    (cache_rule s.number packet version part place)
+    (next_of s site packet rule.action)
+
+-- on a leg, where there is a route to its targets
+abbrev pub seek_by : Leg → Result TunnelValue Cause → Answer
+seek_by leg (Ok tunnel) = Seek tunnel
+seek_by leg (Err cause) = Stuck cause leg
+
+-- by what was found in these tables
+unfoldable pub answer_by : SwitchValue → Site → Packet → Tables → Found → Answer
+answer_by s site packet tables (Cached entry) =
+    Decided (by_entry entry) None (next_of s site packet entry.action)
+answer_by s site packet tables (Authority partition place) =
+    decided_at s site packet tables.version (part_numbered tables partition) place
+answer_by s site packet tables (Redirect partition targets) =
+    let leg = SeekLeg tables.version partition in
+    seek_by leg (set_out s site.near packet leg targets)
+
+-- by a lookup under the switch's stamp
+unfoldable pub looked_up : SwitchValue → Site → Packet → Answer
+looked_up s site packet =
+    let tables = stamp_tables s in
+    answer_by s site packet tables (lookup_of s.cache.entries tables packet.header)
+
+-- by the first rule that holds the header, in these tables' partition of this number
+unfoldable pub decided_in : SwitchValue → Site → Packet → ℕ → Tables → Answer
+decided_in s site packet partition tables =
+    let part = part_numbered tables partition in
+    decided_at s site packet tables.version part (first_place packet.header part)
+
+-- ---- a packet comes in
+
+-- a switch that serves has the tables of its stamp
+abbrev pub CanLookUp : SwitchValue → Type 0
+CanLookUp s = IsTrue (serves s) → IsTrue (holds_version s s.stamp)
+
+-- a packet that comes in at this switch, and met no link
+abbrev pub incoming : SwitchValue → ℕ → Header → Packet
+incoming s number header = record {
+  number = number;
+  header = header;
+  ingress = s.number;
+  down = no_links;
+}
+
+-- closed exactly where the switch doesn't serve
+unfoldable pub entered : SwitchValue → Site → Packet → Entered
+entered s site packet =
+    if serves s then entry.Answered (looked_up s site packet) else entry.Closed
+
+-- nothing goes to a cache
+abbrev pub IsUncached : Entered → Type 0
+IsUncached (entry.Answered (Decided decision cache way)) = cache ≡ None
+IsUncached _ = ⊤
+
+-- ---- a packet is at the end of its route
+
+-- the packet that a tunnel carries
+abbrev pub packet_of : TunnelValue → Packet
+packet_of t = record {
+  number = t.packet;
+  header = t.header;
+  ingress = t.ingress;
+  down = t.down;
+}
+
+-- on a leg of a version whose tables the switch has, the leg's partition is one of its own and has
+-- the header
+abbrev pub IsAtAuthority : SwitchValue → Header → Leg → Type 0
+IsAtAuthority s header (SeekLeg version partition) =
+    IfSome (held_tables s version)
+    (λ tables. IsSomeAnd (own_part tables partition) (λ part. IsTrue (is_in header part)))
+IsAtAuthority s header (ExitLeg port) = ⊤
+
+-- out by the leg's port; or by the tables of the leg's version, and where the switch hasn't got them
+-- by a new lookup
+abbrev pub arrived_on : SwitchValue → Site → Packet → Leg → Arrived
+arrived_on s site packet (ExitLeg port) = arrival.Out port
+arrived_on s site packet (SeekLeg version partition) =
+    arrival.Answered (option_map_or (decided_in s site packet partition)
+    (held_tables s version) (looked_up s site packet))
+
+unfoldable pub arrived : SwitchValue → Site → TunnelValue → Arrived
+arrived s site t = arrived_on s site (packet_of t) t.leg

@@ -1,0 +1,181 @@
+ghost use Rattle.std.specs.Prelude.{◌≡◌, IsSomeAnd, IsTrue};
+ghost use Rattle.policy_rules.specs.Partitions.{is_in};
+ghost use Rattle.switch_table.specs.Tables.{AreSoundTables};
+ghost use Rattle.switch_core.specs.Answering.{CanLookUp, IsAtAuthority, IsUncached, answer_by, arrived, decided_at, decided_in, entered, incoming, looked_up, packet_of};
+ghost use Rattle.switch_core.specs.Deciding.{IsFirstHit, IsFound, own_part};
+ghost use Rattle.switch_core.specs.Ends.{around};
+ghost use Rattle.switch_core.specs.State.{counted, holds_version, serves};
+
+use crate::answers::{Answer, Arrived, Decision, Entered};
+use crate::deciding::{cache_rule, found_in, own_part, rule_in};
+use crate::packet::Packet;
+use crate::switch::Switch;
+use failover::DownSet;
+use five_tuple::Header;
+use net_file::Ports;
+use policy_rules::{Leg, Partition, first_hit};
+use switch_table::{Found, Tables};
+use tunnel::Tunnel;
+
+impl Switch {
+    /// A packet of this number comes into the network here: closed exactly where the switch doesn't
+    /// serve. Otherwise it is looked up under the switch's stamp, and is decided by a cached or an
+    /// authority rule, or sets out to its partition's targets; nothing is sent to a cache.
+    /// `enter_laws` and `lookup_laws` say how.
+    ///
+    /// `near` has a bit for each switch to which there is a usable link.
+    #[tactic(auto, unfolding(crate::specs::Answering::entered))]
+    pub fn enter(&mut self, packet: u32, h: &Header, near: u64, ports: &Ports) -> Entered
+        requires { CanLookUp self.old }
+        ensures answer { result
+            ≡ entered self.old (around near ports.now) (incoming self.old packet h.now) }
+        ensures uncached { IsUncached result }
+        ensures after { self.new ≡ counted self.old }
+    {
+        let entered = if self.serves() {
+            let packet = Packet {
+                number: packet,
+                header: *h,
+                ingress: self.number,
+                down: DownSet::empty(),
+            };
+            Entered::Answered(self.look_up(near, ports, &packet))
+        } else {
+            Entered::Closed
+        };
+        self.count();
+        entered
+    }
+
+    /// A packet is at the end of its route here. On its way to a port it leaves. On its way to an
+    /// authority switch it is decided by the tables of its version. Where these aren't there, it is
+    /// looked up anew under the switch's stamp. `arrive_laws` and `lookup_laws` say how.
+    ///
+    /// `near` has a bit for each switch to which there is a usable link.
+    #[tactic(auto, unfolding(crate::specs::Answering::arrived))]
+    pub fn arrive(&mut self, t: &Tunnel, near: u64, ports: &Ports) -> Arrived
+        requires serving { IsTrue (serves self.old) }
+        requires stamped { CanLookUp self.old }
+        requires authority { IsAtAuthority self.old t.now.header t.now.leg }
+        ensures answer { result ≡ arrived self.old (around near ports.now) t.now }
+        ensures after { self.new ≡ counted self.old }
+    {
+        let arrived = match t.leg {
+            Leg::Exit { port } => Arrived::Out(port),
+            Leg::Seek { version, partition } => {
+                let packet = carried(t);
+                let answer = match self.held_tables(version) {
+                    Some(tables) => self.decide_in(near, ports, &packet, partition, tables),
+                    None => self.look_up(near, ports, &packet),
+                };
+                Arrived::Answered(answer)
+            }
+        };
+        self.count();
+        arrived
+    }
+
+    // By a lookup under the switch's stamp.
+    #[tactic(auto, unfolding(crate::specs::Answering::looked_up))]
+    fn look_up(&self, near: u64, ports: &Ports, packet: &Packet) -> Answer
+        requires { IsTrue (holds_version self.now self.now.stamp) }
+        ensures { result ≡ looked_up self.now (around near ports.now) packet.now }
+    {
+        let tables = self.stamp_tables();
+        let found = found_in(&self.cache, tables, &packet.header);
+        self.answer(near, ports, packet, tables, &found)
+    }
+
+    // By what was found in these tables.
+    #[tactic(auto, unfolding(crate::specs::Answering::answer_by))]
+    fn answer(
+        &self,
+        near: u64,
+        ports: &Ports,
+        packet: &Packet,
+        tables: &Tables,
+        found: &Found,
+    ) -> Answer
+        requires { IsFound tables.now packet.now.header found.now }
+        ensures { result
+            ≡ answer_by self.now (around near ports.now) packet.now tables.now found.now }
+    {
+        match found {
+            Found::Cached(entry) => Answer::Decided {
+                decision: Decision::by_entry(entry),
+                cache: None,
+                next: self.next(near, ports, packet, entry.action),
+            },
+            Found::Authority { partition, rule } => {
+                let part = own_part(tables, *partition).unwrap();
+                self.decide_at(near, ports, packet, tables.version, part, *rule)
+            }
+            Found::Redirect { partition, targets } => {
+                let leg = Leg::Seek {
+                    version: tables.version,
+                    partition: *partition,
+                };
+                match self.set_out(near, packet, leg, targets) {
+                    Ok(tunnel) => Answer::Seek(tunnel),
+                    Err(cause) => Answer::Stuck { cause, leg },
+                }
+            }
+        }
+    }
+
+    // By these tables' partition of this number.
+    #[tactic(auto, unfolding(crate::specs::Answering::decided_in))]
+    fn decide_in(
+        &self,
+        near: u64,
+        ports: &Ports,
+        packet: &Packet,
+        partition: u32,
+        tables: &Tables,
+    ) -> Answer
+        requires sound { AreSoundTables tables.now }
+        requires own { IsSomeAnd (own_part tables.now partition)
+            (λ part. IsTrue (is_in packet.now.header part)) }
+        ensures { result
+            ≡ decided_in self.now (around near ports.now) packet.now partition tables.now }
+    {
+        let part = own_part(tables, partition).unwrap();
+        let place = first_hit(part.rules.items(), &packet.header).unwrap();
+        self.decide_at(near, ports, packet, tables.version, part, place as u32)
+    }
+
+    // The rule at this place decides.
+    #[tactic(auto, unfolding(crate::specs::Answering::decided_at))]
+    fn decide_at(
+        &self,
+        near: u64,
+        ports: &Ports,
+        packet: &Packet,
+        version: u32,
+        part: &Partition,
+        place: u32,
+    ) -> Answer
+        requires { IsFirstHit packet.now.header part.now place }
+        ensures { result
+            ≡ decided_at self.now (around near ports.now) packet.now version part.now place }
+    {
+        let rule = rule_in(part, place);
+        Answer::Decided {
+            decision: Decision::by_rule(self.number, version, part.number, rule),
+            cache: cache_rule(self.number, packet, version, part, place),
+            next: self.next(near, ports, packet, rule.action),
+        }
+    }
+}
+
+// The packet of a tunnel.
+fn carried(t: &Tunnel) -> Packet
+    ensures { result ≡ packet_of t.now }
+{
+    Packet {
+        number: t.packet,
+        header: t.header,
+        ingress: t.ingress,
+        down: t.down,
+    }
+}

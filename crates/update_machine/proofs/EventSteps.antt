@@ -1,0 +1,108 @@
+-- What the steps of events are: whatever holds of each single one of them, of each delivery and of
+-- each hop.
+use Rattle.std.specs.Prelude.{⊤, All, option_map}
+use Rattle.std.specs.List.{AllByRecursion}
+use Rattle.std.proofs.Common.{ℕ, suc, ◌≡◌, ◌+◌, Option, Some, None, List, [], ◌∷◌, ◌++◌, sym, subst, arith, inl, inr}
+use Rattle.journal.specs.declared.item.Item.{Item}
+use Rattle.steps.specs.declared.step.Event.{Event}
+use Rattle.steps.specs.declared.step.Event.TheVariants.{One, Flush, Drain}
+use Rattle.steps.specs.declared.step.Step.{Step}
+use Rattle.steps.specs.declared.step.Step.TheVariants.{Deliver, Hop}
+use Rattle.update_machine.specs.Answers.{AreAll, AreFirstSteps, AreFirstStepsOf, AreSome, AreStepsOf, StepOfRow, after_steps, next_delivery, next_hop}
+use Rattle.update_machine.specs.Messages.{next_waiting}
+use Rattle.update_machine.specs.Packets.{next_travelling}
+use Rattle.update_machine.specs.Pieces.{piece}
+use Rattle.update_machine.specs.Setting.{Setting}
+
+-- a kind of steps that has each delivery and each hop
+pub record HasNexts (Is : Step → Type 0) : Type 0 where
+  pub delivery : (number : ℕ) → Is (Deliver number)
+  pub hop : (packet : ℕ) → Is (Hop packet)
+
+-- an event whose single step is of the kind
+abbrev pub IsEventOf : (Step → Type 0) → Event → Type 0
+IsEventOf Is (One step) = Is step
+IsEventOf Is Flush = ⊤
+IsEventOf Is Drain = ⊤
+
+abbrev pub AreOf : (Step → Type 0) → List StepOfRow → Type 0
+AreOf Is steps = AllByRecursion (λ (next : StepOfRow). Is next.step) steps
+
+pub are_both : (Is : Step → Type 0) (mine rest : List StepOfRow) → AreOf Is mine → AreOf Is rest
+    → AreOf Is (mine ++ rest)
+are_both Is [] rest one other = other
+are_both Is (next ∷ mine) rest one other = (one.0, are_both Is mine rest one.1 other)
+
+-- each next step is of the kind
+abbrev IsNext : (Step → Type 0) → (List Item → Option Step) → Type 0
+IsNext Is next = (before : List Item) (step : Step) → next before ≡ Some step → Is step
+
+hops : (Is : Step → Type 0) → HasNexts Is → IsNext Is next_hop
+hops Is has before step = by (next_travelling before)
+  where
+    by : (o : Option ℕ) → option_map Hop o ≡ Some step → Is step
+    by None e = absurd cc
+    by (Some i) e = let same : Hop i ≡ step = cc in subst Is same (has.hop i)
+
+deliveries : (Is : Step → Type 0) → HasNexts Is → IsNext Is next_delivery
+deliveries Is has before step = by (next_waiting before)
+  where
+    by : (o : Option ℕ) → option_map Deliver o ≡ Some step → Is step
+    by None e = absurd cc
+    by (Some n) e = let same : Deliver n ≡ step = cc in subst Is same (has.delivery n)
+
+all_are : (Is : Step → Type 0) (setting : Setting) (next : List Item → Option Step)
+    → IsNext Is next → (row : ℕ) (before : List Item) (steps : List StepOfRow)
+    → AreAll setting next row before steps → AreOf Is steps
+all_are Is setting next are row before [] all = tt
+all_are Is setting next are row before (first ∷ steps) all = (
+  are before first.step all.1,
+  all_are Is setting next are row (before ++ piece setting before first.row first.step) steps
+      all.2,
+)
+
+some_are : (Is : Step → Type 0) (setting : Setting) (next : List Item → Option Step)
+    → IsNext Is next → (row : ℕ) (before : List Item) (steps : List StepOfRow)
+    → AreSome setting next row before steps → AreOf Is steps
+some_are Is setting next are row before [] some = tt
+some_are Is setting next are row before (first ∷ steps) some = (
+  are before first.step some.1,
+  some_are Is setting next are row (before ++ piece setting before first.row first.step) steps
+      some.2,
+)
+
+pub event_steps_are : (Is : Step → Type 0) → HasNexts Is → (setting : Setting) (row : ℕ)
+    (event : Event) (before : List Item) (steps : List StepOfRow) → IsEventOf Is event
+    → AreStepsOf setting row event before steps → AreOf Is steps
+event_steps_are Is has setting row (One step) before steps is are =
+    subst (AreOf Is) (sym are) (is, tt)
+event_steps_are Is has setting row Flush before steps is are =
+    all_are Is setting next_delivery (deliveries Is has) row before steps are
+event_steps_are Is has setting row Drain before steps is are =
+    all_are Is setting next_hop (hops Is has) row before steps are
+
+firsts_are : (Is : Step → Type 0) → HasNexts Is → (setting : Setting) (row : ℕ) (event : Event)
+    (before : List Item) (steps : List StepOfRow) → IsEventOf Is event
+    → AreFirstStepsOf setting row event before steps → AreOf Is steps
+firsts_are Is has setting row (One step) before steps is (inl none) =
+    subst (AreOf Is) (sym none) tt
+firsts_are Is has setting row (One step) before steps is (inr one) =
+    subst (AreOf Is) (sym one) (is, tt)
+firsts_are Is has setting row Flush before steps is are =
+    some_are Is setting next_delivery (deliveries Is has) row before steps are
+firsts_are Is has setting row Drain before steps is are =
+    some_are Is setting next_hop (hops Is has) row before steps are
+
+-- and so are the first steps of events
+pub first_steps_are : (Is : Step → Type 0) → HasNexts Is → (setting : Setting) (row : ℕ)
+    (events : List Event) (before : List Item) (steps : List StepOfRow)
+    → All (IsEventOf Is) events → AreFirstSteps setting row events before steps → AreOf Is steps
+first_steps_are Is has setting row [] before steps is are = subst (AreOf Is) (sym are) tt
+first_steps_are Is has setting row (event ∷ events) before steps is (inl are) =
+    firsts_are Is has setting row event before steps (is 0 event (omega arith)) are
+first_steps_are Is has setting row (event ∷ events) before steps is (inr are) =
+    subst (AreOf Is) (sym are.2.split)
+    (are_both Is are.0 are.1
+    (event_steps_are Is has setting row event before are.0 (is 0 event (omega arith)) are.3)
+    (first_steps_are Is has setting (row + 1) events (after_steps setting before are.0) are.1
+    (λ k d within. is (suc k) d (omega (arith, within))) are.4))

@@ -1,0 +1,139 @@
+-- What versions, their policies and their plans are said to be, on journals of few items.
+use Rattle.std.proofs.Common.{◌≡◌, true, Some, None, List, [], ◌∷◌, refl, arith}
+use Rattle.std.specs.Prelude.{Ok, Err, length}
+use Rattle.std.proofs.lemmas.List.Elements.{All-from_recursion}
+use Rattle.partition.specs.Plan.{NoRoom}
+use Rattle.policy_rules.specs.declared.policy.Action.TheVariants.{Out}
+use Rattle.steps.specs.Steps.{IsStep}
+use Rattle.steps.specs.declared.step.Step.TheVariants as step
+use Rattle.journal.specs.declared.item.Item.{Item}
+use Rattle.journal.specs.declared.item.Item.TheVariants as item
+use Rattle.update_machine.specs.Answers.{IsReached, StepOfRow}
+use Rattle.update_machine.specs.Machine.{Machine, Submits}
+use Rattle.update_machine.specs.Marks.{retired_mark}
+use Rattle.update_machine.specs.Messages.{is_deliverable, message_of}
+use Rattle.update_machine.specs.Numbers.{VersionsAreNumbered}
+use Rattle.update_machine.specs.Pieces.{forget_items, piece, update_code}
+use Rattle.update_machine.specs.Setting.{Setting, policy_of_file}
+use Rattle.update_machine.specs.Versions.{file_of, is_version, plan_at, policy_at, version_count}
+use Rattle.update_machine.proofs.Examples.{all_to, at, by_action, open_net, out_or_drop, plan_p, two_switches, versions}
+
+-- ---- files
+
+abbrev submitted : List Item
+submitted = item.Submitted 3 2 ∷ item.Submitted 1 3 ∷ []
+
+pub file_of_2 : file_of submitted 2 ≡ Some 3
+unfolding file_of
+file_of_2 = refl
+
+pub file_of_3 : file_of submitted 3 ≡ Some 1
+unfolding file_of
+file_of_3 = refl
+
+-- a version that wasn't submitted has no file, and there is no version 0
+pub no_file_of_4 : file_of submitted 4 ≡ None
+unfolding file_of
+no_file_of_4 = refl
+
+pub no_file_of_0 : file_of submitted 0 ≡ None
+unfolding file_of
+no_file_of_0 = refl
+
+-- nor are there a file 0 and a third one
+pub policy_of_file_0 : policy_of_file open_net 0 ≡ None
+policy_of_file_0 = refl
+
+pub policy_of_file_3 : policy_of_file open_net 3 ≡ None
+policy_of_file_3 = refl
+
+-- a version has the policy of its file and its plan
+pub policy_of_3 : policy_at open_net submitted 3 ≡ all_to (Out 2) ∷ []
+unfolding policy_at file_of
+policy_of_3 = refl
+
+pub plan_of_3 : plan_at open_net submitted 3 ≡ plan_p
+unfolding plan_at file_of
+plan_of_3 = refl
+
+-- and none where its file isn't there, or the version
+pub no_policy_of_2 : policy_at open_net submitted 2 ≡ []
+unfolding policy_at file_of
+no_policy_of_2 = refl
+
+pub no_plan_of_4 : plan_at open_net submitted 4 ≡ []
+unfolding plan_at file_of
+no_plan_of_4 = refl
+
+-- of two items of one version the first gives the file
+pub first_file : file_of (item.Submitted 3 2 ∷ item.Submitted 1 2 ∷ []) 2 ≡ Some 3
+unfolding file_of
+first_file = refl
+
+-- the versions 1 to 3 are there; where only the third was submitted, the second one lacks
+pub numbered : (is_version submitted 2 ≡ true) × (is_version submitted 3 ≡ true)
+unfolding file_of
+numbered = (refl, refl)
+
+pub not_numbered : VersionsAreNumbered (item.Submitted 1 3 ∷ []) → ⊥
+unfolding file_of version_count
+not_numbered are = cc ((are 2).1 (omega arith, omega arith))
+
+-- the machine takes no policy of a file that isn't there
+pub nothing_submitted : (old new : Machine) → Submits old 2 (policy_of_file open_net 3) new → ⊥
+nothing_submitted old new submits = cc submits.there
+
+-- ---- refusals
+
+-- the second file has no plan, and there is no third one
+abbrev too_large : Setting
+too_large = record {
+  net = two_switches;
+  policies = out_or_drop;
+  plan = by_action (Ok plan_p) (Err (NoRoom 0));
+}
+
+pub taken_in : update_code too_large [] 1 ≡ None
+unfolding version_count retired_mark
+taken_in = refl
+
+pub without_plan : update_code too_large [] 2 ≡ Some 15
+unfolding version_count retired_mark
+without_plan = refl
+
+pub without_file :
+    (update_code too_large [] 3 ≡ Some 14) × (update_code too_large [] 0 ≡ Some 14)
+unfolding version_count retired_mark
+without_file = (refl, refl)
+
+pub eight_live : update_code open_net (versions 8 0) 1 ≡ Some 16
+unfolding version_count retired_mark
+eight_live = refl
+
+pub seven_live : update_code open_net (versions 8 1) 1 ≡ None
+unfolding version_count retired_mark
+seven_live = refl
+
+pub all_there : update_code open_net (versions 64 60) 1 ≡ Some 17
+unfolding version_count retired_mark
+all_there = refl
+
+-- ---- steps of the network
+
+pub reached : IsReached open_net (item.Row 1 (step.Forget 1) ∷ item.Nothing ∷ [])
+unfolding piece forget_items is_deliverable message_of
+reached = record {
+  steps = at 1 (step.Forget 1) ∷ [];
+  own = All-from_recursion
+      (λ (next : StepOfRow). IsStep open_net.net (length open_net.policies) next.step)
+      (at 1 (step.Forget 1) ∷ [])
+      (omega arith, tt);
+  written = refl;
+}
+
+-- it has no switch 2 and no file 3
+pub no_switch_2 : IsStep open_net.net (length open_net.policies) (step.Crash 2) → ⊥
+no_switch_2 own = omega (arith, own)
+
+pub no_file_3 : IsStep open_net.net (length open_net.policies) (step.Update 3) → ⊥
+no_file_3 own = omega (arith, own)

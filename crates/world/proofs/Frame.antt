@@ -1,0 +1,158 @@
+-- What a kind of step owes to the frame that all of them share: its row stands behind the journal,
+-- and it writes the rest.
+use Rattle.std.proofs.Common.{ℕ, ◌≡◌, ◌+◌, List, [], ◌∷◌, ◌++◌, refl, sym, subst, ◌∙◌}
+use Rattle.std.specs.Prelude.{Err, IsErr, Ok, OnErr, OnOk, Result}
+use Rattle.std.proofs.lemmas.Result.{on_err_weaker, on_ok_weaker}
+use Rattle.bag.specs.Posts.{Post}
+use Rattle.controller.specs.Controller.{ControllerValue}
+use Rattle.journal.specs.declared.item.Item.{Item}
+use Rattle.journal.specs.declared.item.Item.TheVariants as item
+use Rattle.net_file.specs.declared.net.Net.{Net}
+use Rattle.policy_rules.specs.declared.policy.Row.{Row}
+use Rattle.steps.specs.declared.step.Step.{Step}
+use Rattle.update_machine.specs.Pieces.{piece, step_items}
+use Rattle.update_machine.specs.Setting.{Setting, setting_of}
+use Rattle.world.specs.Parts.{AreTiedIn, Begins, Goes, HasBegun, IsReady, KeepNet, Plays, control_in, setting_in}
+use Rattle.world.specs.State.{AreTied, comes_in}
+use Rattle.world.specs.Writing.{IsPart}
+use Rattle.world.specs.declared.parts.Parts.{Parts}
+use Rattle.world.proofs.OneItem.{grown}
+use Rattle.world.proofs.Writing.{both_ok, grown_more, part_none, step_part, step_written}
+
+-- these parts are as this journal says, by the setting and the marks from before the step
+abbrev pub AreTiedTo : Parts → List Item → Parts → List Post → Type 0
+AreTiedTo old journal new posts =
+    AreTied (setting_in old) journal new.switches.items new.log.travelling new.packets
+    (record (control_in old) { posts = posts })
+
+-- the network, the policies and the controller stayed
+as_kept : (old new : Parts) → KeepNet old new → AreTiedTo old new.log.journal new new.log.bag
+    → AreTiedIn new
+as_kept old new keeps tied =
+    subst (λ (net : Net). AreTied (setting_of net new.policies.items) new.log.journal
+    new.switches.items new.log.travelling new.packets (control_in new)) (sym keeps.same_net)
+    (subst (λ (policies : List (List Row)). AreTied (setting_of old.net policies) new.log.journal
+    new.switches.items new.log.travelling new.packets (control_in new)) (sym keeps.same_policies)
+    (subst (λ (controller : ControllerValue). AreTied (setting_in old) new.log.journal
+    new.switches.items new.log.travelling new.packets
+    (record { marks = controller.marks; posts = new.log.bag })) (sym keeps.same_controller) tied))
+
+none_ok : {T E : Type 0} (P : Type 0) (r : Result T E) → IsErr r → OnOk r P
+none_ok P (Ok x) failed = absurd cc
+none_ok P (Err e) failed = tt
+
+by_error : {T E P : Type 0} (r : Result T E) → P → OnErr r P
+by_error (Ok x) p = tt
+by_error (Err e) p = p
+
+piece_split : (setting : Setting) (before : List Item) (row : ℕ) (step : Step)
+    → piece setting before row step
+    ≡ item.Row row step ∷ [] ++ step_items setting before step (before ++ item.Row row step ∷ [])
+unfolding piece
+piece_split setting before row step = refl
+
+module _ {T E : Type 0} (r : Result T E) (before : List Item) (row : ℕ) (step : Step)
+    (old new : Parts) (begins : Begins before row step old) (keeps : KeepNet old new) where
+  -- the step writes these items behind its row
+  pub goes : (items : List Item)
+      → piece (setting_in old) before row step ≡ item.Row row step ∷ items
+      → OnOk r (new.packets ≡ old.packets + comes_in step)
+      → OnOk r (new.log.journal ≡ old.log.journal ++ items)
+      → OnErr r (IsPart old.log.journal items new.log.journal)
+      → OnOk r (AreTiedTo old (before ++ item.Row row step ∷ items) new new.log.bag)
+      → Goes r before row step old new
+  goes items is counted written part tied = record {
+    net = keeps;
+    counted = counted;
+    written = step_written r before old.log.journal new.log.journal items
+        (piece (setting_in old) before row step) (item.Row row step) is begins.rowed written;
+    tied = both_ok r (λ grown kept. as_kept old new keeps
+        (subst (λ js. AreTiedTo old js new new.log.bag)
+        (sym (grown_more before old.log.journal new.log.journal items (item.Row row step)
+        begins.rowed grown)) kept)) written tied;
+    part = step_part r before old.log.journal new.log.journal items
+        (piece (setting_in old) before row step) (item.Row row step) is begins.rowed part;
+  }
+
+  -- it writes one item, and no packet comes in
+  pub goes_one : (one : Item) (posts : List Post) → new.log.bag ≡ posts
+      → new.packets ≡ old.packets + comes_in step
+      → (piece (setting_in old) before row step ≡ item.Row row step ∷ one ∷ [])
+      × AreTiedTo old (grown before row step one) new posts
+      → OnOk r (new.log.journal ≡ old.log.journal ++ one ∷ [])
+      → OnErr r (new.log.journal ≡ old.log.journal)
+      → Goes r before row step old new
+  goes_one one posts same counted is pushed unchanged =
+      goes (one ∷ []) is.0 (on_ok_weaker r (λ grown. counted) pushed) pushed
+      (on_err_weaker r (λ same. part_none old.log.journal (one ∷ []) new.log.journal same) unchanged)
+      (on_ok_weaker r (λ grown. subst (AreTiedTo old (before ++ item.Row row step ∷ one ∷ []) new)
+      (sym same) is.1) pushed)
+
+  -- it gives up behind its row, for want of memory
+  pub nothing_goes : IsErr r → new.log.journal ≡ old.log.journal → Goes r before row step old new
+  nothing_goes failed same = record {
+    net = keeps;
+    counted = none_ok _ r failed;
+    written = none_ok _ r failed;
+    tied = none_ok _ r failed;
+    part = by_error r (record {
+      written = item.Row row step ∷ [];
+      rest = step_items (setting_in old) before step (before ++ item.Row row step ∷ []);
+      split = piece_split (setting_in old) before row step;
+      grown = same ∙ begins.rowed;
+    });
+  }
+
+-- ---- the row is written, and then the rest
+
+-- the parts behind the row
+abbrev pub with_journal : Parts → List Item → Parts
+with_journal parts journal = record parts { log = record parts.log { journal = journal } }
+
+ready_behind : (before : List Item) (step : Step) (parts : Parts) (journal : List Item)
+    → IsReady before step parts → IsReady before step (with_journal parts journal)
+ready_behind before step parts journal ready = record {
+  sound = record {
+    sound = ready.sound.sound;
+    owners = ready.sound.owners;
+    masks = ready.sound.masks;
+  };
+  tied = ready.tied;
+  may = ready.may;
+  few = ready.few;
+  room = ready.room;
+}
+
+module _ (row : ℕ) (step kind : Step) (old : Parts) (rowed : List Item)
+    (ready : IsReady old.log.journal step old)
+    (is : rowed ≡ old.log.journal ++ item.Row row step ∷ []) (kind_is : step ≡ kind) where
+  begins_kind : Begins old.log.journal row kind (with_journal old rowed)
+  begins_kind = subst (λ (k : Step). Begins old.log.journal row k (with_journal old rowed)) kind_is
+      (record {
+        ready = ready_behind old.log.journal step old rowed ready;
+        rowed = is;
+      })
+
+  -- the method of its kind may take it
+  pub begun : HasBegun kind (with_journal old rowed)
+  begun = record { before = old.log.journal; row = row; begins = begins_kind }
+
+  -- and plays it
+  pub played : {T E : Type 0} (r : Result T E) (new : Parts)
+      → Plays kind r (with_journal old rowed) new → Goes r old.log.journal row step old new
+  played r new plays =
+      let its : Goes r old.log.journal row kind (with_journal old rowed) new =
+      plays old.log.journal row begins_kind in
+      subst (λ (k : Step). Goes r old.log.journal row k old new) (sym kind_is) (record {
+        net = record {
+          same_net = its.net.same_net;
+          same_policies = its.net.same_policies;
+          same_ports = its.net.same_ports;
+          same_near = its.net.same_near;
+          same_controller = its.net.same_controller;
+        };
+        counted = its.counted;
+        written = its.written;
+        tied = its.tied;
+        part = its.part;
+      })

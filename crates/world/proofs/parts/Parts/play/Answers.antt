@@ -1,0 +1,64 @@
+-- Each kind of step behind its row.
+use Rattle.steps.specs.declared.step.Step.TheVariants.{Deliver, Expire, Forget, Hop, Lose, Packet}
+use Rattle.world.proofs.Frame.{begun, played}
+use Rattle.world.proofs.parts.Parts.play.Goals as goal
+
+pub packet-requires : goal.packet-requires
+packet-requires c =
+    begun c.args.row c.args.step.now (Packet c.in-Packet.switch c.in-Packet.header) c.args.self.now c.push.new.self c.requires
+    c.in_ok-push.ensures.pushed c.in-Packet.is
+
+pub returns-in-Packet : goal.returns-in-Packet
+returns-in-Packet c =
+    played c.args.row c.args.step.now (Packet c.in-Packet.switch c.in-Packet.header) c.args.self.now c.push.new.self c.requires
+    c.in_ok-push.ensures.pushed c.in-Packet.is c.packet.result _ c.packet.ensures
+
+pub hop-requires : goal.hop-requires
+hop-requires c =
+    begun c.args.row c.args.step.now (Hop c.in-Hop.packet) c.args.self.now c.push.new.self c.requires
+    c.in_ok-push.ensures.pushed c.in-Hop.is
+
+pub returns-in-Hop : goal.returns-in-Hop
+returns-in-Hop c =
+    played c.args.row c.args.step.now (Hop c.in-Hop.packet) c.args.self.now c.push.new.self c.requires
+    c.in_ok-push.ensures.pushed c.in-Hop.is c.hop.result _ c.hop.ensures
+
+pub lose-requires : goal.lose-requires
+lose-requires c =
+    begun c.args.row c.args.step.now (Lose c.in-Lose.packet) c.args.self.now c.push.new.self c.requires
+    c.in_ok-push.ensures.pushed c.in-Lose.is
+
+pub returns-in-Lose : goal.returns-in-Lose
+returns-in-Lose c =
+    played c.args.row c.args.step.now (Lose c.in-Lose.packet) c.args.self.now c.push.new.self c.requires
+    c.in_ok-push.ensures.pushed c.in-Lose.is c.lose.result _ c.lose.ensures
+
+pub deliver-requires : goal.deliver-requires
+deliver-requires c =
+    begun c.args.row c.args.step.now (Deliver c.in-Deliver.message) c.args.self.now c.push.new.self c.requires
+    c.in_ok-push.ensures.pushed c.in-Deliver.is
+
+pub returns-in-Deliver : goal.returns-in-Deliver
+returns-in-Deliver c =
+    played c.args.row c.args.step.now (Deliver c.in-Deliver.message) c.args.self.now c.push.new.self c.requires
+    c.in_ok-push.ensures.pushed c.in-Deliver.is c.deliver.result _ c.deliver.ensures
+
+pub forget-requires : goal.forget-requires
+forget-requires c =
+    begun c.args.row c.args.step.now (Forget c.in-Forget.message) c.args.self.now c.push.new.self c.requires
+    c.in_ok-push.ensures.pushed c.in-Forget.is
+
+pub returns-in-Forget : goal.returns-in-Forget
+returns-in-Forget c =
+    played c.args.row c.args.step.now (Forget c.in-Forget.message) c.args.self.now c.push.new.self c.requires
+    c.in_ok-push.ensures.pushed c.in-Forget.is c.forget.result _ c.forget.ensures
+
+pub expire-requires : goal.expire-requires
+expire-requires c =
+    begun c.args.row c.args.step.now (Expire c.in-Expire.switch c.in-Expire.place) c.args.self.now c.push.new.self c.requires
+    c.in_ok-push.ensures.pushed c.in-Expire.is
+
+pub returns-in-Expire : goal.returns-in-Expire
+returns-in-Expire c =
+    played c.args.row c.args.step.now (Expire c.in-Expire.switch c.in-Expire.place) c.args.self.now c.push.new.self c.requires
+    c.in_ok-push.ensures.pushed c.in-Expire.is c.expire.result _ c.expire.ensures

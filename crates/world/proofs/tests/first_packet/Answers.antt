@@ -1,8 +1,0 @@
-use Rattle.world.proofs.TestWorlds.{may_come}
-use Rattle.world.proofs.tests.first_packet.Goals as goal
-
-pub returns : goal.returns
-returns c =
-    may_come _ c.args.world.now.setting c.args.world.now.journal c.args.world.now.switches
-    c.args.world.now.travelling c.args.world.now.packets c.args.world.now.is_spent c.header.result
-    c.tied.ensures c.requires c.header.ensures

@@ -1,0 +1,30 @@
+use Rattle.std.proofs.Common.{◌≡◌, [], get_or, ap, sym, ◌∙◌, arith, rules}
+use Rattle.std.specs.Prelude.{Ok}
+use Rattle.std.proofs.lemmas.List.{get_or_default}
+use Rattle.controller.specs.Controller.{ControllerValue}
+use Rattle.partition.specs.Plan.{plan_of}
+use Rattle.world.proofs.Starting.{begun_tied}
+use Rattle.world.proofs.world.World.begin.Goals as goal
+
+pub invariant_of-result : goal.invariant_of-result
+invariant_of-result c =
+    let net = c.args.net.now in
+    let policies = c.args.policies.items in
+    let first : c.index.result.now ≡ get_or policies 0 [] =
+    c.index.ensures
+    ∙ get_or_default policies 0 c.index.result.now [] (omega (arith, c.requires.some)) in
+    let planned : plan_of (get_or policies 0 []) net ≡ Ok c.in_ok-plan.plan.placed =
+    ap (λ rows. plan_of rows net) (sym first) ∙ c.in_ok-plan.ensures.plan in
+    record {
+      sound = search rules;
+      tied = λ able. rw (
+        c.in_ok-clone.ensures.cases,
+        c.new.ensures,
+        c.new-2.ensures,
+        c.new-3.ensures,
+      ) (begun_tied net policies c.in_ok-plan.plan.placed c.in_ok-switches.switches.items
+          c.in_ok-controller.controller.marks c.requires.net c.requires.some c.requires.sound
+          c.requires.ports planned
+          (c.in_ok-switches.ensures c.in_ok-plan.plan c.in_ok-controller.ensures.first)
+          (ap (λ (controller : ControllerValue). controller.marks) c.in_ok-controller.ensures.first));
+    }
