@@ -1,0 +1,37 @@
+-- What messages name, computed on a network of two switches with one version.
+use Rattle.std.proofs.Common.{[], refl, arith}
+use Rattle.ctrl_msg.specs.declared.message.Body.TheVariants.{OpenAt, Stamp, Hello, Installed}
+use Rattle.update_machine.specs.Deliveries.{to_controller}
+use Rattle.update_machine.specs.Settling.{to_switch}
+use Rattle.update_machine.specs.Versions.{version_count}
+use Rattle.update_machine.proofs.Examples.{open_net}
+use Rattle.name_laws.specs.Named.{NamesThere}
+
+to_second : NamesThere open_net [] (to_switch 1 (Stamp 1 1))
+unfolding version_count
+to_second = record { addressed = (omega arith, refl); version = (omega arith, omega arith) }
+
+of_second : NamesThere open_net [] (to_controller (Hello 1 7))
+of_second = record { addressed = omega arith; version = tt }
+
+-- the network has no third switch
+not_to_third : NamesThere open_net [] (to_switch 2 (Stamp 1 1)) → ⊥
+not_to_third names = absurd (omega (arith, names.addressed.0))
+
+not_of_third : NamesThere open_net [] (to_controller (Hello 2 1)) → ⊥
+not_of_third names = absurd (omega (arith, names.addressed))
+
+-- no switch tells the controller to open, and none is told who speaks
+not_told_to_open : NamesThere open_net [] (to_controller (OpenAt 1 1)) → ⊥
+not_told_to_open names = absurd names.addressed
+
+not_a_hello_to_switch : NamesThere open_net [] (to_switch 1 (Hello 0 1)) → ⊥
+not_a_hello_to_switch names = cc names.addressed.1
+
+-- versions are counted from 1, and the second isn't there
+not_version_0 : NamesThere open_net [] (to_switch 1 (Stamp 1 0)) → ⊥
+not_version_0 names = absurd (omega (arith, names.version.0))
+
+not_version_2 : NamesThere open_net [] (to_controller (Installed 1 1 2)) → ⊥
+unfolding version_count
+not_version_2 names = absurd (omega (arith, names.version.1))

@@ -1,0 +1,56 @@
+-- What messages name: the switch that they are to or of, and the version of which they speak.
+use Rattle.std.specs.Prelude.{ℕ, ◌≡◌, ◌≤◌, Option, Some, None, List, All, IfSome}
+use Rattle.ctrl_msg.specs.declared.message.Body.{Body}
+use Rattle.ctrl_msg.specs.declared.message.Body.TheVariants.{Install, OpenAt, Stamp, Collect, CacheRule, Advertise, Hello, Installed, Stamped}
+use Rattle.ctrl_msg.specs.declared.message.Message.{Message}
+use Rattle.ctrl_msg.specs.declared.message.Receiver.{Receiver}
+use Rattle.ctrl_msg.specs.declared.message.Receiver.TheVariants as receiver
+use Rattle.journal.specs.declared.item.Item.{Item}
+use Rattle.steps.specs.Steps.{HasSwitch}
+use Rattle.update_machine.specs.Boots.{heard}
+use Rattle.update_machine.specs.Deliveries.{to_controller}
+use Rattle.update_machine.specs.Marks.{controller_heard}
+use Rattle.update_machine.specs.Messages.{message_of}
+use Rattle.update_machine.specs.Quiet.{speaker}
+use Rattle.update_machine.specs.Setting.{Setting}
+use Rattle.update_machine.specs.Settling.{to_switch}
+use Rattle.update_machine.specs.Versions.{version_count}
+
+-- the version of which a body speaks
+abbrev pub version_in : Body → Option ℕ
+version_in (Install boot tables) = Some tables.version
+version_in (OpenAt boot version) = Some version
+version_in (Stamp boot version) = Some version
+version_in (Collect boot version) = Some version
+version_in (CacheRule version word rule action) = Some version
+version_in (Advertise advert) = None
+version_in (Hello s boot) = None
+version_in (Installed s boot version) = Some version
+version_in (Stamped s boot version) = Some version
+
+-- there is a speaker, a switch of the network
+abbrev pub IsOfSwitch : Setting → Option (ℕ × ℕ) → Type 0
+IsOfSwitch setting None = ⊥
+IsOfSwitch setting (Some of) = HasSwitch setting.net of.0
+
+-- what is told to a switch is to one of the network, and what the controller is told is of one
+abbrev pub IsAddressed : Setting → Receiver → Body → Type 0
+IsAddressed setting (receiver.Switch s) body =
+    HasSwitch setting.net s × (speaker body ≡ None)
+IsAddressed setting receiver.Controller body = IsOfSwitch setting (speaker body)
+
+-- and its version is there
+pub record NamesThere (setting : Setting) (journal : List Item) (message : Message)
+    : Type 0 where
+  pub addressed : IsAddressed setting message.to message.body
+  pub version : IfSome (version_in message.body)
+      (λ version. (1 ≤ version) × (version ≤ version_count journal))
+
+-- so it is with all that was sent, and all that was heard
+pub record BodiesNameThere (setting : Setting) (journal : List Item) : Type 0 where
+  pub sent : (n : ℕ) (message : Message) → message_of journal n ≡ Some message
+      → NamesThere setting journal message
+  pub heard : (s : ℕ) → All (λ body. NamesThere setting journal (to_switch s body))
+      (heard journal s)
+  pub told : All (λ body. NamesThere setting journal (to_controller body))
+      (controller_heard journal)

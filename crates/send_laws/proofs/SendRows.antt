@@ -1,0 +1,43 @@
+-- Messages and numbers of small journals, computed.
+use Rattle.std.proofs.Common.{◌≡◌, ◌≤◌, ◌<◌, ◌-◌, ◌^◌, false, List, [], ◌∷◌, refl, arith}
+use Rattle.failover.specs.Adverts.{first_adverts, is_news}
+use Rattle.failover.specs.Masks.{has, mask_of, mask_where, switches}
+use Rattle.journal.specs.declared.item.Item.{Item}
+use Rattle.journal.specs.declared.item.Item.TheVariants as item
+use Rattle.steps.specs.declared.step.Step.TheVariants as step
+use Rattle.update_machine.specs.Adverts.{adverts_known, held_adverts, own_advert, own_seq}
+use Rattle.update_machine.specs.Boots.{boot_of, heard, is_up, serves}
+use Rattle.update_machine.specs.Deliveries.{link_changes}
+use Rattle.update_machine.specs.Links.{is_link_up, near}
+use Rattle.update_machine.specs.Messages.{next_message, sent_from}
+use Rattle.update_machine.specs.Pieces.{link_items, piece}
+use Rattle.update_machine.specs.Steps.{steps_in}
+use Rattle.update_machine.proofs.Examples.{open_net}
+use Rattle.send_laws.specs.Sends.{NumbersAreFew, NumbersFit, sent_count}
+
+-- ---- a link comes back: each end tells the other both adverts
+
+abbrev failed : List Item
+failed = item.Row 1 (step.LinkDown 0 1) ∷ item.LinkIs 0 1 false ∷ []
+
+four_sent : sent_count (piece open_net failed 2 (step.LinkUp 0 1)) ≡ 4
+unfolding piece link_items link_changes held_adverts adverts_known own_advert own_seq near
+    is_link_up serves is_up boot_of heard steps_in next_message sent_from first_adverts is_news has
+    mask_where switches mask_of
+four_sent = refl
+
+-- ---- the link failed without a message, so there may be one number more
+
+failed_numbers : own_seq open_net failed 0 ≡ 2
+unfolding own_seq near is_link_up serves is_up boot_of steps_in mask_of mask_where switches
+failed_numbers = refl
+
+-- ---- no boot begins without a message
+
+third_boot : NumbersAreFew open_net (item.Booted 0 3 ∷ []) → ⊥
+unfolding boot_of
+third_boot few = let limit : 3 ≤ 1 = few.boots 0 in omega arith
+
+last_boot : NumbersFit open_net (item.Booted 0 (2 ^ 32 - 1) ∷ []) → ⊥
+unfolding boot_of
+last_boot fit = let limit : 2 ^ 32 - 1 < 2 ^ 32 - 1 = fit.boots 0 in omega arith

@@ -1,0 +1,37 @@
+-- How many messages steps send, and how far boots and the sequence numbers of adverts rise with
+-- them: OSPF has a rule for a router that used up its sequence numbers (RFC 2328, section 12.1.6);
+-- here none is used up.
+use Rattle.std.specs.Prelude.{ℕ, ◌+◌, ◌-◌, ◌*◌, ◌^◌, ◌<◌, ◌≤◌, ◌==◌, if◌then◌else◌, List, length}
+use Rattle.journal.specs.declared.item.Item.{Item}
+use Rattle.steps.specs.declared.step.Step.{Step}
+use Rattle.update_machine.specs.Adverts.{own_seq}
+use Rattle.update_machine.specs.Boots.{boot_of}
+use Rattle.update_machine.specs.Folds.{count_of}
+use Rattle.update_machine.specs.Links.{near}
+use Rattle.update_machine.specs.Messages.{is_sending, next_message}
+use Rattle.update_machine.specs.Pieces.{piece}
+use Rattle.update_machine.specs.Setting.{Setting}
+
+-- how many messages were sent
+abbrev pub sent_count : List Item → ℕ
+sent_count items = count_of is_sending items
+
+-- whatever step comes next, it sends at most 10,000 messages
+abbrev pub StepsSendFew : Setting → List Item → Type 0
+StepsSendFew setting journal =
+    (row : ℕ) (step : Step) → sent_count (piece setting journal row step) ≤ 10_000
+
+-- each boot but the first one begins with a message; and of two changes of a switch's links one at
+-- least is told to somebody, as only of its last link that fails nobody hears
+pub record NumbersAreFew (setting : Setting) (journal : List Item) : Type 0 where
+  pub boots : (s : ℕ) → boot_of journal s ≤ sent_count journal + 1
+  pub seqs : (s : ℕ) → s < length setting.net.switches → own_seq setting journal s
+      ≤ 2 * sent_count journal + (if near setting journal s == 0 then 2 else 1)
+
+-- there is room for the next boot of each switch, for the next number of its own advert, and for
+-- the number of the next message, in 32 bits
+pub record NumbersFit (setting : Setting) (journal : List Item) : Type 0 where
+  pub sent : sent_count journal ≤ 1_000_000
+  pub message : next_message journal < 2 ^ 32
+  pub boots : (s : ℕ) → boot_of journal s < 2 ^ 32 - 1
+  pub seqs : (s : ℕ) → s < length setting.net.switches → own_seq setting journal s < 2 ^ 32 - 1

@@ -1,0 +1,31 @@
+//! The laws.
+ghost use Rattle.std.specs.Prelude.{List, []};
+ghost use Rattle.net_file.specs.Net.{IsNet};
+ghost use Rattle.update_machine.specs.Answers.{StepOfRow, after_steps};
+ghost use Rattle.update_machine.specs.Full.{HasRoom, HaveRoom};
+ghost use Rattle.update_machine.specs.Setting.{Setting};
+ghost use Rattle.boot_laws.specs.Always.{HoldsAlways, HoldsAtEnds};
+ghost use Rattle.send_laws.specs.Sends.{NumbersAreFew, NumbersFit, StepsSendFew};
+
+/// On a network, which has at most 64 switches and 256 links, each step sends at most 10,000
+/// messages.
+pub fn steps_send_few()
+    ensures { HoldsAlways (λ setting journal. IsNet setting.net
+        → StepsSendFew setting journal) }
+{}
+
+/// Behind each step, boots and the numbers of own adverts are few for the messages that were sent.
+pub fn numbers_are_few()
+    ensures { HoldsAtEnds (λ setting journal. IsNet setting.net
+        → NumbersAreFew setting journal) }
+{}
+
+/// Where a step may begin, and where each step began with room in the journal, all these numbers
+/// fit, and the next ones do.
+pub fn numbers_fit()
+    ensures before { (setting : Setting) (steps : List StepOfRow) → IsNet setting.net
+        → HasRoom (after_steps setting [] steps)
+        → NumbersFit setting (after_steps setting [] steps) }
+    ensures behind { (setting : Setting) (steps : List StepOfRow) → IsNet setting.net
+        → HaveRoom setting [] steps → NumbersFit setting (after_steps setting [] steps) }
+{}

@@ -1,0 +1,12 @@
+-- The steps by which the controller hears something or is told to do something.
+use Rattle.std.specs.Prelude.{Bool, true, false, List}
+use Rattle.journal.specs.declared.item.Item.{Item}
+use Rattle.steps.specs.declared.step.Step.{Step}
+use Rattle.steps.specs.declared.step.Step.TheVariants.{Deliver, Update, Confirm}
+use Rattle.update_machine.specs.Concerns.{is_message_to_controller}
+
+abbrev pub is_for_controller : List Item → Step → Bool
+is_for_controller before (Deliver number) = is_message_to_controller before number
+is_for_controller before (Update file) = true
+is_for_controller before (Confirm s) = true
+is_for_controller before _ = false

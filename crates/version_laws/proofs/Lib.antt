@@ -1,0 +1,4 @@
+pub mod Heard
+pub mod Serving
+pub mod Planned
+mod Trials

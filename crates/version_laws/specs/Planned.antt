@@ -1,0 +1,54 @@
+-- Versions and their plans: how many there are, and which tables switches have of them.
+use Rattle.std.specs.Prelude.{⊤, ℕ, ◌≡◌, ◌-◌, ◌≤◌, Some, List, All, IsOk, IsTrue, ◌++◌}
+use Rattle.ctrl_msg.specs.declared.message.Body.{Body}
+use Rattle.ctrl_msg.specs.declared.message.Body.TheVariants.{Install}
+use Rattle.switch_table.specs.declared.tables.Tables.{Tables}
+use Rattle.journal.specs.declared.item.Item.{Item}
+use Rattle.update_machine.specs.Boots.{heard}
+use Rattle.update_machine.specs.Marks.{most_live, most_versions, retired_mark}
+use Rattle.update_machine.specs.Messages.{message_of}
+use Rattle.update_machine.specs.Setting.{Setting, plan_of_file}
+use Rattle.update_machine.specs.Settling.{to_switch}
+use Rattle.update_machine.specs.Versions.{file_of, holds_version, tables_at, version_count}
+
+-- ---- versions
+
+-- the version has a file, whose policy has a plan
+pub record HasPlan (setting : Setting) (journal : List Item) (version : ℕ) : Type 0 where
+  pub file : ℕ
+  pub of : file_of journal version ≡ Some file
+  pub planned : IsOk (plan_of_file setting file)
+
+-- there are at most 64 versions, at most eight of which aren't retired; if the first policy has a
+-- plan, each of them has
+pub record VersionsArePlanned (setting : Setting) (journal : List Item) : Type 0 where
+  pub few : version_count journal ≤ most_versions
+  pub live : version_count journal - retired_mark journal ≤ most_live
+  pub planned : IsOk (plan_of_file setting 1) → (version : ℕ) → 1 ≤ version
+      → version ≤ version_count journal → HasPlan setting journal version
+
+-- ---- tables
+
+-- the tables are those that the plan of their version gives to the switch, and will be so however
+-- the journal goes on
+pub record AreTablesOf (setting : Setting) (journal : List Item) (s : ℕ) (installed : Tables)
+    : Type 0 where
+  pub first : 1 ≤ installed.version
+  pub last : installed.version ≤ version_count journal
+  pub planned : installed ≡ tables_at setting journal installed.version s
+  pub later : (items : List Item)
+      → installed ≡ tables_at setting (journal ++ items) installed.version s
+
+-- a body that brings tables brings the switch such
+abbrev pub BringsTables : Setting → List Item → ℕ → Body → Type 0
+BringsTables setting journal s (Install boot installed) = AreTablesOf setting journal s installed
+BringsTables setting journal s body = ⊤
+
+-- tables that were sent to a switch, and those that it heard; and a version that it holds is there
+pub record TablesArePlanned (setting : Setting) (journal : List Item) : Type 0 where
+  pub sent : (s boot n : ℕ) (installed : Tables)
+      → message_of journal n ≡ Some (to_switch s (Install boot installed))
+      → AreTablesOf setting journal s installed
+  pub heard : (s : ℕ) → All (BringsTables setting journal s) (heard journal s)
+  pub held : (s version : ℕ) → IsTrue (holds_version journal s version)
+      → (1 ≤ version) × (version ≤ version_count journal)

@@ -1,0 +1,23 @@
+-- Switches that serve hold what they stamp packets with. That a packet finds the tables of its
+-- version at each switch is the consistency of Reitblatt, Foster, Rexford, Schlesinger and Walker,
+-- "Abstractions for Network Update".
+use Rattle.std.specs.Prelude.{ℕ, ◌<◌, ◌≤◌, ◌⊎◌, List, length, IsTrue}
+use Rattle.journal.specs.declared.item.Item.{Item}
+use Rattle.update_machine.specs.Boots.{serves}
+use Rattle.update_machine.specs.Marks.{current_mark, retired_mark}
+use Rattle.update_machine.specs.Setting.{Setting}
+use Rattle.update_machine.specs.Versions.{holds_version, stamp_of}
+
+-- the switch holds the version of its stamp, and each one up to the current version that isn't
+-- below it; the stamp isn't retired, and isn't above the current version
+pub record HoldsStamp (journal : List Item) (s : ℕ) : Type 0 where
+  pub stamp : IsTrue (holds_version journal s (stamp_of journal s))
+  pub held : (version : ℕ) → version ≤ current_mark journal →
+      IsTrue (holds_version journal s version) ⊎ (version < stamp_of journal s)
+  pub retired : retired_mark journal < stamp_of journal s
+  pub current : stamp_of journal s ≤ current_mark journal
+
+-- each switch of the network does so while it serves
+abbrev pub ServingHold : Setting → List Item → Type 0
+ServingHold setting journal = (s : ℕ) → s < length setting.net.switches
+    → IsTrue (serves journal s) → HoldsStamp journal s
