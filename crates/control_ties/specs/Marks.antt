@@ -1,0 +1,33 @@
+-- The controller's marks, as a journal says them: how many versions there are, the current and the
+-- last retired one, and what each switch acknowledged, in the two-phase update of Reitblatt,
+-- Foster, Rexford, Schlesinger and Walker, "Abstractions for Network Update", SIGCOMM 2012.
+use Rattle.std.specs.Prelude.{ℕ, ◌≡◌, ◌<◌, ◌≤◌, IsTrue, IsFalse, List, length}
+use Rattle.journal.specs.declared.item.Item.{Item}
+use Rattle.update_machine.specs.Marks as machine
+use Rattle.update_machine.specs.Setting.{Setting}
+use Rattle.update_machine.specs.Versions.{version_count}
+use Rattle.version_update.specs.Marks.{MarksValue, record_of}
+use Rattle.version_update.specs.Record.{has_acked, is_member, is_over}
+use Rattle.version_update.specs.declared.record.SwitchRecord.{SwitchRecord}
+
+-- what is known of a switch is what the journal says: its boot, and whether it is over or a member;
+-- while it isn't over, which versions it acknowledged; and of a member at which version it opened,
+-- and with which it is known to stamp
+pub record IsKnown (items : List Item) (s : ℕ) (known : SwitchRecord) : Type 0 where
+  pub boot : known.boot ≡ machine.known_boot items s
+  pub over : is_over known.phase ≡ machine.is_over items s
+  pub member : is_member known.phase ≡ machine.is_member items s
+  pub acked : IsFalse (machine.is_over items s) →
+      (v : ℕ) → 1 ≤ v → has_acked known v ≡ machine.has_acked items s v
+  pub opened : IsTrue (machine.is_member items s) →
+      known.open_version ≡ machine.open_version items s
+  pub stamp : IsTrue (machine.is_member items s) →
+      known.acked_stamp ≡ machine.acked_stamp items s
+
+-- the marks are those that the journal says
+pub record AreMarksOf (setting : Setting) (items : List Item) (marks : MarksValue) : Type 0 where
+  pub count : marks.count ≡ version_count items
+  pub current : marks.current ≡ machine.current_mark items
+  pub retired : marks.retired ≡ machine.retired_mark items
+  pub many : length marks.switches ≡ length setting.net.switches
+  pub each : (s : ℕ) → s < length marks.switches → IsKnown items s (record_of marks s)

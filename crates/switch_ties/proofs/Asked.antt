@@ -1,0 +1,212 @@
+-- What the calls of a switch ask of it holds, by the laws of versions, tables, boots and adverts.
+use Rattle.std.proofs.Common.{ℕ, zero, suc, ◌≡◌, ◌-◌, ◌^◌, ◌<◌, ◌==◌, Bool, true, false, ◌&&◌, ◌||◌, if◌then◌else◌, Option, Some, None, List, [], ◌∷◌, length, map, get_or, refl, ap, sym, subst, ◌∙◌, arith, All}
+use Rattle.std.specs.Prelude.{IsFalse, IsTrue, filter, find, slice_get}
+use Rattle.std.specs.List.{AllByRecursion, list_any}
+use Rattle.std.specs.Option.{IfSome, IsSomeAnd}
+use Rattle.std.proofs.lemmas.Bool.{eq-eqb, eqb-true}
+use Rattle.std.proofs.lemmas.List.{get_or-map, length-map}
+use Rattle.std.proofs.lemmas.List.Elements.{recursion_from_All}
+use Rattle.std.proofs.lemmas.Option.{slice_get-get_or}
+use Rattle.ctrl_msg.specs.declared.message.Body.{Body}
+use Rattle.ctrl_msg.specs.declared.message.Body.TheVariants.{Install}
+use Rattle.five_tuple.specs.declared.header.Header.{Header}
+use Rattle.partition.specs.Plan.{IsPlan}
+use Rattle.policy_rules.specs.Partitions.{AreNumbered, is_in}
+use Rattle.policy_rules.specs.declared.packet.Leg.{Leg}
+use Rattle.policy_rules.specs.declared.packet.Leg.TheVariants.{Seek, Exit}
+use Rattle.policy_rules.specs.declared.policy.Row.{Row}
+use Rattle.policy_rules.specs.declared.rules.Partition.{Partition}
+use Rattle.journal.specs.declared.item.Item.{Item}
+use Rattle.switch_core.specs.Answering.{CanLookUp, IsAtAuthority}
+use Rattle.switch_core.specs.Deciding.{own_part}
+use Rattle.switch_core.specs.Hearing.{IsSoundBody}
+use Rattle.switch_core.specs.State.{held_tables, holds_version, serves}
+use Rattle.switch_core.proofs.SwitchLaws.{heard_keeps}
+use Rattle.switch_table.specs.Tables.{AreSoundTables, Placed, has_target, part_of, tables_of}
+use Rattle.switch_table.specs.declared.tables.Tables.{Tables}
+use Rattle.update_machine.specs.Boots.{is_up, serves as serves_in}
+use Rattle.update_machine.specs.Messages.{message_of}
+use Rattle.update_machine.specs.Setting.{Setting}
+use Rattle.update_machine.specs.Settling.{to_switch}
+use Rattle.update_machine.specs.Versions.{plan_at, stamp_of}
+use Rattle.boot_laws.specs.BootLaws.{ServingIsKnown}
+use Rattle.send_laws.specs.Sends.{NumbersFit}
+use Rattle.version_laws.specs.Serving.{ServingHold}
+use Rattle.switch_ties.specs.Asked.{AskedTies, CanReceive, CanRestart, EndsAt, HasNextSeq, IsSoughtAt}
+use Rattle.switch_ties.specs.Knowing.{TablesAreKnown}
+use Rattle.switch_ties.specs.SwitchOf.{switch_of}
+use Rattle.switch_ties.proofs.Knowing.{held_shown, planned, planned_tables, tables_sound}
+use Rattle.switch_ties.proofs.Words.{stamp_shown}
+
+-- ---- tables
+
+sound_body : (setting : Setting) (journal : List Item) (n s : ℕ) (body : Body)
+    → TablesAreKnown setting journal → message_of journal n ≡ Some (to_switch s body)
+    → IsSoundBody body
+sound_body setting journal n s (Install boot tables) known sent =
+    let are = known.tables.sent s boot n tables sent in
+    subst AreSoundTables (sym are.planned)
+    (tables_sound setting journal tables.version s known are.first are.last)
+sound_body setting journal n s _ known sent = tt
+
+-- ---- numbers
+
+next_seq : (setting : Setting) (journal : List Item) (s : ℕ) → NumbersFit setting journal
+    → s < length setting.net.switches → HasNextSeq (switch_of setting journal s)
+unfolding switch_of
+next_seq setting journal s fit there = record {
+  now = fit.seqs s there;
+  then = λ n body. subst (λ k. k < 2 ^ 32 - 1)
+      (sym (heard_keeps (switch_of setting journal s) n body).seq) (fit.seqs s there);
+}
+
+restarts : (setting : Setting) (journal : List Item) (s : ℕ) → NumbersFit setting journal
+    → IsFalse (is_up journal s) → CanRestart (switch_of setting journal s)
+unfolding switch_of
+restarts setting journal s fit down = record { down = down; boot = fit.boots s }
+
+-- ---- lookups
+
+open_shown : (setting : Setting) (journal : List Item) (s : ℕ)
+    → serves (switch_of setting journal s) ≡ (is_up journal s && serves_in journal s)
+unfolding switch_of
+open_shown setting journal s = refl
+
+both : (a b : Bool) → (a && b) ≡ true → b ≡ true
+both true b is = is
+both false b is = absurd cc
+
+pub looks_up : (setting : Setting) (journal : List Item) (s : ℕ) → ServingHold setting journal
+    → s < length setting.net.switches → CanLookUp (switch_of setting journal s)
+looks_up setting journal s hold there serving =
+    let opened : IsTrue (serves_in journal s) = both (is_up journal s) (serves_in journal s)
+    (sym (open_shown setting journal s) ∙ serving) in
+    subst (λ stamp. IsTrue (holds_version (switch_of setting journal s) stamp))
+    (sym (stamp_shown setting journal s))
+    (held_shown setting journal s (stamp_of journal s) ∙ (hold s there opened).stamp)
+
+-- ---- at an authority
+
+any_at : {X : Type 0} (test : X → Bool) (xs : List X) (k : ℕ) (x : X) → slice_get xs k ≡ Some x
+    → test x ≡ true → list_any test xs ≡ true
+any_at test [] k x there passes = absurd cc
+any_at test (y ∷ ys) zero x there passes =
+    let same : y ≡ x = cc in
+    let here : test y ≡ true = ap test same ∙ passes in
+    rw here refl
+any_at test (y ∷ ys) (suc k) x there passes =
+    ap (λ b. test y || b) (any_at test ys k x there passes) ∙ true_last (test y)
+  where
+    true_last : (b : Bool) → (b || true) ≡ true
+    true_last true = refl
+    true_last false = refl
+
+-- where each partition of the number has the header, the switch's own one has it
+own_found : (s partition : ℕ) (header : Header) (plan : List Placed)
+    → AllByRecursion
+    (λ placed. placed.0.number ≡ partition → IsTrue (is_in header (part_of placed)))
+    plan
+    → list_any (λ placed. (placed.0.number == partition) && has_target s placed) plan ≡ true
+    → IsSomeAnd (find (λ (part : Partition). part.number == partition)
+    (map part_of (filter (has_target s) plan))) (λ part. IsTrue (is_in header part))
+own_found s partition header [] all there = absurd cc
+own_found s partition header (placed ∷ plan) all there =
+    by_test (own_found s partition header plan all.1) (placed.0.number == partition) refl
+    (has_target s placed) refl there
+  where
+    Found : List Partition → Type 0
+    Found parts = IsSomeAnd (find (λ (part : Partition). part.number == partition) parts)
+        (λ part. IsTrue (is_in header part))
+
+    rest : List Partition
+    rest = map part_of (filter (has_target s) plan)
+
+    any : Bool
+    any = list_any (λ placed. (placed.0.number == partition) && has_target s placed) plan
+
+    by_test : (any ≡ true → Found rest) → (own : Bool) → (placed.0.number == partition) ≡ own
+        → (b : Bool) → has_target s placed ≡ b → ((own && b) || any) ≡ true
+        → Found (map part_of (if b then placed ∷ filter (has_target s) plan
+        else filter (has_target s) plan))
+    by_test found true is true e there =
+        rw is (all.0 (eqb-true placed.0.number partition is))
+    by_test found true is false e there = found there
+    by_test found false is true e there = rw is (found there)
+    by_test found false is false e there = found there
+
+-- a partition of this number is the one at its place
+one_of_number : (plan : List Placed) (partition : ℕ) (placed : Placed) (header : Header)
+    → AreNumbered (map part_of plan) → slice_get plan partition ≡ Some placed
+    → IsTrue (is_in header (part_of placed))
+    → All (λ each. each.0.number ≡ partition → IsTrue (is_in header (part_of each))) plan
+one_of_number plan partition placed header numbers there holds k d within is =
+    let each : Placed = get_or plan k d in
+    let fits : k < length (map part_of plan) = omega (arith, within, length-map plan part_of) in
+    let number : each.0.number ≡ k =
+    ap (λ (p : Partition). p.number) (sym (get_or-map part_of plan k d (part_of d) within))
+    ∙ numbers k (part_of d) fits in
+    let at : slice_get plan partition ≡ Some each =
+    ap (slice_get plan) (sym is ∙ number) ∙ slice_get-get_or plan k d within in
+    let both : Some placed ≡ Some each = sym there ∙ at in
+    let same : placed ≡ each = cc in
+    subst (λ one. IsTrue (is_in header (part_of one))) same holds
+
+at_authority : (setting : Setting) (journal : List Item) (s : ℕ) (header : Header)
+    (version partition : ℕ) → TablesAreKnown setting journal
+    → IsSoughtAt setting journal s header version partition
+    → IsAtAuthority (switch_of setting journal s) header (Seek version partition)
+at_authority setting journal s header version partition known sought =
+    by_held (held_tables (switch_of setting journal s) version) refl
+  where
+    plan : List Placed
+    plan = plan_at setting journal version
+
+    own : (rows : List Row) → IsPlan rows setting.net plan
+        → IsSomeAnd (own_part (tables_of plan version s) partition)
+        (λ part. IsTrue (is_in header part))
+    own rows holds =
+        let numbered : (sought.placed.0.number == partition) ≡ true =
+        eq-eqb sought.placed.0.number partition sought.number in
+        own_found s partition header plan
+        (recursion_from_All
+        (λ each. each.0.number ≡ partition → IsTrue (is_in header (part_of each))) plan
+        (one_of_number plan partition sought.placed header holds.sound.numbers sought.found
+        sought.holds))
+        (any_at (λ placed. (placed.0.number == partition) && has_target s placed) plan partition
+        sought.placed sought.found (rw numbered sought.target))
+
+    by_held : (o : Option Tables) → held_tables (switch_of setting journal s) version ≡ o
+        → IfSome o (λ tables. IsSomeAnd (own_part tables partition)
+        (λ part. IsTrue (is_in header part)))
+    by_held None none = tt
+    by_held (Some tables) is =
+        let are = planned_tables setting journal s version tables known is in
+        let of = planned setting journal version known are.1 are.2 in
+        subst (λ (t : Tables). IsSomeAnd (own_part t partition)
+        (λ part. IsTrue (is_in header part)))
+        (sym are.0) (own of.rows of.plan)
+
+receives : (setting : Setting) (journal : List Item) (s : ℕ) (header : Header) (leg : Leg)
+    → TablesAreKnown setting journal → ServingIsKnown journal → ServingHold setting journal
+    → s < length setting.net.switches → IsTrue (serves_in journal s)
+    → EndsAt setting journal s header leg → CanReceive (switch_of setting journal s) header leg
+receives setting journal s header leg known serving hold there opened ends = record {
+  serving = open_shown setting journal s ∙ rw (serving.up s opened, opened) refl;
+  stamped = looks_up setting journal s hold there;
+  authority = by_leg leg ends;
+}
+  where
+    by_leg : (leg : Leg) → EndsAt setting journal s header leg
+        → IsAtAuthority (switch_of setting journal s) header leg
+    by_leg (Seek version partition) ends =
+        at_authority setting journal s header version partition known ends
+    by_leg (Exit port) ends = tt
+
+pub asked_ties : AskedTies
+asked_ties = record {
+  hear = sound_body;
+  near_changed = next_seq;
+  restart = restarts;
+  enter = looks_up;
+  arrive = receives;
+}

@@ -1,0 +1,171 @@
+-- What one item makes of the words of a switch.
+use Rattle.std.proofs.Common.{ℕ, ◌≡◌, ◌==◌, Bool, true, false, ◌&&◌, if◌then◌else◌, Option, Some, None, unwrap_or, List, [], ◌∷◌, ◌++◌, refl, ap, ◌∙◌}
+use Rattle.std.specs.Prelude.{IsFalse, ◌||◌}
+use Rattle.std.specs.Option.{option_map_or}
+use Rattle.std.proofs.lemmas.Bool.{eq-eqb}
+use Rattle.ctrl_msg.specs.declared.message.Body.{Body}
+use Rattle.journal.specs.declared.item.Item.{Item}
+use Rattle.journal.specs.declared.item.Item.TheVariants as item
+use Rattle.switch_table.specs.Cache.{expired}
+use Rattle.update_machine.specs.Adverts.{own_seq}
+use Rattle.update_machine.specs.Boots.{boot_of, heard, is_up, said_to, serves}
+use Rattle.update_machine.specs.Caches.{cache_after, cache_of, changes_cache}
+use Rattle.update_machine.specs.Concerns.{NoneConcern, concerns_known, concerns_links, concerns_switch}
+use Rattle.update_machine.specs.Handled.{handled_count}
+use Rattle.update_machine.specs.Links.{near}
+use Rattle.update_machine.specs.Setting.{Setting}
+use Rattle.update_machine.specs.Versions.{stamp_of}
+use Rattle.update_machine.proofs.CallerLemmas.{calls_stay, fewer, folded_append, links_keep, switch_keeps}
+use Rattle.boot_laws.proofs.Grown.{boot_more, heard_more, serving_more, up_more}
+use Rattle.switch_ties.proofs.Hearing.{heard_words}
+use Rattle.switch_ties.proofs.Words.{Words, stamp_by, words_of}
+
+-- ---- items that concern neither the switch nor the links
+
+left : (a b : Bool) → IsFalse (a || b) → IsFalse a
+left true b none = none
+left false b none = refl
+
+right : (a b : Bool) → IsFalse (a || b) → IsFalse b
+right true b none = absurd cc
+right false b none = none
+
+-- they leave its words as they are, but for its calls
+pub words_kept : (setting : Setting) (s : ℕ) (before items : List Item)
+    → NoneConcern (concerns_known s) before items
+    → words_of setting (before ++ items) s
+    ≡ record (words_of setting before s) { handled = handled_count (before ++ items) s }
+words_kept setting s before items none =
+    let own = switch_keeps setting s before items
+    (fewer (concerns_switch s) (concerns_known s)
+    (λ js item. left (concerns_switch s js item) (concerns_links js item)) before items none) in
+    let links = links_keep setting before items
+    (fewer concerns_links (concerns_known s)
+    (λ js item. right (concerns_switch s js item) (concerns_links js item)) before items none) in
+    let boot = own.boot in
+    let up = own.up in
+    let serving = own.serving in
+    let bodies = own.heard in
+    let cache = own.cache in
+    let seq = links.seq s in
+    let near = links.near s in
+    rw (boot, up, serving, bodies, cache, seq, near) refl
+
+-- ---- the cache
+
+pub cache_more : (setting : Setting) (before : List Item) (next : Item) (s : ℕ)
+    → cache_of setting (before ++ next ∷ []) s
+    ≡ changes_cache s before (cache_of setting before s) next
+unfolding cache_of
+cache_more setting before next s =
+    folded_append (changes_cache s) (record { entries = []; capacity = setting.net.cache }) before
+    (next ∷ [])
+
+-- ---- a delivery
+
+stamp_is : (journal : List Item) (s : ℕ)
+    → stamp_of journal s ≡ stamp_by (is_up journal s && boot_of journal s == 1) (heard journal s)
+unfolding stamp_of
+stamp_is journal s = refl
+
+-- a message that says nothing to the switch leaves its words, and a body that is said is heard
+pub words_delivered : (setting : Setting) (before : List Item) (s n : ℕ) (said : Option Body)
+    → said_to before s n ≡ said
+    → let w = words_of setting before s in
+    words_of setting (before ++ item.Delivered n ∷ []) s
+    ≡ option_map_or (λ body. heard_words n body (w.up && w.boot == 1) w) said w
+words_delivered setting before s n said is =
+    let next : Item = item.Delivered n in
+    let now : List Item = before ++ next ∷ [] in
+    let boot : boot_of now s ≡ boot_of before s = boot_more before next s in
+    let up : is_up now s ≡ is_up before s = up_more before next s in
+    let serving : serves now s ≡ serves before s = serving_more before next s in
+    let keep = links_keep setting before (next ∷ []) (refl, tt) in
+    let seq : own_seq setting now s ≡ own_seq setting before s = keep.seq s in
+    let near : near setting now s ≡ near setting before s = keep.near s in
+    let handled : handled_count now s ≡ handled_count before s =
+    calls_stay s before (next ∷ []) (refl, tt) in
+    let bodies : heard now s
+    ≡ option_map_or (λ body. heard before s ++ body ∷ []) said (heard before s) =
+    heard_more before next s
+    ∙ ap (λ o. option_map_or (λ body. heard before s ++ body ∷ []) o (heard before s)) is in
+    let cache : cache_of setting now s
+    ≡ option_map_or (cache_after (stamp_of before s) (stamp_of now s) n (cache_of setting before s))
+    said (cache_of setting before s) =
+    cache_more setting before next s
+    ∙ ap (λ o. option_map_or (cache_after (stamp_of before s) (stamp_of now s) n
+    (cache_of setting before s)) o (cache_of setting before s)) is in
+    let stamp : stamp_of now s ≡ stamp_by (is_up before s && boot_of before s == 1)
+    (option_map_or (λ body. heard before s ++ body ∷ []) said (heard before s)) =
+    stamp_is now s ∙ rw (up, boot, bodies) refl in
+    let earlier : stamp_of before s
+    ≡ stamp_by (is_up before s && boot_of before s == 1) (heard before s) = stamp_is before s in
+    rw (boot, up, serving, seq, near, handled, bodies, cache, stamp, earlier) (by_said said)
+  where
+    w : Words
+    w = words_of setting before s
+
+    first : Bool
+    first = w.up && w.boot == 1
+
+    by_said : (said : Option Body)
+        → record w {
+          bodies = option_map_or (λ body. w.bodies ++ body ∷ []) said w.bodies;
+          cache = option_map_or (cache_after (stamp_by first w.bodies) (stamp_by first
+              (option_map_or (λ body. w.bodies ++ body ∷ []) said w.bodies)) n w.cache) said
+              w.cache;
+        }
+        ≡ option_map_or (λ body. heard_words n body first w) said w
+    by_said None = refl
+    by_said (Some body) = refl
+
+-- ---- an opening
+
+-- it serves, and the links may be others
+pub words_opened : (setting : Setting) (before : List Item) (s v : ℕ)
+    → let now = before ++ item.Opened s v ∷ [] in
+    words_of setting now s
+    ≡ record (words_of setting before s) {
+      serving = true;
+      seq = own_seq setting now s;
+      links = near setting now s;
+    }
+words_opened setting before s v =
+    let next : Item = item.Opened s v in
+    let now : List Item = before ++ next ∷ [] in
+    let boot : boot_of now s ≡ boot_of before s = boot_more before next s in
+    let up : is_up now s ≡ is_up before s = up_more before next s in
+    let serving : serves now s ≡ true =
+    serving_more before next s
+    ∙ ap (λ b. unwrap_or (if b then Some true else None) (serves before s)) (eq-eqb s s refl) in
+    let bodies : heard now s ≡ heard before s = heard_more before next s in
+    let cache : cache_of setting now s ≡ cache_of setting before s =
+    cache_more setting before next s in
+    let handled : handled_count now s ≡ handled_count before s =
+    calls_stay s before (next ∷ []) (refl, tt) in
+    rw (boot, up, serving, bodies, cache, handled) refl
+
+-- ---- a timeout
+
+pub words_expired : (setting : Setting) (before : List Item) (s place message : ℕ)
+    → words_of setting (before ++ item.Expired s place message ∷ []) s
+    ≡ record (words_of setting before s) {
+      cache = expired place (cache_of setting before s);
+    }
+words_expired setting before s place message =
+    let next : Item = item.Expired s place message in
+    let now : List Item = before ++ next ∷ [] in
+    let boot : boot_of now s ≡ boot_of before s = boot_more before next s in
+    let up : is_up now s ≡ is_up before s = up_more before next s in
+    let serving : serves now s ≡ serves before s = serving_more before next s in
+    let bodies : heard now s ≡ heard before s = heard_more before next s in
+    let keep = links_keep setting before (next ∷ []) (refl, tt) in
+    let seq : own_seq setting now s ≡ own_seq setting before s = keep.seq s in
+    let near : near setting now s ≡ near setting before s = keep.near s in
+    let handled : handled_count now s ≡ handled_count before s =
+    calls_stay s before (next ∷ []) (refl, tt) in
+    let cache : cache_of setting now s ≡ expired place (cache_of setting before s) =
+    cache_more setting before next s
+    ∙ ap (λ b. if b then expired place (cache_of setting before s) else cache_of setting before s)
+    (eq-eqb s s refl) in
+    rw (boot, up, serving, bodies, seq, near, handled, cache) refl

@@ -1,0 +1,188 @@
+-- A switch that goes down and one that boots have forgotten what they learnt.
+use Rattle.std.proofs.Common.{ℕ, zero, suc, ◌≡◌, ◌+◌, ◌<◌, ◌≤◌, ◌==◌, Bool, true, false, if◌then◌else◌, Option, Some, None, unwrap_or, List, [], ◌∷◌, ◌++◌, set, refl, ap, sym, ◌∙◌, arith}
+use Rattle.std.specs.Prelude.{count_by, option_map, replicate, slice_get}
+use Rattle.std.proofs.lemmas.Bool.{eq-eqb, ne_eqb}
+use Rattle.failover.specs.Adverts.{no_adverts}
+use Rattle.journal.specs.declared.item.Item.{Item}
+use Rattle.journal.specs.declared.item.Item.TheVariants as item
+use Rattle.switch_core.specs.Life.{crashed, entry_expired, restarted}
+use Rattle.switch_core.specs.State.{SwitchValue}
+use Rattle.switch_table.specs.Cache.{cleared}
+use Rattle.switch_table.specs.declared.cache.CacheEntry.{CacheEntry}
+use Rattle.update_machine.specs.Adverts.{has_change, own_seq}
+use Rattle.update_machine.specs.Boots.{boot_of, heard, is_up, serves}
+use Rattle.update_machine.specs.Caches.{cache_of}
+use Rattle.update_machine.specs.Causes.{HaveCauses}
+use Rattle.update_machine.specs.Handled.{handled_count}
+use Rattle.update_machine.specs.Links.{near}
+use Rattle.update_machine.specs.Pieces.{expire_items, nothing}
+use Rattle.update_machine.specs.Setting.{Setting}
+use Rattle.update_machine.specs.Steps.{steps_in}
+use Rattle.update_machine.proofs.CallerLemmas.{calls_stay, start_laws}
+use Rattle.boot_laws.specs.ItemCauses.{HasItemCause}
+use Rattle.boot_laws.proofs.Boots.{boot_rises}
+use Rattle.boot_laws.proofs.Facts.{fact_on}
+use Rattle.boot_laws.proofs.Grown.{boot_more, heard_more, serving_more, up_more}
+use Rattle.advert_laws.proofs.OwnAdverts.{seq_is}
+use Rattle.send_laws.proofs.Numbers.{began_on, down_none, none_counted, steps_past}
+use Rattle.switch_ties.specs.Life.{LifeTies, expired_by, message_at}
+use Rattle.switch_ties.specs.SwitchOf.{switch_of}
+use Rattle.switch_ties.proofs.Items.{cache_more, words_expired}
+use Rattle.switch_ties.proofs.Words.{Words, by_words, switch_by, switch_in, switch_is, words_of}
+
+-- ---- what is forgotten
+
+-- the words of a switch that forgot what it learnt
+abbrev blank : Words → ℕ → Bool → ℕ → Words
+blank w boot up links = record {
+  boot = boot;
+  up = up;
+  serving = false;
+  bodies = [];
+  cache = cleared w.cache;
+  seq = 0;
+  links = links;
+  handled = w.handled;
+}
+
+same_set : {X : Type 0} (x : X) (n i : ℕ) → set (replicate n x) i x ≡ replicate n x
+same_set x zero i = refl
+same_set x (suc n) zero = refl
+same_set x (suc n) (suc i) = ap (λ rest. x ∷ rest) (same_set x n i)
+
+none_set : (s : ℕ) → set no_adverts s None ≡ no_adverts
+none_set s = same_set None 64 s
+
+-- behind its first boot it is as a switch that crashed, but for its boot and whether it is up
+forgets : (setting : Setting) (s : ℕ) (w : Words) (boot : ℕ) (up : Bool) (links : ℕ)
+    → switch_in setting s (blank w boot up links) false
+    ≡ record (crashed (switch_by setting s w)) { boot = boot; is_up = up }
+forgets setting s w boot up links =
+    ap (λ adverts. record (crashed (switch_by setting s w)) {
+      boot = boot;
+      is_up = up;
+      database = adverts;
+    }) (none_set s)
+
+-- ---- a crash
+
+pub crash_is : (setting : Setting) (journal : List Item) (s : ℕ)
+    → switch_of setting (journal ++ item.Down s ∷ []) s ≡ crashed (switch_of setting journal s)
+crash_is setting journal s =
+    let next : Item = item.Down s in
+    let now : List Item = journal ++ next ∷ [] in
+    let own : (s == s) ≡ true = eq-eqb s s refl in
+    let boot : boot_of now s ≡ boot_of journal s = boot_more journal next s in
+    let up : is_up now s ≡ false =
+    up_more journal next s
+    ∙ ap (λ b. unwrap_or (if b then Some false else None) (is_up journal s)) own in
+    let serving : serves now s ≡ false =
+    serving_more journal next s
+    ∙ ap (λ b. unwrap_or (if b then Some false else None) (serves journal s)) own in
+    let bodies : heard now s ≡ [] =
+    heard_more journal next s ∙ ap (λ b. if b then [] else heard journal s) own in
+    let cache : cache_of setting now s ≡ cleared (cache_of setting journal s) =
+    cache_more setting journal next s
+    ∙ ap (λ b. if b then cleared (cache_of setting journal s) else cache_of setting journal s)
+    own in
+    let seq : own_seq setting now s ≡ 0 = down_none setting now s up in
+    let handled : handled_count now s ≡ handled_count journal s =
+    calls_stay s journal (next ∷ []) (refl, tt) in
+    let words : words_of setting now s
+    ≡ blank (words_of setting journal s) (boot_of journal s) false (near setting now s) =
+    rw (boot, up, serving, bodies, cache, seq, handled) refl in
+    by_words setting now s _ words
+    ∙ forgets setting s (words_of setting journal s) (boot_of journal s) false (near setting now s)
+    ∙ ap crashed (sym (switch_is setting journal s))
+
+-- ---- a boot
+
+-- boots are counted from 1
+first_boot : (setting : Setting) (journal : List Item)
+    → HaveCauses (HasItemCause setting) [] journal → (s : ℕ) → 1 ≤ boot_of journal s
+first_boot setting journal have s =
+    fact_on (HasItemCause setting) (λ js. 1 ≤ boot_of js s)
+    (λ before next cause one. omega (arith, one, boot_rises setting before next s cause)) []
+    journal have (omega (arith, start_laws.boot s))
+
+pub restart_is : (setting : Setting) (journal : List Item) (s : ℕ)
+    → HaveCauses (HasItemCause setting) [] journal
+    → switch_of setting (journal ++ item.Booted s (boot_of journal s + 1) ∷ []) s
+    ≡ restarted (switch_of setting journal s)
+restart_is setting journal s have =
+    let next : Item = item.Booted s (boot_of journal s + 1) in
+    let now : List Item = journal ++ next ∷ [] in
+    let own : (s == s) ≡ true = eq-eqb s s refl in
+    let boot : boot_of now s ≡ boot_of journal s + 1 =
+    boot_more journal next s
+    ∙ ap (λ b. unwrap_or (if b then Some (boot_of journal s + 1) else None) (boot_of journal s))
+    own in
+    let up : is_up now s ≡ true =
+    up_more journal next s
+    ∙ ap (λ b. unwrap_or (if b then Some true else None) (is_up journal s)) own in
+    let serving : serves now s ≡ false =
+    serving_more journal next s
+    ∙ ap (λ b. unwrap_or (if b then Some false else None) (serves journal s)) own in
+    let bodies : heard now s ≡ [] =
+    heard_more journal next s ∙ ap (λ b. if b then [] else heard journal s) own in
+    let cache : cache_of setting now s ≡ cleared (cache_of setting journal s) =
+    cache_more setting journal next s
+    ∙ ap (λ b. if b then cleared (cache_of setting journal s) else cache_of setting journal s)
+    own in
+    let later : (boot_of journal s + 1 == 1) ≡ false =
+    ne_eqb (boot_of journal s + 1) 1 (λ same. absurd (omega (
+      arith,
+      same,
+      first_boot setting journal have s,
+    ))) in
+    let past = (steps_past setting journal have).past s in
+    let below : boot_of journal s < boot_of now s = omega (arith, boot) in
+    let seq : own_seq setting now s ≡ 0 =
+    seq_is setting now s up
+    ∙ ap (λ b. count_by (has_change setting s (boot_of now s)) (steps_in now)
+    + (if b then 1 else 0)) (ap (λ k. k == 1) boot ∙ later)
+    ∙ ap (λ k. k + 0) (none_counted setting s (boot_of journal s) (boot_of now s) (steps_in now)
+    below (began_on s (boot_of journal s) journal next (omega arith) past)) in
+    let handled : handled_count now s ≡ handled_count journal s =
+    calls_stay s journal (next ∷ []) (refl, tt) in
+    let words : words_of setting now s
+    ≡ blank (words_of setting journal s) (boot_of journal s + 1) true (near setting now s) =
+    rw (boot, up, serving, bodies, cache, seq, handled) refl in
+    by_words setting now s _ words
+    ∙ ap (switch_in setting s (blank (words_of setting journal s) (boot_of journal s + 1) true
+    (near setting now s))) later
+    ∙ forgets setting s (words_of setting journal s) (boot_of journal s + 1) true
+    (near setting now s)
+    ∙ ap restarted (sym (switch_is setting journal s))
+
+-- ---- a timeout
+
+pub expiry_is : (setting : Setting) (journal : List Item) (s place message : ℕ)
+    → switch_of setting (journal ++ item.Expired s place message ∷ []) s
+    ≡ entry_expired (switch_of setting journal s) place
+expiry_is setting journal s place message =
+    by_words setting (journal ++ item.Expired s place message ∷ []) s _
+    (words_expired setting journal s place message)
+    ∙ ap (λ (switch : SwitchValue). entry_expired switch place)
+    (sym (switch_is setting journal s))
+
+expires_as : (setting : Setting) (journal : List Item) (s place : ℕ)
+    → expire_items setting s place journal ≡ expired_by s place (message_at setting journal s place)
+unfolding expire_items switch_of
+expires_as setting journal s place =
+    by_entry (slice_get (cache_of setting journal s).entries place)
+  where
+    by_entry : (o : Option CacheEntry) → elim o [
+      | None ↦ nothing
+      | Some entry ↦ item.Expired s place entry.message ∷ []
+    ] ≡ expired_by s place (option_map (λ entry. entry.message) o)
+    by_entry None = refl
+    by_entry (Some entry) = refl
+
+pub life_ties : LifeTies
+life_ties = record {
+  crash = crash_is;
+  restart = λ setting journal s have. restart_is setting journal s have;
+  expiry = expiry_is;
+  expires = expires_as;
+}
