@@ -1,0 +1,11 @@
+mod Links
+mod Tally
+mod Routes
+mod Waiting
+mod Flushing
+mod Told
+mod Acts
+mod Within
+mod Ready
+mod Draining
+mod Playing

@@ -1,0 +1,73 @@
+-- Whether a travelling packet was told to hop, and its switch has yet to do so: what each item
+-- makes of that.
+use Rattle.std.proofs.Common.{ℕ, ◌≡◌, ◌+◌, ◌==◌, ◌&&◌, Bool, true, false, if◌then◌else◌, List, [], ◌∷◌, ◌++◌, refl, ap, subst, ◌∙◌, append_assoc}
+use Rattle.std.specs.Prelude.{IsTrue}
+use Rattle.journal.specs.declared.item.Item.{Item}
+use Rattle.journal.specs.declared.item.Item.TheVariants as item
+use Rattle.steps.specs.declared.step.Step.TheVariants.{Hop}
+use Rattle.update_machine.specs.Causes.{HaveCauses}
+use Rattle.update_machine.specs.Folds.{folded}
+use Rattle.update_machine.specs.Packets.{travels}
+use Rattle.update_machine.proofs.CallerLemmas.{folded_append}
+use Rattle.boot_laws.proofs.Facts.{AreKept, fact_on}
+use Rattle.packet_laws.specs.Words.{names}
+use Rattle.way_laws.proofs.Others.{IsNoRow}
+
+abbrev pub changes_told : ℕ → List Item → Bool → Item → Bool
+changes_told i before told (item.Row row (Hop packet)) =
+    if packet == i && travels before i then true else told
+changes_told i before told item = if names i item then false else told
+
+unfoldable pub is_told : List Item → ℕ → Bool
+is_told journal i = folded (changes_told i) false journal
+
+pub told_more : (before : List Item) (next : Item) (i : ℕ)
+    → is_told (before ++ next ∷ []) i ≡ changes_told i before (is_told before i) next
+unfolding is_told
+told_more before next i = folded_append (changes_told i) false before (next ∷ [])
+
+either_false : (b : Bool) → (if b then false else false) ≡ false
+either_false true = refl
+either_false false = refl
+
+still_off : (i : ℕ) (before : List Item) (next : Item) → IsNoRow next
+    → changes_told i before false next ≡ false
+still_off i before (item.Row row step) none = absurd none
+still_off i before next none = either_false (names i next)
+
+off_kept : (i : ℕ) → AreKept (λ js next. IsNoRow next) (λ journal. is_told journal i ≡ false)
+off_kept i before next none off =
+    told_more before next i ∙ ap (λ b. changes_told i before b next) off
+    ∙ still_off i before next none
+
+-- items that begin no step tell it to hop no more
+pub stays_off : (i : ℕ) (before items : List Item)
+    → HaveCauses (λ js next. IsNoRow next) before items
+    → is_told before i ≡ false → is_told (before ++ items) i ≡ false
+stays_off i before items none off =
+    fact_on (λ js next. IsNoRow next) (λ journal. is_told journal i ≡ false) (off_kept i) before
+    items none off
+
+-- the first of the items names the packet
+abbrev pub NamesFirst : ℕ → List Item → Type 0
+NamesFirst i [] = ⊥
+NamesFirst i (next ∷ items) = IsTrue (names i next)
+
+turned : (b told : Bool) → IsTrue b → (if b then false else told) ≡ false
+turned true told e = refl
+turned false told e = cc e
+
+named_off : (i : ℕ) (before : List Item) (told : Bool) (next : Item) → IsNoRow next
+    → IsTrue (names i next) → changes_told i before told next ≡ false
+named_off i before told (item.Row row step) none named = absurd none
+named_off i before told next none named = turned (names i next) told named
+
+-- so it hops with the first item that names it
+pub turns_off : (i : ℕ) (before items : List Item)
+    → HaveCauses (λ js next. IsNoRow next) before items
+    → NamesFirst i items → is_told (before ++ items) i ≡ false
+turns_off i before [] none first = absurd first
+turns_off i before (next ∷ items) none first =
+    subst (λ js. is_told js i ≡ false) (append_assoc before (next ∷ []) items)
+    (stays_off i (before ++ next ∷ []) items none.1
+    (told_more before next i ∙ named_off i before (is_told before i) next none.0 first))

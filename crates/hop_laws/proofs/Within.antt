@@ -1,0 +1,276 @@
+-- Each item leaves the hops of each packet within its routes: one induction by items.
+use Rattle.std.proofs.Common.{ℕ, ◌≡◌, ◌+◌, ◌-◌, ◌*◌, ◌<◌, ◌≤◌, ◌==◌, ◌&&◌, Bool, true, false, if◌then◌else◌, Option, Some, None, List, [], ◌∷◌, ◌++◌, length, refl, sym, subst, arith, inl}
+use Rattle.std.specs.Prelude.{⊤, IsTrue}
+use Rattle.std.specs.Option.{option_or}
+use Rattle.std.proofs.lemmas.Bool.{eqb-true}
+use Rattle.std.proofs.lemmas.Option.{slice_get_within}
+use Rattle.policy_rules.specs.declared.packet.Leg.{Leg}
+use Rattle.policy_rules.specs.declared.packet.Leg.TheVariants.{Seek, Exit}
+use Rattle.journal.specs.declared.item.Item.{Item}
+use Rattle.journal.specs.declared.item.Item.TheVariants as item
+use Rattle.steps.specs.declared.step.Step.TheVariants.{Hop}
+use Rattle.update_machine.specs.Causes.{HaveCauses}
+use Rattle.update_machine.specs.Marks.{retired_mark}
+use Rattle.update_machine.specs.Packets.{travels}
+use Rattle.update_machine.specs.Played.{IsSetting}
+use Rattle.update_machine.specs.Setting.{Setting}
+use Rattle.update_machine.proofs.CallerLemmas.{folded_append}
+use Rattle.boot_laws.proofs.Facts.{Behind, Both, fact_on, have_both, have_weaker}
+use Rattle.packet_laws.specs.OnWay.{IsOnLeg, IsOnWay}
+use Rattle.packet_laws.specs.Words.{PacketWords, names, told_by, words_of}
+use Rattle.packet_laws.proofs.Words.{words_grow}
+use Rattle.drain_laws.specs.Hops.{changes_taken, hops_taken, most_hops, most_switches, routes_taken}
+use Rattle.way_laws.specs.Kept.{AllKept}
+use Rattle.way_laws.specs.Rest.{AreResting}
+use Rattle.way_laws.specs.Stages.{OnWay, Stage, stage_of, tells_stage}
+use Rattle.way_laws.specs.WayCauses.{WayCause}
+use Rattle.way_laws.proofs.AllKept.{Before, kept_before, known_before, knows}
+use Rattle.way_laws.proofs.Here.{travels_in}
+use Rattle.way_laws.proofs.Kept.{exiting_after, rerouted_after, seeking_after}
+use Rattle.way_laws.proofs.Rests.{IsWayItem, Past}
+use Rattle.hop_laws.proofs.Routes.{stage_grows, taken_few}
+use Rattle.hop_laws.proofs.Tally.{Tally, tallied, tally_more, tally_of}
+use Rattle.hop_laws.proofs.Told.{changes_told, is_told, told_more}
+
+-- a step begins where all packets rest, and none was told to hop
+pub record IsRested (journal : List Item) : Type 0 where
+  pub rests : AreResting journal
+  pub off : (i : ℕ) → is_told journal i ≡ false
+
+abbrev pub BeginsRested : List Item → Item → Type 0
+BeginsRested before (item.Row row step) = IsRested before
+BeginsRested before _ = ⊤
+
+-- ---- what is kept
+
+abbrev routes_in : Tally → ℕ
+routes_in tally = tally.searches + tally.exits + tally.detours
+
+-- the packet took at most 64 hops on each route, and what is left of its route fits too, less the
+-- hop that it was told
+record IsWithin (words : PacketWords) (stage : Option Stage) (told : Bool) (tally : Tally)
+    (taken : ℕ) : Type 0 where
+  all : taken ≤ most_switches * routes_in tally
+  left : IsTrue words.travels → stage ≡ Some OnWay → taken + (length words.route - words.hops)
+      ≤ most_switches * routes_in tally + (if told then 1 else 0)
+
+abbrev IsWithinOf : List Item → ℕ → Type 0
+IsWithinOf journal i =
+    IsWithin (words_of journal i) (stage_of journal i) (is_told journal i) (tally_of journal i)
+    (hops_taken journal i)
+
+one_at_most : (b : Bool) → (if b then 1 else 0) ≤ 1
+one_at_most true = omega arith
+one_at_most false = omega arith
+
+none_told : (b : Bool) → b ≡ false → (if b then 1 else 0) ≤ 0
+none_told true e = absurd cc
+none_told false e = omega arith
+
+route_few : (setting : Setting) (before : List Item) (words : PacketWords)
+    → IsOnWay setting before words → length words.route ≤ 64
+route_few setting before words way = by_leg way.leg way.on_leg
+  where
+    by_leg : (leg : Leg) → IsOnLeg setting before words way.under_way.header leg
+        → length words.route ≤ 64
+    by_leg (Seek version partition) on = on.leads.list.few
+    by_leg (Exit port) on = on.leads.list.few
+
+-- ---- items
+
+-- what stands before the item
+record Facts (setting : Setting) (before : List Item) (next : Item) : Type 0 where
+  known : Before setting before
+  way : WayCause setting before next
+  begins : BeginsRested before next
+
+row_within : (setting : Setting) (before : List Item) (packet i : ℕ) → Before setting before
+    → IsRested before → IsWithinOf before i → (b : Bool)
+    → ((packet == i) && travels before i) ≡ b
+    → IsWithin (words_of before i) (stage_of before i) (if b then true else is_told before i)
+    (tally_of before i) (if b then hops_taken before i + 1 else hops_taken before i)
+row_within setting before packet i known rested within false e = within
+row_within setting before packet i known rested within true e =
+    let on : IsTrue (travels before i) = second (packet == i) (travels before i) e in
+    let words : PacketWords = words_of before i in
+    let travelling : IsTrue words.travels = travels_in before i on in
+    let moving : stage_of before i ≡ Some OnWay = rested.rests.moving i on in
+    let way : IsOnWay setting before words =
+    (known.kept.packets i).on_way travelling (inl moving) in
+    let inside : words.hops < length words.route =
+    slice_get_within words.route words.hops way.under_way.place way.stands in
+    let off = none_told (is_told before i) (rested.off i) in
+    let left = within.left travelling moving in
+    record {
+      all = omega (arith, left, off, inside);
+      left = λ tr is. omega (arith, left, off, inside);
+    }
+  where
+    second : (c d : Bool) → (c && d) ≡ true → d ≡ true
+    second true d both = both
+    second false d both = cc both
+
+within_by : (setting : Setting) (before : List Item) (next : Item) (i : ℕ)
+    → Facts setting before next → (b : Bool) → names i next ≡ b → IsWithinOf before i
+    → IsWithin
+    (if b then told_by (retired_mark before) next (words_of before i) else words_of before i)
+    (option_or (tells_stage i next) (stage_of before i))
+    (changes_told i before (is_told before i) next) (tallied i next (tally_of before i))
+    (changes_taken i before (hops_taken before i) next)
+within_by setting before (item.Row row (Hop packet)) i facts true e within = absurd cc
+within_by setting before (item.Row row (Hop packet)) i facts false e within =
+    row_within setting before packet i facts.known facts.begins within
+    ((packet == i) && travels before i) refl
+within_by setting before (item.Entered packet s header) i facts true e within =
+    rw e (record { all = within.all; left = λ tr is. absurd cc })
+within_by setting before (item.Seeking packet version partition route) i facts true e within =
+    let few : IsTrue (words_of before packet).travels → length route ≤ 64 = λ tr.
+    route_few setting before
+    (told_by 0 (item.Seeking packet version partition route) (words_of before packet))
+    ((seeking_after setting before packet 0 version partition route
+    (knows setting before packet facts.known) facts.way).on_way tr (inl refl)) in
+    rw e (record {
+      all = omega (arith, within.all);
+      left = λ tr is. omega (
+        arith,
+        within.all,
+        few (subst (λ k. IsTrue (words_of before k).travels) (sym (eqb-true packet i e)) tr),
+      );
+    })
+within_by setting before (item.Exiting packet route) i facts true e within =
+    let few : IsTrue (words_of before packet).travels → length route ≤ 64 = λ tr.
+    route_few setting before (told_by 0 (item.Exiting packet route) (words_of before packet))
+    ((exiting_after setting before packet 0 route (knows setting before packet facts.known)
+    facts.way).on_way tr (inl refl)) in
+    rw e (record {
+      all = omega (arith, within.all);
+      left = λ tr is. omega (
+        arith,
+        within.all,
+        few (subst (λ k. IsTrue (words_of before k).travels) (sym (eqb-true packet i e)) tr),
+      );
+    })
+within_by setting before (item.Rerouted packet route) i facts true e within =
+    let few : IsTrue (words_of before packet).travels → length route ≤ 64 = λ tr.
+    route_few setting before (told_by 0 (item.Rerouted packet route) (words_of before packet))
+    ((rerouted_after setting before packet 0 route (knows setting before packet facts.known)
+    facts.way).on_way tr (inl refl)) in
+    rw e (record {
+      all = omega (arith, within.all);
+      left = λ tr is. omega (
+        arith,
+        within.all,
+        few (subst (λ k. IsTrue (words_of before k).travels) (sym (eqb-true packet i e)) tr),
+      );
+    })
+within_by setting before (item.Hopped packet s) i facts true e within =
+    let same : packet ≡ i = eqb-true packet i e in
+    let moving : stage_of before i ≡ Some OnWay =
+    subst (λ k. stage_of before k ≡ Some OnWay) same facts.way.moving in
+    let words : PacketWords = words_of before i in
+    let inside : IsTrue words.travels → words.hops < length words.route = λ tr.
+    let way : IsOnWay setting before words =
+    (facts.known.kept.packets i).on_way tr (inl moving) in
+    slice_get_within words.route words.hops way.under_way.place way.stands in
+    rw e (record {
+      all = within.all;
+      left = λ tr is. omega (
+        arith,
+        within.left tr moving,
+        one_at_most (is_told before i),
+        inside tr,
+      );
+    })
+within_by setting before (item.FoundDown packet one two) i facts true e within =
+    rw e (record { all = within.all; left = λ tr is. absurd cc })
+within_by setting before (item.Decided packet version rule act by) i facts true e within =
+    rw e (record { all = within.all; left = λ tr is. absurd cc })
+within_by setting before (item.Left packet port leaving) i facts true e within =
+    record { all = within.all; left = λ tr is. absurd cc }
+within_by setting before (item.Dropped packet) i facts true e within =
+    record { all = within.all; left = λ tr is. absurd cc }
+within_by setting before (item.Lost packet) i facts true e within =
+    record { all = within.all; left = λ tr is. absurd cc }
+within_by setting before (item.Stuck packet s cause leg down) i facts true e within =
+    record { all = within.all; left = λ tr is. absurd cc }
+within_by setting before (item.Entered packet s header) i facts false e within = rw e within
+within_by setting before (item.Seeking packet version partition route) i facts false e within =
+    rw e within
+within_by setting before (item.Exiting packet route) i facts false e within = rw e within
+within_by setting before (item.Rerouted packet route) i facts false e within = rw e within
+within_by setting before (item.Hopped packet s) i facts false e within = rw e within
+within_by setting before (item.FoundDown packet one two) i facts false e within = rw e within
+within_by setting before (item.Decided packet version rule act by) i facts false e within =
+    rw e within
+within_by setting before (item.Left packet port leaving) i facts false e within = rw e within
+within_by setting before (item.Dropped packet) i facts false e within = rw e within
+within_by setting before (item.Lost packet) i facts false e within = rw e within
+within_by setting before (item.Stuck packet s cause leg down) i facts false e within =
+    rw e within
+within_by setting before next i facts true e within = absurd cc
+within_by setting before next i facts false e within = within
+
+-- ---- all items
+
+pub hops_more : (before : List Item) (next : Item) (i : ℕ)
+    → hops_taken (before ++ next ∷ []) i ≡ changes_taken i before (hops_taken before i) next
+unfolding hops_taken
+hops_more before next i = folded_append (changes_taken i) 0 before (next ∷ [])
+
+within_more : (setting : Setting) (before : List Item) (next : Item) (i : ℕ)
+    → Facts setting before next → IsWithinOf before i → IsWithinOf (before ++ next ∷ []) i
+within_more setting before next i facts within =
+    rw (
+      words_grow i before next,
+      stage_grows before next i,
+      told_more before next i,
+      tally_more i before next,
+      hops_more before next i,
+    ) (within_by setting before next i facts (names i next) refl within)
+
+within_at_first : (i : ℕ) → IsWithinOf [] i
+unfolding words_of stage_of is_told hops_taken travels
+within_at_first i = record { all = omega arith; left = λ tr is. absurd cc }
+
+-- what is known before an item, and its causes
+abbrev IsKnown : Setting → List Item → Item → Type 0
+IsKnown setting before next =
+    Both (Behind (Past (IsWayItem setting)) (AllKept setting)) BeginsRested before next
+
+-- an item of a network whose steps begin rested
+abbrev pub IsHopItem : Setting → List Item → Item → Type 0
+IsHopItem setting before next = Both (IsWayItem setting) BeginsRested before next
+
+ways_of : (setting : Setting) (before items : List Item)
+    → HaveCauses (IsHopItem setting) before items → HaveCauses (IsWayItem setting) before items
+ways_of setting before items have =
+    have_weaker (IsHopItem setting) (IsWayItem setting) (λ js next both. both.first) before items
+    have
+
+all_within : (setting : Setting) (journal : List Item) → IsSetting setting
+    → HaveCauses (IsHopItem setting) [] journal → (i : ℕ) → IsWithinOf journal i
+all_within setting journal is have i =
+    fact_on (IsKnown setting) (λ js. IsWithinOf js i)
+    (λ before next both within. within_more setting before next i (record {
+      known = known_before setting is before next both.first;
+      way = both.first.caused.caused.way;
+      begins = both.second;
+    }) within) [] journal
+    (have_both _ _ [] journal (kept_before setting journal is (ways_of setting [] journal have))
+    (have_weaker (IsHopItem setting) BeginsRested (λ js next both. both.second) [] journal have))
+    (within_at_first i)
+
+-- ---- laws
+
+pub within_routes : (setting : Setting) (journal : List Item) → IsSetting setting
+    → HaveCauses (IsHopItem setting) [] journal → (i : ℕ)
+    → hops_taken journal i ≤ most_switches * routes_taken journal i
+within_routes setting journal is have i = (all_within setting journal is have i).all
+
+pub hops_few : (setting : Setting) (journal : List Item) → IsSetting setting
+    → HaveCauses (IsHopItem setting) [] journal → (i : ℕ) → hops_taken journal i ≤ most_hops
+hops_few setting journal is have i = omega (
+  arith,
+  within_routes setting journal is have i,
+  taken_few setting journal is (ways_of setting [] journal have) i,
+)

@@ -1,0 +1,22 @@
+-- A loop of steps in a play goes on to its end, or stops in front of a step that would begin behind
+-- a full journal. The notion is our own.
+use Rattle.std.specs.Prelude.{ℕ, ◌⊎◌, Option, List, [], ◌∷◌, ◌++◌}
+use Rattle.journal.specs.declared.item.Item.{Item}
+use Rattle.steps.specs.declared.step.Step.{Step}
+use Rattle.update_machine.specs.Answers.{AreAll, AreSome, StepOfRow, after_steps}
+use Rattle.update_machine.specs.Full.{HaveRoom, IsFull}
+use Rattle.update_machine.specs.Setting.{Setting}
+
+-- behind these steps the journal is full, and there is a next one
+pub record StopsAt (setting : Setting) (next : List Item → Option Step) (row : ℕ)
+    (before : List Item) (steps : List StepOfRow) : Type 0 where
+  pub more : StepOfRow
+  pub allowed : AreSome setting next row before (steps ++ more ∷ [])
+  pub full : IsFull (after_steps setting before steps)
+
+-- steps that began with room, and are all of them, or stop there
+pub record GoesOrStops (setting : Setting) (next : List Item → Option Step) (row : ℕ)
+    (before : List Item) : Type 0 where
+  pub steps : List StepOfRow
+  pub room : HaveRoom setting before steps
+  pub how : AreAll setting next row before steps ⊎ StopsAt setting next row before steps

@@ -1,0 +1,127 @@
+-- What holds of each cache rule that was said to a switch holds of each entry of its cache.
+use Rattle.std.proofs.Common.{ℕ, suc, ◌≡◌, ◌==◌, ◌||◌, Bool, true, false, if◌then◌else◌, Option, Some, None, List, [], ◌∷◌, ◌++◌, length, take, drop, refl, sym, subst}
+use Rattle.std.specs.Prelude.{All, nat_le, nat_lt}
+use Rattle.std.specs.List.{list_any}
+use Rattle.std.specs.Option.{option_map_or}
+use Rattle.std.proofs.lemmas.List.Elements.{All-append, All-drop, All-filter, All-nil, All-push, All-take}
+use Rattle.ctrl_msg.specs.declared.message.Body.{Body}
+use Rattle.ctrl_msg.specs.declared.message.Body.TheVariants.{OpenAt, Stamp, CacheRule}
+use Rattle.policy_rules.specs.declared.policy.Action.{Action}
+use Rattle.switch_table.specs.Cache.{CacheValue, newest, raised, same_key}
+use Rattle.switch_table.specs.declared.cache.CacheEntry.{CacheEntry}
+use Rattle.ternary.specs.Word.{WordValue}
+use Rattle.journal.specs.declared.item.Item.{Item}
+use Rattle.journal.specs.declared.item.Item.TheVariants as item
+use Rattle.update_machine.specs.Boots.{said_to}
+use Rattle.update_machine.specs.Caches.{cache_after, cache_of, changes_cache, raised_from}
+use Rattle.update_machine.specs.Setting.{Setting}
+use Rattle.update_machine.specs.Versions.{stamp_of}
+use Rattle.update_machine.proofs.CallerLemmas.{folded_append}
+
+-- the entry of a cache rule
+abbrev pub entry_of : ℕ → ℕ → WordValue → Option ℕ → Action → CacheEntry
+entry_of number version word rule action = record {
+  version = version;
+  word = word;
+  rule = rule;
+  action = action;
+  message = number;
+}
+
+abbrev Holds : (CacheEntry → Type 0) → CacheValue → Type 0
+Holds P cache = All P cache.entries
+
+newest_holds : (P : CacheEntry → Type 0) (capacity : ℕ) (entries : List CacheEntry)
+    → All P entries → All P (newest capacity entries)
+newest_holds P capacity entries all = by_room (nat_lt capacity (length entries))
+  where
+    by_room : (b : Bool) → All P (if b then drop 1 entries else entries)
+    by_room true = All-drop P 1 entries all
+    by_room false = all
+
+raised_holds : (P : CacheEntry → Type 0) (earlier stamp : ℕ) (cache : CacheValue)
+    → Holds P cache → Holds P (raised_from earlier stamp cache)
+raised_holds P earlier stamp cache all = by_test (nat_lt earlier stamp)
+  where
+    by_test : (b : Bool) → Holds P (if b then raised stamp cache else cache)
+    by_test true = All-filter (λ entry. nat_le stamp entry.version) P cache.entries all
+    by_test false = all
+
+told_holds : (P : CacheEntry → Type 0) (earlier stamp number : ℕ) (cache : CacheValue)
+    (body : Body)
+    → ((version : ℕ) (word : WordValue) (rule : Option ℕ) (action : Action)
+    → body ≡ CacheRule version word rule action → P (entry_of number version word rule action))
+    → Holds P cache → Holds P (cache_after earlier stamp number cache body)
+told_holds P earlier stamp number cache (CacheRule version word rule action) brings all =
+    by_test (nat_lt version stamp
+    || list_any (same_key (entry_of number version word rule action)) cache.entries)
+  where
+    by_test : (b : Bool) → Holds P (if b then cache else record cache {
+      entries = newest cache.capacity (cache.entries
+          ++ entry_of number version word rule action ∷ []);
+    })
+    by_test true = all
+    by_test false =
+        newest_holds P cache.capacity
+        (cache.entries ++ entry_of number version word rule action ∷ [])
+        (All-push P cache.entries (entry_of number version word rule action) all
+        (brings version word rule action refl))
+told_holds P earlier stamp number cache (OpenAt boot version) brings all =
+    raised_holds P earlier stamp cache all
+told_holds P earlier stamp number cache (Stamp boot version) brings all =
+    raised_holds P earlier stamp cache all
+told_holds P earlier stamp number cache _ brings all = all
+
+changed_holds : (P : CacheEntry → Type 0) (s : ℕ) (before : List Item) (cache : CacheValue)
+    (next : Item)
+    → ((number version : ℕ) (word : WordValue) (rule : Option ℕ) (action : Action)
+    → said_to before s number ≡ Some (CacheRule version word rule action)
+    → P (entry_of number version word rule action))
+    → Holds P cache → Holds P (changes_cache s before cache next)
+changed_holds P s before cache (item.Down switch) brings all = by_switch (switch == s)
+  where
+    by_switch : (b : Bool) → Holds P (if b then record cache { entries = [] } else cache)
+    by_switch true = All-nil P
+    by_switch false = all
+changed_holds P s before cache (item.Booted switch boot) brings all = by_switch (switch == s)
+  where
+    by_switch : (b : Bool) → Holds P (if b then record cache { entries = [] } else cache)
+    by_switch true = All-nil P
+    by_switch false = all
+changed_holds P s before cache (item.Expired switch place message) brings all =
+    by_switch (switch == s)
+  where
+    by_switch : (b : Bool) → Holds P (if b then record cache {
+      entries = take place cache.entries ++ drop (suc place) cache.entries;
+    } else cache)
+    by_switch true =
+        All-append P (take place cache.entries) (drop (suc place) cache.entries)
+        (All-take P place cache.entries all) (All-drop P (suc place) cache.entries all)
+    by_switch false = all
+changed_holds P s before cache (item.Delivered number) brings all =
+    by_said (said_to before s number) refl
+  where
+    by_said : (o : Option Body) → said_to before s number ≡ o → Holds P (option_map_or
+        (cache_after (stamp_of before s) (stamp_of (before ++ item.Delivered number ∷ []) s) number
+        cache) o cache)
+    by_said None e = all
+    by_said (Some body) e =
+        told_holds P (stamp_of before s) (stamp_of (before ++ item.Delivered number ∷ []) s) number
+        cache body
+        (λ version word rule action same. brings number version word rule action
+        (subst (λ b. said_to before s number ≡ Some b) same e)) all
+changed_holds P s before cache _ brings all = all
+
+pub cache_holds : (P : CacheEntry → Type 0) (setting : Setting) (s : ℕ) (before : List Item)
+    (next : Item)
+    → ((number version : ℕ) (word : WordValue) (rule : Option ℕ) (action : Action)
+    → said_to before s number ≡ Some (CacheRule version word rule action)
+    → P (entry_of number version word rule action))
+    → All P (cache_of setting before s).entries
+    → All P (cache_of setting (before ++ next ∷ []) s).entries
+unfolding cache_of
+cache_holds P setting s before next brings all =
+    subst (Holds P)
+    (sym (folded_append (changes_cache s)
+    (record { entries = []; capacity = setting.net.cache }) before (next ∷ [])))
+    (changed_holds P s before (cache_of setting before s) next brings all)

@@ -1,0 +1,190 @@
+-- Behind a crash the packets that still travel stand at switches that serve.
+use Rattle.std.proofs.Common.{ℕ, zero, suc, ◌≡◌, ◌≢◌, ◌+◌, ◌<◌, ◌≤◌, ◌==◌, ◌||◌, Bool, true, false, Some, List, [], ◌∷◌, ◌++◌, map, refl, ap, sym, subst, ◌∙◌, append-nil, append_assoc, arith, inl, inr, ◌⊎◌}
+use Rattle.std.specs.Prelude.{IsTrue, IsFalse, filter, if◌then◌else◌}
+use Rattle.std.specs.List.{list_any, range_with_len}
+use Rattle.std.proofs.lemmas.Bool.{cases_eq, eq-eqb}
+use Rattle.std.proofs.lemmas.Bool.Decides.{nat_tests}
+use Rattle.ctrl_msg.specs.declared.message.Message.{Message}
+use Rattle.journal.specs.declared.item.Item.{Item}
+use Rattle.journal.specs.declared.item.Item.TheVariants as item
+use Rattle.update_machine.specs.Boots.{is_up, serves}
+use Rattle.update_machine.specs.Deliveries.{link_changes}
+use Rattle.update_machine.specs.Folds.{count_of}
+use Rattle.update_machine.specs.Messages.{next_message, sent_from}
+use Rattle.update_machine.specs.Moves.{put}
+use Rattle.update_machine.specs.Packets.{is_packet, next_packet, packets_at, standing, travels, travels_at}
+use Rattle.update_machine.specs.Pieces.{crash_items, nothing}
+use Rattle.update_machine.specs.Setting.{Setting}
+use Rattle.boot_laws.proofs.Grown.{serving_more}
+use Rattle.way_laws.specs.Rest.{AreServed, IsServed}
+use Rattle.way_laws.proofs.Served.{AreNumbered, place_more, stays_served, still_serves, travels_more}
+
+-- ---- what is sent leaves packets as they are
+
+sent_served : (messages : List Message) (journal : List Item) (n : ℕ) → AreServed journal
+    → AreServed (journal ++ sent_from n messages)
+unfolding sent_from
+sent_served [] journal n served = subst AreServed (sym (append-nil journal)) served
+sent_served (message ∷ messages) journal n served =
+    let next : Item = item.Sent n message in
+    subst AreServed (append_assoc journal (next ∷ []) (sent_from (n + 1) messages))
+    (sent_served messages (journal ++ next ∷ []) (n + 1)
+    (λ i. stays_served journal next i refl (inl refl)
+    (λ s. still_serves journal next s refl) (served i)))
+
+changes_served : (setting : Setting) (before journal : List Item) → AreServed journal
+    → AreServed (journal ++ link_changes setting before journal)
+unfolding link_changes
+changes_served setting before journal served = sent_served _ journal (next_message journal) served
+
+-- ---- the packets that are lost
+
+among : ℕ → List ℕ → Bool
+among i packets = list_any (λ k. k == i) packets
+
+-- a packet that travels behind those losses travelled before them, and isn't among the lost
+record IsSpared (journal after : List Item) (packets : List ℕ) (i : ℕ) : Type 0 where
+  travelling : IsTrue (travels journal i)
+  apart : IsFalse (among i packets)
+
+spared_by : (packets : List ℕ) (journal : List Item) (i : ℕ)
+    → IsTrue (travels (journal ++ map item.Lost packets) i)
+    → IsSpared journal (journal ++ map item.Lost packets) packets i
+unfolding among
+spared_by [] journal i travelling =
+    record { travelling = subst (λ js. IsTrue (travels js i)) (append-nil journal) travelling; apart = refl }
+spared_by (k ∷ packets) journal i travelling =
+    by_same (k == i) refl
+    (spared_by packets (journal ++ item.Lost k ∷ []) i
+    (subst (λ js. IsTrue (travels js i))
+    (sym (append_assoc journal (item.Lost k ∷ []) (map item.Lost packets))) travelling))
+  where
+    lost : Item
+    lost = item.Lost k
+
+    by_same : (b : Bool) → (k == i) ≡ b
+        → IsSpared (journal ++ lost ∷ []) ((journal ++ lost ∷ []) ++ map item.Lost packets)
+        packets i
+        → IsSpared journal (journal ++ lost ∷ map item.Lost packets) (k ∷ packets) i
+    by_same true e rest =
+        let clash : false ≡ true =
+        sym (rw (travels_more journal lost i, e) refl) ∙ rest.travelling in
+        absurd cc
+    by_same false e rest = record {
+      travelling = rw (travels_more journal lost i, e) at rest.travelling;
+      apart = rw e rest.apart;
+    }
+
+-- losses move no packet and change no switch
+lost_place : (packets : List ℕ) (journal : List Item) (i : ℕ)
+    → standing (journal ++ map item.Lost packets) i ≡ standing journal i
+lost_place [] journal i = ap (λ js. standing js i) (append-nil journal)
+lost_place (k ∷ packets) journal i =
+    ap (λ js. standing js i) (sym (append_assoc journal (item.Lost k ∷ []) (map item.Lost packets)))
+    ∙ lost_place packets (journal ++ item.Lost k ∷ []) i ∙ place_more journal (item.Lost k) i
+
+lost_serves : (packets : List ℕ) (journal : List Item) (s : ℕ)
+    → serves (journal ++ map item.Lost packets) s ≡ serves journal s
+lost_serves [] journal s = ap (λ js. serves js s) (append-nil journal)
+lost_serves (k ∷ packets) journal s =
+    ap (λ js. serves js s) (sym (append_assoc journal (item.Lost k ∷ []) (map item.Lost packets)))
+    ∙ lost_serves packets (journal ++ item.Lost k ∷ []) s ∙ serving_more journal (item.Lost k) s
+
+-- each number of the range that passes is among those that pass
+passes : (test : ℕ → Bool) (low n i : ℕ) → test i ≡ true → low ≤ i → i < low + n
+    → among i (filter test (range_with_len low n)) ≡ true
+unfolding among
+passes test low zero i is above below = absurd (omega (arith, above, below))
+passes test low (suc n) i is above below =
+    by_first (cases_eq low i)
+    (λ later. passes test (low + 1) n i is later (omega (arith, below)))
+  where
+    rest : List ℕ
+    rest = filter test (range_with_len (low + 1) n)
+
+    or_right : (b c : Bool) → c ≡ true → (b || c) ≡ true
+    or_right true c e = refl
+    or_right false c e = e
+
+    with_first : (b : Bool) → list_any (λ k. k == i) rest ≡ true
+        → list_any (λ k. k == i) (if b then low ∷ rest else rest) ≡ true
+    with_first true e = or_right (low == i) (list_any (λ k. k == i) rest) e
+    with_first false e = e
+
+    by_first : (low ≡ i) ⊎ (low ≢ i)
+        → ((low + 1) ≤ i → list_any (λ k. k == i) rest ≡ true)
+        → list_any (λ k. k == i) (if test low then low ∷ rest else rest) ≡ true
+    by_first (inl same) later =
+        let passed : test low ≡ true = ap test same ∙ is in
+        rw (passed, eq-eqb low i same) refl
+    by_first (inr apart) later = with_first (test low) (later (omega (arith, above, apart)))
+
+-- ---- the crash
+
+-- a packet that isn't lost stands elsewhere
+left_elsewhere : (before : List Item) (s i place : ℕ) → IsTrue (travels before i)
+    → standing before i ≡ Some place → 1 ≤ i → i < 1 + count_of is_packet before
+    → IsFalse (among i (packets_at before s)) → (s == place) ≡ false
+left_elsewhere before s i place travelling stands first last apart =
+    by_place (place == s) refl
+  where
+    by_place : (b : Bool) → (place == s) ≡ b → (s == place) ≡ false
+    by_place false e = grind (arith, nat_tests)
+    by_place true e =
+        let here : travels_at before s i ≡ true = rw (travelling, stands, e) refl in
+        let there : among i (packets_at before s) ≡ true =
+        passes (travels_at before s) 1 (count_of is_packet before) i here first last in
+        absurd cc
+
+fallen_served : (before journal : List Item) (s : ℕ) → AreNumbered before → AreServed journal
+    → ((i : ℕ) → (travels journal i ≡ travels before i) × (standing journal i ≡ standing before i))
+    → AreServed (journal ++ item.Down s ∷ map item.Lost (packets_at before s))
+unfolding next_packet among
+fallen_served before journal s numbered served same i travelling =
+    let down : Item = item.Down s in
+    let packets : List ℕ = packets_at before s in
+    let whole : (journal ++ down ∷ []) ++ map item.Lost packets
+    ≡ journal ++ down ∷ map item.Lost packets =
+    append_assoc journal (down ∷ []) (map item.Lost packets) in
+    let spared : IsSpared (journal ++ down ∷ []) ((journal ++ down ∷ []) ++ map item.Lost packets)
+    packets i =
+    spared_by packets (journal ++ down ∷ []) i
+    (subst (λ js. IsTrue (travels js i)) (sym whole) travelling) in
+    let here_travels : IsTrue (travels journal i) =
+    rw (travels_more journal down i) at spared.travelling in
+    let here : IsServed journal i = served i here_travels in
+    let own : IsTrue (travels before i) = sym (same i).0 ∙ here_travels in
+    let stands : standing before i ≡ Some here.place = sym (same i).1 ∙ here.stands in
+    let number = numbered i own in
+    let elsewhere : (s == here.place) ≡ false =
+    left_elsewhere before s i here.place own stands number.0 (omega (arith, number.1))
+    spared.apart in
+    subst (λ js. IsServed js i) whole (record {
+      place = here.place;
+      stands = lost_place packets (journal ++ down ∷ []) i ∙ place_more journal down i
+          ∙ here.stands;
+      serving = lost_serves packets (journal ++ down ∷ []) here.place
+          ∙ rw (serving_more journal down here.place, elsewhere) here.serving;
+    })
+
+pub crash_served : (setting : Setting) (before : List Item) (s : ℕ) (journal : List Item)
+    → AreNumbered before → AreServed journal
+    → ((i : ℕ) → (travels journal i ≡ travels before i) × (standing journal i ≡ standing before i))
+    → AreServed (journal ++ crash_items setting before s journal)
+unfolding crash_items
+crash_served setting before s journal numbered served same = by_up (is_up before s)
+  where
+    by_up : (b : Bool) → AreServed (journal ++ elim b [
+      | false ↦ nothing
+      | true ↦ put (item.Down s ∷ map item.Lost (packets_at before s))
+          (link_changes setting before) journal
+    ])
+    by_up false = λ i.
+        stays_served journal item.Nothing i refl (inl refl)
+        (λ other. still_serves journal item.Nothing other refl) (served i)
+    by_up true =
+        let fallen : List Item = item.Down s ∷ map item.Lost (packets_at before s) in
+        subst AreServed
+        (append_assoc journal fallen (link_changes setting before (journal ++ fallen)))
+        (changes_served setting before (journal ++ fallen)
+        (fallen_served before journal s numbered served same))

@@ -1,0 +1,21 @@
+-- In a journal whose items have their causes the ends of packets do.
+use Rattle.std.proofs.Common.{List, []}
+use Rattle.journal.specs.declared.item.Item.{Item}
+use Rattle.update_machine.specs.Causes.{EndsHaveCauses, HasCause, HaveCauses}
+use Rattle.update_machine.specs.Played.{IsSetting}
+use Rattle.update_machine.specs.Setting.{Setting}
+use Rattle.boot_laws.proofs.Facts.{Behind, have_weaker}
+use Rattle.way_laws.specs.Kept.{AllKept}
+use Rattle.way_laws.proofs.AllKept.{kept_before, known_before, knows}
+use Rattle.way_laws.proofs.Ends.{end_caused}
+use Rattle.way_laws.proofs.Rests.{IsWayItem, Past}
+
+pub ends_caused : (setting : Setting) (journal : List Item) → IsSetting setting
+    → HaveCauses (IsWayItem setting) [] journal → EndsHaveCauses setting journal
+ends_caused setting journal is have =
+    have_weaker (Behind (Past (IsWayItem setting)) (AllKept setting)) (HasCause setting)
+    (λ before next behind.
+    end_caused setting before next
+    (λ i. knows setting before i (known_before setting is before next behind))
+    behind.caused.caused.way) [] journal
+    (kept_before setting journal is have)

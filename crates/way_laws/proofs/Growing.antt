@@ -1,0 +1,155 @@
+-- What is known of packets and of cache rules is known behind one more item, too.
+use Rattle.std.proofs.Common.{ℕ, ◌≡◌, ◌≤◌, Option, List, [], ◌∷◌, ◌++◌, refl, ap, ◌∙◌, arith}
+use Rattle.std.specs.Prelude.{IsTrue}
+use Rattle.five_tuple.specs.declared.header.Header.{Header}
+use Rattle.policy_rules.specs.Policy.{scan}
+use Rattle.policy_rules.specs.declared.packet.Leg.{Leg}
+use Rattle.policy_rules.specs.declared.packet.Leg.TheVariants.{Seek, Exit}
+use Rattle.policy_rules.specs.declared.policy.Action.{Action}
+use Rattle.switch_table.specs.Tables.{Placed}
+use Rattle.ternary.specs.Word.{WordValue}
+use Rattle.journal.specs.declared.item.Item.{Item}
+use Rattle.update_machine.specs.Causes.{HaveCauses}
+use Rattle.update_machine.specs.Marks.{current_mark, retired_mark}
+use Rattle.update_machine.specs.Played.{IsSetting}
+use Rattle.update_machine.specs.Setting.{Setting}
+use Rattle.update_machine.specs.Versions.{is_version, plan_at, policy_at}
+use Rattle.update_machine.proofs.CallerLemmas.{plan_kept, policy_kept}
+use Rattle.boot_laws.specs.ItemCauses.{HasItemCause}
+use Rattle.mark_laws.proofs.Marks.{bounded}
+use Rattle.mark_laws.proofs.Planned.{current_rises}
+use Rattle.mark_laws.proofs.Retired.{retired_rises}
+use Rattle.version_laws.specs.Planned.{HasPlan}
+use Rattle.version_laws.proofs.Planned.{versions_planned}
+use Rattle.packet_laws.specs.Calm.{IsRightRule}
+use Rattle.packet_laws.specs.OnWay.{IsOnLeg, IsOnWay, IsPartitionOf, IsUnderWay}
+use Rattle.packet_laws.specs.Words.{PacketWords}
+use Rattle.way_laws.specs.Kept.{IsJudged, IsKept, IsSought}
+use Rattle.way_laws.specs.Stages.{Stage}
+
+-- marks rise, and the versions that are current or were keep their policies and plans
+pub record Grows (setting : Setting) (before after : List Item) : Type 0 where
+  pub retired : retired_mark before ≤ retired_mark after
+  pub current : current_mark before ≤ current_mark after
+  pub policy : (v : ℕ) → 1 ≤ v → v ≤ current_mark before
+      → policy_at setting after v ≡ policy_at setting before v
+  pub plan : (v : ℕ) → 1 ≤ v → v ≤ current_mark before
+      → plan_at setting after v ≡ plan_at setting before v
+
+pub grows : (setting : Setting) (before : List Item) (next : Item) → IsSetting setting
+    → HaveCauses (HasItemCause setting) [] before → HasItemCause setting before next
+    → Grows setting before (before ++ next ∷ [])
+grows setting before next is have cause = record {
+  retired = retired_rises setting before next cause;
+  current = current_rises setting before next cause;
+  policy = λ v above below. policy_kept setting before (next ∷ []) v (there v above below);
+  plan = λ v above below. plan_kept setting before (next ∷ []) v (there v above below);
+}
+  where
+    there : (v : ℕ) → 1 ≤ v → v ≤ current_mark before → IsTrue (is_version before v)
+    there v above below =
+        let has : HasPlan setting before v =
+        (versions_planned setting before have).planned is.planned v above
+        (omega (arith, below, (bounded setting before have).there)) in
+        rw has.of refl
+
+pub right_on : (setting : Setting) (before after : List Item) (version : ℕ) (word : WordValue)
+    (rule : Option ℕ) (action : Action) → Grows setting before after
+    → IsRightRule setting before version word rule action
+    → IsRightRule setting after version word rule action
+right_on setting before after version word rule action grow right = record {
+  known = right.known;
+  current = omega (arith, right.current, grow.current);
+  decides = λ header sound held.
+      ap (λ rows. scan rows header) (grow.policy version right.known right.current)
+      ∙ right.decides header sound held;
+}
+
+part_on : (setting : Setting) (before after : List Item) (header : Header)
+    (version partition : ℕ) (placed : Placed) → Grows setting before after → 1 ≤ version
+    → version ≤ current_mark before
+    → IsPartitionOf setting before header version partition placed
+    → IsPartitionOf setting after header version partition placed
+part_on setting before after header version partition placed grow above below own = record {
+  found = rw (grow.plan version above below) own.found;
+  number = own.number;
+  first = rw (grow.plan version above below) own.first;
+  holds = own.holds;
+}
+
+leg_on : (setting : Setting) (before after : List Item) (words : PacketWords) (header : Header)
+    (leg : Leg) → Grows setting before after → IsOnLeg setting before words header leg
+    → IsOnLeg setting after words header leg
+leg_on setting before after words header (Seek version partition) grow on = record {
+  undecided = on.undecided;
+  not_retired = on.not_retired;
+  current = omega (arith, on.current, grow.current);
+  placed = on.placed;
+  own = part_on setting before after header version partition on.placed grow
+      (omega (arith, on.not_retired)) on.current on.own;
+  leads = on.leads;
+}
+leg_on setting before after words header (Exit port) grow on = on
+
+under_on : (setting : Setting) (before after : List Item) (words : PacketWords)
+    → Grows setting before after → IsUnderWay setting before words
+    → IsUnderWay setting after words
+under_on setting before after words grow under = record {
+  header = under.header;
+  ingress = under.ingress;
+  place = under.place;
+  entered = under.entered;
+  sound = under.sound;
+  came = under.came;
+  at_first = under.at_first;
+  stands = under.stands;
+  now = under.now;
+  mark = omega (arith, under.mark, grow.retired);
+}
+
+way_on : (setting : Setting) (before after : List Item) (words : PacketWords)
+    → Grows setting before after → IsOnWay setting before words → IsOnWay setting after words
+unfolding under_on
+way_on setting before after words grow way = record {
+  under_way = under_on setting before after words grow way.under_way;
+  leg = way.leg;
+  takes = way.takes;
+  on_leg = leg_on setting before after words way.under_way.header way.leg grow way.on_leg;
+  stands = way.stands;
+}
+
+judged_on : (setting : Setting) (before after : List Item) (words : PacketWords)
+    (header : Header) → Grows setting before after → IsJudged setting before words header
+    → IsJudged setting after words header
+judged_on setting before after words header grow judged = record {
+  decision = judged.decision;
+  decided = judged.decided;
+  not_retired = judged.not_retired;
+  current = omega (arith, judged.current, grow.current);
+  first_match = ap (λ rows. scan rows header)
+      (grow.policy judged.decision.version (omega (arith, judged.not_retired)) judged.current)
+      ∙ judged.first_match;
+  named = judged.named;
+  sought = λ version partition takes.
+      let sought : IsSought setting before words header version partition =
+      judged.sought version partition takes in
+      record {
+        not_retired = sought.not_retired;
+        current = omega (arith, sought.current, grow.current);
+        placed = sought.placed;
+        own = part_on setting before after header version partition sought.placed grow
+            (omega (arith, sought.not_retired)) sought.current sought.own;
+      };
+}
+
+pub kept_on : (setting : Setting) (before after : List Item) (words : PacketWords)
+    (stage : Option Stage) → Grows setting before after → IsKept setting before words stage
+    → IsKept setting after words stage
+kept_on setting before after words stage grow kept = record {
+  under_way = λ travels. under_on setting before after words grow (kept.under_way travels);
+  came_in = kept.came_in;
+  judged = λ travels is header entered.
+      judged_on setting before after words header grow (kept.judged travels is header entered);
+  on_way = λ travels is. way_on setting before after words grow (kept.on_way travels is);
+  avoids = kept.avoids;
+}

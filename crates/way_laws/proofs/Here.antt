@@ -1,0 +1,197 @@
+-- What is known of a packet at its switch, where something is kept of each packet.
+use Rattle.std.proofs.Common.{ℕ, ◌≡◌, ◌+◌, ◌<◌, ◌≤◌, Option, Some, List, [], length, refl, ap, sym, subst, ◌∙◌, arith, inl, inr}
+use Rattle.std.specs.Prelude.{IsTrue, option_and_then, position, slice_get, unwrap_or}
+use Rattle.five_tuple.specs.Header.{number_of}
+use Rattle.five_tuple.specs.declared.header.Header.{Header}
+use Rattle.policy_rules.specs.Rules.{is_held}
+use Rattle.policy_rules.specs.declared.packet.Leg.{Leg}
+use Rattle.policy_rules.specs.declared.packet.Leg.TheVariants.{Seek, Exit}
+use Rattle.switch_table.specs.Tables.{Placed}
+use Rattle.journal.specs.declared.item.Item.{Item}
+use Rattle.update_machine.specs.Caches.{lookup_at}
+use Rattle.update_machine.specs.Causes.{HaveCauses}
+use Rattle.update_machine.specs.Marks.{current_mark}
+use Rattle.update_machine.specs.Moves.{AuthorityRule, authority_rule, first_place, header_at}
+use Rattle.update_machine.specs.Packets.{Decision, decision_of, found_down, header_in, leg_of, next_switch, standing, travels}
+use Rattle.update_machine.specs.Played.{IsSetting}
+use Rattle.update_machine.specs.Setting.{Setting}
+use Rattle.update_machine.specs.Versions.{plan_at, policy_at, stamp_of}
+use Rattle.boot_laws.specs.ItemCauses.{HasItemCause}
+use Rattle.packet_laws.specs.OnWay.{IsExiting, IsOnLeg, IsOnWay, IsSeeking, IsUnderWay}
+use Rattle.packet_laws.specs.Words.{PacketWords, words_of}
+use Rattle.way_laws.specs.Kept.{IsKept, IsSought}
+use Rattle.way_laws.specs.Stages.{Stage}
+use Rattle.way_laws.specs.WayCauses.{AuthorityFinds, IsAt}
+use Rattle.way_laws.proofs.Lookups.{FindsRule, IsStamped, authority_told, current_planned, deciding, rule_there, stamped}
+use Rattle.way_laws.proofs.Plans.{Finds, IsPlanned, in_plan}
+
+-- ---- words
+
+pub some_same : {X : Type 0} (o : Option X) (x y : X) → o ≡ Some x → o ≡ Some y → x ≡ y
+some_same o x y p q = cc
+
+pub travels_in : (journal : List Item) (i : ℕ) → IsTrue (travels journal i)
+    → IsTrue (words_of journal i).travels
+unfolding words_of
+travels_in journal i is = is
+
+pub leg_in : (journal : List Item) (i : ℕ) (leg : Option Leg) → leg_of journal i ≡ leg
+    → (words_of journal i).leg ≡ leg
+unfolding words_of
+leg_in journal i leg is = is
+
+pub decision_in : (journal : List Item) (i : ℕ) (decision : Option Decision)
+    → decision_of journal i ≡ decision → (words_of journal i).decision ≡ decision
+unfolding words_of
+decision_in journal i decision is = is
+
+pub found_in : (journal : List Item) (i : ℕ) → found_down journal i ≡ (words_of journal i).found
+unfolding words_of
+found_in journal i = refl
+
+pub next_in : (journal : List Item) (i : ℕ) → next_switch journal i
+    ≡ slice_get (words_of journal i).route ((words_of journal i).hops + 1)
+unfolding words_of next_switch
+next_in journal i = refl
+
+pub place_in : (journal : List Item) (i : ℕ) (place : ℕ) → (words_of journal i).place ≡ Some place
+    → standing journal i ≡ Some place
+unfolding words_of
+place_in journal i place is = is
+
+pub header_in_words : (journal : List Item) (i : ℕ) (header : Header)
+    → (words_of journal i).header ≡ Some header → header_in journal i ≡ Some header
+unfolding words_of
+header_in_words journal i header is = is
+
+-- ---- at a switch
+
+-- the packet is under way at the serving switch, whose stamp is of a planned version
+pub record IsHere (setting : Setting) (before : List Item) (i s : ℕ) : Type 0 where
+  pub travelling : IsTrue (words_of before i).travels
+  pub under : IsUnderWay setting before (words_of before i)
+  pub at : s ≡ under.place
+  pub header : header_at before i ≡ under.header
+  pub stamped : IsStamped setting before s
+
+pub here_of : (setting : Setting) (before : List Item) (i s : ℕ) (stage : Option Stage)
+    → IsSetting setting → HaveCauses (HasItemCause setting) [] before
+    → IsKept setting before (words_of before i) stage → IsAt before i s
+    → IsHere setting before i s
+here_of setting before i s stage is have kept at =
+    let travelling : IsTrue (words_of before i).travels = travels_in before i at.travelling in
+    let under : IsUnderWay setting before (words_of before i) = kept.under_way travelling in
+    let same : s ≡ under.place =
+    sym at.place ∙ ap (λ o. unwrap_or o 0) (place_in before i under.place under.stands) in
+    record {
+      travelling = travelling;
+      under = under;
+      at = same;
+      header = rw (header_in_words before i under.header under.entered) refl;
+      stamped = stamped setting before s is have
+          (subst (λ x. x < length setting.net.switches) (sym same) under.now) at.serving;
+    }
+
+-- ---- legs
+
+leg_is : (one other : Leg) (words : PacketWords) → words.leg ≡ Some one
+    → words.leg ≡ Some other → one ≡ other
+leg_is one other words p q = some_same words.leg one other p q
+
+pub seeking_of : (setting : Setting) (journal : List Item) (words : PacketWords) (header : Header)
+    (version partition : ℕ) → IsOnWay setting journal words → words.header ≡ Some header
+    → words.leg ≡ Some (Seek version partition)
+    → IsSeeking setting journal words header version partition
+seeking_of setting journal words header version partition way entered seeks =
+    let same : way.leg ≡ Seek version partition =
+    leg_is way.leg (Seek version partition) words way.takes seeks in
+    let own : way.under_way.header ≡ header =
+    some_same words.header way.under_way.header header way.under_way.entered entered in
+    subst (λ h. IsSeeking setting journal words h version partition) own
+    (subst (λ leg. IsOnLeg setting journal words way.under_way.header leg) same way.on_leg)
+
+pub exiting_of : (setting : Setting) (journal : List Item) (words : PacketWords) (port : ℕ)
+    → IsOnWay setting journal words → words.leg ≡ Some (Exit port)
+    → IsExiting setting words port
+exiting_of setting journal words port way exits =
+    let same : way.leg ≡ Exit port = leg_is way.leg (Exit port) words way.takes exits in
+    subst (λ leg. IsOnLeg setting journal words way.under_way.header leg) same way.on_leg
+
+-- ---- authority rules
+
+-- the rule is the one by which the plan of the version decides the header
+pub record Rules (setting : Setting) (before : List Item) (words : PacketWords) (header : Header)
+    (version : ℕ) (found : AuthorityRule) : Type 0 where
+  pub not_retired : words.mark < version
+  pub current : version ≤ current_mark before
+  pub planned : IsPlanned setting (policy_at setting before version)
+      (plan_at setting before version)
+  pub placed : Placed
+  pub finds : Finds (policy_at setting before version) (plan_at setting before version) header
+      placed
+  pub same : found ≡ deciding version finds
+
+rule_is : (o : Option AuthorityRule) (one other : AuthorityRule) → o ≡ Some one → o ≡ Some other
+    → one ≡ other
+rule_is o one other p q = cc
+
+pub rules_of : (setting : Setting) (before : List Item) (i s version : ℕ) (found : AuthorityRule)
+    → IsSetting setting → HaveCauses (HasItemCause setting) [] before
+    → (here : IsHere setting before i s)
+    → ((v p : ℕ) → (words_of before i).leg ≡ Some (Seek v p)
+    → IsSought setting before (words_of before i) here.under.header v p)
+    → AuthorityFinds setting before i s version found
+    → Rules setting before (words_of before i) here.under.header version found
+rules_of setting before i s version found is have here sought finds = elim finds.says [
+  | inl told ↦
+      let stamp : ℕ = stamp_of before s in
+      let own : FindsRule setting before s here.under.header finds.partition finds.place =
+      authority_told setting before s here.under.header finds.partition finds.place here.stamped
+      here.under.sound (ap (lookup_at setting before s) (sym here.header) ∙ told.told) in
+      let rule : authority_rule setting before stamp finds.partition own.part.finds.place
+      ≡ Some found =
+      ap (authority_rule setting before stamp finds.partition) own.found_at
+      ∙ subst (λ v. authority_rule setting before v finds.partition finds.place ≡ Some found)
+      told.stamp finds.rule in
+      subst (λ v. Rules setting before (words_of before i) here.under.header v found)
+      (sym told.stamp) (record {
+        not_retired = omega (arith, here.under.mark, here.stamped.retired);
+        current = here.stamped.current;
+        planned = here.stamped.planned;
+        placed = own.part.placed;
+        finds = own.part.finds;
+        same = rule_is (authority_rule setting before stamp finds.partition
+            own.part.finds.place) found (deciding stamp own.part.finds) rule
+            (rule_there setting before here.under.header own.part.placed stamp finds.partition
+            own.part.finds own.part.number);
+      })
+  | inr by ↦
+      let leg : IsSought setting before (words_of before i) here.under.header version
+      finds.partition =
+      sought version finds.partition (leg_in before i (Some (Seek version finds.partition)) by.seeks)
+      in
+      let planned : IsPlanned setting (policy_at setting before version)
+      (plan_at setting before version) =
+      current_planned setting before version is have (omega (arith, leg.not_retired)) leg.current in
+      let own : Finds (policy_at setting before version) (plan_at setting before version)
+      here.under.header leg.placed =
+      in_plan setting (policy_at setting before version) (plan_at setting before version)
+      here.under.header leg.placed planned here.under.sound leg.own.first in
+      let place : finds.place ≡ own.place =
+      by.first ∙ ap (first_place setting before version finds.partition) here.header
+      ∙ ap (λ (o : Option Placed). unwrap_or (option_and_then
+      (λ (p : Placed). position (is_held (number_of here.under.header)) p.0.rules) o) 0)
+      leg.own.found ∙ own.position in
+      record {
+        not_retired = leg.not_retired;
+        current = leg.current;
+        planned = planned;
+        placed = leg.placed;
+        finds = own;
+        same = rule_is (authority_rule setting before version finds.partition own.place) found
+            (deciding version own)
+            (ap (authority_rule setting before version finds.partition) (sym place) ∙ finds.rule)
+            (rule_there setting before here.under.header leg.placed version finds.partition own
+            leg.own.number);
+      }
+]

@@ -1,0 +1,648 @@
+-- Items that have their causes keep each packet on its way.
+use Rattle.std.proofs.Common.{ℕ, ◌≡◌, ◌<◌, ◌≤◌, ◌==◌, ◌&&◌, true, false, Option, Some, None, List, [], ◌∷◌, length, refl, ap, sym, subst, ◌∙◌, arith, inl, inr, ◌⊎◌}
+use Rattle.std.specs.Prelude.{All, Contains, IsTrue, is_some, find, option_map, slice_get, unwrap_or}
+use Rattle.std.specs.Option.{option_map_or}
+use Rattle.std.proofs.lemmas.Bool.{and_parts, eqb-true}
+use Rattle.std.proofs.lemmas.Bool.Decides.{nat_tests}
+use Rattle.std.proofs.lemmas.List.Elements.{All-contains}
+use Rattle.five_tuple.specs.Header.{IsHeader, number_of}
+use Rattle.five_tuple.specs.declared.header.Header.{Header}
+use Rattle.net_file.specs.Net.{IsLink, IsNet, are_linked, joins, owner_of}
+use Rattle.net_file.specs.declared.net.LinkRow.{LinkRow}
+use Rattle.std.specs.List.{Any}
+use Rattle.std.proofs.lemmas.List.Folds.{Any-from_list_any}
+use Rattle.policy_rules.specs.Partitions.{is_in}
+use Rattle.policy_rules.specs.Policy.{scan}
+use Rattle.policy_rules.specs.declared.packet.How.{How}
+use Rattle.policy_rules.specs.declared.packet.How.TheVariants as how
+use Rattle.policy_rules.specs.declared.packet.Leg.{Leg}
+use Rattle.policy_rules.specs.declared.packet.Leg.TheVariants.{Seek, Exit}
+use Rattle.policy_rules.specs.declared.policy.Action.{Action}
+use Rattle.policy_rules.specs.declared.policy.Action.TheVariants as action
+use Rattle.policy_rules.specs.declared.rules.Partition.{Partition}
+use Rattle.switch_table.specs.Cache.{first_entry}
+use Rattle.switch_table.specs.Lookup.{authority_of, redirect_of, table_lookup}
+use Rattle.switch_table.specs.Tables.{Placed}
+use Rattle.switch_table.specs.declared.cache.CacheEntry.{CacheEntry}
+use Rattle.switch_table.specs.declared.search.Found.TheVariants as found
+use Rattle.switch_table.specs.declared.tables.Tables.{Tables}
+use Rattle.switch_table.proofs.TableLemmas.{find-there}
+use Rattle.ternary.specs.Word.{holds}
+use Rattle.journal.specs.declared.item.Item.{Item}
+use Rattle.journal.specs.declared.item.Item.TheVariants as item
+use Rattle.update_machine.specs.Caches.{cache_of, lookup_at}
+use Rattle.update_machine.specs.Causes.{HaveCauses}
+use Rattle.update_machine.specs.Marks.{current_mark, retired_mark}
+use Rattle.update_machine.specs.Moves.{AuthorityRule}
+use Rattle.update_machine.specs.Adverts.{route_from}
+use Rattle.update_machine.specs.Packets.{Decision, found_down, no_switch, owner, targets_of}
+use Rattle.update_machine.specs.Played.{IsSetting, NamesOwnPort}
+use Rattle.update_machine.specs.Setting.{Setting}
+use Rattle.update_machine.specs.Versions.{plan_at, policy_at, stamp_of, tables_at}
+use Rattle.boot_laws.specs.ItemCauses.{HasItemCause}
+use Rattle.advert_laws.specs.Adverts.{LinksAreThere}
+use Rattle.packet_laws.specs.Calm.{IsRightEntry}
+use Rattle.packet_laws.specs.OnWay.{IsExiting, IsOnLeg, IsOnWay, IsPartitionOf, IsSeeking, IsUnderWay, LeadsTo}
+use Rattle.packet_laws.specs.Words.{PacketWords, port_of, told_by, words_of}
+use Rattle.way_laws.specs.Kept.{IsJudged, IsKept, IsSought}
+use Rattle.way_laws.specs.Stages.{Blocked, CameIn, Judged, OnWay, Stage, stage_of}
+use Rattle.way_laws.specs.WayCauses.{AuthorityDecides, CacheDecides, DecidesBy, IsDecided, MeetsDown, MovesOver, TakesDetour, TakesExit, TakesRoute}
+use Rattle.way_laws.proofs.Here.{IsHere, Rules, found_in, here_of, leg_in, next_in, decision_in, rules_of, seeking_of, some_same}
+use Rattle.way_laws.proofs.Lookups.{FindsTargets, redirect_told}
+use Rattle.way_laws.proofs.PacketBlocks.{WhenDecided}
+use Rattle.way_laws.proofs.Plans.{scan_named}
+use Rattle.way_laws.proofs.Routes.{IsWay, route_way}
+
+-- what is known of the journal before an item, and kept of its packet
+pub record Knows (setting : Setting) (before : List Item) (i : ℕ) (stage : Option Stage) : Type 0
+  where
+    pub is : IsSetting setting
+    pub have : HaveCauses (HasItemCause setting) [] before
+    pub links : LinksAreThere setting before
+    pub kept : IsKept setting before (words_of before i) stage
+
+-- words that leave it under way as it was
+abbrev under_as : (setting : Setting) (before : List Item) (one other : PacketWords)
+    → other.header ≡ one.header → other.ingress ≡ one.ingress → other.place ≡ one.place
+    → other.mark ≡ one.mark → IsUnderWay setting before one → IsUnderWay setting before other
+under_as setting before one other header ingress place mark under = record {
+  header = under.header;
+  ingress = under.ingress;
+  place = under.place;
+  entered = header ∙ under.entered;
+  sound = under.sound;
+  came = ingress ∙ under.came;
+  at_first = under.at_first;
+  stands = place ∙ under.stands;
+  now = under.now;
+  mark = subst (λ m. m ≤ retired_mark before) (sym mark) under.mark;
+}
+
+-- a packet that doesn't travel
+pub gone : (setting : Setting) (before : List Item) (words : PacketWords) (stage : Option Stage)
+    → words.travels ≡ false → IsKept setting before words stage
+gone setting before words stage ended = record {
+  under_way = λ travels. absurd cc;
+  came_in = λ travels is. absurd cc;
+  judged = λ travels is header entered. absurd cc;
+  on_way = λ travels is. absurd cc;
+  avoids = λ travels is. absurd cc;
+}
+
+-- a link of the network ends at a switch of the network
+joined_there : (count one two : ℕ) (link : LinkRow) → IsLink count link → joins one two link ≡ true
+    → two < count
+joined_there count one two link is joined = grind (arith, nat_tests)
+
+linked_there : (setting : Setting) (one two : ℕ) → IsNet setting.net
+    → IsTrue (are_linked setting.net.links one two) → two < length setting.net.switches
+linked_there setting one two net linked =
+    by_link (Any-from_list_any (joins one two) setting.net.links linked)
+  where
+    by_link : Any (λ link. joins one two link ≡ true) setting.net.links
+        → two < length setting.net.switches
+    by_link any =
+        let is : IsLink (length setting.net.switches) any.1 =
+        subst (IsLink (length setting.net.switches)) any.3 (net.links any.0 any.1 any.2) in
+        joined_there (length setting.net.switches) one two any.1 is any.4
+
+-- ---- undecided packets
+
+pub undecided_of : (setting : Setting) (before : List Item) (i s : ℕ) (stage : Option Stage)
+    → IsKept setting before (words_of before i) stage
+    → (here : IsHere setting before i s) → (stage ≡ Some CameIn) ⊎ ((stage ≡ Some OnWay)
+    × ((v : ℕ) × (p : ℕ) × ((words_of before i).leg ≡ Some (Seek v p))))
+    → (words_of before i).decision ≡ None
+undecided_of setting before i s stage kept here (inl came) =
+    (kept.came_in here.travelling came).0
+undecided_of setting before i s stage kept here (inr moving) =
+    (seeking_of setting before (words_of before i) here.under.header moving.1.0
+    moving.1.1 (kept.on_way here.travelling (inl moving.0)) here.under.entered
+    moving.1.2).undecided
+
+sought_of : (setting : Setting) (before : List Item) (i s : ℕ) (stage : Option Stage)
+    → IsKept setting before (words_of before i) stage
+    → (here : IsHere setting before i s) → (stage ≡ Some CameIn) ⊎ (stage ≡ Some OnWay)
+    → (v p : ℕ) → (words_of before i).leg ≡ Some (Seek v p)
+    → IsSought setting before (words_of before i) here.under.header v p
+sought_of setting before i s stage kept here (inl came) v p seeks =
+    let none : (words_of before i).leg ≡ None = (kept.came_in here.travelling came).1 in
+    absurd cc
+sought_of setting before i s stage kept here (inr moving) v p seeks =
+    let on : IsSeeking setting before (words_of before i) here.under.header v p =
+    seeking_of setting before (words_of before i) here.under.header v p
+    (kept.on_way here.travelling (inl moving)) here.under.entered seeks in
+    record {
+      not_retired = on.not_retired;
+      current = on.current;
+      placed = on.placed;
+      own = on.own;
+    }
+
+-- where a packet is looked up or arrives
+pub stage_when : (before : List Item) (i s version : ℕ) → WhenDecided before i s version
+    → (stage_of before i ≡ Some CameIn) ⊎ ((stage_of before i ≡ Some OnWay)
+    × ((v : ℕ) × (p : ℕ) × ((words_of before i).leg ≡ Some (Seek v p))))
+stage_when before i s version (inl (inl came)) = inl came
+stage_when before i s version (inl (inr misses)) =
+    inr (
+      misses.arrives.moving,
+      (
+        misses.version,
+        misses.partition,
+        leg_in before i (Some (Seek misses.version misses.partition)) misses.seeks,
+      ),
+    )
+stage_when before i s version (inr reaches) =
+    inr (
+      reaches.arrives.moving,
+      (
+        version,
+        reaches.partition,
+        leg_in before i (Some (Seek version reaches.partition)) reaches.seeks,
+      ),
+    )
+
+stage_alone : {one two three : Type 0} → one ⊎ (two × three) → one ⊎ two
+stage_alone (inl x) = inl x
+stage_alone (inr x) = inr x.0
+
+-- ---- what each item makes of its packet
+
+pub seeking_after : (setting : Setting) (before : List Item) (i mark version partition : ℕ)
+    (route : List ℕ) → Knows setting before i (stage_of before i)
+    → TakesRoute setting before i (Seek version partition) route
+    → IsKept setting before
+    (told_by mark (item.Seeking i version partition route) (words_of before i)) (Some OnWay)
+seeking_after setting before i mark version partition route knows takes =
+    let words : PacketWords = words_of before i in
+    let after : PacketWords = told_by mark (item.Seeking i version partition route) words in
+    let s : ℕ = takes.switch in
+    let here : IsHere setting before i s =
+    here_of setting before i s (stage_of before i) knows.is knows.have knows.kept takes.at in
+    let under : IsUnderWay setting before after =
+    under_as setting before words after refl refl refl refl here.under in
+    let told : FindsTargets setting before s here.under.header partition takes.takes.targets =
+    redirect_told setting before s here.under.header partition takes.takes.targets here.stamped
+    here.under.sound (ap (lookup_at setting before s) (sym here.header) ∙ takes.takes.told) in
+    let placed : Placed = told.part.placed in
+    let own : IsPartitionOf setting before here.under.header (stamp_of before s) partition placed =
+    record {
+      found = ap (slice_get (plan_at setting before (stamp_of before s))) (sym told.part.number)
+          ∙ told.part.finds.at;
+      number = told.part.number;
+      first = told.part.finds.first;
+      holds = told.part.finds.holds;
+    } in
+    let own_version : IsPartitionOf setting before here.under.header version partition placed =
+    subst (λ v. IsPartitionOf setting before here.under.header v partition placed)
+    (sym takes.takes.stamp) own in
+    let targets : targets_of setting before (Seek version partition) ≡ placed.1 =
+    ap (λ o. unwrap_or (option_map (λ (p : Placed). p.1) o) []) own_version.found in
+    let way : IsWay setting s placed.1 words.found route =
+    route_way setting before s placed.1 words.found route knows.links
+    (subst (λ down. route_from setting before s placed.1 down ≡ Some route) (found_in before i)
+    (ap (λ all. route_from setting before s all (found_down before i)) (sym targets)
+    ∙ takes.leads)) in
+    record {
+      under_way = λ travels. under;
+      came_in = λ travels is. absurd cc;
+      judged = λ travels is header entered. absurd cc;
+      on_way = λ travels is. record {
+        under_way = under;
+        leg = Seek version partition;
+        takes = refl;
+        on_leg = record {
+          undecided = undecided_of setting before i s (stage_of before i) knows.kept here
+              (stage_when before i s 0 (inl takes.takes.looked_up));
+          not_retired = omega (arith, here.under.mark, here.stamped.retired, takes.takes.stamp);
+          current = omega (arith, here.stamped.current, takes.takes.stamp);
+          placed = placed;
+          own = own_version;
+          leads = way.leads;
+        };
+        stands = way.begins ∙ ap Some here.at;
+      };
+      avoids = λ travels is. way.avoids;
+    }
+
+is_home : (o : Option ℕ) → IsTrue (is_some o) → o ≡ Some (unwrap_or o no_switch)
+is_home None e = absurd cc
+is_home (Some x) e = refl
+
+pub port_named : (setting : Setting) (port : ℕ) (act : Action) → act ≡ action.Out port
+    → NamesOwnPort setting act
+    → owner_of setting.net.switches port ≡ Some (owner setting port)
+port_named setting port act is named =
+    is_home (owner_of setting.net.switches port) (subst (NamesOwnPort setting) is named)
+
+pub exiting_after : (setting : Setting) (before : List Item) (i mark : ℕ) (route : List ℕ)
+    → Knows setting before i (stage_of before i) → TakesExit setting before i route
+    → IsKept setting before (told_by mark (item.Exiting i route) (words_of before i)) (Some OnWay)
+exiting_after setting before i mark route knows exits =
+    let words : PacketWords = words_of before i in
+    let after : PacketWords = told_by mark (item.Exiting i route) words in
+    let s : ℕ = exits.by.switch in
+    let out = exits.by.takes in
+    let here : IsHere setting before i s =
+    here_of setting before i s (stage_of before i) knows.is knows.have knows.kept exits.by.at in
+    let under : IsUnderWay setting before after =
+    under_as setting before words after refl refl refl refl here.under in
+    let judged : IsJudged setting before words here.under.header =
+    knows.kept.judged here.travelling out.judged here.under.header here.under.entered in
+    let decided : words.decision ≡ Some out.decision =
+    decision_in before i (Some out.decision) out.decided in
+    let same : judged.decision ≡ out.decision =
+    some_same words.decision judged.decision out.decision judged.decided decided in
+    let has_port : owner_of setting.net.switches exits.port ≡ Some (owner setting exits.port) =
+    port_named setting exits.port judged.decision.action
+    (ap (λ (d : Decision). d.action) same ∙ out.action) judged.named in
+    let way : IsWay setting s (owner setting exits.port ∷ []) words.found route =
+    route_way setting before s (owner setting exits.port ∷ []) words.found route knows.links
+    (subst (λ down. route_from setting before s (owner setting exits.port ∷ []) down ≡ Some route)
+    (found_in before i) exits.by.leads) in
+    let port : port_of words.decision ≡ exits.port = rw (decided, out.action) refl in
+    let exiting : IsExiting setting after exits.port = record {
+      decision = out.decision;
+      decided = decided;
+      action = out.action;
+      owner = owner setting exits.port;
+      has_port = has_port;
+      leads = way.leads;
+    } in
+    record {
+      under_way = λ travels. under;
+      came_in = λ travels is. absurd cc;
+      judged = λ travels is header entered. absurd cc;
+      on_way = λ travels is. record {
+        under_way = under;
+        leg = Exit (port_of words.decision);
+        takes = refl;
+        on_leg = subst (IsExiting setting after) (sym port) exiting;
+        stands = way.begins ∙ ap Some here.at;
+      };
+      avoids = λ travels is. way.avoids;
+    }
+
+-- on its leg with another route
+leg_by : (setting : Setting) (before : List Item) (words after : PacketWords) (header : Header)
+    (leg : Leg) → after.decision ≡ words.decision → after.mark ≡ words.mark
+    → IsOnLeg setting before words header leg
+    → LeadsTo setting (targets_of setting before leg) after.route
+    → IsOnLeg setting before after header leg
+leg_by setting before words after header (Seek version partition) decision mark on leads = record {
+  undecided = decision ∙ on.undecided;
+  not_retired = subst (λ m. m < version) (sym mark) on.not_retired;
+  current = on.current;
+  placed = on.placed;
+  own = on.own;
+  leads = subst (λ targets. LeadsTo setting targets after.route)
+      (ap (λ o. unwrap_or (option_map (λ (p : Placed). p.1) o) []) on.own.found) leads;
+}
+leg_by setting before words after header (Exit port) decision mark on leads = record {
+  decision = on.decision;
+  decided = decision ∙ on.decided;
+  action = on.action;
+  owner = on.owner;
+  has_port = on.has_port;
+  leads = subst (λ home. LeadsTo setting (home ∷ []) after.route)
+      (ap (λ o. unwrap_or o no_switch) on.has_port) leads;
+}
+
+pub rerouted_after : (setting : Setting) (before : List Item) (i mark : ℕ) (route : List ℕ)
+    → Knows setting before i (stage_of before i) → TakesDetour setting before i route
+    → IsKept setting before (told_by mark (item.Rerouted i route) (words_of before i)) (Some OnWay)
+rerouted_after setting before i mark route knows turns =
+    let words : PacketWords = words_of before i in
+    let after : PacketWords = told_by mark (item.Rerouted i route) words in
+    let s : ℕ = turns.switch in
+    let here : IsHere setting before i s =
+    here_of setting before i s (stage_of before i) knows.is knows.have knows.kept turns.at in
+    let under : IsUnderWay setting before after =
+    under_as setting before words after refl refl refl refl here.under in
+    let was : IsOnWay setting before words =
+    knows.kept.on_way here.travelling (inr turns.blocked.blocked) in
+    let leg : was.leg ≡ turns.leg =
+    some_same words.leg was.leg turns.leg was.takes
+    (leg_in before i (Some turns.leg) turns.blocked.takes) in
+    let header : was.under_way.header ≡ here.under.header =
+    some_same words.header was.under_way.header here.under.header was.under_way.entered
+    here.under.entered in
+    let way : IsWay setting s (targets_of setting before turns.leg) words.found route =
+    route_way setting before s (targets_of setting before turns.leg) words.found route knows.links
+    (subst (λ down. route_from setting before s (targets_of setting before turns.leg) down
+    ≡ Some route) (found_in before i) turns.leads) in
+    record {
+      under_way = λ travels. under;
+      came_in = λ travels is. absurd cc;
+      judged = λ travels is h entered. absurd cc;
+      on_way = λ travels is. record {
+        under_way = under;
+        leg = turns.leg;
+        takes = was.takes ∙ ap Some leg;
+        on_leg = leg_by setting before words after here.under.header turns.leg refl refl
+            (subst (λ l. IsOnLeg setting before words here.under.header l) leg
+            (subst (λ h. IsOnLeg setting before words h was.leg) header was.on_leg)) way.leads;
+        stands = way.begins ∙ ap Some here.at;
+      };
+      avoids = λ travels is. way.avoids;
+    }
+
+-- on its leg and its route as it was
+leg_same : (setting : Setting) (before : List Item) (words after : PacketWords) (header : Header)
+    (leg : Leg) → after.decision ≡ words.decision → after.mark ≡ words.mark
+    → after.route ≡ words.route → IsOnLeg setting before words header leg
+    → IsOnLeg setting before after header leg
+leg_same setting before words after header (Seek version partition) decision mark route on =
+    record {
+      undecided = decision ∙ on.undecided;
+      not_retired = subst (λ m. m < version) (sym mark) on.not_retired;
+      current = on.current;
+      placed = on.placed;
+      own = on.own;
+      leads = subst (LeadsTo setting on.placed.1) (sym route) on.leads;
+    }
+leg_same setting before words after header (Exit port) decision mark route on = record {
+  decision = on.decision;
+  decided = decision ∙ on.decided;
+  action = on.action;
+  owner = on.owner;
+  has_port = on.has_port;
+  leads = subst (LeadsTo setting (on.owner ∷ [])) (sym route) on.leads;
+}
+
+pub hopped_after : (setting : Setting) (before : List Item) (i mark next : ℕ)
+    → Knows setting before i (stage_of before i) → MovesOver setting before i next
+    → IsKept setting before (told_by mark (item.Hopped i next) (words_of before i)) (Some OnWay)
+hopped_after setting before i mark next knows moves =
+    let words : PacketWords = words_of before i in
+    let after : PacketWords = told_by mark (item.Hopped i next) words in
+    let s : ℕ = moves.switch in
+    let here : IsHere setting before i s =
+    here_of setting before i s (stage_of before i) knows.is knows.have knows.kept moves.at in
+    let was : IsOnWay setting before words = knows.kept.on_way here.travelling (inl moves.moving) in
+    let under : IsUnderWay setting before after = record {
+      header = was.under_way.header;
+      ingress = was.under_way.ingress;
+      place = next;
+      entered = was.under_way.entered;
+      sound = was.under_way.sound;
+      came = was.under_way.came;
+      at_first = was.under_way.at_first;
+      stands = refl;
+      now = linked_there setting s next knows.is.net
+          (knows.links.usable s next moves.usable);
+      mark = was.under_way.mark;
+    } in
+    record {
+      under_way = λ travels. under;
+      came_in = λ travels is. absurd cc;
+      judged = λ travels is header entered. absurd cc;
+      on_way = λ travels is. record {
+        under_way = under;
+        leg = was.leg;
+        takes = was.takes;
+        on_leg = leg_same setting before words after was.under_way.header was.leg refl refl refl
+            was.on_leg;
+        stands = sym (next_in before i) ∙ moves.goes_on;
+      };
+      avoids = λ travels is. knows.kept.avoids here.travelling moves.moving;
+    }
+
+pub found_after : (setting : Setting) (before : List Item) (i mark one two : ℕ)
+    → Knows setting before i (stage_of before i) → MeetsDown setting before i one two
+    → IsKept setting before (told_by mark (item.FoundDown i one two) (words_of before i))
+    (Some Blocked)
+found_after setting before i mark one two knows meets =
+    let words : PacketWords = words_of before i in
+    let after : PacketWords = told_by mark (item.FoundDown i one two) words in
+    let here : IsHere setting before i one =
+    here_of setting before i one (stage_of before i) knows.is knows.have knows.kept meets.at in
+    let was : IsOnWay setting before words = knows.kept.on_way here.travelling (inl meets.moving) in
+    let under : IsUnderWay setting before after =
+    under_as setting before words after refl refl refl refl was.under_way in
+    record {
+      under_way = λ travels. under;
+      came_in = λ travels is. absurd cc;
+      judged = λ travels is header entered. absurd cc;
+      on_way = λ travels is. record {
+        under_way = under;
+        leg = was.leg;
+        takes = was.takes;
+        on_leg = leg_same setting before words after under.header was.leg refl refl refl
+            (subst (λ h. IsOnLeg setting before words h was.leg)
+            (some_same words.header was.under_way.header under.header was.under_way.entered
+            under.entered) was.on_leg);
+        stands = was.stands ∙ ap Some
+            (some_same words.place was.under_way.place under.place was.under_way.stands
+            under.stands);
+      };
+      avoids = λ travels is. absurd cc;
+    }
+
+pub entered_after : (setting : Setting) (before : List Item) (i s : ℕ) (header : Header)
+    (words : PacketWords) → s < length setting.net.switches → IsHeader header
+    → words.decision ≡ None → words.leg ≡ None
+    → IsKept setting before (told_by (retired_mark before) (item.Entered i s header) words)
+    (Some CameIn)
+entered_after setting before i s header words there sound undecided no_leg = record {
+  under_way = λ travels. record {
+    header = header;
+    ingress = s;
+    place = s;
+    entered = refl;
+    sound = sound;
+    came = refl;
+    at_first = there;
+    stands = refl;
+    now = there;
+    mark = omega arith;
+  };
+  came_in = λ travels is. (undecided, no_leg);
+  judged = λ travels is other entered. absurd cc;
+  on_way = λ travels is. absurd_stage is;
+  avoids = λ travels is. absurd cc;
+}
+  where
+    absurd_stage : {X : Type 0} → (Some CameIn ≡ Some OnWay) ⊎ (Some CameIn ≡ Some Blocked) → X
+    absurd_stage (inl e) = absurd cc
+    absurd_stage (inr e) = absurd cc
+
+-- ---- decisions
+
+table_not_cached : (tables : Tables) (header : Header) (entry : CacheEntry)
+    → table_lookup tables header ≡ found.Cached entry → ⊥
+table_not_cached tables header entry = by_part (find (is_in header) tables.auth)
+  where
+    by_part : (o : Option Partition)
+        → option_map_or (authority_of header) o (redirect_of header tables.parts)
+        ≡ found.Cached entry → ⊥
+    by_part None e = cc
+    by_part (Some part) e = cc
+
+cached_told : (setting : Setting) (journal : List Item) (s : ℕ) (header : Header)
+    (entry : CacheEntry) → lookup_at setting journal s header ≡ found.Cached entry
+    → first_entry (stamp_of journal s) (number_of header) (cache_of setting journal s).entries
+    ≡ Some entry
+unfolding lookup_at
+cached_told setting journal s header entry told =
+    by_entry (first_entry (stamp_of journal s) (number_of header)
+    (cache_of setting journal s).entries) told
+  where
+    by_entry : (o : Option CacheEntry)
+        → option_map_or found.Cached o
+        (table_lookup (tables_at setting journal (stamp_of journal s) s) header)
+        ≡ found.Cached entry → o ≡ Some entry
+    by_entry None e =
+        absurd (table_not_cached (tables_at setting journal (stamp_of journal s) s) header entry e)
+    by_entry (Some other) e = cc
+
+-- what decides the packet
+pub record DecidesRightly (setting : Setting) (before : List Item) (words : PacketWords)
+    (header : Header) (version : ℕ) (rule : Option ℕ) (act : Action) : Type 0 where
+  pub not_retired : words.mark < version
+  pub current : version ≤ current_mark before
+  pub first_match : scan (policy_at setting before version) header
+      ≡ record { rule = rule; action = act }
+  pub named : NamesOwnPort setting act
+
+cache_decides : (setting : Setting) (before : List Item) (i s version : ℕ) (rule : Option ℕ)
+    (act : Action) (message : ℕ) → (here : IsHere setting before i s)
+    → All (IsRightEntry setting before) (cache_of setting before s).entries
+    → CacheDecides setting before i s version rule act message
+    → DecidesRightly setting before (words_of before i) here.under.header version rule act
+cache_decides setting before i s version rule act message here right by =
+    let entry : CacheEntry = by.entry in
+    let header : Header = here.under.header in
+    let first : first_entry (stamp_of before s) (number_of header)
+    (cache_of setting before s).entries ≡ Some entry =
+    cached_told setting before s header entry
+    (ap (lookup_at setting before s) (sym here.header) ∙ by.told) in
+    let there : Contains (cache_of setting before s).entries entry
+    × (((entry.version == stamp_of before s) && holds entry.word (number_of header)) ≡ true) =
+    find-there (λ (x : CacheEntry). (x.version == stamp_of before s)
+    && holds x.word (number_of header)) (cache_of setting before s).entries entry first in
+    let own : IsRightEntry setting before entry =
+    All-contains (IsRightEntry setting before) (cache_of setting before s).entries entry right
+    there.0 in
+    let stamp : entry.version ≡ stamp_of before s =
+    eqb-true entry.version (stamp_of before s) (and_parts _ _ there.1).0 in
+    let match : scan (policy_at setting before version) header
+    ≡ record { rule = rule; action = act } =
+    ap (λ v. scan (policy_at setting before v) header) by.of_version
+    ∙ own.decides header here.under.sound (and_parts _ _ there.1).1
+    ∙ ap (λ r. record { rule = r; action = entry.action }) (sym by.by_rule)
+    ∙ ap (λ a. record { rule = rule; action = a }) (sym by.says) in
+    record {
+      not_retired = omega (
+        arith,
+        by.of_version,
+        stamp,
+        here.under.mark,
+        here.stamped.retired,
+      );
+      current = omega (arith, by.of_version, own.current);
+      first_match = match;
+      named = subst (λ hit. NamesOwnPort setting hit.action)
+          (ap (λ v. scan (policy_at setting before v) header) (sym (by.of_version ∙ stamp)) ∙ match)
+          (scan_named setting (policy_at setting before (stamp_of before s))
+          (plan_at setting before (stamp_of before s)) header here.stamped.planned);
+    }
+
+authority_decides : (setting : Setting) (before : List Item) (i s version : ℕ) (rule : Option ℕ)
+    (act : Action) (partition : ℕ) → Knows setting before i (stage_of before i)
+    → (here : IsHere setting before i s)
+    → AuthorityDecides setting before i s version rule act partition
+    → DecidesRightly setting before (words_of before i) here.under.header version rule act
+authority_decides setting before i s version rule act partition knows here by =
+    let header : Header = here.under.header in
+    let rules : Rules setting before (words_of before i) header version by.found =
+    rules_of setting before i s version by.found knows.is knows.have here
+    (sought_of setting before i s (stage_of before i) knows.kept here
+    (stage_alone (stage_when before i s version by.when))) by.finds in
+    let match : scan (policy_at setting before version) header
+    ≡ record { rule = rule; action = act } =
+    sym rules.finds.decides
+    ∙ ap (λ (f : AuthorityRule). record { rule = f.rule.rule; action = f.rule.action })
+    (sym rules.same)
+    ∙ ap (λ r. record { rule = r; action = by.found.rule.action }) (sym by.by_rule)
+    ∙ ap (λ a. record { rule = rule; action = a }) (sym by.says) in
+    record {
+      not_retired = rules.not_retired;
+      current = rules.current;
+      first_match = match;
+      named = subst (λ hit. NamesOwnPort setting hit.action) match
+          (scan_named setting (policy_at setting before version) (plan_at setting before version)
+          header rules.planned);
+    }
+
+-- when the packet was decided, and by what
+pub record IsDecidedNow (setting : Setting) (before : List Item) (i s version : ℕ) (rule : Option ℕ)
+    (act : Action) (header : Header) : Type 0 where
+  pub when : WhenDecided before i s version
+  pub rightly : DecidesRightly setting before (words_of before i) header version rule act
+
+pub decided_now : (setting : Setting) (before : List Item) (i s version : ℕ) (rule : Option ℕ)
+    (act : Action) (by : How) → Knows setting before i (stage_of before i)
+    → (here : IsHere setting before i s)
+    → All (IsRightEntry setting before) (cache_of setting before s).entries
+    → DecidesBy setting before i s version rule act by
+    → IsDecidedNow setting before i s version rule act here.under.header
+decided_now setting before i s version rule act (how.Cached message) knows here right decides =
+    record {
+      when = inl decides.looked_up;
+      rightly = cache_decides setting before i s version rule act message here right decides;
+    }
+decided_now setting before i s version rule act (how.Authority home partition) knows here right
+    decides =
+    record {
+      when = decides.1.when;
+      rightly = authority_decides setting before i s version rule act partition knows here
+          decides.1;
+    }
+
+pub decided_after : (setting : Setting) (before : List Item) (i mark version : ℕ) (rule : Option ℕ)
+    (act : Action) (by : How) → Knows setting before i (stage_of before i)
+    → ((s : ℕ) → All (IsRightEntry setting before) (cache_of setting before s).entries)
+    → IsDecided setting before i version rule act by
+    → IsKept setting before (told_by mark (item.Decided i version rule act by) (words_of before i))
+    (Some Judged)
+decided_after setting before i mark version rule act by knows right decided =
+    let words : PacketWords = words_of before i in
+    let after : PacketWords = told_by mark (item.Decided i version rule act by) words in
+    let s : ℕ = decided.switch in
+    let here : IsHere setting before i s =
+    here_of setting before i s (stage_of before i) knows.is knows.have knows.kept decided.at in
+    let now : IsDecidedNow setting before i s version rule act here.under.header =
+    decided_now setting before i s version rule act by knows here (right s) decided.by in
+    let judged : IsJudged setting before after here.under.header = record {
+      decision = record { version = version; rule = rule; action = act };
+      decided = refl;
+      not_retired = now.rightly.not_retired;
+      current = now.rightly.current;
+      first_match = now.rightly.first_match;
+      named = now.rightly.named;
+      sought = λ v p seeks.
+          let sought : IsSought setting before words here.under.header v p =
+          sought_of setting before i s (stage_of before i) knows.kept here
+          (stage_alone (stage_when before i s version now.when)) v p seeks in
+          record {
+            not_retired = sought.not_retired;
+            current = sought.current;
+            placed = sought.placed;
+            own = sought.own;
+          };
+    } in
+    record {
+      under_way = λ travels. under_as setting before words after refl refl refl refl here.under;
+      came_in = λ travels is. absurd cc;
+      judged = λ travels is header entered.
+          subst (IsJudged setting before after)
+          (some_same words.header here.under.header header here.under.entered entered) judged;
+      on_way = λ travels is. absurd_stage is;
+      avoids = λ travels is. absurd cc;
+    }
+  where
+    absurd_stage : {X : Type 0} → (Some Judged ≡ Some OnWay) ⊎ (Some Judged ≡ Some Blocked) → X
+    absurd_stage (inl e) = absurd cc
+    absurd_stage (inr e) = absurd cc

@@ -1,0 +1,25 @@
+pub mod FirstLinks
+pub mod PacketBlocks
+pub mod OtherBlocks
+pub mod Pieces
+pub mod Plans
+pub mod CacheRules
+pub mod Done
+pub mod Others
+pub mod Served
+pub mod CrashServed
+pub mod Lookups
+pub mod Rests
+pub mod Reached
+pub mod Caches
+pub mod Routes
+pub mod Growing
+pub mod Here
+pub mod Kept
+pub mod AllKept
+pub mod Travelling
+pub mod Ends
+pub mod EndsCaused
+pub mod Runs
+mod Trials
+pub mod Strong

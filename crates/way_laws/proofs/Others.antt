@@ -1,0 +1,202 @@
+-- What a step leaves of packets that it isn't about: they are on their way as before.
+use Rattle.std.proofs.Common.{ℕ, ◌≡◌, ◌==◌, Bool, true, false, Option, Some, None, List, [], ◌∷◌, ◌++◌, map, refl, sym, ◌∙◌, arith, inl, inr, ◌⊎◌}
+use Rattle.std.specs.Prelude.{⊤, if◌then◌else◌}
+use Rattle.five_tuple.specs.declared.header.Header.{Header}
+use Rattle.policy_rules.specs.declared.packet.Leg.{Leg}
+use Rattle.policy_rules.specs.declared.policy.Action.{Action}
+use Rattle.policy_rules.specs.declared.policy.Action.TheVariants as action
+use Rattle.switch_table.specs.declared.search.Found.{Found}
+use Rattle.journal.specs.declared.item.Item.{Item}
+use Rattle.journal.specs.declared.item.Item.TheVariants as item
+use Rattle.update_machine.specs.Boots.{is_up}
+use Rattle.update_machine.specs.Caches.{lookup_at}
+use Rattle.update_machine.specs.Causes.{HaveCauses}
+use Rattle.update_machine.specs.Deliveries.{link_changes}
+use Rattle.update_machine.specs.Messages.{sent_from}
+use Rattle.update_machine.specs.Moves.{AuthorityRule, arrive_by, arrive_items, authority_items, cache_items, end_items, found_items, go_on, header_at, leg_items, lookup_items, move_items, put, reroute_by, reroute_items}
+use Rattle.update_machine.specs.Packets.{leg_of, packets_at, tells_travelling, travels}
+use Rattle.update_machine.specs.Pieces.{crash_items, hop_items, lose_items, nothing, packet_items}
+use Rattle.update_machine.specs.Setting.{Setting}
+use Rattle.update_machine.proofs.CallerLemmas.{have_append, have_put, last_told_append}
+use Rattle.boot_laws.proofs.Facts.{AreKept, fact_on, have_weaker}
+use Rattle.way_laws.specs.Rest.{IsMoving}
+use Rattle.way_laws.specs.Stages.{CameIn, tells_stage}
+use Rattle.way_laws.proofs.OtherBlocks.{AreAside, IsAside, changes_aside}
+use Rattle.way_laws.proofs.PacketBlocks.{stage_stays}
+
+-- ---- items that say nothing of where a packet is about
+
+-- no step begins
+abbrev pub IsNoRow : Item → Type 0
+IsNoRow (item.Row row step) = ⊥
+IsNoRow _ = ⊤
+
+-- the item doesn't bring the packet in or on, and begins no step
+abbrev pub Spares : ℕ → List Item → Item → Type 0
+Spares i before next = (tells_stage i next ≡ None) × IsNoRow next
+
+pub ends_or_not : (b : Bool) → ((if b then Some false else None) ≡ None)
+    ⊎ ((if b then Some false else None) ≡ Some false)
+ends_or_not true = inr refl
+ends_or_not false = inl refl
+
+comes_in : (i : ℕ) (next : Item) → tells_stage i next ≡ None
+    → (tells_travelling i next ≡ None) ⊎ (tells_travelling i next ≡ Some false)
+comes_in i (item.Entered packet switch header) spares = by_test (packet == i) spares
+  where
+    by_test : (b : Bool) → (if b then Some CameIn else None) ≡ None
+        → ((if b then Some true else None) ≡ None) ⊎ ((if b then Some true else None) ≡ Some false)
+    by_test true e = absurd cc
+    by_test false e = inl refl
+comes_in i (item.Dropped packet) spares = ends_or_not (packet == i)
+comes_in i (item.Left packet port leaving) spares = ends_or_not (packet == i)
+comes_in i (item.Lost packet) spares = ends_or_not (packet == i)
+comes_in i (item.Stuck packet switch cause leg down) spares = ends_or_not (packet == i)
+comes_in i _ spares = inl refl
+
+pub spared_on : (i : ℕ) → AreKept (Spares i) (λ journal. IsMoving journal i)
+unfolding travels
+spared_on i before next spares done travelling = elim (comes_in i next spares.0) [
+  | inl none ↦
+      stage_stays before next i spares.0
+      ∙ done (rw (last_told_append (tells_travelling i) before (next ∷ []), none) at travelling)
+  | inr ends ↦
+      let clash : true ≡ false =
+      sym travelling ∙ rw (last_told_append (tells_travelling i) before (next ∷ []), ends) refl in
+      absurd cc
+]
+
+pub spared : (i : ℕ) (before items : List Item) → HaveCauses (Spares i) before items
+    → IsMoving before i → IsMoving (before ++ items) i
+spared i before items spares done =
+    fact_on (Spares i) (λ journal. IsMoving journal i) (spared_on i) before items spares done
+
+-- ---- the blocks of another packet
+
+abbrev Spared : ℕ → List Item → List Item → Type 0
+Spared j journal items = HaveCauses (Spares j) journal items
+
+-- the packets are two
+abbrev Apart : ℕ → ℕ → Type 0
+Apart i j = (i == j) ≡ false
+
+leg_spares : (setting : Setting) (j : ℕ) (journal : List Item) (i s : ℕ) (leg : Leg) → Apart i j
+    → Spared j journal (leg_items setting journal i s leg)
+unfolding leg_items
+leg_spares setting j journal i s leg apart = grind (arith, apart)
+
+end_spares : (setting : Setting) (j i s : ℕ) (act : Action) (journal : List Item) → Apart i j
+    → Spared j journal (end_items setting i s act journal)
+unfolding end_items
+end_spares setting j i s action.Drop journal apart = ((refl, tt), tt)
+end_spares setting j i s (action.Out port) journal apart = grind (arith, leg_spares, apart)
+
+cache_spares : (setting : Setting) (j i s : ℕ) (rule : AuthorityRule) (journal : List Item)
+    → Spared j journal (cache_items setting i s rule journal)
+unfolding cache_items sent_from
+cache_spares setting j i s rule journal = grind arith
+
+authority_spares : (setting : Setting) (j i s : ℕ) (rule : Option AuthorityRule)
+    (journal : List Item) → Apart i j
+    → Spared j journal (authority_items setting i s rule journal)
+unfolding authority_items
+authority_spares setting j i s None journal apart = tt
+authority_spares setting j i s (Some rule) journal apart =
+    grind (arith, have_append, cache_spares, end_spares, apart)
+
+found_spares : (setting : Setting) (j i s : ℕ) (what : Found) (journal : List Item) → Apart i j
+    → Spared j journal (found_items setting i s what journal)
+found_spares setting j i s what journal apart =
+    grind (arith, end_spares, authority_spares, leg_spares, apart)
+
+lookup_spares : (setting : Setting) (j i s : ℕ) (journal : List Item) → Apart i j
+    → Spared j journal (lookup_items setting i s journal)
+unfolding lookup_items
+lookup_spares setting j i s journal apart =
+    found_spares setting j i s (lookup_at setting journal s (header_at journal i)) journal apart
+
+arrive_by_spares : (setting : Setting) (j i s : ℕ) (leg : Option Leg) (journal : List Item)
+    → Apart i j → Spared j journal (arrive_by setting i s leg journal)
+arrive_by_spares setting j i s leg journal apart =
+    grind (arith, lookup_spares, authority_spares, apart)
+
+arrive_spares : (setting : Setting) (j i s : ℕ) (journal : List Item) → Apart i j
+    → Spared j journal (arrive_items setting i s journal)
+unfolding arrive_items
+arrive_spares setting j i s journal apart =
+    arrive_by_spares setting j i s (leg_of journal i) journal apart
+
+go_on_spares : (setting : Setting) (j i s : ℕ) (journal : List Item) → Apart i j
+    → Spared j journal (go_on setting i s journal)
+go_on_spares setting j i s journal apart = grind (arith, arrive_spares, apart)
+
+reroute_by_spares : (setting : Setting) (j i s : ℕ) (leg : Option Leg) (journal : List Item)
+    → Apart i j → Spared j journal (reroute_by setting i s leg journal)
+reroute_by_spares setting j i s leg journal apart = grind (arith, go_on_spares, apart)
+
+reroute_spares : (setting : Setting) (j i s : ℕ) (journal : List Item) → Apart i j
+    → Spared j journal (reroute_items setting i s journal)
+unfolding reroute_items
+reroute_spares setting j i s journal apart =
+    reroute_by_spares setting j i s (leg_of journal i) journal apart
+
+move_spares : (setting : Setting) (j i s : ℕ) (journal : List Item) → Apart i j
+    → Spared j journal (move_items setting i s journal)
+unfolding move_items
+move_spares setting j i s journal apart = grind (arith, arrive_spares, reroute_spares, apart)
+
+pub packet_spares : (setting : Setting) (j i s : ℕ) (header : Header) (journal : List Item)
+    → Apart i j → Spared j journal (packet_items setting i s header journal)
+unfolding packet_items
+packet_spares setting j i s header journal apart = grind (arith, lookup_spares, apart)
+
+pub hop_spares : (setting : Setting) (j i : ℕ) (journal : List Item) → Apart i j
+    → Spared j journal (hop_items setting i journal)
+unfolding hop_items
+hop_spares setting j i journal apart = grind (arith, move_spares, apart)
+
+-- ---- other steps
+
+pub lose_spares : (j i : ℕ) (journal : List Item) → Spared j journal (lose_items i journal)
+unfolding lose_items
+lose_spares j i journal = grind arith
+
+aside_spares_one : (j : ℕ) (before : List Item) (next : Item) → IsAside before next
+    → Spares j before next
+aside_spares_one j before (item.Entered packet switch header) aside = absurd aside
+aside_spares_one j before (item.Decided packet version rule act by) aside = absurd aside
+aside_spares_one j before (item.FoundDown packet one two) aside = absurd aside
+aside_spares_one j before (item.Seeking packet version partition route) aside = absurd aside
+aside_spares_one j before (item.Exiting packet route) aside = absurd aside
+aside_spares_one j before (item.Rerouted packet route) aside = absurd aside
+aside_spares_one j before (item.Hopped packet switch) aside = absurd aside
+aside_spares_one j before (item.Row row step) aside = absurd aside
+aside_spares_one j before _ aside = (refl, tt)
+
+pub aside_spares : (j : ℕ) (before items : List Item) → AreAside before items
+    → Spared j before items
+aside_spares j before items aside =
+    have_weaker IsAside (Spares j) (aside_spares_one j) before items aside
+
+losts_spare : (j : ℕ) (packets : List ℕ) (journal : List Item)
+    → Spared j journal (map item.Lost packets)
+losts_spare j [] journal = tt
+losts_spare j (i ∷ packets) journal =
+    ((refl, tt), losts_spare j packets (journal ++ item.Lost i ∷ []))
+
+pub crash_spares : (setting : Setting) (j : ℕ) (before : List Item) (s : ℕ) (journal : List Item)
+    → Spared j journal (crash_items setting before s journal)
+unfolding crash_items
+crash_spares setting j before s journal = by_up (is_up before s)
+  where
+    by_up : (b : Bool) → Spared j journal (elim b [
+      | false ↦ nothing
+      | true ↦ put (item.Down s ∷ map item.Lost (packets_at before s))
+          (link_changes setting before) journal
+    ])
+    by_up false = ((refl, tt), tt)
+    by_up true =
+        have_put (Spares j) (item.Down s ∷ map item.Lost (packets_at before s))
+        (link_changes setting before) journal
+        ((refl, tt), losts_spare j (packets_at before s) (journal ++ item.Down s ∷ []))
+        (aside_spares j _ _ (changes_aside setting before _))

@@ -1,0 +1,195 @@
+-- What the plan of a version says of a header: the partition whose region holds it, and the rule
+-- there that decides it as the version's policy does.
+use Rattle.std.proofs.Common.{ℕ, ◌≡◌, ◌-◌, ◌<◌, ◌==◌, Bool, true, false, if◌then◌else◌, Option, Some, None, List, [], length, map, get_or, refl, ap, sym, subst, ◌∙◌, arith}
+use Rattle.std.specs.Prelude.{All, Contains, Err, IsOk, IsTrue, Ok, Result, filter, find, option_and_then, option_map, position, slice_get, unwrap_or}
+use Rattle.std.proofs.lemmas.List.Elements.{All-filter}
+use Rattle.std.proofs.lemmas.List.{get_or-map, length-map}
+use Rattle.std.proofs.lemmas.Option.{get_or_from_slice_get, slice_get-get_or, slice_get_within}
+use Rattle.five_tuple.specs.Header.{IsHeader, fields_of, number_of}
+use Rattle.five_tuple.specs.declared.header.Header.{Header}
+use Rattle.partition.specs.Plan.{IsPlan, NoPlan, plan_of}
+use Rattle.partition.proofs.CallerLemmas.{plan_holds}
+use Rattle.policy_rules.specs.Partitions.{is_in}
+use Rattle.policy_rules.specs.Policy.{IsPolicy, highest, hit_of, is_highest, row_matches, scan}
+use Rattle.policy_rules.specs.RuleList.{hit_of_rule}
+use Rattle.policy_rules.specs.Rules.{first_rule, is_held}
+use Rattle.policy_rules.specs.declared.policy.Row.{Row}
+use Rattle.policy_rules.specs.declared.rules.Partition.{Partition}
+use Rattle.policy_rules.specs.declared.rules.Rule.{Rule}
+use Rattle.policy_rules.proofs.CallerLemmas.{find-position}
+use Rattle.switch_table.specs.Lookup.{lookup_in, plan_lookup, table_lookup}
+use Rattle.switch_table.specs.Tables.{Placed, part_of, tables_of}
+use Rattle.switch_table.proofs.TableLemmas.{find-there, tables_planned}
+use Rattle.journal.specs.declared.item.Item.{Item}
+use Rattle.update_machine.specs.Played.{IsSetting, NamesOwnPort}
+use Rattle.update_machine.specs.Setting.{Setting, placed_in, plan_of_file, policy_of_file}
+use Rattle.update_machine.specs.Versions.{plan_at, policy_at}
+use Rattle.update_machine.proofs.CallerLemmas.{of_its_file}
+use Rattle.version_laws.specs.Planned.{HasPlan}
+
+-- ---- policies and their plans
+
+-- rows that name ports of the network alone, and their plan on it
+pub record IsPlanned (setting : Setting) (rows : List Row) (plan : List Placed) : Type 0 where
+  pub parts : IsPlan rows setting.net plan
+  pub ports : All (λ row. NamesOwnPort setting row.action) rows
+
+is_ok : (r : Result (List Placed) NoPlan) → IsOk r → r ≡ Ok (placed_in r)
+is_ok (Ok plan) ok = refl
+is_ok (Err why) ok = absurd cc
+
+-- a version with a plan is planned
+pub version_planned : (setting : Setting) (journal : List Item) (version : ℕ) → IsSetting setting
+    → HasPlan setting journal version
+    → IsPlanned setting (policy_at setting journal version) (plan_at setting journal version)
+version_planned setting journal version is has =
+    by_rows (policy_of_file setting has.file) refl
+  where
+    within_files : (file : ℕ) (zero : Bool) (rows : List Row)
+        → (if zero then None else slice_get setting.policies (file - 1)) ≡ Some rows
+        → slice_get setting.policies (file - 1) ≡ Some rows
+    within_files file true rows e = absurd cc
+    within_files file false rows e = e
+
+    by_rows : (o : Option (List Row)) → policy_of_file setting has.file ≡ o
+        → IsPlanned setting (policy_at setting journal version) (plan_at setting journal version)
+    by_rows None none =
+        let ok : IsOk (plan_of_file setting has.file) = has.planned in
+        absurd cc
+    by_rows (Some rows) there =
+        let k : ℕ = has.file - 1 in
+        let at_file : slice_get setting.policies k ≡ Some rows =
+        within_files has.file (has.file == 0) rows there in
+        let within : k < length setting.policies =
+        slice_get_within setting.policies k rows at_file in
+        let at : get_or setting.policies k [] ≡ rows =
+        get_or_from_slice_get setting.policies k rows [] at_file in
+        let own = of_its_file setting journal version has.file rows has.of there in
+        let made : setting.plan rows ≡ plan_of rows setting.net =
+        ap (λ (s : Setting). s.plan rows) is.made in
+        let ok : IsOk (setting.plan rows) = rw (there, plan_of_file) at has.planned in
+        let plan : List Placed = plan_at setting journal version in
+        let planned : plan_of rows setting.net ≡ Ok plan =
+        sym made ∙ is_ok (setting.plan rows) ok ∙ ap Ok (sym own.1) in
+        let policy : IsPolicy rows = subst IsPolicy at (is.sound k [] within) in
+        subst (λ these. IsPlanned setting these plan) (sym own.0) (record {
+          parts = plan_holds rows setting.net plan policy is.net planned;
+          ports = subst (All (λ row. NamesOwnPort setting row.action)) at (is.ports k [] within);
+        })
+
+-- ---- ports of actions
+
+abbrev rows_that_match : List Row → Header → List Row
+rows_that_match rows header = filter (λ row. row_matches row (fields_of header)) rows
+
+hit_named : (setting : Setting) (rows : List Row) (best : Option Row)
+    → All (λ row. NamesOwnPort setting row.action) rows → find (is_highest rows) rows ≡ best →
+    NamesOwnPort setting (hit_of best).action
+hit_named setting rows None all e = tt
+hit_named setting rows (Some row) all e =
+    let there : Contains rows row = (find-there (is_highest rows) rows row e).0 in
+    subst (λ (r : Row). NamesOwnPort setting r.action) there.2 (all there.0 row there.1)
+
+-- the action of a first match names a port of the network, if it names one
+pub scan_named : (setting : Setting) (rows : List Row) (plan : List Placed) (header : Header)
+    → IsPlanned setting rows plan → NamesOwnPort setting (scan rows header).action
+scan_named setting rows plan header is =
+    hit_named setting (rows_that_match rows header) (highest (rows_that_match rows header))
+    (All-filter (λ row. row_matches row (fields_of header)) (λ row. NamesOwnPort setting row.action)
+    rows is.ports) refl
+
+-- ---- the partition of a header
+
+-- the partition of a plan that holds the header, and its rule that decides it
+pub record Finds (rows : List Row) (plan : List Placed) (header : Header) (placed : Placed) : Type 0 where
+  pub place : ℕ
+  pub rule : Rule
+  pub first : find (λ other. is_in header (part_of other)) plan ≡ Some placed
+  pub holds : IsTrue (is_in header (part_of placed))
+  pub at : slice_get plan placed.0.number ≡ Some placed
+  pub position : unwrap_or (position (is_held (number_of header)) placed.0.rules) 0 ≡ place
+  pub ruled : slice_get placed.0.rules place ≡ Some rule
+  pub decides : hit_of_rule rule ≡ scan rows header
+
+some_of : {X Y : Type 0} (f : X → Y) (o : Option X) (y : Y) → option_map f o ≡ Some y → (x : X)
+    × (o ≡ Some x) × (f x ≡ y)
+some_of f None y e = absurd cc
+some_of f (Some x) y e = (x, refl, cc)
+
+then_of : {X Y : Type 0} (f : X → Option Y) (o : Option X) (y : Y) → option_and_then f o ≡ Some y
+    → (x : X) × (o ≡ Some x) × (f x ≡ Some y)
+then_of f None y e = absurd cc
+then_of f (Some x) y e = (x, refl, e)
+
+-- a partition of a plan that holds the header
+abbrev pub OfPlan : List Placed → Header → Placed → Type 0
+OfPlan plan header placed = Contains plan placed
+    × IsTrue (is_in header (part_of placed))
+
+pub in_plan : (setting : Setting) (rows : List Row) (plan : List Placed) (header : Header)
+    (placed : Placed) → IsPlanned setting rows plan
+    → IsHeader header →
+    find (λ other. is_in header (part_of other)) plan ≡ Some placed
+    → Finds rows plan header placed
+in_plan setting rows plan header placed is sound found =
+    let there : Contains plan placed × (is_in header (part_of placed) ≡ true) =
+    find-there (λ other. is_in header (part_of other)) plan placed found in
+    let k : ℕ = there.0.0 in
+    let long : length (map part_of plan) ≡ length plan =
+    length-map plan part_of in
+    let within : k < length (map part_of plan) = omega (arith, long, there.0.1) in
+    let mapped : get_or (map part_of plan) k (part_of placed) ≡ part_of placed =
+    get_or-map part_of plan k placed (part_of placed) there.0.1
+    ∙ ap part_of there.0.2 in
+    let number : placed.0.number ≡ k = sym (ap (λ (p : Partition). p.number) mapped)
+    ∙ is.parts.sound.numbers k (part_of placed) within in
+    let got : slice_get plan k ≡ Some placed = slice_get-get_or plan
+    k placed there.0.1 ∙ ap Some there.0.2 in
+    let decided : option_map hit_of_rule (first_rule placed.0.rules header) ≡ Some
+    (scan rows header) =
+    subst (λ (p : Partition). IsTrue (is_in header p)
+    → option_map hit_of_rule (first_rule p.rules header) ≡ Some
+    (scan rows header)) mapped
+    (is.parts.sound.decides header sound k (part_of placed) within) there.1 in
+    let rule : (rule : Rule) × (first_rule placed.0.rules header ≡ Some rule)
+    × (hit_of_rule rule ≡ scan rows header) =
+    some_of hit_of_rule (first_rule placed.0.rules header) (scan rows header)
+    decided in
+    let position_of : (place : ℕ)
+    × (position (is_held (number_of header)) placed.0.rules ≡ Some place)
+    × (slice_get placed.0.rules place ≡ Some rule.0) =
+    then_of (slice_get placed.0.rules) (position (is_held (number_of header)) placed.0.rules) rule.0
+    (find-position (is_held (number_of header)) placed.0.rules ∙ rule.1) in
+    record {
+      place = position_of.0;
+      rule = rule.0;
+      first = found;
+      holds = there.1;
+      at = ap (slice_get plan) number ∙ got;
+      position = ap (λ o. unwrap_or o 0) position_of.1;
+      ruled = position_of.2;
+      decides = rule.2;
+    }
+
+-- what the tables of a switch say of a header, by the partition that holds it
+pub record LooksUp (rows : List Row) (plan : List Placed) (version switch : ℕ) (header : Header) : Type 0 where
+  pub placed : Placed
+  pub finds : Finds rows plan header placed
+  pub says : table_lookup (tables_of plan version switch) header ≡ lookup_in switch header
+      placed
+
+pub looks_up : (setting : Setting) (rows : List Row) (plan : List Placed) (version switch : ℕ)
+    (header : Header) → IsPlanned setting rows plan → IsHeader header
+    → LooksUp rows plan version switch header
+looks_up setting rows plan version switch header is sound =
+    let planned : plan_lookup plan switch header ≡ Some
+    (table_lookup (tables_of plan version switch) header) =
+    tables_planned rows plan version switch header is.parts.sound sound in
+    let own : (placed : Placed)
+    × (find (λ other. is_in header (part_of other)) plan ≡ Some placed)
+    × (lookup_in switch header placed ≡ table_lookup (tables_of plan version switch)
+    header) =
+    some_of (lookup_in switch header)
+    (find (λ other. is_in header (part_of other)) plan)
+    (table_lookup (tables_of plan version switch) header) planned in
+    record { placed = own.0; finds = in_plan setting rows plan header own.0 is sound own.1; says = sym own.2 }

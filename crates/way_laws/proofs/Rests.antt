@@ -1,0 +1,405 @@
+-- Between steps all packets rest: on their way, at switches that serve. So all items of packets
+-- have their causes.
+use Rattle.std.proofs.Common.{ℕ, ◌≡◌, ◌≢◌, ◌+◌, ◌<◌, ◌==◌, true, false, Option, Some, None, List, [], ◌∷◌, ◌++◌, length, refl, ap, sym, subst, ◌∙◌, append_assoc, arith, inl, inr, ◌⊎◌}
+use Rattle.std.specs.Prelude.{⊤, IsTrue, unwrap_or}
+use Rattle.std.proofs.lemmas.Bool.{cases_eq, eq-eqb, ne_eqb}
+use Rattle.five_tuple.specs.Header.{IsHeader}
+use Rattle.five_tuple.specs.declared.header.Header.{Header}
+use Rattle.switch_table.specs.declared.search.Found.TheVariants as found
+use Rattle.journal.specs.declared.item.Item.{Item}
+use Rattle.journal.specs.declared.item.Item.TheVariants as item
+use Rattle.steps.specs.declared.step.Step.{Step}
+use Rattle.steps.specs.declared.step.Step.TheVariants.{Packet, Hop, Lose, Deliver, Forget, Expire, Update, LinkDown, LinkUp, Crash, Restart, Confirm, Resend}
+use Rattle.update_machine.specs.Boots.{serves}
+use Rattle.update_machine.specs.Caches.{lookup_at}
+use Rattle.update_machine.specs.Causes.{HaveCauses}
+use Rattle.update_machine.specs.Moves.{authority_rule, header_at}
+use Rattle.update_machine.specs.Packets.{header_in, next_packet, tells_header, travels}
+use Rattle.update_machine.specs.Pieces.{packet_items, piece, step_items}
+use Rattle.update_machine.specs.Played.{IsSetting}
+use Rattle.update_machine.specs.Setting.{Setting}
+use Rattle.update_machine.specs.Versions.{stamp_of}
+use Rattle.update_machine.proofs.CallerLemmas.{have_append, last_told_append, packet_keeps}
+use Rattle.boot_laws.specs.ItemCauses.{HasItemCause}
+use Rattle.boot_laws.proofs.Facts.{fact_on, have_weaker}
+use Rattle.boot_laws.proofs.Grown.{serving_more}
+use Rattle.boot_laws.proofs.Pieces.{pieces_have}
+use Rattle.boot_laws.proofs.Reached.{NamesOwn}
+use Rattle.boot_laws.proofs.Serving.{caused_known, serving_known}
+use Rattle.advert_laws.proofs.LinkCauses.{HasLinkCause}
+use Rattle.advert_laws.proofs.Stepping.{pieces_caused}
+use Rattle.boot_laws.proofs.Traffic.{IsTraffic, Traffic, hop_traffic, lose_traffic, packet_has}
+use Rattle.way_laws.specs.Rest.{AreResting, AreServed, IsMoving}
+use Rattle.way_laws.specs.Stages.{stage_of}
+use Rattle.way_laws.specs.WayCauses.{WayCause}
+use Rattle.way_laws.proofs.CrashServed.{crash_served}
+use Rattle.way_laws.proofs.Done.{hop_done, packet_done}
+use Rattle.way_laws.proofs.Lookups.{FindsRule, authority_told, rule_there, stamped}
+use Rattle.way_laws.proofs.OtherBlocks.{AreAside, IsAside, confirm_aside, deliver_aside, expire_aside, forget_aside, link_aside, resend_aside, restart_aside, update_aside}
+use Rattle.way_laws.proofs.Others.{IsNoRow, Spares, aside_spares, crash_spares, hop_spares, lose_spares, packet_spares, spared}
+use Rattle.way_laws.proofs.Pieces.{piece_ways, row_rests}
+use Rattle.way_laws.proofs.Served.{AreNumbered, HaveLegs, IsCausedUp, NotDown, legs_kept, numbered_kept, served_kept}
+
+-- ---- two causes of one item
+
+pub record Both (one other : List Item → Item → Type 0) (before : List Item) (next : Item)
+    : Type 0 where
+  pub first : one before next
+  pub second : other before next
+
+pub have_both : (one other : List Item → Item → Type 0) (before items : List Item)
+    → HaveCauses one before items → HaveCauses other before items
+    → HaveCauses (Both one other) before items
+have_both one other before [] first second = tt
+have_both one other before (next ∷ items) first second = (
+  record { first = first.0; second = second.0 },
+  have_both one other (before ++ next ∷ []) items first.1 second.1,
+)
+
+-- a cause, where all items before have theirs too
+pub record Past (cause : List Item → Item → Type 0) (before : List Item) (next : Item)
+    : Type 0 where
+  pub caused : cause before next
+  pub past : HaveCauses cause [] before
+
+pub with_past : (cause : List Item → Item → Type 0) (before items : List Item)
+    → HaveCauses cause [] before → HaveCauses cause before items
+    → HaveCauses (Past cause) before items
+with_past cause before [] past have = tt
+with_past cause before (next ∷ items) past have = (
+  record { caused = have.0; past = past },
+  with_past cause (before ++ next ∷ []) items
+      (have_append cause [] before (next ∷ []) past (have.0, tt)) have.1,
+)
+
+-- ---- what is known of a journal
+
+-- the step of a row is one of the network
+abbrev pub IsAsked : Setting → List Item → Item → Type 0
+IsAsked setting before (item.Row row step) = NamesOwn setting step
+IsAsked setting before _ = ⊤
+
+-- the causes of an item of a network that is asked for steps of its own
+pub record IsWayItem (setting : Setting) (before : List Item) (next : Item) : Type 0 where
+  pub switches : HasItemCause setting before next
+  pub way : WayCause setting before next
+  pub links : HasLinkCause setting before next
+  pub asked : IsAsked setting before next
+
+pub record IsSettled (setting : Setting) (journal : List Item) : Type 0 where
+  pub causes : HaveCauses (IsWayItem setting) [] journal
+  pub rests : AreResting journal
+
+pub switches_of_all : (setting : Setting) (before items : List Item)
+    → HaveCauses (IsWayItem setting) before items → HaveCauses (HasItemCause setting) before items
+switches_of_all setting before items have =
+    have_weaker (IsWayItem setting) (HasItemCause setting) (λ js next is. is.switches) before items
+    have
+
+pub ways_of_all : (setting : Setting) (before items : List Item)
+    → HaveCauses (IsWayItem setting) before items → HaveCauses (WayCause setting) before items
+ways_of_all setting before items have =
+    have_weaker (IsWayItem setting) (WayCause setting) (λ js next is. is.way) before items have
+
+pub numbered : (setting : Setting) (journal : List Item) → HaveCauses (WayCause setting) [] journal
+    → AreNumbered journal
+unfolding travels
+numbered setting journal have =
+    fact_on (WayCause setting) AreNumbered (numbered_kept setting) [] journal have
+    (λ i travelling. absurd cc)
+
+pub have_legs : (setting : Setting) (journal : List Item) → HaveCauses (WayCause setting) [] journal
+    → HaveLegs journal
+unfolding stage_of
+have_legs setting journal have =
+    fact_on (WayCause setting) HaveLegs (legs_kept setting) [] journal have
+    (λ i moving. absurd cc)
+
+-- ---- items behind which packets are served
+
+-- items of which none is of a switch that goes down
+served_on : (setting : Setting) (before items : List Item)
+    → HaveCauses (HasItemCause setting) [] before → HaveCauses (HasItemCause setting) before items
+    → HaveCauses (WayCause setting) before items
+    → HaveCauses (λ js next. NotDown next) before items → AreServed before
+    → AreServed (before ++ items)
+served_on setting before items past switches ways up served =
+    fact_on (IsCausedUp setting) AreServed (served_kept setting) before items
+    (have_weaker
+    (Both (Past (HasItemCause setting)) (Both (WayCause setting) (λ js next. NotDown next)))
+    (IsCausedUp setting)
+    (λ js next both. record {
+      caused = record {
+        switches = both.first.caused;
+        way = both.second.first;
+        known = serving_known js (caused_known setting js both.first.past);
+      };
+      not_down = both.second.second;
+    }) before items
+    (have_both _ _ before items (with_past (HasItemCause setting) before items past switches)
+    (have_both _ _ before items ways up))) served
+
+traffic_up : (setting : Setting) (before : List Item) (next : Item)
+    → IsTraffic setting before next → NotDown next
+traffic_up setting before (item.Down s) traffic = absurd traffic
+traffic_up setting before _ traffic = tt
+
+aside_up : (before : List Item) (next : Item) → IsAside before next → NotDown next
+aside_up before (item.Down s) aside = absurd aside
+aside_up before _ aside = tt
+
+-- ---- the packet of a step
+
+-- the number of the packet that the step brings in or on
+abbrev pub packet_of : List Item → Step → Option ℕ
+packet_of before (Packet s header) = Some (next_packet before)
+packet_of before (Hop i) = Some i
+packet_of before _ = None
+
+-- it spares each other one
+pub step_spares : (setting : Setting) (j : ℕ) (before : List Item) (row : ℕ) (step : Step)
+    → ((i : ℕ) → packet_of before step ≡ Some i → (i == j) ≡ false)
+    → let here = before ++ item.Row row step ∷ [] in
+    HaveCauses (Spares j) here (step_items setting before step here)
+step_spares setting j before row (Packet s header) apart =
+    packet_spares setting j (next_packet before) s header _ (apart (next_packet before) refl)
+step_spares setting j before row (Hop i) apart = hop_spares setting j i _ (apart i refl)
+step_spares setting j before row (Lose i) apart = lose_spares j i _
+step_spares setting j before row (Deliver number) apart =
+    aside_spares j _ _ (deliver_aside setting before number _)
+step_spares setting j before row (Forget number) apart =
+    aside_spares j _ _ (forget_aside number _)
+step_spares setting j before row (Expire s place) apart =
+    aside_spares j _ _ (expire_aside setting s place _)
+step_spares setting j before row (Update file) apart =
+    aside_spares j _ _ (update_aside setting file _)
+step_spares setting j before row (LinkDown one two) apart =
+    aside_spares j _ _ (link_aside setting before one two false _)
+step_spares setting j before row (LinkUp one two) apart =
+    aside_spares j _ _ (link_aside setting before one two true _)
+step_spares setting j before row (Crash s) apart = crash_spares setting j before s _
+step_spares setting j before row (Restart s) apart = aside_spares j _ _ (restart_aside s _)
+step_spares setting j before row (Confirm s) apart =
+    aside_spares j _ _ (confirm_aside setting s _)
+step_spares setting j before row (Resend s) apart = aside_spares j _ _ (resend_aside setting s _)
+
+-- behind its row a step begins no other
+pub no_rows : (setting : Setting) (before : List Item) (row : ℕ) (step : Step)
+    → let here = before ++ item.Row row step ∷ [] in
+    HaveCauses (λ js next. IsNoRow next) here (step_items setting before step here)
+no_rows setting before row step =
+    let j : ℕ = unwrap_or (packet_of before step) 0 + 1 in
+    have_weaker (Spares j) (λ js next. IsNoRow next) (λ js next spares. spares.1) _ _
+    (step_spares setting j before row step
+    (λ i is. ne_eqb i j (λ same. omega (arith, same, ap (λ o. unwrap_or o 0) is))))
+
+no_row_asked : (setting : Setting) (before : List Item) (next : Item) → IsNoRow next
+    → IsAsked setting before next
+no_row_asked setting before (item.Row row step) none = absurd none
+no_row_asked setting before _ none = tt
+
+-- ---- the causes of a piece
+
+pub piece_causes : (setting : Setting) (before : List Item) (row : ℕ) (step : Step)
+    → NamesOwn setting step → AreResting before
+    → HaveCauses (IsWayItem setting) before (piece setting before row step)
+unfolding piece
+piece_causes setting before row step own rests =
+    let switches = pieces_have setting before row step in
+    let ways = piece_ways setting before row step rests in
+    let links = pieces_caused setting before row step in (
+      record { switches = switches.0; way = ways.0; links = links.0; asked = own },
+      have_weaker
+          (Both (HasItemCause setting)
+          (Both (WayCause setting) (Both (HasLinkCause setting) (IsAsked setting))))
+          (IsWayItem setting)
+          (λ js next both. record {
+            switches = both.first;
+            way = both.second.first;
+            links = both.second.second.first;
+            asked = both.second.second.second;
+          }) _ _
+          (have_both _ _ _ _ switches.1 (have_both _ _ _ _ ways.1 (have_both _ _ _ _ links.1
+          (have_weaker (λ js next. IsNoRow next) (IsAsked setting) (no_row_asked setting) _ _
+          (no_rows setting before row step))))),
+    )
+
+-- ---- packets that come in
+
+header_now : (journal : List Item) (i s : ℕ) (header : Header)
+    → header_in (journal ++ item.Entered i s header ∷ []) i ≡ Some header
+unfolding header_in
+header_now journal i s header =
+    rw (
+      last_told_append (tells_header i) journal (item.Entered i s header ∷ []),
+      eq-eqb i i refl,
+    ) refl
+
+-- the rules of its lookup are there
+rules_there : (setting : Setting) (journal : List Item) (i s : ℕ) (header : Header)
+    → IsSetting setting → HaveCauses (HasItemCause setting) [] journal
+    → s < length setting.net.switches → IsHeader header → IsTrue (serves journal s)
+    → (partition place : ℕ)
+    → let entered = journal ++ item.Entered i s header ∷ [] in
+    lookup_at setting entered s (header_at entered i) ≡ found.Authority partition place
+    → authority_rule setting entered (stamp_of entered s) partition place ≡ None → ⊥
+rules_there setting journal i s header is have there sound serving partition place told none =
+    let next : Item = item.Entered i s header in
+    let entered : List Item = journal ++ next ∷ [] in
+    let own_header : header_at entered i ≡ header = rw (header_now journal i s header) refl in
+    let finds : FindsRule setting entered s header partition place =
+    authority_told setting entered s header partition place
+    (stamped setting entered s is
+    (have_append (HasItemCause setting) [] journal (next ∷ []) have (tt, tt)) there
+    (rw (serving_more journal next s) serving)) sound
+    (ap (lookup_at setting entered s) (sym own_header) ∙ told) in
+    let rule = rule_there setting entered header finds.part.placed (stamp_of entered s) partition
+    finds.part.finds finds.part.number in
+    let clash : Some _ ≡ None =
+    sym rule ∙ ap (authority_rule setting entered (stamp_of entered s) partition) finds.found_at
+    ∙ none in
+    cc
+
+-- ---- behind a step
+
+step_served : (setting : Setting) (before : List Item) (row : ℕ) (step : Step)
+    → IsSettled setting before → let here = before ++ item.Row row step ∷ [] in
+    AreServed (here ++ step_items setting before step here)
+unfolding piece
+step_served setting before row step settled = by_kind step
+  where
+    past : (step : Step) → HaveCauses (HasItemCause setting) []
+        (before ++ item.Row row step ∷ [])
+    past step =
+        have_append (HasItemCause setting) [] before (item.Row row step ∷ [])
+        (switches_of_all setting [] before settled.causes) (tt, tt)
+
+    up_served : (step : Step) → let here = before ++ item.Row row step ∷ [] in
+        HaveCauses (λ js next. NotDown next) here (step_items setting before step here)
+        → AreServed (here ++ step_items setting before step here)
+    up_served step up =
+        served_on setting _ _ (past step) (pieces_have setting before row step).1
+        (piece_ways setting before row step settled.rests).1 up
+        (row_rests before row step settled.rests).served
+
+    aside_served : (step : Step) → let here = before ++ item.Row row step ∷ [] in
+        AreAside here (step_items setting before step here)
+        → AreServed (here ++ step_items setting before step here)
+    aside_served step aside =
+        up_served step (have_weaker IsAside (λ js next. NotDown next) aside_up _ _ aside)
+
+    traffic_served : (step : Step) → let here = before ++ item.Row row step ∷ [] in
+        Traffic setting here (step_items setting before step here)
+        → AreServed (here ++ step_items setting before step here)
+    traffic_served step traffic =
+        up_served step
+        (have_weaker (IsTraffic setting) (λ js next. NotDown next) (traffic_up setting) _ _ traffic)
+
+    by_kind : (step : Step) → let here = before ++ item.Row row step ∷ [] in
+        AreServed (here ++ step_items setting before step here)
+    by_kind (Packet s header) =
+        up_served (Packet s header)
+        (packet_has setting (λ js next. NotDown next) (traffic_up setting) (next_packet before) s
+        header _ tt)
+    by_kind (Hop i) = traffic_served (Hop i) (hop_traffic setting i _)
+    by_kind (Lose i) = traffic_served (Lose i) (lose_traffic setting i _)
+    by_kind (Deliver number) = aside_served (Deliver number) (deliver_aside setting before number _)
+    by_kind (Forget number) = aside_served (Forget number) (forget_aside number _)
+    by_kind (Expire s place) = aside_served (Expire s place) (expire_aside setting s place _)
+    by_kind (Update file) = aside_served (Update file) (update_aside setting file _)
+    by_kind (LinkDown one two) =
+        aside_served (LinkDown one two) (link_aside setting before one two false _)
+    by_kind (LinkUp one two) =
+        aside_served (LinkUp one two) (link_aside setting before one two true _)
+    by_kind (Crash s) =
+        crash_served setting before s (before ++ item.Row row (Crash s) ∷ [])
+        (numbered setting before (ways_of_all setting [] before settled.causes))
+        (row_rests before row (Crash s) settled.rests).served
+        (λ i.
+        let keeps = packet_keeps i before (item.Row row (Crash s) ∷ []) (refl, tt) in
+        (keeps.travels, keeps.place))
+    by_kind (Restart s) = aside_served (Restart s) (restart_aside s _)
+    by_kind (Confirm s) = aside_served (Confirm s) (confirm_aside setting s _)
+    by_kind (Resend s) = aside_served (Resend s) (resend_aside setting s _)
+
+step_moving : (setting : Setting) (before : List Item) (row : ℕ) (step : Step)
+    → IsSetting setting → NamesOwn setting step → IsSettled setting before → (j : ℕ)
+    → let here = before ++ item.Row row step ∷ [] in
+    IsMoving (here ++ step_items setting before step here) j
+step_moving setting before row step is own settled j = by_kind step own
+  where
+    resting : (step : Step) → IsMoving (before ++ item.Row row step ∷ []) j
+    resting step = (row_rests before row step settled.rests).moving j
+
+    other : (step : Step) → ((i : ℕ) → packet_of before step ≡ Some i → (i == j) ≡ false)
+        → let here = before ++ item.Row row step ∷ [] in
+        IsMoving (here ++ step_items setting before step here) j
+    other step apart =
+        spared j _ _ (step_spares setting j before row step apart) (resting step)
+
+    by_packet : (s : ℕ) (header : Header) → s < length setting.net.switches → IsHeader header
+        → (next_packet before ≡ j) ⊎ (next_packet before ≢ j)
+        → let here = before ++ item.Row row (Packet s header) ∷ [] in
+        IsMoving (here ++ packet_items setting (next_packet before) s header here) j
+    by_packet s header there sound (inl same) =
+        let here : List Item = before ++ item.Row row (Packet s header) ∷ [] in
+        subst (λ k. IsMoving (here ++ packet_items setting k s header here) j) (sym same)
+        (packet_done setting j s header here
+        (rules_there setting here j s header is
+        (have_append (HasItemCause setting) [] before (item.Row row (Packet s header) ∷ [])
+        (switches_of_all setting [] before settled.causes) (tt, tt)) there sound)
+        (resting (Packet s header)))
+    by_packet s header there sound (inr apart) =
+        other (Packet s header)
+        (λ i e. ne_eqb i j (λ same. apart (cc)))
+
+    by_hop : (i : ℕ) → (i ≡ j) ⊎ (i ≢ j)
+        → let here = before ++ item.Row row (Hop i) ∷ [] in
+        IsMoving (here ++ step_items setting before (Hop i) here) j
+    by_hop i (inl same) =
+        let here : List Item = before ++ item.Row row (Hop i) ∷ [] in
+        let keeps = packet_keeps j before (item.Row row (Hop i) ∷ []) (refl, tt) in
+        subst (λ k. IsMoving (here ++ step_items setting before (Hop k) here) j) (sym same)
+        (hop_done setting j here
+        (λ travelling.
+        let leg = have_legs setting before (ways_of_all setting [] before settled.causes) j
+        (settled.rests.moving j (sym keeps.travels ∙ travelling)) in
+        (leg.0, keeps.leg ∙ leg.1)) (resting (Hop i)))
+    by_hop i (inr apart) = other (Hop i) (λ k e. ne_eqb k j (λ same. apart (cc)))
+
+    by_kind : (step : Step) → NamesOwn setting step
+        → let here = before ++ item.Row row step ∷ [] in
+        IsMoving (here ++ step_items setting before step here) j
+    by_kind (Packet s header) own =
+        by_packet s header own.0 own.1 (cases_eq (next_packet before) j)
+    by_kind (Hop i) own = by_hop i (cases_eq i j)
+    by_kind (Lose i) own = other (Lose i) (λ k e. absurd cc)
+    by_kind (Deliver number) own = other (Deliver number) (λ k e. absurd cc)
+    by_kind (Forget number) own = other (Forget number) (λ k e. absurd cc)
+    by_kind (Expire s place) own = other (Expire s place) (λ k e. absurd cc)
+    by_kind (Update file) own = other (Update file) (λ k e. absurd cc)
+    by_kind (LinkDown one two) own = other (LinkDown one two) (λ k e. absurd cc)
+    by_kind (LinkUp one two) own = other (LinkUp one two) (λ k e. absurd cc)
+    by_kind (Crash s) own = other (Crash s) (λ k e. absurd cc)
+    by_kind (Restart s) own = other (Restart s) (λ k e. absurd cc)
+    by_kind (Confirm s) own = other (Confirm s) (λ k e. absurd cc)
+    by_kind (Resend s) own = other (Resend s) (λ k e. absurd cc)
+
+pub piece_settled : (setting : Setting) (before : List Item) (row : ℕ) (step : Step)
+    → IsSetting setting → NamesOwn setting step → IsSettled setting before
+    → IsSettled setting (before ++ piece setting before row step)
+unfolding piece
+piece_settled setting before row step is own settled =
+    let here : List Item = before ++ item.Row row step ∷ [] in
+    let whole : here ++ step_items setting before step here
+    ≡ before ++ item.Row row step ∷ step_items setting before step here =
+    append_assoc before (item.Row row step ∷ []) (step_items setting before step here) in
+    record {
+      causes = have_append (IsWayItem setting) [] before _ settled.causes
+          (piece_causes setting before row step own settled.rests);
+      rests = record {
+        served = subst AreServed whole (step_served setting before row step settled);
+        moving = λ j. subst (λ js. IsMoving js j) whole
+            (step_moving setting before row step is own settled j);
+      };
+    }

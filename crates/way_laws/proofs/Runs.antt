@@ -1,0 +1,580 @@
+-- A journal whose items have their causes is a run of the machine.
+use Rattle.std.proofs.Common.{ℕ, ◌≡◌, ◌≢◌, zero, suc, ◌+◌, ◌-◌, ◌<◌, ◌≤◌, Bool, true, false, if◌then◌else◌, Option, Some, None, List, [], ◌∷◌, ◌++◌, length, length-append, refl, ap, sym, subst, ◌∙◌, arith, inl, inr, ◌⊎◌}
+use Rattle.std.specs.Prelude.{⊤, IsOk, IsSome, IsTrue, ◌==◌, option_map, option_to_list, slice_get}
+use Rattle.std.specs.Option.{option_or}
+use Rattle.std.proofs.lemmas.Bool.{cases_eq, eq-eqb, ne_eqb}
+use Rattle.std.proofs.lemmas.Bool.Decides.{nat_tests}
+use Rattle.five_tuple.specs.declared.header.Header.{Header}
+use Rattle.policy_rules.specs.Policy.{IsFirstMatch, scan}
+use Rattle.policy_rules.specs.declared.packet.How.{How}
+use Rattle.policy_rules.specs.declared.packet.Leaving.{Leaving}
+use Rattle.policy_rules.specs.declared.policy.Action.{Action}
+use Rattle.policy_rules.specs.declared.policy.Hit.{Hit}
+use Rattle.policy_rules.specs.declared.policy.Row.{Row}
+use Rattle.policy_rules.proofs.CallerLemmas.{first_match-scan}
+use Rattle.journal.specs.declared.item.Item.{Item}
+use Rattle.journal.specs.declared.item.Item.TheVariants as item
+use Rattle.update_machine.specs.Causes.{HaveCauses}
+use Rattle.update_machine.specs.Machine.{Dropped, End, Ends, IsRun, LeftBy, Lost, Machine, MayEnd, Packet, Runs, Stuck, Takes, policy_of, start, with_packet}
+use Rattle.update_machine.specs.Marks.{retired_mark, tells_retired}
+use Rattle.update_machine.specs.Numbers.{VersionsAreNumbered}
+use Rattle.update_machine.specs.Packets.{Decision, header_in, next_packet, travels}
+use Rattle.update_machine.specs.Played.{IsSetting}
+use Rattle.update_machine.specs.Setting.{Setting, plan_of_file, policy_of_file}
+use Rattle.update_machine.specs.Laws.{PoliciesKeep}
+use Rattle.update_machine.specs.Versions.{file_of, is_submission, is_version, policy_at, version_count}
+use Rattle.update_machine.proofs.CallerLemmas.{file_append, have_append, of_its_file, policies_keep, policy_kept, start_laws}
+use Rattle.boot_laws.specs.ItemCauses.{HasItemCause, RetiresRightly, SubmitsRightly}
+use Rattle.boot_laws.proofs.Facts.{Behind}
+use Rattle.boot_laws.proofs.Grown.{count_more, retired_more}
+use Rattle.boot_laws.proofs.Versions.{caused_numbered}
+use Rattle.mark_laws.proofs.Marks.{bounded}
+use Rattle.packet_laws.specs.OnWay.{IsUnknown}
+use Rattle.packet_laws.specs.Words.{PacketWords, names, told_by, words_of}
+use Rattle.packet_laws.proofs.Blocks.{other_number, own_number, words_named, words_other}
+use Rattle.packet_laws.proofs.Words.{words_grow}
+use Rattle.way_laws.specs.Kept.{AllKept}
+use Rattle.way_laws.specs.Stages.{stage_of}
+use Rattle.way_laws.specs.WayCauses.{IsDecided, WayCause}
+use Rattle.way_laws.proofs.AllKept.{Before, kept_before, known_before, knows}
+use Rattle.way_laws.proofs.Here.{IsHere, decision_in, here_of, some_same, travels_in}
+use Rattle.way_laws.proofs.Ends.{leaves_rightly}
+use Rattle.way_laws.proofs.Kept.{IsDecidedNow, Knows, decided_now, stage_when, undecided_of}
+use Rattle.way_laws.proofs.Rests.{IsWayItem, Past, switches_of_all}
+
+-- ---- what the machine knows of a packet, by its words
+
+abbrev hit_in : Decision → Hit
+hit_in decision = record { rule = decision.rule; action = decision.action }
+
+record IsSeen (packet : Packet) (words : PacketWords) : Type 0 where
+  header : words.header ≡ Some packet.header
+  mark : packet.entry_mark ≡ words.mark
+  decision : packet.decision ≡ option_map hit_in words.decision
+  end : IsTrue words.travels → packet.end ≡ None
+
+abbrev SeenAs : Option Packet → PacketWords → Type 0
+SeenAs None words = words.header ≡ None
+SeenAs (Some packet) words = IsSeen packet words
+
+-- the machine has the policies of all versions, the retired mark and the packets
+record Matches (setting : Setting) (machine : Machine) (journal : List Item) : Type 0 where
+  count : length machine.policies ≡ version_count journal
+  policies : (v : ℕ) → 1 ≤ v → v ≤ version_count journal
+      → policy_of machine v ≡ Some (policy_at setting journal v)
+  mark : machine.mark ≡ retired_mark journal
+  packets : (i : ℕ) → SeenAs (machine.packets i) (words_of journal i)
+
+known : (o : Option Packet) (words : PacketWords) (header : Header) → SeenAs o words
+    → words.header ≡ Some header → (packet : Packet) × (o ≡ Some packet) × IsSeen packet words
+known None words header seen e = absurd cc
+known (Some packet) words header seen e = (packet, refl, seen)
+
+not_known : (o : Option Packet) (words : PacketWords) → SeenAs o words → words.header ≡ None
+    → o ≡ None
+not_known None words seen e = refl
+not_known (Some packet) words seen e =
+    let there : words.header ≡ Some packet.header = seen.header in absurd cc
+
+-- words that the machine doesn't tell apart
+seen_same : (o : Option Packet) (one other : PacketWords) → other.header ≡ one.header
+    → other.mark ≡ one.mark → other.decision ≡ one.decision → other.travels ≡ one.travels →
+    SeenAs o one → SeenAs o other
+seen_same None one other h m d t seen = h ∙ seen
+seen_same (Some packet) one other h m d t seen = record {
+  header = h ∙ seen.header;
+  mark = seen.mark ∙ sym m;
+  decision = seen.decision ∙ ap (option_map hit_in) (sym d);
+  end = λ travels. seen.end (sym t ∙ travels);
+}
+
+-- ---- items that the machine doesn't see
+
+-- an item that leaves its packet's header, decision and travelling as they were, and no move
+abbrev IsUnseen : Item → Type 0
+IsUnseen (item.Submitted file version) = ⊥
+IsUnseen (item.Retired version) = ⊥
+IsUnseen (item.Entered packet switch header) = ⊥
+IsUnseen (item.Decided packet version rule action how) = ⊥
+IsUnseen (item.Dropped packet) = ⊥
+IsUnseen (item.Left packet port leaving) = ⊥
+IsUnseen (item.Lost packet) = ⊥
+IsUnseen (item.Stuck packet switch cause leg down) = ⊥
+IsUnseen _ = ⊤
+
+unseen_words : (mark : ℕ) (item : Item) (words : PacketWords) (o : Option Packet) → IsUnseen item
+    → SeenAs o words → SeenAs o (told_by mark item words)
+unseen_words mark (item.Submitted file version) words o is seen = absurd is
+unseen_words mark (item.Retired version) words o is seen = absurd is
+unseen_words mark (item.Entered packet switch header) words o is seen = absurd is
+unseen_words mark (item.Decided packet version rule act by) words o is seen = absurd is
+unseen_words mark (item.Dropped packet) words o is seen = absurd is
+unseen_words mark (item.Left packet port leaving) words o is seen = absurd is
+unseen_words mark (item.Lost packet) words o is seen = absurd is
+unseen_words mark (item.Stuck packet switch cause leg down) words o is seen = absurd is
+unseen_words mark (item.Seeking packet version partition route) words o is seen =
+    seen_same o words (told_by mark (item.Seeking packet version partition route) words) refl refl
+    refl refl seen
+unseen_words mark (item.Exiting packet route) words o is seen =
+    seen_same o words (told_by mark (item.Exiting packet route) words) refl refl refl refl seen
+unseen_words mark (item.Rerouted packet route) words o is seen =
+    seen_same o words (told_by mark (item.Rerouted packet route) words) refl refl refl refl seen
+unseen_words mark (item.Hopped packet switch) words o is seen =
+    seen_same o words (told_by mark (item.Hopped packet switch) words) refl refl refl refl seen
+unseen_words mark (item.FoundDown packet one two) words o is seen =
+    seen_same o words (told_by mark (item.FoundDown packet one two) words) refl refl refl refl seen
+unseen_words mark _ words o is seen = seen
+
+no_submission : (next : Item) → IsUnseen next → is_submission next ≡ false
+no_submission (item.Submitted file version) is = absurd is
+no_submission _ is = refl
+
+no_retirement : (next : Item) → IsUnseen next → tells_retired next ≡ None
+no_retirement (item.Retired version) is = absurd is
+no_retirement _ is = refl
+
+unseen_matches : (setting : Setting) (machine : Machine) (journal : List Item) (next : Item)
+    → IsUnseen next → Matches setting machine journal
+    → Matches setting machine (journal ++ next ∷ [])
+unseen_matches setting machine journal next is matches = record {
+  count = matches.count ∙ sym keep.count;
+  policies = λ v above below.
+      matches.policies v above (subst (λ n. v ≤ n) keep.count below)
+      ∙ ap Some (sym (keep.policy setting v));
+  mark = matches.mark ∙ sym (rw (retired_more journal next, no_retirement next is) refl);
+  packets = λ i. subst (SeenAs (machine.packets i)) (sym (words_grow i journal next))
+      (by_name i (names i next));
+}
+  where
+    keep : PoliciesKeep journal (journal ++ next ∷ [])
+    keep = policies_keep journal (next ∷ []) (no_submission next is, tt)
+
+    by_name : (i : ℕ) (b : Bool)
+        → SeenAs (machine.packets i)
+        (if b then told_by (retired_mark journal) next (words_of journal i) else words_of journal i)
+    by_name i true = unseen_words (retired_mark journal) next (words_of journal i)
+        (machine.packets i) is (matches.packets i)
+    by_name i false = matches.packets i
+
+-- ---- items that change a packet
+
+-- an item that moves no mark and submits no policy
+record KeepsMarks (setting : Setting) (journal after : List Item) : Type 0 where
+  keep : PoliciesKeep journal after
+  mark : retired_mark after ≡ retired_mark journal
+
+keeps_marks : (setting : Setting) (journal : List Item) (next : Item)
+    → is_submission next ≡ false → tells_retired next ≡ None
+    → KeepsMarks setting journal (journal ++ next ∷ [])
+keeps_marks setting journal next submits retires = record {
+  keep = policies_keep journal (next ∷ []) (submits, tt);
+  mark = rw (retired_more journal next, retires) refl;
+}
+
+changed_matches : (setting : Setting) (machine : Machine) (journal : List Item) (next : Item)
+    (i : ℕ) (packet : Packet) → Matches setting machine journal
+    → KeepsMarks setting journal (journal ++ next ∷ [])
+    → ((j : ℕ) → j ≢ i → names j next ≡ false) →
+    IsSeen packet (words_of (journal ++ next ∷ []) i)
+    → Matches setting (with_packet machine i packet) (journal ++ next ∷ [])
+changed_matches setting machine journal next i packet matches keeps others seen = record {
+  count = matches.count ∙ sym keeps.keep.count;
+  policies = λ v above below.
+      matches.policies v above (subst (λ n. v ≤ n) keeps.keep.count below)
+      ∙ ap Some (sym (keeps.keep.policy setting v));
+  mark = matches.mark ∙ sym keeps.mark;
+  packets = λ j. elim (cases_eq j i) [
+    | inl same ↦
+        subst (λ b. SeenAs (if b then Some packet else machine.packets j)
+        (words_of (journal ++ next ∷ []) j)) (sym (eq-eqb j i same))
+        (subst (λ k. IsSeen packet (words_of (journal ++ next ∷ []) k)) (sym same) seen)
+    | inr apart ↦
+        subst (λ b. SeenAs (if b then Some packet else machine.packets j)
+        (words_of (journal ++ next ∷ []) j)) (sym (ne_eqb j i apart))
+        (subst (SeenAs (machine.packets j)) (sym (words_other j journal next (others j apart)))
+        (matches.packets j))
+  ];
+}
+
+-- what the machine makes of an item, and that it still knows the packets as the journal does
+record Goes (setting : Setting) (machine : Machine) (journal : List Item) (next : Item) : Type 0
+  where
+    new : Machine
+    takes : Takes setting machine next new
+    matches : Matches setting new (journal ++ next ∷ [])
+
+ended_seen : (packet : Packet) (words after : PacketWords) (end : End)
+    → after ≡ record words { travels = false } → IsSeen packet words
+    → IsSeen (record packet { end = Some end }) after
+ended_seen packet words after end e seen = subst (IsSeen (record packet { end = Some end })) (sym e)
+    (record {
+      header = seen.header;
+      mark = seen.mark;
+      decision = seen.decision;
+      end = λ travels. absurd cc;
+    })
+
+action_of : (packet : Packet) (words : PacketWords) (decision : Decision) → IsSeen packet words
+    → words.decision ≡ Some decision → option_map (λ (h : Hit). h.action) packet.decision ≡ Some
+    decision.action
+action_of packet words decision seen decided = ap (option_map (λ (h : Hit). h.action))
+    (seen.decision ∙ ap (option_map hit_in) decided)
+
+-- ---- ends
+
+goes_end : (setting : Setting) (machine : Machine) (journal : List Item) (next : Item) (i : ℕ)
+    (end : End) → Before setting journal → Matches setting machine journal
+    → IsTrue (travels journal i)
+    → ((packet : Packet) → IsSeen packet (words_of journal i) → MayEnd packet end)
+    → words_of (journal ++ next ∷ []) i ≡ record (words_of journal i) { travels = false }
+    → ((j : ℕ) → j ≢ i → names j next ≡ false)
+    → KeepsMarks setting journal (journal ++ next ∷ [])
+    → ((new : Machine) → Ends machine i end new → Takes setting machine next new)
+    → Goes setting machine journal next
+goes_end setting machine journal next i end before matches travelling may after others keeps takes =
+    let on : IsTrue (words_of journal i).travels = travels_in journal i travelling in
+    let under = (before.kept.packets i).under_way on in
+    let at : (packet : Packet) × (machine.packets i ≡ Some packet)
+    × IsSeen packet (words_of journal i) =
+    known (machine.packets i) (words_of journal i) under.header (matches.packets i) under.entered in
+    record {
+      new = with_packet machine i (record at.0 { end = Some end });
+      takes = takes (with_packet machine i (record at.0 { end = Some end })) (record {
+        packet = at.0;
+        entered = at.1;
+        not_ended = at.2.end on;
+        may = may at.0 at.2;
+        after = refl;
+      });
+      matches = changed_matches setting machine journal next i (record at.0 { end = Some end })
+          matches keeps others (ended_seen at.0 (words_of journal i) _ end after at.2);
+    }
+
+-- ---- entries and decisions
+
+goes_in : (setting : Setting) (machine : Machine) (journal : List Item) (i s : ℕ)
+    (header : Header) → Before setting journal → Matches setting machine journal
+    → i ≡ next_packet journal → Goes setting machine journal (item.Entered i s header)
+goes_in setting machine journal i s header before matches number =
+    let entered : Item = item.Entered i s header in
+    let packet : Packet = record {
+      header = header;
+      entry_mark = machine.mark;
+      decision = None;
+      end = None;
+    } in
+    let none : IsUnknown (words_of journal i) = before.kept.unknown i (omega (arith, number)) in
+    let after : words_of (journal ++ entered ∷ []) i
+    ≡ told_by (retired_mark journal) entered (words_of journal i) =
+    words_named i journal entered (own_number i) in
+    record {
+      new = with_packet machine i packet;
+      takes = record {
+        unknown = not_known (machine.packets i) (words_of journal i) (matches.packets i)
+            none.header;
+        after = refl;
+      };
+      matches = changed_matches setting machine journal entered i packet matches
+          (keeps_marks setting journal entered refl refl) (λ j apart. other_number i j apart)
+          (subst (IsSeen packet) (sym after)
+          (record {
+            header = refl;
+            mark = matches.mark;
+            decision = ap (option_map hit_in) (sym none.decision);
+            end = λ travels. refl;
+          }));
+    }
+
+goes_decided : (setting : Setting) (machine : Machine) (journal : List Item) (i version : ℕ)
+    (rule : Option ℕ) (act : Action) (by : How) → Before setting journal
+    → Matches setting machine journal → IsDecided setting journal i version rule act by
+    → Goes setting machine journal (item.Decided i version rule act by)
+goes_decided setting machine journal i version rule act by before matches way =
+    let decided : Item = item.Decided i version rule act by in
+    let knows_it : Knows setting journal i (stage_of journal i) = knows setting journal i before in
+    let words : PacketWords = words_of journal i in
+    let s : ℕ = way.switch in
+    let here : IsHere setting journal i s =
+    here_of setting journal i s (stage_of journal i) before.is knows_it.have knows_it.kept way.at in
+    let header : Header = here.under.header in
+    let now : IsDecidedNow setting journal i s version rule act header =
+    decided_now setting journal i s version rule act by knows_it here (before.kept.cached s)
+    way.by in
+    let none : words.decision ≡ None =
+    undecided_of setting journal i s (stage_of journal i) knows_it.kept here
+    (stage_when journal i s version now.when) in
+    let at : (packet : Packet) × (machine.packets i ≡ Some packet) × IsSeen packet words =
+    known (machine.packets i) words header (matches.packets i) here.under.entered in
+    let same : header ≡ at.0.header =
+    some_same words.header header at.0.header here.under.entered at.2.header in
+    let there : version ≤ version_count journal =
+    omega (arith, now.rightly.current, (bounded setting journal knows_it.have).there) in
+    let policy : List Row = policy_at setting journal version in
+    let hit : scan policy at.0.header ≡ record { rule = rule; action = act } =
+    ap (scan policy) (sym same) ∙ now.rightly.first_match in
+    let after : words_of (journal ++ decided ∷ []) i
+    ≡ told_by (retired_mark journal) decided words =
+    words_named i journal decided (own_number i) in
+    let new : Packet = record at.0 { decision = Some (record { rule = rule; action = act }) } in
+    record {
+      new = with_packet machine i new;
+      takes = record {
+        packet = at.0;
+        policy = policy;
+        entered = at.1;
+        undecided = at.2.decision ∙ ap (option_map hit_in) none;
+        not_ended = at.2.end here.travelling;
+        not_retired = subst (λ m. m < version) (sym at.2.mark) now.rightly.not_retired;
+        submitted = matches.policies version (omega (arith, now.rightly.not_retired)) there;
+        first_match = subst (IsFirstMatch policy at.0.header) hit
+            (first_match-scan policy at.0.header);
+        after = refl;
+      };
+      matches = changed_matches setting machine journal decided i new matches
+          (keeps_marks setting journal decided refl refl) (λ j apart. other_number i j apart)
+          (subst (IsSeen new) (sym after)
+          (record { header = at.2.header; mark = at.2.mark; decision = refl; end = at.2.end }));
+    }
+
+-- ---- policies and marks
+
+snoc_old : (xs : List (List Row)) (x : List Row) (k : ℕ) → k < length xs
+    → slice_get (xs ++ x ∷ []) k ≡ slice_get xs k
+snoc_old [] x k within = absurd (omega (arith, within))
+snoc_old (y ∷ xs) x zero within = refl
+snoc_old (y ∷ xs) x (suc k) within = snoc_old xs x k (omega (arith, within))
+
+snoc_new : (xs : List (List Row)) (x : List Row) → slice_get (xs ++ x ∷ []) (length xs) ≡ Some x
+snoc_new [] x = refl
+snoc_new (y ∷ xs) x = snoc_new xs x
+
+-- words of packets don't change with what names none
+packets_same : (machine : Machine) (journal : List Item) (next : Item)
+    → ((i : ℕ) → names i next ≡ false)
+    → ((i : ℕ) → SeenAs (machine.packets i) (words_of journal i))
+    → (i : ℕ) → SeenAs (machine.packets i) (words_of (journal ++ next ∷ []) i)
+packets_same machine journal next none seen i =
+    subst (SeenAs (machine.packets i)) (sym (words_other i journal next (none i))) (seen i)
+
+goes_retired : (setting : Setting) (machine : Machine) (journal : List Item) (version : ℕ)
+    → HaveCauses (HasItemCause setting) [] journal → Matches setting machine journal
+    → RetiresRightly setting journal version
+    → Goes setting machine journal (item.Retired version)
+goes_retired setting machine journal version have matches retires =
+    let next : Item = item.Retired version in
+    let keep : PoliciesKeep journal (journal ++ next ∷ []) =
+    policies_keep journal (next ∷ []) (refl, tt) in
+    let marks = bounded setting (journal ++ next ∷ [])
+    (have_append (HasItemCause setting) [] journal (next ∷ []) have (retires, tt)) in
+    let mark : retired_mark (journal ++ next ∷ []) ≡ version = rw (retired_more journal next) refl in
+    record {
+      new = record machine { mark = version };
+      takes = record {
+        rises = subst (λ m. m < version) (sym matches.mark) retires.rises;
+        below_newest = omega (
+          arith,
+          mark,
+          marks.retired,
+          marks.there,
+          keep.count,
+          matches.count,
+        );
+        after = refl;
+      };
+      matches = record {
+        count = matches.count ∙ sym keep.count;
+        policies = λ v above below.
+            matches.policies v above (subst (λ n. v ≤ n) keep.count below)
+            ∙ ap Some (sym (keep.policy setting v));
+        mark = sym mark;
+        packets = packets_same machine journal next (λ i. refl) matches.packets;
+      };
+    }
+
+first_there : (journal : List Item) → IsTrue (is_version journal 1)
+unfolding file_of
+first_there journal = refl
+
+submitted_alone : (file version : ℕ) → 2 ≤ version
+    → file_of (item.Submitted file version ∷ []) version ≡ Some file
+unfolding file_of
+submitted_alone file version many =
+    let other : (version == 1) ≡ false = grind (arith, nat_tests) in
+    rw (other, eq-eqb version version refl) refl
+
+-- the file of a version that is submitted
+file_new : (journal : List Item) (file version : ℕ) → VersionsAreNumbered journal
+    → version ≡ version_count journal + 1
+    → file_of (journal ++ item.Submitted file version ∷ []) version ≡ Some file
+file_new journal file version are next =
+    file_append journal (item.Submitted file version ∷ []) version
+    ∙ by_old (file_of journal version) refl
+  where
+    many : 1 ≤ version_count journal
+    many = ((are 1).0 (first_there journal)).1
+
+    alone : file_of (item.Submitted file version ∷ []) version ≡ Some file
+    alone = submitted_alone file version (omega (arith, next, many))
+
+    by_old : (o : Option ℕ) → file_of journal version ≡ o
+        → option_or o (file_of (item.Submitted file version ∷ []) version) ≡ Some file
+    by_old None e = alone
+    by_old (Some old) e =
+        let there : IsTrue (is_version journal version) = rw e refl in
+        absurd (omega (arith, ((are version).0 there).1, next))
+
+goes_submitted : (setting : Setting) (machine : Machine) (journal : List Item)
+    (file version : ℕ) → HaveCauses (HasItemCause setting) [] journal
+    → Matches setting machine journal → SubmitsRightly setting journal file version
+    → Goes setting machine journal (item.Submitted file version)
+goes_submitted setting machine journal file version have matches submits =
+    by_rows (policy_of_file setting file) refl submits.there
+  where
+    next : Item
+    next = item.Submitted file version
+
+    after : List Item
+    after = journal ++ next ∷ []
+
+    numbers : VersionsAreNumbered journal
+    numbers = caused_numbered setting journal have
+
+    grows : version_count after ≡ version_count journal + 1
+    grows = rw (count_more journal next) refl
+
+    by_version : (rows : List Row) → policy_of_file setting file ≡ Some rows → (v : ℕ) → 1 ≤ v
+        → v ≤ version_count after → (v ≡ version) ⊎ (v ≢ version)
+        → slice_get (machine.policies ++ rows ∷ []) (v - 1) ≡ Some (policy_at setting after v)
+    by_version rows there v above below (inl same) =
+        let own : policy_at setting after version ≡ rows =
+        (of_its_file setting after version file rows
+        (file_new journal file version numbers submits.next) there).0 in
+        let place : v - 1 ≡ length machine.policies =
+        omega (arith, same, submits.next, matches.count) in
+        ap (slice_get (machine.policies ++ rows ∷ [])) place ∙ snoc_new machine.policies rows
+        ∙ ap Some (sym own) ∙ ap (λ n. Some (policy_at setting after n)) (sym same)
+    by_version rows there v above below (inr apart) =
+        let old : v ≤ version_count journal = omega (arith, below, grows, submits.next, apart) in
+        snoc_old machine.policies rows (v - 1) (omega (arith, above, old, matches.count))
+        ∙ matches.policies v above old
+        ∙ ap Some (sym (policy_kept setting journal (next ∷ []) v ((numbers v).1 (above, old))))
+
+    by_rows : (o : Option (List Row)) → policy_of_file setting file ≡ o → IsSome o
+        → Goes setting machine journal next
+    by_rows None e some = absurd cc
+    by_rows (Some rows) e some = record {
+      new = record machine { policies = machine.policies ++ rows ∷ [] };
+      takes = record {
+        policy = rows;
+        there = e;
+        newest = submits.next ∙ omega (arith, matches.count);
+        after = refl;
+      };
+      matches = record {
+        count = length-append machine.policies (rows ∷ []) ∙ omega (arith, matches.count, grows);
+        policies = λ v above below. by_version rows e v above below (cases_eq v version);
+        mark = matches.mark ∙ sym (rw (retired_more journal next) refl);
+        packets = packets_same machine journal next (λ i. refl) matches.packets;
+      };
+    }
+
+-- ---- all items
+
+-- the cause of the item, where all is kept before it
+abbrev KeptItem : Setting → List Item → Item → Type 0
+KeptItem setting = Behind (Past (IsWayItem setting)) (AllKept setting)
+
+left_action : (setting : Setting) (journal : List Item) (i port : ℕ) (leaving : Leaving)
+    → Before setting journal → WayCause setting journal (item.Left i port leaving)
+    → (packet : Packet) → IsSeen packet (words_of journal i) → MayEnd packet (LeftBy port)
+left_action setting journal i port leaving before way packet seen =
+    let rightly = leaves_rightly setting journal i port leaving (knows setting journal i before)
+    way in
+    action_of packet (words_of journal i) _ seen (decision_in journal i _ rightly.decided)
+
+goes : (setting : Setting) (machine : Machine) (journal : List Item) (next : Item)
+    → Before setting journal → IsWayItem setting journal next → Matches setting machine journal
+    → Goes setting machine journal next
+goes setting machine journal (item.Submitted file version) before cause matches =
+    goes_submitted setting machine journal file version
+    (switches_of_all setting [] journal before.have) matches cause.switches
+goes setting machine journal (item.Retired version) before cause matches =
+    goes_retired setting machine journal version (switches_of_all setting [] journal before.have)
+    matches cause.switches
+goes setting machine journal (item.Entered i s header) before cause matches =
+    goes_in setting machine journal i s header before matches cause.way.0.number
+goes setting machine journal (item.Decided i version rule act by) before cause matches =
+    goes_decided setting machine journal i version rule act by before matches cause.way
+goes setting machine journal (item.Left i port leaving) before cause matches =
+    let next : Item = item.Left i port leaving in
+    goes_end setting machine journal next i (LeftBy port) before matches
+    cause.way.at.travelling
+    (left_action setting journal i port leaving before cause.way)
+    (words_named i journal next (own_number i)) (λ j apart. other_number i j apart)
+    (keeps_marks setting journal next refl refl) (λ new ends. ends)
+goes setting machine journal (item.Dropped i) before cause matches =
+    let next : Item = item.Dropped i in
+    goes_end setting machine journal next i Dropped before matches cause.way.at.travelling
+    (λ packet seen. action_of packet (words_of journal i) cause.way.decision seen
+    (decision_in journal i (Some cause.way.decision) cause.way.decided)
+    ∙ ap Some cause.way.action)
+    (words_named i journal next (own_number i)) (λ j apart. other_number i j apart)
+    (keeps_marks setting journal next refl refl) (λ new ends. ends)
+goes setting machine journal (item.Lost i) before cause matches =
+    let next : Item = item.Lost i in
+    goes_end setting machine journal next i Lost before matches cause.way.travelling
+    (λ packet seen. tt)
+    (words_named i journal next (own_number i)) (λ j apart. other_number i j apart)
+    (keeps_marks setting journal next refl refl) (λ new ends. ends)
+goes setting machine journal (item.Stuck i switch why leg down) before cause matches =
+    let next : Item = item.Stuck i switch why leg down in
+    goes_end setting machine journal next i Stuck before matches cause.way.at.travelling
+    (λ packet seen. tt)
+    (words_named i journal next (own_number i)) (λ j apart. other_number i j apart)
+    (keeps_marks setting journal next refl refl) (λ new ends. ends)
+goes setting machine journal next before cause matches =
+    record { new = machine; takes = refl; matches = unseen_matches setting machine journal next tt matches }
+
+runs_from : (setting : Setting) (machine : Machine) (before items : List Item) → IsSetting setting
+    → HaveCauses (KeptItem setting) before items → Matches setting machine before
+    → (new : Machine) × Runs setting machine items new
+runs_from setting machine before [] is have matches = (machine, refl)
+runs_from setting machine before (next ∷ items) is have matches =
+    let step : Goes setting machine before next =
+    goes setting machine before next (known_before setting is before next have.0)
+    have.0.caused.caused matches in
+    let rest : (new : Machine) × Runs setting step.new items new =
+    runs_from setting step.new (before ++ next ∷ []) items is have.1 step.matches in
+    (rest.0, (step.new, step.takes, rest.1))
+
+matches_at_first : (setting : Setting) → IsSetting setting → Matches setting (start setting) []
+unfolding words_of header_in
+matches_at_first setting is = by_rows (policy_of_file setting 1) refl is.planned
+  where
+    by_rows : (o : Option (List Row)) → policy_of_file setting 1 ≡ o
+        → IsOk (plan_of_file setting 1) → Matches setting (start setting) []
+    by_rows None e planned =
+        let refused : IsOk (plan_of_file setting 1) = planned in absurd cc
+    by_rows (Some rows) e planned =
+        let only : policies_at_first ≡ rows ∷ [] = ap option_to_list e in
+        record {
+          count = ap length only ∙ sym start_laws.count;
+          policies = λ v above below.
+              let first : v ≡ 1 = omega (arith, above, below, start_laws.count) in
+              let own : policy_at setting [] 1 ≡ rows =
+              (of_its_file setting [] 1 1 rows (start_laws.file 1) e).0 in
+              ap (λ k. slice_get policies_at_first (k - 1)) first
+              ∙ ap (λ policies. slice_get policies 0) only ∙ ap Some (sym own)
+              ∙ ap (λ k. Some (policy_at setting [] k)) (sym first);
+          mark = sym start_laws.retired;
+          packets = λ i. refl;
+        }
+      where
+        policies_at_first : List (List Row)
+        policies_at_first = option_to_list (policy_of_file setting 1)
+
+pub caused_is_run : (setting : Setting) (journal : List Item) → IsSetting setting
+    → HaveCauses (IsWayItem setting) [] journal → IsRun setting journal
+caused_is_run setting journal is have =
+    runs_from setting (start setting) [] journal is (kept_before setting journal is have)
+    (matches_at_first setting is)

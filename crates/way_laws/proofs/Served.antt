@@ -1,0 +1,415 @@
+-- Travelling packets stand at switches that serve, behind each item but those of a crash; and what
+-- else each item keeps of packets' numbers and legs.
+use Rattle.std.proofs.Common.{ℕ, ◌≡◌, ◌+◌, ◌<◌, ◌≤◌, ◌==◌, Bool, true, false, Option, Some, None, List, [], ◌∷◌, ◌++◌, refl, ap, sym, subst, ◌∙◌, arith, inl, inr, ◌⊎◌}
+use Rattle.std.specs.Prelude.{⊤, IsTrue, IsFalse, filter, unwrap_or}
+use Rattle.std.specs.List.{list_any}
+use Rattle.std.specs.Option.{option_or}
+use Rattle.std.proofs.lemmas.Bool.{cases_lt, eqb-true}
+use Rattle.std.proofs.lemmas.Bool.Decides.{nat_tests}
+use Rattle.failover.specs.Masks.{has}
+use Rattle.net_file.specs.Net.{are_linked, joins, links_of}
+use Rattle.net_file.specs.declared.net.LinkRow.{LinkRow}
+use Rattle.net_file.proofs.Masks.{in_mask, in_mask_of, in_mask_past, mask_of_small}
+use Rattle.five_tuple.specs.declared.header.Header.{Header}
+use Rattle.policy_rules.specs.declared.packet.Leg.{Leg}
+use Rattle.policy_rules.specs.declared.packet.Leg.TheVariants.{Seek, Exit}
+use Rattle.journal.specs.declared.item.Item.{Item}
+use Rattle.journal.specs.declared.item.Item.TheVariants as item
+use Rattle.update_machine.specs.Boots.{is_up, serves, tells_serving}
+use Rattle.update_machine.specs.Folds.{count_of, last_told}
+use Rattle.update_machine.specs.Links.{is_usable, near}
+use Rattle.update_machine.specs.Packets.{changes_leg, exit_port, is_packet, leg_of, next_packet, standing, tells_place, tells_travelling, travels}
+use Rattle.update_machine.specs.Setting.{Setting}
+use Rattle.update_machine.proofs.CallerLemmas.{count_of_append, folded_append, last_told_append}
+use Rattle.boot_laws.specs.BootLaws.{ServingIsKnown}
+use Rattle.boot_laws.specs.ItemCauses.{HasItemCause}
+use Rattle.boot_laws.proofs.Facts.{AreKept}
+use Rattle.boot_laws.proofs.Grown.{serving_more}
+use Rattle.way_laws.specs.Rest.{AreServed, IsServed}
+use Rattle.way_laws.specs.Stages.{OnWay, stage_of, tells_stage}
+use Rattle.way_laws.specs.WayCauses.{WayCause}
+use Rattle.way_laws.proofs.Others.{ends_or_not}
+
+-- ---- the end of a link that can be used serves
+
+pub linked_by_mask : (links : List LinkRow) (s k : ℕ) → IsTrue (has (links_of links s) k)
+    → IsTrue (are_linked links s k)
+unfolding has
+linked_by_mask links s k is = elim (cases_lt k 64) [
+  | inl small ↦ sym (in_mask_of (are_linked links s) k small) ∙ is
+  | inr past ↦
+      let none : in_mask (links_of links s) k ≡ false =
+      in_mask_past (links_of links s) k (mask_of_small (are_linked links s)) past in
+      absurd cc
+]
+
+usable_serves : (journal : List Item) (s k : ℕ) (link : LinkRow) → joins s k link ≡ true
+    → is_usable journal link ≡ true → (serves journal s ≡ true) × (serves journal k ≡ true)
+usable_serves journal s k link joined usable = grind (arith, nat_tests)
+
+any_serves : (journal : List Item) (s k : ℕ) (links : List LinkRow)
+    → list_any (joins s k) (filter (is_usable journal) links) ≡ true
+    → (serves journal s ≡ true) × (serves journal k ≡ true)
+any_serves journal s k [] is = absurd cc
+any_serves journal s k (link ∷ links) is =
+    by_tests (is_usable journal link) refl (any_serves journal s k links) is
+  where
+    by_joins : (b : Bool) → joins s k link ≡ b → is_usable journal link ≡ true
+        → (list_any (joins s k) (filter (is_usable journal) links) ≡ true
+        → (serves journal s ≡ true) × (serves journal k ≡ true))
+        → list_any (joins s k) (link ∷ filter (is_usable journal) links) ≡ true
+        → (serves journal s ≡ true) × (serves journal k ≡ true)
+    by_joins true e usable rest is = usable_serves journal s k link e usable
+    by_joins false e usable rest is = rest (rw e at is)
+
+    by_tests : (b : Bool) → is_usable journal link ≡ b
+        → (list_any (joins s k) (filter (is_usable journal) links) ≡ true
+        → (serves journal s ≡ true) × (serves journal k ≡ true))
+        → list_any (joins s k) (filter (is_usable journal) (link ∷ links)) ≡ true
+        → (serves journal s ≡ true) × (serves journal k ≡ true)
+    by_tests true e rest is = by_joins (joins s k link) refl e rest (rw e at is)
+    by_tests false e rest is = rest (rw e at is)
+
+pub near_serves : (setting : Setting) (journal : List Item) (s k : ℕ)
+    → IsTrue (has (near setting journal s) k) → serves journal k ≡ true
+unfolding near
+near_serves setting journal s k is =
+    (any_serves journal s k setting.net.links
+    (linked_by_mask (filter (is_usable journal) setting.net.links) s k is)).1
+
+-- ---- what one more item makes of words
+
+pub travels_more : (before : List Item) (next : Item) (i : ℕ)
+    → travels (before ++ next ∷ []) i ≡ unwrap_or (tells_travelling i next) (travels before i)
+unfolding travels
+travels_more before next i =
+    ap (λ o. unwrap_or o false) (last_told_append (tells_travelling i) before (next ∷ []))
+    ∙ by_told (tells_travelling i next) (last_told (tells_travelling i) before)
+  where
+    by_told : (o earlier : Option Bool)
+        → unwrap_or (option_or o earlier) false ≡ unwrap_or o (unwrap_or earlier false)
+    by_told None earlier = refl
+    by_told (Some b) earlier = refl
+
+pub place_more : (before : List Item) (next : Item) (i : ℕ)
+    → standing (before ++ next ∷ []) i ≡ option_or (tells_place i next) (standing before i)
+unfolding standing
+place_more before next i = last_told_append (tells_place i) before (next ∷ [])
+
+pub packet_more : (before : List Item) (next : Item)
+    → next_packet (before ++ next ∷ []) ≡ next_packet before + count_of is_packet (next ∷ [])
+unfolding next_packet
+packet_more before next = rw (count_of_append is_packet before (next ∷ [])) (omega arith)
+
+-- ---- served packets
+
+-- the causes of items of switches and of packets
+pub record IsCaused (setting : Setting) (before : List Item) (next : Item) : Type 0 where
+  pub switches : HasItemCause setting before next
+  pub way : WayCause setting before next
+  pub known : ServingIsKnown before
+
+abbrev pub NotDown : Item → Type 0
+NotDown (item.Down s) = ⊥
+NotDown _ = ⊤
+
+-- an item that brings no packet to another place, behind which the place serves as before
+pub stays_served : (before : List Item) (next : Item) (i : ℕ) → tells_place i next ≡ None
+    → (tells_travelling i next ≡ None) ⊎ (tells_travelling i next ≡ Some false)
+    → ((s : ℕ) → IsTrue (serves before s) → IsTrue (serves (before ++ next ∷ []) s))
+    → (IsTrue (travels before i) → IsServed before i)
+    → IsTrue (travels (before ++ next ∷ []) i) → IsServed (before ++ next ∷ []) i
+stays_served before next i place (inr ends) on served travelling =
+    let clash : true ≡ false =
+    sym travelling ∙ travels_more before next i ∙ ap (λ o. unwrap_or o (travels before i)) ends in
+    absurd cc
+stays_served before next i place (inl same) on served travelling =
+    let here : IsServed before i =
+    served (rw (travels_more before next i, same) at travelling) in
+    record {
+      place = here.place;
+      stands = place_more before next i ∙ rw place here.stands;
+      serving = on here.place here.serving;
+    }
+
+pub still_serves : (before : List Item) (next : Item) (s : ℕ) → tells_serving s next ≡ None
+    → IsTrue (serves before s) → IsTrue (serves (before ++ next ∷ []) s)
+still_serves before next s none serving = rw (serving_more before next s, none) serving
+
+pub record IsCausedUp (setting : Setting) (before : List Item) (next : Item) : Type 0 where
+  pub caused : IsCaused setting before next
+  pub not_down : NotDown next
+
+comes_served : (before : List Item) (packet s i : ℕ) (header : Header) → AreServed before
+    → IsTrue (serves before s)
+    → IsTrue (travels (before ++ item.Entered packet s header ∷ []) i)
+    → IsServed (before ++ item.Entered packet s header ∷ []) i
+comes_served before packet s i header served serving travelling = by_same (packet == i) refl
+  where
+    next : Item
+    next = item.Entered packet s header
+
+    by_same : (b : Bool) → (packet == i) ≡ b → IsServed (before ++ next ∷ []) i
+    by_same true e = record {
+      place = s;
+      stands = rw (place_more before next i, e) refl;
+      serving = still_serves before next s refl serving;
+    }
+    by_same false e =
+        let here : IsServed before i =
+        served i (rw (travels_more before next i, e) at travelling) in
+        record {
+          place = here.place;
+          stands = rw (place_more before next i, e) here.stands;
+          serving = still_serves before next here.place refl here.serving;
+        }
+
+hops_served : (before : List Item) (packet s i : ℕ) → AreServed before
+    → IsTrue (serves before s) → IsTrue (travels (before ++ item.Hopped packet s ∷ []) i)
+    → IsServed (before ++ item.Hopped packet s ∷ []) i
+hops_served before packet s i served serving travelling = by_same (packet == i) refl
+  where
+    next : Item
+    next = item.Hopped packet s
+
+    here : IsServed before i
+    here = served i (rw (travels_more before next i) at travelling)
+
+    by_same : (b : Bool) → (packet == i) ≡ b → IsServed (before ++ next ∷ []) i
+    by_same true e = record {
+      place = s;
+      stands = rw (place_more before next i, e) refl;
+      serving = still_serves before next s refl serving;
+    }
+    by_same false e = record {
+      place = here.place;
+      stands = rw (place_more before next i, e) here.stands;
+      serving = still_serves before next here.place refl here.serving;
+    }
+
+booted_serves : (before : List Item) (switch boot s : ℕ) → ServingIsKnown before
+    → IsFalse (is_up before switch) → IsTrue (serves before s)
+    → IsTrue (serves (before ++ item.Booted switch boot ∷ []) s)
+booted_serves before switch boot s known down serving = by_same (switch == s) refl
+  where
+    by_same : (b : Bool) → (switch == s) ≡ b
+        → IsTrue (serves (before ++ item.Booted switch boot ∷ []) s)
+    by_same true e =
+        let same : switch ≡ s = eqb-true switch s e in
+        let clash : true ≡ false =
+        sym (known.up s serving) ∙ subst (λ x. IsFalse (is_up before x)) same down in
+        absurd cc
+    by_same false e = rw (serving_more before (item.Booted switch boot) s, e) serving
+
+opened_serves : (before : List Item) (switch version s : ℕ) → IsTrue (serves before s)
+    → IsTrue (serves (before ++ item.Opened switch version ∷ []) s)
+opened_serves before switch version s serving = by_same (switch == s) refl
+  where
+    by_same : (b : Bool) → (switch == s) ≡ b
+        → IsTrue (serves (before ++ item.Opened switch version ∷ []) s)
+    by_same true e = rw (serving_more before (item.Opened switch version) s, e) refl
+    by_same false e = rw (serving_more before (item.Opened switch version) s, e) serving
+
+pub served_kept : (setting : Setting) → AreKept (IsCausedUp setting) AreServed
+served_kept setting before (item.Entered packet s header) is served i travelling =
+    comes_served before packet s i header served is.caused.way.1 travelling
+served_kept setting before (item.Hopped packet s) is served i travelling =
+    hops_served before packet s i served
+    (near_serves setting before is.caused.way.switch s is.caused.way.usable) travelling
+served_kept setting before (item.Down s) is served i travelling = absurd is.not_down
+served_kept setting before (item.Booted switch boot) is served i travelling =
+    stays_served before (item.Booted switch boot) i refl (inl refl)
+    (λ s. booted_serves before switch boot s is.caused.known is.caused.switches.down) (served i)
+    travelling
+served_kept setting before (item.Opened switch version) is served i travelling =
+    stays_served before (item.Opened switch version) i refl (inl refl)
+    (opened_serves before switch version) (served i) travelling
+served_kept setting before (item.Dropped packet) is served i travelling =
+    stays_served before (item.Dropped packet) i refl (ends_or_not (packet == i))
+    (λ s. still_serves before (item.Dropped packet) s refl) (served i) travelling
+served_kept setting before (item.Left packet port leaving) is served i travelling =
+    stays_served before (item.Left packet port leaving) i refl (ends_or_not (packet == i))
+    (λ s. still_serves before (item.Left packet port leaving) s refl) (served i) travelling
+served_kept setting before (item.Lost packet) is served i travelling =
+    stays_served before (item.Lost packet) i refl (ends_or_not (packet == i))
+    (λ s. still_serves before (item.Lost packet) s refl) (served i) travelling
+served_kept setting before (item.Stuck packet switch cause leg down) is served i travelling =
+    stays_served before (item.Stuck packet switch cause leg down) i refl
+    (ends_or_not (packet == i))
+    (λ s. still_serves before (item.Stuck packet switch cause leg down) s refl) (served i)
+    travelling
+served_kept setting before next is served i travelling =
+    stays_served before next i refl (inl refl) (λ s. still_serves before next s refl) (served i)
+    travelling
+
+-- ---- numbers of packets
+
+-- a packet that travels has a number that was given
+abbrev pub AreNumbered : List Item → Type 0
+AreNumbered journal = (i : ℕ) → IsTrue (travels journal i)
+    → (1 ≤ i) × (i < next_packet journal)
+
+next_first : (journal : List Item) → 1 ≤ next_packet journal
+unfolding next_packet
+next_first journal = omega arith
+
+number_stays : (before : List Item) (next : Item) (i : ℕ)
+    → (tells_travelling i next ≡ None) ⊎ (tells_travelling i next ≡ Some false)
+    → (IsTrue (travels before i) → (1 ≤ i) × (i < next_packet before))
+    → IsTrue (travels (before ++ next ∷ []) i)
+    → (1 ≤ i) × (i < next_packet (before ++ next ∷ []))
+number_stays before next i (inr ends) numbered travelling =
+    let clash : true ≡ false =
+    sym travelling ∙ travels_more before next i ∙ ap (λ o. unwrap_or o (travels before i)) ends in
+    absurd cc
+number_stays before next i (inl same) numbered travelling =
+    let there = numbered (rw (travels_more before next i, same) at travelling) in
+    (there.0, omega (arith, there.1, packet_more before next))
+
+pub numbered_kept : (setting : Setting) → AreKept (WayCause setting) AreNumbered
+numbered_kept setting before (item.Entered packet s header) way numbered i travelling =
+    by_same (packet == i) refl
+  where
+    next : Item
+    next = item.Entered packet s header
+
+    grows : next_packet (before ++ next ∷ []) ≡ next_packet before + 1
+    grows = packet_more before next
+
+    by_same : (b : Bool) → (packet == i) ≡ b
+        → (1 ≤ i) × (i < next_packet (before ++ next ∷ []))
+    by_same true e =
+        let same : packet ≡ i = eqb-true packet i e in
+        let number : packet ≡ next_packet before = way.0.number in (
+          omega (arith, same, number, next_first before),
+          omega (arith, same, number, grows),
+        )
+    by_same false e =
+        let there = numbered i (rw (travels_more before next i, e) at travelling) in
+        (there.0, omega (arith, there.1, grows))
+numbered_kept setting before (item.Dropped packet) way numbered i travelling =
+    number_stays before (item.Dropped packet) i (ends_or_not (packet == i)) (numbered i) travelling
+numbered_kept setting before (item.Left packet port leaving) way numbered i travelling =
+    number_stays before (item.Left packet port leaving) i (ends_or_not (packet == i)) (numbered i)
+    travelling
+numbered_kept setting before (item.Lost packet) way numbered i travelling =
+    number_stays before (item.Lost packet) i (ends_or_not (packet == i)) (numbered i) travelling
+numbered_kept setting before (item.Stuck packet switch cause leg down) way numbered i travelling =
+    number_stays before (item.Stuck packet switch cause leg down) i (ends_or_not (packet == i))
+    (numbered i) travelling
+numbered_kept setting before next way numbered i travelling =
+    number_stays before next i (inl refl) (numbered i) travelling
+
+-- ---- legs of packets
+
+-- a packet on its way has a leg
+abbrev pub HaveLegs : List Item → Type 0
+HaveLegs journal = (i : ℕ) → stage_of journal i ≡ Some OnWay
+    → (leg : Leg) × (leg_of journal i ≡ Some leg)
+
+leg_more : (before : List Item) (next : Item) (i : ℕ)
+    → leg_of (before ++ next ∷ []) i ≡ changes_leg i before (leg_of before i) next
+unfolding leg_of
+leg_more before next i = folded_append (changes_leg i) None before (next ∷ [])
+
+stage_next : (before : List Item) (next : Item) (i : ℕ)
+    → stage_of (before ++ next ∷ []) i ≡ option_or (tells_stage i next) (stage_of before i)
+unfolding stage_of
+stage_next before next i = last_told_append (tells_stage i) before (next ∷ [])
+
+pub legs_kept : (setting : Setting) → AreKept (WayCause setting) HaveLegs
+legs_kept setting before (item.Seeking packet version partition route) way has i moving =
+    by_same (packet == i) refl
+  where
+    next : Item
+    next = item.Seeking packet version partition route
+
+    by_same : (b : Bool) → (packet == i) ≡ b
+        → (leg : Leg) × (leg_of (before ++ next ∷ []) i ≡ Some leg)
+    by_same true e = (Seek version partition, rw (leg_more before next i, e) refl)
+    by_same false e =
+        let there = has i (rw (stage_next before next i, e) at moving) in
+        (there.0, rw (leg_more before next i, e) there.1)
+legs_kept setting before (item.Exiting packet route) way has i moving =
+    by_same (packet == i) refl
+  where
+    next : Item
+    next = item.Exiting packet route
+
+    by_same : (b : Bool) → (packet == i) ≡ b
+        → (leg : Leg) × (leg_of (before ++ next ∷ []) i ≡ Some leg)
+    by_same true e = (Exit (exit_port before i), rw (leg_more before next i, e) refl)
+    by_same false e =
+        let there = has i (rw (stage_next before next i, e) at moving) in
+        (there.0, rw (leg_more before next i, e) there.1)
+legs_kept setting before (item.Rerouted packet route) way has i moving =
+    by_same (packet == i) refl
+  where
+    next : Item
+    next = item.Rerouted packet route
+
+    by_same : (b : Bool) → (packet == i) ≡ b
+        → (leg : Leg) × (leg_of (before ++ next ∷ []) i ≡ Some leg)
+    by_same true e = (
+      way.leg,
+      leg_more before next i
+          ∙ subst (λ k. leg_of before k ≡ Some way.leg) (eqb-true packet i e) way.blocked.takes,
+    )
+    by_same false e =
+        let there = has i (rw (stage_next before next i, e) at moving) in
+        (there.0, rw (leg_more before next i) there.1)
+legs_kept setting before (item.Hopped packet s) way has i moving = by_same (packet == i) refl
+  where
+    next : Item
+    next = item.Hopped packet s
+
+    by_same : (b : Bool) → (packet == i) ≡ b
+        → (leg : Leg) × (leg_of (before ++ next ∷ []) i ≡ Some leg)
+    by_same true e =
+        let there = has packet way.moving in (
+          there.0,
+          leg_more before next i
+              ∙ subst (λ k. leg_of before k ≡ Some there.0) (eqb-true packet i e) there.1,
+        )
+    by_same false e =
+        let there = has i (rw (stage_next before next i, e) at moving) in
+        (there.0, rw (leg_more before next i) there.1)
+legs_kept setting before (item.Entered packet s header) way has i moving =
+    by_same (packet == i) refl
+  where
+    next : Item
+    next = item.Entered packet s header
+
+    by_same : (b : Bool) → (packet == i) ≡ b
+        → (leg : Leg) × (leg_of (before ++ next ∷ []) i ≡ Some leg)
+    by_same true e = let other : Some _ ≡ Some OnWay = rw (stage_next before next i, e) at moving in absurd cc
+    by_same false e =
+        let there = has i (rw (stage_next before next i, e) at moving) in
+        (there.0, rw (leg_more before next i) there.1)
+legs_kept setting before (item.Decided packet version rule act by) way has i moving =
+    by_same (packet == i) refl
+  where
+    next : Item
+    next = item.Decided packet version rule act by
+
+    by_same : (b : Bool) → (packet == i) ≡ b
+        → (leg : Leg) × (leg_of (before ++ next ∷ []) i ≡ Some leg)
+    by_same true e = let other : Some _ ≡ Some OnWay = rw (stage_next before next i, e) at moving in absurd cc
+    by_same false e =
+        let there = has i (rw (stage_next before next i, e) at moving) in
+        (there.0, rw (leg_more before next i) there.1)
+legs_kept setting before (item.FoundDown packet one two) way has i moving =
+    by_same (packet == i) refl
+  where
+    next : Item
+    next = item.FoundDown packet one two
+
+    by_same : (b : Bool) → (packet == i) ≡ b
+        → (leg : Leg) × (leg_of (before ++ next ∷ []) i ≡ Some leg)
+    by_same true e = let other : Some _ ≡ Some OnWay = rw (stage_next before next i, e) at moving in absurd cc
+    by_same false e =
+        let there = has i (rw (stage_next before next i, e) at moving) in
+        (there.0, rw (leg_more before next i) there.1)
+legs_kept setting before next way has i moving =
+    let there = has i (rw (stage_next before next i) at moving) in
+    (there.0, rw (leg_more before next i) there.1)

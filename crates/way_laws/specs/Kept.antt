@@ -1,0 +1,77 @@
+-- What each item keeps of each packet and of each cache rule, whatever stage the packet is in.
+use Rattle.std.specs.Prelude.{⊤, ℕ, ◌≡◌, ◌+◌, ◌<◌, ◌≤◌, ◌⊎◌, Option, Some, None, List, All, IsTrue, IsFalse, slice_get}
+use Rattle.ctrl_msg.specs.declared.message.Body.{Body}
+use Rattle.ctrl_msg.specs.declared.message.Body.TheVariants.{CacheRule}
+use Rattle.ctrl_msg.specs.declared.message.Message.{Message}
+use Rattle.failover.specs.DownSet.{has_link}
+use Rattle.five_tuple.specs.declared.header.Header.{Header}
+use Rattle.policy_rules.specs.Policy.{scan}
+use Rattle.policy_rules.specs.declared.packet.Leg.TheVariants.{Seek}
+use Rattle.switch_table.specs.Tables.{Placed}
+use Rattle.journal.specs.declared.item.Item.{Item}
+use Rattle.update_machine.specs.Caches.{cache_of}
+use Rattle.update_machine.specs.Marks.{current_mark}
+use Rattle.update_machine.specs.Messages.{message_of}
+use Rattle.update_machine.specs.Packets.{Decision, next_packet}
+use Rattle.update_machine.specs.Played.{NamesOwnPort}
+use Rattle.update_machine.specs.Setting.{Setting}
+use Rattle.update_machine.specs.Versions.{policy_at}
+use Rattle.packet_laws.specs.Calm.{IsRightEntry, IsRightRule}
+use Rattle.packet_laws.specs.OnWay.{IsOnWay, IsPartitionOf, IsUnderWay, IsUnknown}
+use Rattle.packet_laws.specs.Words.{PacketWords, words_of}
+use Rattle.way_laws.specs.Stages.{Blocked, CameIn, Judged, OnWay, Stage, stage_of}
+
+-- the route uses none of the links of the set
+abbrev pub Avoids : List ℕ → List ℕ → Type 0
+Avoids down route = (k one two : ℕ) → slice_get route k ≡ Some one
+    → slice_get route (k + 1) ≡ Some two → IsFalse (has_link down one two)
+
+-- the packet sought the partition whose region holds its header, by a version that wasn't retired
+-- as it came in and is at most the current one
+pub record IsSought (setting : Setting) (journal : List Item) (words : PacketWords)
+    (header : Header) (version partition : ℕ) : Type 0 where
+  pub not_retired : words.mark < version
+  pub current : version ≤ current_mark journal
+  pub placed : Placed
+  pub own : IsPartitionOf setting journal header version partition placed
+
+-- it was decided by the first match of such a version
+pub record IsJudged (setting : Setting) (journal : List Item) (words : PacketWords)
+    (header : Header) : Type 0 where
+  pub decision : Decision
+  pub decided : words.decision ≡ Some decision
+  pub not_retired : words.mark < decision.version
+  pub current : decision.version ≤ current_mark journal
+  pub first_match : scan (policy_at setting journal decision.version) header
+      ≡ record { rule = decision.rule; action = decision.action }
+  pub named : NamesOwnPort setting decision.action
+  pub sought : (version partition : ℕ) → words.leg ≡ Some (Seek version partition)
+      → IsSought setting journal words header version partition
+
+-- what is kept of a packet with these words, in this stage: it is undecided as it comes in; it
+-- stands at its place of a route that leads to a target of its leg, also where it found the next
+-- link down; and while it moves on, its route uses no link that it found down
+pub record IsKept (setting : Setting) (journal : List Item) (words : PacketWords)
+    (stage : Option Stage) : Type 0 where
+  pub under_way : IsTrue words.travels → IsUnderWay setting journal words
+  pub came_in : IsTrue words.travels → stage ≡ Some CameIn
+      → (words.decision ≡ None) × (words.leg ≡ None)
+  pub judged : IsTrue words.travels → stage ≡ Some Judged
+      → (header : Header) → words.header ≡ Some header → IsJudged setting journal words header
+  pub on_way : IsTrue words.travels → (stage ≡ Some OnWay) ⊎ (stage ≡ Some Blocked)
+      → IsOnWay setting journal words
+  pub avoids : IsTrue words.travels → stage ≡ Some OnWay → Avoids words.found words.route
+
+-- a cache rule that a body brings is right
+abbrev pub BringsRight : Setting → List Item → Body → Type 0
+BringsRight setting journal (CacheRule version word rule action) =
+    IsRightRule setting journal version word rule action
+BringsRight setting journal _ = ⊤
+
+-- all packets, those that didn't come in, all messages that were sent, and all caches
+pub record AllKept (setting : Setting) (journal : List Item) : Type 0 where
+  pub packets : (i : ℕ) → IsKept setting journal (words_of journal i) (stage_of journal i)
+  pub unknown : (i : ℕ) → next_packet journal ≤ i → IsUnknown (words_of journal i)
+  pub sent : (n : ℕ) (message : Message) → message_of journal n ≡ Some message
+      → BringsRight setting journal message.body
+  pub cached : (s : ℕ) → All (IsRightEntry setting journal) (cache_of setting journal s).entries

@@ -1,0 +1,88 @@
+-- Causes as strong as a reader may ask: with them a journal that is a run keeps the promise that
+-- each packet is decided by one whole version that wasn't retired as it came in, or was lost by a
+-- row, or was stuck where no route was known.
+use Rattle.std.specs.Prelude.{⊤, ℕ, ◌≡◌, ◌<◌, ◌≤◌, Option, Some, None, List, IsTrue, IsFalse}
+use Rattle.five_tuple.specs.declared.header.Header.{Header}
+use Rattle.policy_rules.specs.declared.packet.Cause.{Cause}
+use Rattle.policy_rules.specs.declared.packet.How.{How}
+use Rattle.policy_rules.specs.declared.packet.Leg.{Leg}
+use Rattle.policy_rules.specs.declared.packet.Leg.TheVariants.{Seek, Exit}
+use Rattle.policy_rules.specs.declared.policy.Action.{Action}
+use Rattle.journal.specs.declared.item.Item.{Item}
+use Rattle.journal.specs.declared.item.Item.TheVariants as item
+use Rattle.steps.specs.Steps.{HasLink}
+use Rattle.update_machine.specs.Boots.{serves}
+use Rattle.update_machine.specs.Causes.{FindsDown, IsStuckRightly, LeavesRightly}
+use Rattle.update_machine.specs.Marks.{current_mark}
+use Rattle.update_machine.specs.Packets.{decision_of, found_down, leg_of}
+use Rattle.update_machine.specs.Setting.{Setting}
+use Rattle.boot_laws.specs.ItemCauses.{RetiresRightly, SubmitsRightly}
+use Rattle.packet_laws.specs.Words.{entry_mark}
+use Rattle.way_laws.specs.Kept.{Avoids}
+use Rattle.way_laws.specs.WayCauses.{IsDecided, IsDroppedHere, IsLostHere, IsOfRow, MovesOver}
+
+-- a link of the network, from where the packet stands to the next switch of its route, which its
+-- switch can't use
+pub record FindsLinkDown (setting : Setting) (before : List Item) (packet one two : ℕ) : Type 0
+  where
+    pub finds : FindsDown setting before packet one two
+    pub linked : HasLink setting.net one two
+
+-- on its way to an authority the packet is undecided, and its version wasn't retired as it came in
+-- and is at most the current one
+pub record SeeksRightly (before : List Item) (packet version : ℕ) : Type 0 where
+  pub undecided : decision_of before packet ≡ None
+  pub not_retired : entry_mark before packet < version
+  pub current : version ≤ current_mark before
+
+abbrev pub IsOnRightLeg : List Item → ℕ → Leg → Type 0
+IsOnRightLeg before packet (Seek version partition) = SeeksRightly before packet version
+IsOnRightLeg before packet (Exit port) = ⊤
+
+pub record IsStuckOnLeg (setting : Setting) (before : List Item) (packet switch : ℕ)
+    (cause : Cause) (leg : Leg) (down : List ℕ) : Type 0 where
+  pub stuck : IsStuckRightly setting before packet switch cause leg down
+  pub rightly : IsOnRightLeg before packet leg
+
+-- the packet is decided where it stands, by a version that wasn't retired as it came in and is at
+-- most the current one
+pub record IsDecidedRightly (setting : Setting) (before : List Item) (packet version : ℕ)
+    (rule : Option ℕ) (action : Action) (how : How) : Type 0 where
+  pub decided : IsDecided setting before packet version rule action how
+  pub undecided : decision_of before packet ≡ None
+  pub not_retired : entry_mark before packet < version
+  pub current : version ≤ current_mark before
+
+-- a lookup on the way raises the version that the packet seeks
+abbrev pub RaisesVersion : List Item → ℕ → ℕ → Type 0
+RaisesVersion before packet version = (earlier partition : ℕ)
+    → leg_of before packet ≡ Some (Seek earlier partition) → earlier < version
+
+-- a route uses no link that the packet found down
+abbrev pub AvoidsFound : List Item → ℕ → List ℕ → Type 0
+AvoidsFound before packet route = Avoids (found_down before packet) route
+
+abbrev pub StrongCause : Setting → List Item → Item → Type 0
+StrongCause setting before (item.Submitted file version) =
+    SubmitsRightly setting before file version
+StrongCause setting before (item.Retired version) = RetiresRightly setting before version
+StrongCause setting before (item.Entered packet switch header) =
+    IsOfRow before packet switch header × IsTrue (serves before switch)
+StrongCause setting before (item.Closed packet switch) =
+    ((header : Header) × IsOfRow before packet switch header) × IsFalse (serves before switch)
+StrongCause setting before (item.Seeking packet version partition route) =
+    RaisesVersion before packet version × AvoidsFound before packet route
+StrongCause setting before (item.Exiting packet route) = AvoidsFound before packet route
+StrongCause setting before (item.Rerouted packet route) = AvoidsFound before packet route
+StrongCause setting before (item.Hopped packet switch) = MovesOver setting before packet switch
+StrongCause setting before (item.FoundDown packet one two) =
+    FindsLinkDown setting before packet one two
+StrongCause setting before (item.Decided packet version rule action how) =
+    IsDecidedRightly setting before packet version rule action how
+StrongCause setting before (item.Left packet port leaving) =
+    LeavesRightly setting before packet port leaving
+StrongCause setting before (item.Dropped packet) = IsDroppedHere before packet
+StrongCause setting before (item.Lost packet) = IsLostHere before packet
+StrongCause setting before (item.Stuck packet switch cause leg down) =
+    IsStuckOnLeg setting before packet switch cause leg down
+StrongCause setting before _ = ⊤
