@@ -1,5 +1,8 @@
 #!/usr/bin/env python3
-"""Compares the plans and tables of examples/ with `bench/plan_model.py`. The gate compares them with the program (crates/examples)."""
+"""Compares the plans and tables of examples/ with `bench/plan_model.py`, and the README's picture with `examples/draw`.
+
+The gate compares the plans and tables with the program (crates/examples).
+"""
 import subprocess
 import sys
 from pathlib import Path
@@ -12,11 +15,14 @@ def main():
     wrong = []
     for line in (FOLDER / "index.txt").read_text().splitlines():
         name, command, *words = line.replace("--net=", "--net ").split(" ")
-        if command in ("compile", "show"):
+        if command in ("compile", "show") and name != "-":
             done = subprocess.run([sys.executable, str(HOME / "bench/plan_model.py"), *words], cwd=FOLDER, capture_output=True)
             if done.returncode != 0 or done.stdout != (FOLDER / name).read_bytes():
                 wrong.append(f"{name} is another text than the model's")
-    print("\n".join(wrong) if wrong else "the texts are the model's")
+    drawn = subprocess.run([str(FOLDER / "draw"), "campus", "1"], capture_output=True)
+    if drawn.stdout != (HOME / "docs/campus.svg").read_bytes():
+        wrong.append("docs/campus.svg is another picture than `examples/draw campus 1`")
+    print("\n".join(wrong) if wrong else "the texts are the model's, and the picture is drawn anew")
     sys.exit(bool(wrong))
 
 

@@ -25,7 +25,7 @@ use net_file::{Ports, read_net};
 use policy_file::read_policy;
 use policy_rules::{Leg, Targets};
 use std::{env, fs};
-use switch_core::{Arrived, Entered, Switch, switch_laws};
+use switch_core::{Answer, Arrived, Entered, Switch, switch_laws};
 use tunnel::Tunnel;
 
 // A header of one of the 512 blocks of destinations.
@@ -44,7 +44,7 @@ fn enter_all(switch: &mut Switch, near: u64, ports: &Ports, turns: u32) -> u32 {
     let mut decided = 0u32;
     for turn in 0..turns {
         if switch.holds_version(switch.stamp()) {
-            if let Entered::Decided { .. } = switch.enter(turn, &header(turn), near, ports) {
+            if let Entered::Answered(Answer::Decided { .. }) = switch.enter(turn, &header(turn), near, ports) {
                 decided = decided.wrapping_add(1);
             }
         }
@@ -62,7 +62,7 @@ fn arrive_all(switch: &mut Switch, base: &Database, near: u64, ports: &Ports, tu
             if let Some(route) = base.route(0, &targets, near, &down) {
                 let tunnel = Tunnel::begin(turn, header(turn), 1, leg, targets, route, down);
                 if switch.serves() && switch.holds_version(switch.stamp()) && !switch.holds_version(2) {
-                    if let Arrived::Decided { .. } = switch.arrive(&tunnel, near, ports) {
+                    if let Arrived::Answered(Answer::Decided { .. }) = switch.arrive(&tunnel, near, ports) {
                         decided = decided.wrapping_add(1);
                     }
                 }
