@@ -16,7 +16,8 @@ use Rattle.update_machine.specs.Messages.{message_of}
 use Rattle.update_machine.specs.Steps.{steps_in}
 use Rattle.update_machine.proofs.Examples.{advert, open_net, to, two_switches}
 use Rattle.advert_laws.specs.Adverts.{AdvertsAreOfSwitches, IsNoNewer, IsOverLinks, LinksAreThere, NamesLinks, OwnAreNewest}
-use Rattle.advert_laws.proofs.NetLinks.{linked_by_mask}
+use Rattle.advert_laws.proofs.NetLinks.{linked_by_mask, links_there}
+use Rattle.advert_laws.proofs.Newest.{own_newest}
 
 -- ---- links of the network: switches a and b, and their link
 
@@ -94,7 +95,13 @@ old_is_older : IsNoNewer open_net again (told 1 7 2)
 unfolding own_advert own_seq near is_link_up serves is_up boot_of steps_in mask_of mask_where switches
 old_is_older = record { boot = omega arith; own = λ up. inr refl }
 
--- ---- journals in which such adverts were sent
+-- ---- nothing is wrong at first; journals in which such adverts were sent
+
+linked_at_first : LinksAreThere open_net []
+linked_at_first = links_there open_net [] tt
+
+newest_at_first : OwnAreNewest open_net []
+newest_at_first = own_newest open_net [] tt
 
 unlinked : LinksAreThere open_net (item.Sent 1 (to 1 (advert 0 1 1 4)) ∷ []) → ⊥
 unfolding message_of

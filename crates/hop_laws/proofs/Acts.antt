@@ -1,5 +1,5 @@
 -- A switch that is told to move a travelling packet on writes an item of it.
-use Rattle.std.proofs.Common.{ℕ, ◌≡◌, ◌<◌, ◌==◌, Bool, true, false, Option, Some, None, List, [], ◌∷◌, ◌++◌, length, refl, ap, sym, subst, ◌∙◌, arith, inl, inr}
+use Rattle.std.proofs.Common.{ℕ, ◌≡◌, ◌==◌, Bool, true, false, Option, Some, None, List, [], ◌∷◌, refl, ap, sym, subst, ◌∙◌, arith, inl}
 use Rattle.std.specs.Prelude.{IsTrue, is_some, option_and_then, position, unwrap_or}
 use Rattle.std.proofs.lemmas.Bool.{eq-eqb}
 use Rattle.failover.specs.Masks.{has}
@@ -24,7 +24,7 @@ use Rattle.update_machine.specs.Setting.{Setting}
 use Rattle.update_machine.specs.Versions.{holds_version, plan_at, policy_at, stamp_of}
 use Rattle.boot_laws.specs.ItemCauses.{HasItemCause}
 use Rattle.packet_laws.specs.OnWay.{IsOnWay, IsSeeking}
-use Rattle.packet_laws.specs.Words.{PacketWords, names, words_of}
+use Rattle.packet_laws.specs.Words.{PacketWords, words_of}
 use Rattle.way_laws.specs.Kept.{AllKept}
 use Rattle.way_laws.specs.Rest.{AreResting}
 use Rattle.way_laws.specs.Stages.{stage_of}

@@ -1,12 +1,12 @@
 -- The links of the network that a packet has not found down: each one that it finds is one less.
 use Rattle.std.proofs.Common.{ℕ, ◌≡◌, ◌≢◌, ◌+◌, ◌<◌, ◌≤◌, ◌==◌, ◌&&◌, ◌||◌, not, Bool, true, false, List, [], ◌∷◌, length, refl, ap, sym, subst, ◌∙◌, arith, cond}
-use Rattle.std.specs.Prelude.{All, Any, IsFalse, IsTrue, count_by, sum_by}
+use Rattle.std.specs.Prelude.{Any, IsFalse, IsTrue, count_by}
 use Rattle.std.specs.List.{list_any}
 use Rattle.std.proofs.lemmas.Bool.{eqb-true}
 use Rattle.std.proofs.lemmas.Bool.Decides.{nat_tests}
 use Rattle.std.proofs.lemmas.List.Folds.{Any-from_list_any}
 use Rattle.std.proofs.lemmas.List.Sums.{count_by-le-length, sum_by-cons}
-use Rattle.failover.specs.DownSet.{IsLinkSet, has_link, is_link_of, no_links, with_link}
+use Rattle.failover.specs.DownSet.{IsLinkSet, has_link, is_link_of, with_link}
 use Rattle.failover.proofs.LinkSets.{has_link-turned, has_link-with_link, with_link_is_link_set}
 use Rattle.net_file.specs.Net.{IsLink, IsNet, are_linked, joins}
 use Rattle.net_file.specs.declared.net.LinkRow.{LinkRow}

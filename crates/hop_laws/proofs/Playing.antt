@@ -1,5 +1,5 @@
 -- Each list of events has a play: all their steps, or those before the first that would begin full.
-use Rattle.std.proofs.Common.{ℕ, suc, ◌≡◌, ◌+◌, ◌<◌, ◌≤◌, ◌⊎◌, inl, inr, Option, Some, None, List, [], ◌∷◌, ◌++◌, length, refl, sym, subst, append_assoc, arith}
+use Rattle.std.proofs.Common.{ℕ, suc, ◌+◌, ◌<◌, ◌≤◌, ◌⊎◌, inl, inr, Option, Some, None, List, [], ◌∷◌, ◌++◌, length, refl, sym, subst, append_assoc, arith}
 use Rattle.std.specs.Prelude.{All, get_or}
 use Rattle.std.proofs.lemmas.Bool.{cases_lt}
 use Rattle.journal.specs.declared.item.Item.{Item}
@@ -15,7 +15,7 @@ use Rattle.update_machine.specs.Played.{IsSetting}
 use Rattle.update_machine.specs.Setting.{Setting}
 use Rattle.update_machine.proofs.CallerLemmas.{IsEventOf, after_append, event_steps_are, rooms_append}
 use Rattle.boot_laws.proofs.Reached.{NamesOwn, has_nexts, own_event}
-use Rattle.hop_laws.specs.Stops.{GoesOrStops, StopsAt}
+use Rattle.hop_laws.specs.Stops.{GoesOrStops}
 use Rattle.hop_laws.proofs.Draining.{drain_ends}
 use Rattle.hop_laws.proofs.Flushing.{flush_goes}
 use Rattle.hop_laws.proofs.Ready.{IsReady, ready_at_first, steps_ready}

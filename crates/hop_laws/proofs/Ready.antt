@@ -1,6 +1,6 @@
 -- Between steps no packet was told to hop and didn't: so each step begins rested.
-use Rattle.std.proofs.Common.{ℕ, ◌≡◌, ◌==◌, ◌&&◌, Bool, true, false, if◌then◌else◌, List, [], ◌∷◌, ◌++◌, refl, sym, subst, ◌∙◌, append_assoc}
-use Rattle.std.specs.Prelude.{All, IsTrue, get_or, length}
+use Rattle.std.proofs.Common.{ℕ, ◌≡◌, ◌==◌, ◌&&◌, Bool, true, false, List, [], ◌∷◌, ◌++◌, refl, sym, subst, ◌∙◌, append_assoc}
+use Rattle.std.specs.Prelude.{All, get_or, length}
 use Rattle.std.proofs.lemmas.Bool.{eqb-true}
 use Rattle.journal.specs.declared.item.Item.{Item}
 use Rattle.journal.specs.declared.item.Item.TheVariants as item

@@ -1,15 +1,13 @@
 -- Each item leaves the routes of each packet few: one induction by items.
-use Rattle.std.proofs.Common.{ℕ, ◌≡◌, ◌+◌, ◌<◌, ◌≤◌, ◌==◌, Bool, true, false, if◌then◌else◌, Option, Some, None, List, [], ◌∷◌, ◌++◌, length, refl, ap, sym, subst, ◌∙◌, arith, inl, inr, ◌⊎◌}
-use Rattle.std.specs.Prelude.{IsFalse, IsTrue}
+use Rattle.std.proofs.Common.{ℕ, ◌≡◌, ◌+◌, ◌<◌, ◌≤◌, Bool, true, false, if◌then◌else◌, Option, Some, None, List, [], ◌∷◌, ◌++◌, length, refl, ap, sym, subst, ◌∙◌, arith, inl, inr}
 use Rattle.std.specs.Option.{option_or}
 use Rattle.std.proofs.lemmas.Bool.{eqb-true}
 use Rattle.failover.specs.DownSet.{IsLinkSet, no_links}
 use Rattle.failover.proofs.LinkSets.{none_is_link_set}
-use Rattle.policy_rules.specs.declared.packet.Leg.TheVariants.{Seek, Exit}
+use Rattle.policy_rules.specs.declared.packet.Leg.TheVariants.{Seek}
 use Rattle.journal.specs.declared.item.Item.{Item}
 use Rattle.journal.specs.declared.item.Item.TheVariants as item
 use Rattle.update_machine.specs.Causes.{HaveCauses}
-use Rattle.update_machine.specs.Folds.{last_told}
 use Rattle.update_machine.specs.Marks.{current_mark, most_versions, retired_mark}
 use Rattle.update_machine.specs.Packets.{Decision, decision_of, found_down, leg_of}
 use Rattle.update_machine.specs.Played.{IsSetting}
@@ -25,11 +23,11 @@ use Rattle.packet_laws.specs.Words.{PacketWords, names, told_by, words_of}
 use Rattle.packet_laws.proofs.Words.{words_grow}
 use Rattle.drain_laws.specs.Hops.{detours, exits, routes_taken, searches}
 use Rattle.way_laws.specs.Kept.{AllKept}
-use Rattle.way_laws.specs.Stages.{Blocked, Judged, OnWay, Stage, stage_of, tells_stage}
+use Rattle.way_laws.specs.Stages.{Blocked, Judged, Stage, stage_of, tells_stage}
 use Rattle.way_laws.specs.StrongCauses.{StrongCause}
 use Rattle.way_laws.specs.WayCauses.{IsLookedUp, MeetsDown, TakesRoute, WayCause}
 use Rattle.way_laws.proofs.AllKept.{Before, kept_before, known_before, knows}
-use Rattle.way_laws.proofs.Here.{IsHere, decision_in, here_of, leg_in, next_in, seeking_of, some_same, travels_in}
+use Rattle.way_laws.proofs.Here.{IsHere, decision_in, here_of, leg_in, next_in, seeking_of, some_same}
 use Rattle.way_laws.proofs.Kept.{Knows, seeking_after}
 use Rattle.way_laws.proofs.Rests.{IsWayItem, Past, switches_of_all}
 use Rattle.way_laws.proofs.Strong.{strongly_caused}

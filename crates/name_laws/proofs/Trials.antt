@@ -1,11 +1,16 @@
 -- What messages name, computed on a network of two switches with one version.
-use Rattle.std.proofs.Common.{[], refl, arith}
+use Rattle.std.proofs.Common.{[], ◌∷◌, refl, arith}
 use Rattle.ctrl_msg.specs.declared.message.Body.TheVariants.{OpenAt, Stamp, Hello, Installed}
+use Rattle.ctrl_msg.specs.declared.message.Receiver.TheVariants as receiver
+use Rattle.journal.specs.declared.item.Item.TheVariants as item
 use Rattle.update_machine.specs.Deliveries.{to_controller}
+use Rattle.update_machine.specs.Boots.{heard}
+use Rattle.update_machine.specs.Marks.{controller_heard}
+use Rattle.update_machine.specs.Messages.{message_of}
 use Rattle.update_machine.specs.Settling.{to_switch}
 use Rattle.update_machine.specs.Versions.{version_count}
 use Rattle.update_machine.proofs.Examples.{open_net}
-use Rattle.name_laws.specs.Named.{NamesThere}
+use Rattle.name_laws.specs.Named.{BodiesNameThere, IsAddressed, NamesThere}
 
 to_second : NamesThere open_net [] (to_switch 1 (Stamp 1 1))
 unfolding version_count
@@ -35,3 +40,31 @@ not_version_0 names = absurd (omega (arith, names.version.0))
 not_version_2 : NamesThere open_net [] (to_controller (Installed 1 1 2)) → ⊥
 unfolding version_count
 not_version_2 names = absurd (omega (arith, names.version.1))
+
+-- ---- addresses alone, whatever the version
+
+addressed_to_second : IsAddressed open_net (receiver.Switch 1) (Stamp 1 9)
+addressed_to_second = (omega arith, refl)
+
+not_addressed_to_third : IsAddressed open_net (receiver.Switch 2) (Stamp 1 9) → ⊥
+not_addressed_to_third addressed = absurd (omega (arith, addressed.0))
+
+-- ---- whole journals: nothing was said at first; a message to a third switch names none
+
+at_first : BodiesNameThere open_net []
+unfolding message_of heard controller_heard
+at_first = record {
+  sent = λ n message is. absurd cc;
+  heard = λ s k body inside. absurd (omega (arith, inside));
+  told = λ k body inside. absurd (omega (arith, inside));
+}
+
+not_sent_to_third :
+    BodiesNameThere open_net (item.Sent 1 (to_switch 2 (Stamp 1 1)) ∷ []) → ⊥
+unfolding message_of
+not_sent_to_third name = not_to_fresh_third (name.sent 1 (to_switch 2 (Stamp 1 1)) refl)
+  where
+    not_to_fresh_third :
+        NamesThere open_net (item.Sent 1 (to_switch 2 (Stamp 1 1)) ∷ [])
+        (to_switch 2 (Stamp 1 1)) → ⊥
+    not_to_fresh_third names = absurd (omega (arith, names.addressed.0))

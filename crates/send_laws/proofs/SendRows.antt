@@ -1,9 +1,11 @@
 -- Messages and numbers of small journals, computed.
 use Rattle.std.proofs.Common.{◌≡◌, ◌≤◌, ◌<◌, ◌-◌, ◌^◌, false, List, [], ◌∷◌, refl, arith}
+use Rattle.std.proofs.lemmas.List.Elements.{All-from_recursion}
 use Rattle.failover.specs.Adverts.{first_adverts, is_news}
 use Rattle.failover.specs.Masks.{has, mask_of, mask_where, switches}
 use Rattle.journal.specs.declared.item.Item.{Item}
 use Rattle.journal.specs.declared.item.Item.TheVariants as item
+use Rattle.net_file.specs.Net.{IsNet, IsSwitch, solo_net}
 use Rattle.steps.specs.declared.step.Step.TheVariants as step
 use Rattle.update_machine.specs.Adverts.{adverts_known, held_adverts, own_advert, own_seq}
 use Rattle.update_machine.specs.Boots.{boot_of, heard, is_up, serves}
@@ -11,9 +13,12 @@ use Rattle.update_machine.specs.Deliveries.{link_changes}
 use Rattle.update_machine.specs.Links.{is_link_up, near}
 use Rattle.update_machine.specs.Messages.{next_message, sent_from}
 use Rattle.update_machine.specs.Pieces.{link_items, piece}
+use Rattle.update_machine.specs.Setting.{Setting}
 use Rattle.update_machine.specs.Steps.{steps_in}
 use Rattle.update_machine.proofs.Examples.{open_net}
-use Rattle.send_laws.specs.Sends.{NumbersAreFew, NumbersFit, sent_count}
+use Rattle.send_laws.specs.Sends.{NumbersAreFew, NumbersFit, StepsSendFew, sent_count}
+use Rattle.send_laws.proofs.Fitting.{fit_behind_room, numbers_few, versions_few}
+use Rattle.send_laws.proofs.PieceKinds.{piece_few}
 
 -- ---- a link comes back: each end tells the other both adverts
 
@@ -41,3 +46,33 @@ third_boot few = let limit : 3 ≤ 1 = few.boots 0 in omega arith
 last_boot : NumbersFit open_net (item.Booted 0 (2 ^ 32 - 1) ∷ []) → ⊥
 unfolding boot_of
 last_boot fit = let limit : 2 ^ 32 - 1 < 2 ^ 32 - 1 = fit.boots 0 in omega arith
+
+-- ---- at first, on a network of one switch, all is small
+
+abbrev solo : Setting
+solo = record { net = solo_net; policies = []; plan = open_net.plan }
+
+is_net : IsNet solo_net
+is_net = record {
+  some_switch = omega arith;
+  few_switches = omega arith;
+  switches = All-from_recursion IsSwitch solo_net.switches
+      (record { name = refl; ports = omega arith; room = omega arith }, tt);
+  apart = λ i j row before inside. absurd (omega (arith, before, inside));
+  few_links = omega arith;
+  links = λ k link inside. absurd (omega (arith, inside));
+  others = λ i j link before inside. absurd (omega (arith, inside));
+  some_rules = omega arith;
+  leaf_rules = omega arith;
+  backups = omega arith;
+  cache = omega arith;
+}
+
+steps_send_few : StepsSendFew solo []
+steps_send_few row step = piece_few solo is_net [] (versions_few solo [] tt) row step
+
+few_at_first : NumbersAreFew solo []
+few_at_first = numbers_few solo [] is_net
+
+fit_at_first : NumbersFit solo []
+fit_at_first = fit_behind_room solo [] is_net tt

@@ -3,19 +3,21 @@
 use Rattle.std.proofs.Common.{ℕ, ◌≡◌, ◌≤◌, false, true, Some, None, List, [], ◌∷◌, ◌++◌, length, refl, ap, sym, subst, arith, inl, inr}
 use Rattle.std.specs.Prelude.{IsOk, IsTrue}
 use Rattle.std.proofs.lemmas.Bool.{cases_lt}
-use Rattle.ctrl_msg.specs.declared.message.Body.TheVariants.{Install, Stamp, Collect}
+use Rattle.ctrl_msg.specs.declared.message.Body.TheVariants.{Install, OpenAt, Stamp, Collect}
 use Rattle.switch_table.specs.declared.tables.Tables.{Tables}
 use Rattle.journal.specs.declared.item.Item.{Item}
 use Rattle.journal.specs.declared.item.Item.TheVariants as item
-use Rattle.update_machine.specs.Boots.{boot_of, heard, is_up}
+use Rattle.update_machine.specs.Boots.{boot_of, heard, is_up, serves}
 use Rattle.update_machine.specs.Marks.{current_mark, retired_mark}
 use Rattle.update_machine.specs.Messages.{message_of}
 use Rattle.update_machine.specs.Setting.{plan_of_file}
 use Rattle.update_machine.specs.Settling.{to_switch}
 use Rattle.update_machine.specs.Versions.{file_of, holds_version, plan_at, stamp_of, version_count}
 use Rattle.update_machine.proofs.Examples.{open_net, plan_q, tables_of, versions}
-use Rattle.version_laws.specs.Planned.{AreTablesOf, HasPlan, VersionsArePlanned}
-use Rattle.version_laws.specs.Serving.{HoldsStamp}
+use Rattle.version_laws.specs.Planned.{AreTablesOf, BringsTables, HasPlan, TablesArePlanned, VersionsArePlanned}
+use Rattle.version_laws.specs.Serving.{HoldsStamp, ServingHold}
+use Rattle.version_laws.proofs.Planned.{tables_planned}
+use Rattle.version_laws.proofs.Serving.{serving_hold}
 
 abbrev second : Tables
 second = record { version = 2; parts = []; auth = [] }
@@ -63,6 +65,14 @@ dropped =
 not_dropped : HoldsStamp dropped 0 → ⊥
 unfolding boot_of heard is_up current_mark retired_mark message_of holds_version stamp_of
 not_dropped holds = let no : false ≡ true = holds.stamp in absurd cc
+
+-- switches that serve from the start hold their stamps; one that serves without its tables doesn't
+serve_at_first : ServingHold open_net []
+serve_at_first = serving_hold open_net [] tt
+
+not_while_serving : ServingHold open_net untold → ⊥
+unfolding serves
+not_while_serving hold = not_without_tables (hold 0 (omega arith) refl)
 
 -- ---- plans and tables, of the second of two files
 
@@ -118,4 +128,24 @@ not_others : AreTablesOf open_net two_versions 0 second → ⊥
 unfolding file_of plan_at version_count
 not_others are =
     let parts : 0 ≡ 1 = ap (λ (tables : Tables). length tables.parts) are.planned in
+    absurd (omega (arith, parts))
+
+brings_its : BringsTables open_net two_versions 0 (Install 1 (tables_of plan_q 2 0))
+brings_its = its_tables
+
+brings_others : BringsTables open_net two_versions 0 (Install 1 second) → ⊥
+brings_others = not_others
+
+-- a body without tables brings none that are wrong
+brings_none : BringsTables open_net two_versions 0 (OpenAt 1 7)
+brings_none = tt
+
+tables_at_first : TablesArePlanned open_net []
+tables_at_first = tables_planned open_net [] tt
+
+not_of_no_plan : TablesArePlanned open_net installed → ⊥
+unfolding message_of file_of plan_at version_count
+not_of_no_plan are =
+    let own = are.sent 0 1 1 second refl in
+    let parts : 0 ≡ 1 = ap (λ (tables : Tables). length tables.parts) own.planned in
     absurd (omega (arith, parts))
