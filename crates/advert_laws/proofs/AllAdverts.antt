@@ -12,7 +12,7 @@ use Rattle.ctrl_msg.specs.declared.message.Body.{Body}
 use Rattle.ctrl_msg.specs.declared.message.Body.TheVariants.{Advertise}
 use Rattle.ctrl_msg.specs.declared.message.Message.{Message}
 use Rattle.failover.specs.Adverts.{IsNewest, first_advert, first_adverts, held, no_adverts}
-use Rattle.failover.specs.Masks.{has}
+use Rattle.masks.specs.Masks.{has}
 use Rattle.failover.specs.declared.advert.Advert.{Advert}
 use Rattle.failover.proofs.Adverts.{held-first}
 use Rattle.net_file.specs.Net.{links_of}

@@ -6,7 +6,7 @@ use Rattle.std.proofs.lemmas.Bool.{cases_eq, cases_lt}
 use Rattle.std.proofs.lemmas.List.{get_or-map, get_or_past, length-map}
 use Rattle.failover.specs.Adverts.{IsNewest, held}
 use Rattle.failover.specs.Links.{is_link, neighbours_told, told_links}
-use Rattle.failover.specs.Masks.{has}
+use Rattle.masks.specs.Masks.{has}
 use Rattle.failover.specs.Paths.{AreJoined, IsPath, IsRoute, Leads}
 use Rattle.failover.specs.declared.advert.Advert.{Advert}
 use Rattle.masks.proofs.CallerLemmas.{has-zero}

@@ -1,7 +1,7 @@
 -- Each advert that is told is of a switch of the network: those that tell have neighbours.
 use Rattle.std.proofs.Common.{ℕ, ◌≡◌, List, [], sym, subst, ◌∙◌}
 use Rattle.std.specs.Prelude.{IsTrue}
-use Rattle.failover.specs.Masks.{has}
+use Rattle.masks.specs.Masks.{has}
 use Rattle.failover.specs.declared.advert.Advert.{Advert}
 use Rattle.net_file.specs.Net.{IsNet}
 use Rattle.net_file.proofs.Places.{links}

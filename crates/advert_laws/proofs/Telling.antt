@@ -7,7 +7,7 @@ use Rattle.ctrl_msg.specs.declared.message.Body.{Body}
 use Rattle.ctrl_msg.specs.declared.message.Body.TheVariants.{Advertise}
 use Rattle.ctrl_msg.specs.declared.message.Message.{Message}
 use Rattle.failover.specs.Adverts.{held}
-use Rattle.failover.specs.Masks.{has, switches}
+use Rattle.masks.specs.Masks.{has, switches}
 use Rattle.failover.specs.declared.advert.Advert.{Advert}
 use Rattle.journal.specs.declared.item.Item.{Item}
 use Rattle.journal.specs.declared.item.Item.TheVariants as item

@@ -3,7 +3,7 @@
 -- sequence number (RFC 2328, section 13.4): boots, which never come again, forbid it.
 use Rattle.std.specs.Prelude.{⊤, ℕ, ◌≡◌, ◌<◌, ◌≤◌, ◌⊎◌, Some, List, [], ◌∷◌, All, IsTrue}
 use Rattle.failover.specs.Adverts.{is_newer}
-use Rattle.failover.specs.Masks.{has}
+use Rattle.masks.specs.Masks.{has}
 use Rattle.failover.specs.Paths.{AreJoined}
 use Rattle.failover.specs.declared.advert.Advert.{Advert}
 use Rattle.net_file.specs.declared.net.Net.{Net}

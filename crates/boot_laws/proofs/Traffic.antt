@@ -8,7 +8,7 @@ use Rattle.ctrl_msg.specs.declared.message.Body.TheVariants.{CacheRule, Advertis
 use Rattle.ctrl_msg.specs.declared.message.Message.{Message}
 use Rattle.ctrl_msg.specs.declared.message.Receiver.{Receiver}
 use Rattle.ctrl_msg.specs.declared.message.Receiver.TheVariants as receiver
-use Rattle.failover.specs.Masks.{has}
+use Rattle.masks.specs.Masks.{has}
 use Rattle.failover.specs.declared.advert.Advert.{Advert}
 use Rattle.policy_rules.specs.declared.packet.Leg.{Leg}
 use Rattle.policy_rules.specs.declared.policy.Action.{Action}

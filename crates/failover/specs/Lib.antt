@@ -1,4 +1,3 @@
-pub mod Masks
 pub mod Adverts
 pub mod DownSet
 pub mod Links

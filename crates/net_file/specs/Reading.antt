@@ -74,8 +74,8 @@ are_distinct (x ∷ xs) = not (list_any (nat_eq x) xs) && are_distinct xs
 abbrev pub are_new : List SwitchRow → List ℕ → Bool
 are_new earlier ports = are_distinct ports && not (list_any (have_port earlier) ports)
 
-abbrev pub name_of : Members → Result (List ℕ) NetRefusal
-name_of keys = at_key name_in (Err refusal.MissingKey) keys (codes "name")
+abbrev pub name_at : Members → Result (List ℕ) NetRefusal
+name_at keys = at_key name_in (Err refusal.MissingKey) keys (codes "name")
 
 abbrev pub ports_at : Members → Result (List ℕ) NetRefusal
 ports_at keys = at_key ports_in (Ok []) keys (codes "ports")
@@ -87,7 +87,7 @@ port_bits ports = mask_of (λ port. list_any (nat_eq port) ports)
 -- the switch that these keys state, after the earlier switches
 abbrev pub switch_with : List SwitchRow → Members → Result SwitchRow NetRefusal
 switch_with earlier keys =
-    with_value (name_of keys) (λ name.
+    with_value (name_at keys) (λ name.
     with_value (ports_at keys) (λ ports.
     with_value (setting_of keys (codes "authority") 0 8192 0) (λ room.
     require (not (have_name earlier name)) refusal.DuplicateName (

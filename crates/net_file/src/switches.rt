@@ -3,7 +3,7 @@ ghost use Rattle.std.specs.List.{list_all};
 ghost use Rattle.toml.specs.Data.{as_integer};
 ghost use Rattle.toml.specs.View.{table_view, view};
 ghost use Rattle.net_file.specs.Net.{IsMask, are_name_bytes, have_name, have_port, is_label, is_name, is_name_byte};
-ghost use Rattle.net_file.specs.Reading.{are_new, name_of, port_bits, port_of, ports_at, ports_of, switch_array, switch_of, switch_with, switches_in};
+ghost use Rattle.net_file.specs.Reading.{are_new, name_at, port_bits, port_of, ports_at, ports_of, switch_array, switch_of, switch_with, switches_in};
 ghost use Rattle.net_file.specs.Refusals.{IsRefusal, in_row};
 ghost use Rattle.net_file.specs.Stated.{row_of};
 
@@ -79,8 +79,8 @@ pub fn is_name(name: &[u8]) -> bool
 
 // The name of a switch.
 fn read_name(keys: &Table) -> Result<&str, NetRefusal>
-    ensures name { IfOk result (λ name. name_of (table_view keys.now) ≡ Ok name.now) }
-    ensures refused { IfErr result (λ refusal. name_of (table_view keys.now) ≡ Err refusal) }
+    ensures name { IfOk result (λ name. name_at (table_view keys.now) ≡ Ok name.now) }
+    ensures refused { IfErr result (λ refusal. name_at (table_view keys.now) ≡ Err refusal) }
 {
     let Some(value) = value_at(keys, "name") else {
         return Err(NetRefusal::MissingKey);

@@ -8,7 +8,7 @@ use Rattle.std.proofs.lemmas.Bool.Decides.{nat_tests}
 use Rattle.std.proofs.lemmas.List.{length-map, get_or-map, get_or-set_same, get_or-set_other}
 use Rattle.failover.specs.Adverts.{first_of, held}
 use Rattle.failover.specs.Links.{is_link, known_links, neighbours_told, told_links}
-use Rattle.failover.specs.Masks.{has}
+use Rattle.masks.specs.Masks.{has}
 use Rattle.failover.specs.Paths.{AreJoined, IsPath, IsRoute, Leads}
 use Rattle.failover.specs.Routes.{route_of}
 use Rattle.failover.proofs.Adverts.{by_origin-first, held-first}

@@ -9,7 +9,7 @@ use Rattle.std.proofs.lemmas.List.Sums.{sum_by-cons}
 use Rattle.ctrl_msg.specs.declared.message.Body.{Body}
 use Rattle.ctrl_msg.specs.declared.message.Body.TheVariants.{Hello}
 use Rattle.ctrl_msg.specs.declared.message.Message.{Message}
-use Rattle.failover.specs.Masks.{has}
+use Rattle.masks.specs.Masks.{has}
 use Rattle.failover.specs.declared.advert.Advert.{Advert}
 use Rattle.five_tuple.specs.declared.header.Header.{Header}
 use Rattle.net_file.specs.Net.{IsNet}

@@ -10,7 +10,7 @@ use Rattle.std.proofs.lemmas.List.FromFn.{length-range_with_len}
 use Rattle.std.proofs.lemmas.List.Sums.{sum_by-le-sum_by}
 use Rattle.ctrl_msg.specs.declared.message.Message.{Message}
 use Rattle.failover.specs.Adverts.{held}
-use Rattle.failover.specs.Masks.{has, switches}
+use Rattle.masks.specs.Masks.{has, switches}
 use Rattle.net_file.specs.Net.{IsNet, are_linked, joins, links_of}
 use Rattle.net_file.specs.declared.net.LinkRow.{LinkRow}
 use Rattle.net_file.proofs.Masks.{in_mask_of, in_mask_past, mask_of_small}

@@ -10,7 +10,7 @@ use Rattle.std.proofs.lemmas.List.FromFn.{get_or-range_with_len, length-range_wi
 use Rattle.std.proofs.lemmas.List.Sums.{get_or-le-sum_by, sum_by-cons}
 use Rattle.ctrl_msg.specs.declared.message.Message.{Message}
 use Rattle.failover.specs.Adverts.{held}
-use Rattle.failover.specs.Masks.{has, least_in, switches}
+use Rattle.masks.specs.Masks.{has, least_in, switches}
 use Rattle.masks.proofs.CallerLemmas.{has_least}
 use Rattle.net_file.specs.Net.{IsNet, are_linked}
 use Rattle.net_file.proofs.Masks.{mask_of_small}

@@ -2,7 +2,7 @@
 use Rattle.std.proofs.Common.{◌≡◌, ◌≤◌, ◌<◌, ◌-◌, ◌^◌, false, List, [], ◌∷◌, refl, arith}
 use Rattle.std.proofs.lemmas.List.Elements.{All-from_recursion}
 use Rattle.failover.specs.Adverts.{first_adverts, is_news}
-use Rattle.failover.specs.Masks.{has, mask_of, mask_where, switches}
+use Rattle.masks.specs.Masks.{has, mask_of, mask_where, switches}
 use Rattle.journal.specs.declared.item.Item.{Item}
 use Rattle.journal.specs.declared.item.Item.TheVariants as item
 use Rattle.net_file.specs.Net.{IsNet, IsSwitch, solo_net}

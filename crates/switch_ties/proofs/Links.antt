@@ -5,7 +5,7 @@ use Rattle.std.specs.List.{flat_map}
 use Rattle.std.proofs.lemmas.Bool.{eq-eqb, eqb-true, ne_eqb}
 use Rattle.std.proofs.lemmas.List.Sums.{sum_by-cons}
 use Rattle.ctrl_msg.specs.declared.message.Message.{Message}
-use Rattle.failover.specs.Masks.{has}
+use Rattle.masks.specs.Masks.{has}
 use Rattle.failover.specs.declared.advert.Advert.{Advert}
 use Rattle.journal.specs.declared.item.Item.{Item}
 use Rattle.journal.specs.declared.item.Item.TheVariants as item

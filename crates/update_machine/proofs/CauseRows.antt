@@ -23,7 +23,7 @@ use Rattle.update_machine.specs.Quiet.{sendings}
 use Rattle.update_machine.specs.Settling.{current_items, open_items, retired_items, settling, installs_to, installs_to_all, resent_by_controller}
 use Rattle.update_machine.specs.Steps.{steps_in, present_step}
 use Rattle.update_machine.specs.Versions.{version_count, file_of, plan_at, stamp_of, holds_version}
-use Rattle.failover.specs.Masks.{has, mask_where, mask_of, switches, least_in}
+use Rattle.masks.specs.Masks.{has, mask_where, mask_of, switches, least_in}
 use Rattle.failover.specs.Adverts.{is_news, after_hearing, first_adverts}
 use Rattle.failover.specs.Links.{names, told_links, is_link, known_links, is_isolated}
 use Rattle.failover.specs.Routes.{wider, ball, nearer, onward, links_away, route_to, first_route, route_of}

@@ -3,7 +3,7 @@ use Rattle.std.proofs.Common.{ℕ, ◌≡◌, Some, None, List, [], ◌∷◌, �
 use Rattle.ctrl_msg.specs.declared.message.Body.{Body}
 use Rattle.ctrl_msg.specs.declared.message.Body.TheVariants.{Collect, Install, Stamp}
 use Rattle.failover.specs.Adverts.{after_hearing, first_adverts, is_news}
-use Rattle.failover.specs.Masks.{mask_of, mask_where, switches}
+use Rattle.masks.specs.Masks.{mask_of, mask_where, switches}
 use Rattle.steps.specs.declared.step.Step.TheVariants as step
 use Rattle.journal.specs.declared.item.Item.{Item}
 use Rattle.journal.specs.declared.item.Item.TheVariants as item

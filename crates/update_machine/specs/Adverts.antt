@@ -5,7 +5,7 @@ use Rattle.ctrl_msg.specs.declared.message.Body.{Body}
 use Rattle.ctrl_msg.specs.declared.message.Body.TheVariants.{Advertise}
 use Rattle.failover.specs.Adverts.{after_hearing_all, first_adverts, held, no_adverts}
 use Rattle.failover.specs.Links.{is_isolated, known_links}
-use Rattle.failover.specs.Masks.{switches}
+use Rattle.masks.specs.Masks.{switches}
 use Rattle.failover.specs.Routes.{route_of}
 use Rattle.failover.specs.declared.advert.Advert.{Advert}
 use Rattle.net_file.specs.Net.{links_of}

@@ -1,7 +1,7 @@
 -- The causes of packets' ends: what stood in the journal before each item that ends a packet, or
 -- finds a link of its way down. The notion is our own; the routes are those of `Adverts`.
 use Rattle.std.specs.Prelude.{⊤, ℕ, ◌≡◌, ◌⊎◌, Some, None, List, [], ◌∷◌, ◌++◌, find, option_map, IsFalse}
-use Rattle.failover.specs.Masks.{has}
+use Rattle.masks.specs.Masks.{has}
 use Rattle.net_file.specs.Net.{owner_of}
 use Rattle.policy_rules.specs.Partitions.{is_in}
 use Rattle.policy_rules.specs.declared.packet.Cause.{Cause}

@@ -1,7 +1,7 @@
 -- Which links of the network switches can use: those that are up, between switches that serve, as
 -- neighbours in OSPF are those that answer (RFC 2328, section 10).
 use Rattle.std.specs.Prelude.{ℕ, Bool, true, ◌&&◌, ◌==◌, min, max, if◌then◌else◌, Option, Some, None, unwrap_or, List, filter}
-use Rattle.failover.specs.Masks.{has}
+use Rattle.masks.specs.Masks.{has}
 use Rattle.net_file.specs.Net.{links_of}
 use Rattle.net_file.specs.declared.net.LinkRow.{LinkRow}
 use Rattle.journal.specs.declared.item.Item.{Item}

@@ -5,7 +5,7 @@ use Rattle.std.specs.Prelude.{⊤, ℕ, ◌≡◌, ◌==◌, ◌⊎◌, true, fa
 use Rattle.ctrl_msg.specs.declared.message.Body.{Body}
 use Rattle.ctrl_msg.specs.declared.message.Body.TheVariants.{CacheRule}
 use Rattle.ctrl_msg.specs.declared.message.Message.{Message}
-use Rattle.failover.specs.Masks.{has}
+use Rattle.masks.specs.Masks.{has}
 use Rattle.five_tuple.specs.declared.header.Header.{Header}
 use Rattle.policy_rules.specs.declared.packet.Cause.{Cause}
 use Rattle.policy_rules.specs.declared.packet.How.{How}

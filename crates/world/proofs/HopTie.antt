@@ -5,7 +5,7 @@ use Rattle.std.proofs.lemmas.Bool.Decides.{nat_tests}
 use Rattle.std.proofs.lemmas.List.Sums.{sum_by-cons}
 use Rattle.std.proofs.lemmas.List.{get_or-set_same, get_or-set_other, length-set}
 use Rattle.bag.specs.Posts.{Post}
-use Rattle.failover.specs.Masks.{has}
+use Rattle.masks.specs.Masks.{has}
 use Rattle.five_tuple.specs.declared.header.Header.{Header}
 use Rattle.net_file.specs.Net.{links_of}
 use Rattle.net_file.specs.Owners.{AreOwners}
