@@ -121,34 +121,30 @@ one_sound next sound zero d within = sound
 one_sound next sound (suc k) d within = absurd (omega (arith, within))
 
 -- what a controller's fields keep
-abbrev pub IsWhole : ℕ → MarksValue → List KeptPlan → Type 0
-IsWhole switches marks plans = (switches ≡ length marks.switches)
-    × IsController (record { marks = marks; plans = plans })
+abbrev pub IsWhole : MarksValue → List KeptPlan → Type 0
+IsWhole marks plans = IsController (record { marks = marks; plans = plans })
 
-pub whole : (old before marks : MarksValue) (answer : Settled) (switches : ℕ)
-    (kept plans : List KeptPlan) → switches ≡ length old.switches → StaySettled old marks
+pub whole : (old before marks : MarksValue) (answer : Settled)
+    (kept plans : List KeptPlan) → StaySettled old marks
     → Settles before marks answer → before.current ≤ before.count → map (λ kept. kept.version) kept
     ≡ versions_from_current before → AreSoundPlans kept → plans ≡ plans_from marks.current kept
-    → IsWhole switches marks plans
-whole old before marks answer switches kept plans number stays is low versions sound picked =
+    → IsWhole marks plans
+whole old before marks answer kept plans stays is low versions sound picked =
     let passes : KeptPlan → Bool = λ kept. leb marks.current kept.version in
-    let some = All-filter passes (λ kept. IsSoundPlan kept.plan) kept sound in (
-      number ∙ sym stays.switches,
-      record {
-        marks = stays.settled;
-        sound = subst AreSoundPlans (sym picked) some;
-        versions = settled_versions before marks answer kept plans is low versions picked;
-      },
-    )
+    let some = All-filter passes (λ kept. IsSoundPlan kept.plan) kept sound in record {
+      marks = stays.settled;
+      sound = subst AreSoundPlans (sym picked) some;
+      versions = settled_versions before marks answer kept plans is low versions picked;
+    }
 
 module _ (s : ℕ) (change : SwitchRecord → SwitchRecord) (old : MarksValue) (kept : List KeptPlan)
-    (marks : MarksValue) (answer : Settled) (switches : ℕ) (plans : List KeptPlan) where
+    (marks : MarksValue) (answer : Settled) (plans : List KeptPlan) where
   -- one switch's record changed
-  pub whole_at : IsWhole switches old kept → StaySettled old marks
+  pub whole_at : IsWhole old kept → StaySettled old marks
       → Settles (at_switch s change old) marks answer → plans ≡ plans_from marks.current kept
-      → IsWhole switches marks plans
-  whole_at is stays settled picked = whole old (at_switch s change old) marks answer switches kept
-      plans is.0 stays settled is.1.marks.bounds.last is.1.versions is.1.sound picked
+      → IsWhole marks plans
+  whole_at is stays settled picked = whole old (at_switch s change old) marks answer kept
+      plans stays settled is.marks.bounds.last is.versions is.sound picked
 
   pub settles_at : (value : ControllerValue) → record { marks = old; plans = kept } ≡ value
       → Settles (at_switch s change old) marks answer → plans ≡ plans_from marks.current kept
@@ -160,20 +156,19 @@ module _ (s : ℕ) (change : SwitchRecord → SwitchRecord) (old : MarksValue) (
       subst P seen (record { marks = (answer, settled); plans = picked })
 
   pub stays_at : (value : ControllerValue) → record { marks = old; plans = kept } ≡ value
-      → IsWhole switches old kept → StaySettled old marks → Settles (at_switch s change old) marks
+      → IsWhole old kept → StaySettled old marks → Settles (at_switch s change old) marks
       answer → plans ≡ plans_from marks.current kept
       → StaysController value (record { marks = marks; plans = plans })
   stays_at value seen is stays settled picked =
       let P : ControllerValue → Type 0 = λ value. StaysController value
       (record { marks = marks; plans = plans }) in
       subst P seen (record {
-        controller = (whole_at is stays settled picked).1;
-        switches =
-            stays.switches;
+        controller = whole_at is stays settled picked;
+        switches = stays.switches;
       })
 
 module _ (old : MarksValue) (kept : List KeptPlan) (plan : PlanValue) (marks : MarksValue)
-    (answer : Settled) (switches : ℕ) (mid plans : List KeptPlan) where
+    (answer : Settled) (mid plans : List KeptPlan) where
   -- the kept plans and the next one
   abbrev pub IsPushed : Type 0
   IsPushed = mid ≡ kept ++ (record { version = old.count + 1; plan = plan }) ∷ []
@@ -183,29 +178,28 @@ module _ (old : MarksValue) (kept : List KeptPlan) (plan : PlanValue) (marks : M
   with_next pushed picked = picked ∙ ap (plans_from marks.current) pushed
 
   -- one more version
-  pub whole_more : IsSoundPlan plan → IsWhole switches old kept → StaySettled old marks
+  pub whole_more : IsSoundPlan plan → IsWhole old kept → StaySettled old marks
       → Settles (with_version old) marks answer → IsPushed → plans ≡ plans_from marks.current mid
-      → IsWhole switches marks plans
+      → IsWhole marks plans
   whole_more sound is stays settled pushed picked =
-      let low : old.current ≤ old.count + 1 = omega (arith, is.1.marks.bounds.last) in
-      whole old (with_version old) marks answer switches
-      (kept ++ (record { version = old.count + 1; plan = plan }) ∷ []) plans is.0 stays settled
-      low (versions_more old kept _ is.1.marks.bounds.last refl is.1.versions)
-      (All-append (λ kept. IsSoundPlan kept.plan) kept _ is.1.sound (one_sound _ sound))
+      let low : old.current ≤ old.count + 1 = omega (arith, is.marks.bounds.last) in
+      whole old (with_version old) marks answer
+      (kept ++ (record { version = old.count + 1; plan = plan }) ∷ []) plans stays settled
+      low (versions_more old kept _ is.marks.bounds.last refl is.versions)
+      (All-append (λ kept. IsSoundPlan kept.plan) kept _ is.sound (one_sound _ sound))
       (with_next pushed picked)
 
   pub stays_more : IsSoundPlan plan → (value : ControllerValue)
       → record { marks = old; plans = kept } ≡ value
-      → IsWhole switches old kept → StaySettled old marks → Settles (with_version old) marks answer
+      → IsWhole old kept → StaySettled old marks → Settles (with_version old) marks answer
       → IsPushed → plans ≡ plans_from marks.current mid
       → StaysController value (record { marks = marks; plans = plans })
   stays_more sound value seen is stays settled pushed picked =
       let P : ControllerValue → Type 0 = λ value. StaysController value
       (record { marks = marks; plans = plans }) in
       subst P seen (record {
-        controller = (whole_more sound is stays settled pushed picked).1;
-        switches =
-            stays.switches;
+        controller = whole_more sound is stays settled pushed picked;
+        switches = stays.switches;
       })
 
 -- what was pushed is the next version

@@ -37,20 +37,20 @@ use version_update::{Marks, Phase, Settled, settling_laws};
 #[derive(Drop)]
 pub struct Controller {
     marks: Marks,
-    switches: u32,
     versions: Vec<Version>,
 }
 
 impl Model for Controller {
-    ghost use Rattle.std.specs.Prelude.{◌≡◌, length};
     ghost use Rattle.controller.specs.Controller.{ControllerValue, IsController};
 
     ghost Value = { ControllerValue };
 
     ghost view = { λ c. record { marks = c.marks; plans = c.versions.items } };
 
-    ghost invariant = { λ c. (c.switches ≡ length c.marks.switches)
-        × IsController (record { marks = c.marks; plans = c.versions.items }) };
+    ghost invariant = { λ c. IsController (record {
+      marks = c.marks;
+      plans = c.versions.items;
+    }) };
 }
 
 impl Controller {
@@ -71,7 +71,6 @@ impl Controller {
         versions.push(Version::new(alloc, 1, plan, switches)?)?;
         Ok(Controller {
             marks: Marks::begin(switches),
-            switches,
             versions,
         })
     }
@@ -87,7 +86,7 @@ impl Controller {
     pub fn switches(&self) -> u32
         ensures { result ≡ length self.now.marks.switches }
     {
-        self.switches
+        self.marks.switches()
     }
 
     /// The tables that the plan of a version, from the current one to the last, gives to a switch:
@@ -175,13 +174,7 @@ impl Controller {
         ensures rule { StaysController self.old self.new }
     {
         let settled = self.marks.over(s);
-        settled_sends(
-            alloc,
-            &mut self.versions,
-            &self.marks,
-            self.switches,
-            &settled,
-        )
+        settled_sends(alloc, &mut self.versions, &self.marks, &settled)
     }
 
     /// What the switch may lack, once more: nothing that it acknowledged.
@@ -237,17 +230,11 @@ impl Controller {
     {
         // The plan is sound.
         let _ = plan.placed();
-        let version = Version::new(alloc, self.marks.count() + 1, plan, self.switches)?;
-        let mut acts = install_each(alloc, &self.marks, self.switches, &version)?;
+        let version = Version::new(alloc, self.marks.count() + 1, plan, self.marks.switches())?;
+        let mut acts = install_each(alloc, &self.marks, &version)?;
         self.versions.push(version)?;
         let settled = add_version(&mut self.marks);
-        settle(
-            &mut acts,
-            &mut self.versions,
-            &self.marks,
-            self.switches,
-            &settled,
-        )?;
+        settle(&mut acts, &mut self.versions, &self.marks, &settled)?;
         Ok(Sends::new(acts))
     }
 
@@ -273,13 +260,7 @@ impl Controller {
     {
         let settled = self.marks.hello(s, boot);
         let mut acts = Vec::new(alloc);
-        settle(
-            &mut acts,
-            &mut self.versions,
-            &self.marks,
-            self.switches,
-            &settled,
-        )?;
+        settle(&mut acts, &mut self.versions, &self.marks, &settled)?;
         if settled.taken {
             install_all(&mut acts, alloc, &self.versions, s, boot)?;
         }
@@ -304,13 +285,7 @@ impl Controller {
         ensures rule { StaysController self.old self.new }
     {
         let settled = reply.take_in(&mut self.marks, s, boot, version);
-        settled_sends(
-            alloc,
-            &mut self.versions,
-            &self.marks,
-            self.switches,
-            &settled,
-        )
+        settled_sends(alloc, &mut self.versions, &self.marks, &settled)
     }
 }
 
@@ -329,19 +304,13 @@ fn add_version(marks: &mut Marks) -> Settled
 }
 
 // The version to each switch that isn't over.
-fn install_each(
-    alloc: Global,
-    marks: &Marks,
-    switches: u32,
-    version: &Version,
-) -> Result<Vec<Act>, AllocError>
-    requires { switches ≡ length marks.now.switches }
+fn install_each(alloc: Global, marks: &Marks, version: &Version) -> Result<Vec<Act>, AllocError>
     ensures { IfOk result (λ acts. acts.items
         ≡ map (λ s. install s (boot_of marks.now s) version.now)
         (those (λ known. not (is_over known.phase)) marks.now.switches)) }
 {
     let mut acts = Vec::new(alloc);
-    for s in 0..switches {
+    for s in 0..marks.switches() {
         if is_there(marks.phase(s)) {
             acts.push(version.install(alloc, s, marks.boot(s))?)?;
         }

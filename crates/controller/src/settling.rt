@@ -1,7 +1,5 @@
 //! What is sent as the marks settle.
 ghost use Rattle.std.specs.Prelude.{◌≡◌, ◌++◌, ◌==◌, ◌<◌, length, IfOk, OnOk};
-ghost use Rattle.std.specs.Int.{bit_at};
-ghost use Rattle.std.specs.List.{range_with_len};
 ghost use Rattle.version_update.specs.Marks.{MarksValue};
 ghost use Rattle.version_update.specs.Settling.{Settles};
 ghost use Rattle.controller.specs.Controller.{plans_from};
@@ -11,6 +9,7 @@ ghost use Rattle.controller.specs.Sends.{tell, stamps, opens, collects, settling
 use crate::sends::{Act, Sends};
 use crate::version::Version;
 use ctrl_msg::Body;
+use masks::has;
 use std::alloc::{AllocError, Global};
 use version_update::{Marks, Settled};
 
@@ -43,18 +42,16 @@ pub fn settle(
     acts: &mut Vec<Act>,
     versions: &mut Vec<Version>,
     marks: &Marks,
-    switches: u32,
     settled: &Settled,
 ) -> Result<(), AllocError>
-    requires { switches ≡ length marks.now.switches }
     ensures acts { OnOk result ((before : MarksValue) → Settles before marks.now settled.now
         → acts.new.items ≡ acts.old.items ++ settling before marks.now) }
     ensures versions { versions.new.items ≡ plans_from marks.now.current versions.old.items }
 {
     let_go(versions, marks.current());
-    stamp(acts, marks, switches, settled)?;
-    open(acts, marks, switches, settled)?;
-    collect(acts, marks, switches, settled)?;
+    stamp(acts, marks, settled)?;
+    open(acts, marks, settled)?;
+    collect(acts, marks, settled)?;
     Ok(())
 }
 
@@ -67,17 +64,15 @@ pub fn settled_sends(
     alloc: Global,
     versions: &mut Vec<Version>,
     marks: &Marks,
-    switches: u32,
     settled: &Settled,
 ) -> Result<Sends, AllocError>
-    requires { switches ≡ length marks.now.switches }
     ensures sends { IfOk result (λ sends.
         (before : MarksValue) → Settles before marks.now settled.now
         → sends ≡ settling before marks.now) }
     ensures versions { versions.new.items ≡ plans_from marks.now.current versions.old.items }
 {
     let mut acts = Vec::new(alloc);
-    settle(&mut acts, versions, marks, switches, settled)?;
+    settle(&mut acts, versions, marks, settled)?;
     Ok(Sends::new(acts))
 }
 
@@ -88,58 +83,33 @@ fn let_go(versions: &mut Vec<Version>, current: u32)
     versions.retain(|kept| current <= kept.version());
 }
 
-fn stamp(
-    acts: &mut Vec<Act>,
-    marks: &Marks,
-    switches: u32,
-    settled: &Settled,
-) -> Result<(), AllocError>
-    requires { switches ≡ length marks.now.switches }
+fn stamp(acts: &mut Vec<Act>, marks: &Marks, settled: &Settled) -> Result<(), AllocError>
     ensures { OnOk result ((before : MarksValue) → Settles before marks.now settled.now
         → acts.new.items ≡ acts.old.items ++ stamps before marks.now) }
 {
     if let Some(current) = settled.current {
         acts.push(Act::Current(current))?;
-        tell(acts, marks, switches, settled.stamps, News::Stamp, current)?;
+        tell(acts, marks, settled.stamps, News::Stamp, current)?;
     }
     Ok(())
 }
 
-fn open(
-    acts: &mut Vec<Act>,
-    marks: &Marks,
-    switches: u32,
-    settled: &Settled,
-) -> Result<(), AllocError>
-    requires { switches ≡ length marks.now.switches }
+fn open(acts: &mut Vec<Act>, marks: &Marks, settled: &Settled) -> Result<(), AllocError>
     ensures { OnOk result ((before : MarksValue) → Settles before marks.now settled.now
         → acts.new.items ≡ acts.old.items ++ opens before marks.now) }
 {
     let current = marks.current();
-    tell(acts, marks, switches, settled.opens, News::OpenAt, current)?;
+    tell(acts, marks, settled.opens, News::OpenAt, current)?;
     Ok(())
 }
 
-fn collect(
-    acts: &mut Vec<Act>,
-    marks: &Marks,
-    switches: u32,
-    settled: &Settled,
-) -> Result<(), AllocError>
-    requires { switches ≡ length marks.now.switches }
+fn collect(acts: &mut Vec<Act>, marks: &Marks, settled: &Settled) -> Result<(), AllocError>
     ensures { OnOk result ((before : MarksValue) → Settles before marks.now settled.now
         → acts.new.items ≡ acts.old.items ++ collects before marks.now) }
 {
     if let Some(retired) = settled.retired {
         acts.push(Act::Retired(retired))?;
-        tell(
-            acts,
-            marks,
-            switches,
-            settled.collects,
-            News::Collect,
-            retired,
-        )?;
+        tell(acts, marks, settled.collects, News::Collect, retired)?;
     }
     Ok(())
 }
@@ -148,29 +118,17 @@ fn collect(
 fn tell(
     acts: &mut Vec<Act>,
     marks: &Marks,
-    switches: u32,
     mask: u64,
     news: News,
     version: u32,
 ) -> Result<(), AllocError>
-    requires { switches ≡ length marks.now.switches }
     ensures { OnOk result (acts.new.items
-        ≡ acts.old.items ++ tell marks.now (body_of news version) (named mask switches)) }
+        ≡ acts.old.items ++ tell marks.now (body_of news version) (named mask (length marks.now.switches))) }
 {
-    // There are at most 64 switches.
-    let _ = marks.count();
-    for s in 0..switches {
-        if is_named(mask, s) {
+    for s in 0..marks.switches() {
+        if has(mask, s) {
             acts.push(Act::post(s, news.body(marks.boot(s), version)))?;
         }
     }
     Ok(())
-}
-
-// Whether the mask names the switch.
-fn is_named(mask: u64, s: u32) -> bool
-    requires { s < 64 }
-    ensures { result ≡ (bit_at mask s == 1) }
-{
-    (mask >> s) & 1 == 1
 }

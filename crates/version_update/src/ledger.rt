@@ -77,7 +77,8 @@ impl Ledger {
         self.retired
     }
 
-    fn switches(&self) -> &[SwitchRecord]
+    /// What is known of the switches, by their numbers.
+    pub fn switches(&self) -> &[SwitchRecord]
         ensures switches { result.now ≡ self.now.switches }
         ensures bounds { AreBounded self.now }
     {

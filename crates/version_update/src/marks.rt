@@ -198,6 +198,14 @@ impl Marks {
         self.ledger.count()
     }
 
+    /// How many switches there are.
+    pub fn switches(&self) -> u32
+        ensures number { result ≡ length self.now.switches }
+        ensures few { result ≤ 64 }
+    {
+        self.ledger.switches().len() as u32
+    }
+
     /// How the switch stands.
     pub fn phase(&self, s: u32) -> Phase
         requires { s < length self.now.switches }

@@ -11,7 +11,7 @@ pub loop-s-preserved : goal.loop-s-preserved
 loop-s-preserved c =
     let switches = c.args.marks.now.switches in
     let s = c.loop-s.s in
-    let within : s < length switches = omega (arith, c.loop-s-test.true, c.requires) in
+    let within : s < length switches = omega (arith, c.loop-s-test.true, c.switches-s-end.ensures.number) in
     let test : ℕ → Bool = λ s. option_map_or (λ known. not (is_over known.phase))
     (slice_get switches s) false in
     let there : test s ≡ c.is_there.result = passes_there (λ known. not (is_over known.phase))

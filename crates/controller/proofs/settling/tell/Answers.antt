@@ -4,19 +4,19 @@ use Rattle.controller.specs.News.{body_of}
 use Rattle.controller.specs.Sends.{boot_of, post}
 use Rattle.controller.proofs.Picking.{picked_add, picked_skip}
 use Rattle.controller.proofs.settling.tell.Goals as goal
-use Rattle.controller.proofs.settling.tell.Goals.{then-is_named+in_ok-push, else-is_named}
+use Rattle.controller.proofs.settling.tell.Goals.{then-has+in_ok-push, else-has}
 
 pub loop-s-preserved : goal.loop-s-preserved
 loop-s-preserved c =
-    elim c.if-is_named.branch [
-      | then-is_named+in_ok-push w ↦ picked_add
+    elim c.if-has.branch [
+      | then-has+in_ok-push w ↦ picked_add
           (λ s. post s (body_of c.args.news c.args.version (boot_of c.args.marks.now s)))
           (λ s. eqb (bit_at c.args.mask s) 1) c.loop-s.s _ c.loop-s.acts.items _ c.loop-s.invariant
-          (sym c.is_named.ensures ∙ w.if-is_named.true)
+          (sym c.has.ensures.bit ∙ w.if-has.true)
           (ap (λ v. v.items) w.acts-is
           ∙ cc (w.post.ensures, w.body.ensures, w.boot.ensures, w.in_ok-push.ensures.items))
-      | else-is_named w ↦ picked_skip
+      | else-has w ↦ picked_skip
           (λ s. post s (body_of c.args.news c.args.version (boot_of c.args.marks.now s)))
           (λ s. eqb (bit_at c.args.mask s) 1) c.loop-s.s _ c.loop-s.acts.items _ c.loop-s.invariant
-          (sym c.is_named.ensures ∙ w.if-is_named.false) (ap (λ v. v.items) w.acts-is)
+          (sym c.has.ensures.bit ∙ w.if-has.false) (ap (λ v. v.items) w.acts-is)
     ]

@@ -14,9 +14,9 @@ pushed c = pushed_next c.self.inside.versions.items c.push.new.self.items _ c.co
     c.self.inside.marks.count c.args.plan c.in_ok-push.ensures.items c.in_ok-version.ensures
     c.count.ensures.count
 
-whole : (c : After-settle) → IsWhole c.self.inside.switches c.add_version-settled.new.marks
+whole : (c : After-settle) → IsWhole c.add_version-settled.new.marks
     c.settle.new.versions.items
-whole c = whole_more c.self.inside.marks c.self.inside.versions.items c.args.plan _ _ _ _ _
+whole c = whole_more c.self.inside.marks c.self.inside.versions.items c.args.plan _ _ _ _
     c.placed.ensures.sound c.self.invariant c.add_version-settled.ensures.rule
     c.add_version-settled.ensures.settled (pushed c) c.settle.ensures.versions
 
@@ -24,7 +24,7 @@ stays : (c : After-settle) → StaysController c.args.self.now (record {
   marks = c.add_version-settled.new.marks;
   plans = c.settle.new.versions.items;
 })
-stays c = stays_more c.self.inside.marks c.self.inside.versions.items c.args.plan _ _ _ _ _
+stays c = stays_more c.self.inside.marks c.self.inside.versions.items c.args.plan _ _ _ _
     c.placed.ensures.sound _ c.self.view_is c.self.invariant c.add_version-settled.ensures.rule
     c.add_version-settled.ensures.settled (pushed c) c.settle.ensures.versions
 

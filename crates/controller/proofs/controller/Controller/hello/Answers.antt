@@ -11,37 +11,37 @@ use Rattle.controller.proofs.controller.Controller.hello.Goals.{then-settled+in_
 
 pub invariant_of-self : goal.invariant_of-self
 invariant_of-self c = whole_at c.args.s (after_hello c.args.boot) c.self.inside.marks
-    c.self.inside.versions.items _ _ _ _ c.self.invariant c.hello-settled.ensures.rule
+    c.self.inside.versions.items _ _ _ c.self.invariant c.hello-settled.ensures.rule
     c.hello-settled.ensures.settled c.settle.ensures.versions
 
 pub returns-in_err-settle-clause-rule : goal.returns-in_err-settle-clause-rule
 returns-in_err-settle-clause-rule c = stays_at c.args.s (after_hello c.args.boot)
-    c.self.inside.marks c.self.inside.versions.items _ _ _ _ _ c.self.view_is c.self.invariant
+    c.self.inside.marks c.self.inside.versions.items _ _ _ _ c.self.view_is c.self.invariant
     c.hello-settled.ensures.rule c.hello-settled.ensures.settled c.settle.ensures.versions
 
 pub returns-in_err-settle-clause-after : goal.returns-in_err-settle-clause-after
 returns-in_err-settle-clause-after c = settles_at c.args.s (after_hello c.args.boot)
-    c.self.inside.marks c.self.inside.versions.items _ _ c.self.inside.switches _ _ c.self.view_is
+    c.self.inside.marks c.self.inside.versions.items _ _ _ _ c.self.view_is
     c.hello-settled.ensures.settled c.settle.ensures.versions
 
 pub invariant_of-self-2 : goal.invariant_of-self-2
 invariant_of-self-2 c = whole_at c.args.s (after_hello c.args.boot) c.self.inside.marks
-    c.self.inside.versions.items _ _ _ _ c.self.invariant c.hello-settled.ensures.rule
+    c.self.inside.versions.items _ _ _ c.self.invariant c.hello-settled.ensures.rule
     c.hello-settled.ensures.settled c.settle.ensures.versions
 
 pub invariant_of-self-in_err-install_all : goal.invariant_of-self-in_err-install_all
 invariant_of-self-in_err-install_all c = whole_at c.args.s (after_hello c.args.boot)
-    c.self.inside.marks c.self.inside.versions.items _ _ _ _ c.self.invariant
+    c.self.inside.marks c.self.inside.versions.items _ _ _ c.self.invariant
     c.hello-settled.ensures.rule c.hello-settled.ensures.settled c.settle.ensures.versions
 
 pub returns-in_err-install_all-clause-rule : goal.returns-in_err-install_all-clause-rule
 returns-in_err-install_all-clause-rule c = stays_at c.args.s (after_hello c.args.boot)
-    c.self.inside.marks c.self.inside.versions.items _ _ _ _ _ c.self.view_is c.self.invariant
+    c.self.inside.marks c.self.inside.versions.items _ _ _ _ c.self.view_is c.self.invariant
     c.hello-settled.ensures.rule c.hello-settled.ensures.settled c.settle.ensures.versions
 
 pub returns-in_err-install_all-clause-after : goal.returns-in_err-install_all-clause-after
 returns-in_err-install_all-clause-after c = settles_at c.args.s (after_hello c.args.boot)
-    c.self.inside.marks c.self.inside.versions.items _ _ c.self.inside.switches _ _ c.self.view_is
+    c.self.inside.marks c.self.inside.versions.items _ _ _ _ c.self.view_is
     c.hello-settled.ensures.settled c.settle.ensures.versions
 
 pub returns : goal.returns
@@ -61,7 +61,7 @@ returns c =
     ∙ sym c.settle.ensures.versions in
     let taken : c.hello-settled.result.taken ≡ asked = c.hello-settled.ensures.taken in
     record {
-      after = settles_at s change inside.marks inside.versions.items _ _ inside.switches _ _
+      after = settles_at s change inside.marks inside.versions.items _ _ _ _
           c.self.view_is c.hello-settled.ensures.settled c.settle.ensures.versions;
       sends = c.new.ensures
           ∙ elim c.if-settled.branch [
@@ -75,7 +75,7 @@ returns c =
           ]
           ∙ ap (λ (old : ControllerValue). hearing (Hello s c.args.boot) old.marks
           (record { marks = marks; plans = kept })) c.self.view_is;
-      rule = stays_at s change inside.marks inside.versions.items _ _ _ _ _ c.self.view_is
+      rule = stays_at s change inside.marks inside.versions.items _ _ _ _ c.self.view_is
           c.self.invariant c.hello-settled.ensures.rule c.hello-settled.ensures.settled
           c.settle.ensures.versions;
     }

@@ -9,7 +9,7 @@ use Rattle.controller.proofs.controller.Controller.replied.Goals as goal
 
 pub invariant_of-self : goal.invariant_of-self
 invariant_of-self c = whole_at c.args.s (after_reply c.args.reply c.args.boot c.args.version)
-    c.self.inside.marks c.self.inside.versions.items _ _ _ _ c.self.invariant
+    c.self.inside.marks c.self.inside.versions.items _ _ _ c.self.invariant
     c.take_in-settled.ensures.rule c.take_in-settled.ensures.settled
     c.settled_sends.ensures.versions
 
@@ -19,13 +19,13 @@ returns c =
     let marks = c.self.inside.marks in
     let kept = c.self.inside.versions.items in
     record {
-      after = settles_at c.args.s change marks kept _ _ c.self.inside.switches _ _ c.self.view_is
+      after = settles_at c.args.s change marks kept _ _ _ _ c.self.view_is
           c.take_in-settled.ensures.settled c.settled_sends.ensures.versions;
       sends = IfOk-weaker c.settled_sends.result _ _
           (λ sends is. is _ c.take_in-settled.ensures.settled
           ∙ ap (λ (old : ControllerValue). settling (at_switch c.args.s change old.marks)
           c.take_in-settled.new.marks) c.self.view_is) c.settled_sends.ensures.sends;
-      rule = stays_at c.args.s change marks kept _ _ _ _ _ c.self.view_is c.self.invariant
+      rule = stays_at c.args.s change marks kept _ _ _ _ c.self.view_is c.self.invariant
           c.take_in-settled.ensures.rule c.take_in-settled.ensures.settled
           c.settled_sends.ensures.versions;
     }

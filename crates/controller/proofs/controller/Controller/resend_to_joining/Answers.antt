@@ -3,4 +3,4 @@ use Rattle.controller.proofs.controller.Controller.resend_to_joining.Goals as go
 
 pub install_missing-requires-clause-versions : goal.install_missing-requires-clause-versions
 install_missing-requires-clause-versions c = versions_within c.self.inside.marks
-    c.self.inside.versions.items _ c.deref.ensures.value c.self.invariant.1
+    c.self.inside.versions.items _ c.deref.ensures.value c.self.invariant

@@ -1,5 +1,5 @@
 -- The tables are those of the plan at the version's place.
-use Rattle.std.proofs.Common.{◌≡◌, ◌≤◌, ◌-◌, Some, length, get_or, ap, subst, sym, ◌∙◌, arith}
+use Rattle.std.proofs.Common.{◌≡◌, ◌≤◌, ◌-◌, Some, get_or, ap, subst, sym, ◌∙◌, arith}
 use Rattle.std.proofs.lemmas.Result.{IfOk-weaker}
 use Rattle.switch_table.specs.Tables.{AreSoundTables, tables_of}
 use Rattle.controller.specs.Controller.{ControllerValue, KeptPlan, kept_tables}
@@ -10,7 +10,7 @@ pub index-requires : goal.index-requires
 index-requires c =
     let own : ControllerValue =
     record { marks = c.self.inside.marks; plans = c.self.inside.versions.items } in
-    let there = kept_there own c.self.invariant.1 c.args.version
+    let there = kept_there own c.self.invariant c.args.version
     (subst (λ (w : ControllerValue). w.marks.current ≤ c.args.version) (sym c.self.view_is)
     c.requires.first)
     (subst (λ (w : ControllerValue). c.args.version ≤ w.marks.count) (sym c.self.view_is)
@@ -27,7 +27,7 @@ returns-clause-tables c =
     ∙ ap (λ current. get_or own.plans (c.args.version - current) kept) c.current.ensures.current in
     let are : kept_tables own c.args.version c.args.s
     ≡ Some (tables_of kept.plan.placed kept.version c.args.s) =
-    kept_tables_are own c.self.invariant.1 c.args.version
+    kept_tables_are own c.self.invariant c.args.version
     (subst (λ (w : ControllerValue). w.marks.current ≤ c.args.version) (sym c.self.view_is)
     c.requires.first)
     (subst (λ (w : ControllerValue). c.args.version ≤ w.marks.count) (sym c.self.view_is)
@@ -44,7 +44,7 @@ returns-clause-sound c =
     let at : kept ≡ get_or own.plans (c.args.version - own.marks.current) kept =
     c.index.ensures
     ∙ ap (λ current. get_or own.plans (c.args.version - current) kept) c.current.ensures.current in
-    let is = kept_sound own c.self.invariant.1 c.args.version
+    let is = kept_sound own c.self.invariant c.args.version
     (subst (λ (w : ControllerValue). w.marks.current ≤ c.args.version) (sym c.self.view_is)
     c.requires.first)
     (subst (λ (w : ControllerValue). c.args.version ≤ w.marks.count) (sym c.self.view_is)

@@ -8,7 +8,7 @@ use Rattle.controller.proofs.controller.Controller.unheard.Goals as goal
 pub returns : goal.returns
 returns c =
     let marks = c.self.inside.marks in
-    let is = c.self.invariant.1 in
+    let is = c.self.invariant in
     let Stay : ControllerValue → Type 0 = λ value. SettlesWith value.marks value.plans value in
     record {
       none = c.new-2.ensures ∙ c.new.ensures.items;
