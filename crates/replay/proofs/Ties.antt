@@ -6,7 +6,7 @@ use Rattle.world.specs.State.{AreTied, IsTied, Tied, WorldValue, setting_at}
 
 pub tie_of : (world : WorldValue) → IsTied world
     → Tied (setting_at world) world.journal world.switches world.travelling world.packets
-    (record { marks = world.controller.marks; posts = world.bag })
+    (record { controller = world.controller; posts = world.bag })
 unfolding AreTied
 tie_of world tied = tied
 

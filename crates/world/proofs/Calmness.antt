@@ -13,7 +13,7 @@ use Rattle.update_machine.specs.Caches.{cache_of}
 use Rattle.update_machine.specs.Handled.{handled_count}
 use Rattle.update_machine.specs.Setting.{Setting}
 use Rattle.packet_laws.specs.Calm.{IsCacheBody, IsCalm, adverts_at_first, first_plan}
-use Rattle.world.specs.State.{collect_in, switch_of, tables_in}
+use Rattle.switch_ties.specs.SwitchOf.{collect_in, switch_of, tables_in}
 
 -- a switch as it began, with this cache, which answered so many calls
 abbrev pub calm_switch : Setting → CacheValue → ℕ → ℕ → SwitchValue

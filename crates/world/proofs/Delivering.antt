@@ -1,8 +1,8 @@
 -- A message is delivered or forgotten.
-use Rattle.std.proofs.Common.{ℕ, ◌≡◌, ◌≢◌, ◌<◌, ◌≤◌, ◌==◌, Bool, true, false, if◌then◌else◌, Option, Some, None, List, [], ◌∷◌, ◌++◌, refl, ap, sym, subst, ◌∙◌, length, get_or, set, append_assoc, arith, eq-eqb, eqb-true}
-use Rattle.std.specs.Prelude.{not, ◌&&◌, is_some, option_map}
+use Rattle.std.proofs.Common.{ℕ, ◌≡◌, ◌<◌, ◌≤◌, ◌==◌, Bool, true, false, if◌then◌else◌, Option, Some, None, List, [], ◌∷◌, ◌++◌, refl, ap, sym, subst, ◌∙◌, length, get_or, set, append_assoc, arith}
+use Rattle.std.specs.Prelude.{IsFalse, not, ◌&&◌, ◌||◌, is_some, option_map}
 use Rattle.std.specs.Option.{option_and_then, option_map_or}
-use Rattle.std.proofs.lemmas.List.{get_or-set_other, get_or-set_same, length-set}
+use Rattle.std.proofs.lemmas.List.{length-set}
 use Rattle.bag.specs.Posts.{Post, message_of as message_in, remembered, with_delivered, with_forgotten}
 use Rattle.ctrl_msg.specs.declared.message.Body.{Body}
 use Rattle.ctrl_msg.specs.declared.message.Body.TheVariants.{CacheRule}
@@ -12,29 +12,28 @@ use Rattle.journal.specs.declared.item.Item.{Item}
 use Rattle.journal.specs.declared.item.Item.TheVariants as item
 use Rattle.steps.specs.declared.step.Step.{Step}
 use Rattle.steps.specs.declared.step.Step.TheVariants.{Deliver, Forget}
-use Rattle.switch_core.specs.Hearing.{IsSoundBody, heard, obeys}
+use Rattle.switch_core.specs.Hearing.{IsSoundBody, heard, obeys, opened}
 use Rattle.switch_core.specs.State.{SwitchValue}
-use Rattle.switch_table.specs.Cache.{CacheValue}
-use Rattle.update_machine.specs.Boots.{boot_of, is_for_boot, is_up, said_to}
-use Rattle.update_machine.specs.Caches.{cache_after, cache_of, changes_cache}
+use Rattle.switch_ties.specs.SwitchOf.{switch_of}
+use Rattle.switch_ties.proofs.Delivered.{hear_ties}
+use Rattle.switch_ties.proofs.Links.{kept_is}
+use Rattle.update_machine.specs.Concerns.{concerns_calls, is_message_to}
 use Rattle.update_machine.specs.Deliveries.{delivery_items}
-use Rattle.update_machine.specs.Handled.{handled_count}
-use Rattle.update_machine.specs.Messages.{is_deliverable, message_of, was_delivered, is_forgotten}
+use Rattle.update_machine.specs.Messages.{is_deliverable, is_forgotten, is_to_switch, message_of, was_delivered}
 use Rattle.update_machine.specs.Pieces.{deliver_items, forget_items, nothing, piece}
-use Rattle.update_machine.specs.Played.{IsPlayed, MayPlay}
+use Rattle.update_machine.specs.Played.{IsPlayed, IsSetting, MayPlay}
 use Rattle.update_machine.specs.Setting.{Setting}
-use Rattle.update_machine.specs.Versions.{stamp_of}
-use Rattle.update_machine.proofs.CallerLemmas.{folded_append, message_keeps, switch_keeps}
-use Rattle.packet_laws.specs.Calm.{BringsRule, HasPacketsAlone, IsCalm}
+use Rattle.update_machine.specs.Settling.{to_switch}
+use Rattle.update_machine.proofs.CallerLemmas.{message_keeps}
+use Rattle.packet_laws.specs.Calm.{BringsRule, HasPacketsAlone}
 use Rattle.packet_laws.proofs.Calm.{for_own, sent_brings}
 use Rattle.packet_laws.proofs.Played.{delivery_none}
 use Rattle.world.specs.State.{AreTied, Control, IsBagOf, post_in}
 use Rattle.world.specs.Travelling.{Travellers}
-use Rattle.world.proofs.Calmness.{calm_switch}
-use Rattle.world.proofs.OneItem.{grown, own_switch, tied_one}
-use Rattle.world.proofs.Played.{played_alone, played_calm}
+use Rattle.world.proofs.OneItem.{grown, tied_one}
+use Rattle.world.proofs.Played.{played_alone, played_names}
 use Rattle.world.proofs.Posting.{bag_delivered, bag_forgotten, bag_on, some_within, within_posts}
-use Rattle.world.proofs.Steps.{calls_in, played_more}
+use Rattle.world.proofs.Tying.{one_changes, switches_stay}
 
 -- ---- what the bag says of a message
 
@@ -113,76 +112,19 @@ forget_piece setting journal row n =
     by_test false = refl
     by_test true = refl
 
--- ---- caches
+-- ---- the switches
 
--- a cache rule is for each boot
-for_any : (setting : Setting) (journal : List Item) (s boot : ℕ) (body : Body)
-    → BringsRule setting journal (receiver.Switch s) body → is_for_boot boot body ≡ true
-for_any setting journal s boot (CacheRule version word rule action) right = refl
-for_any setting journal s boot _ right = absurd right
-
-said_is : (setting : Setting) (journal before : List Item) (s q n : ℕ) (body : Body)
-    → message_of before n ≡ Some (record { to = receiver.Switch s; body = body })
-    → is_up before q ≡ true → BringsRule setting journal (receiver.Switch s) body
-    → said_to before q n ≡ (if s == q then Some body else None)
-said_is setting journal before s q n body sent up right =
-    rw (sent, up, for_any setting journal s (boot_of before q) body right, said_to) (by_test (s ==
-    q))
+-- a cache rule opens no switch
+opens_none : (setting : Setting) (journal : List Item) (s : ℕ) (switch : SwitchValue) (body : Body)
+    → BringsRule setting journal (receiver.Switch s) body → opened switch body ≡ None
+unfolding opened
+opens_none setting journal s switch (CacheRule version word rule action) right =
+    by_test (obeys switch (CacheRule version word rule action))
   where
-    by_test : (b : Bool) → (if (b && true) && true then Some body else None)
-        ≡ (if b then Some body else None)
+    by_test : (b : Bool) → ◌≡◌ {A = Option ℕ} (if b then None else None) None
     by_test true = refl
     by_test false = refl
-
--- the cache of each switch behind the delivery of a cache rule to switch s
-cache_delivered : (setting : Setting) (journal : List Item) (row s q n : ℕ) (body : Body)
-    → IsCalm setting journal
-    → IsCalm setting (grown journal row (Deliver n) (item.Delivered n))
-    → message_of journal n ≡ Some (record { to = receiver.Switch s; body = body })
-    → BringsRule setting journal (receiver.Switch s) body
-    → cache_of setting (grown journal row (Deliver n) (item.Delivered n)) q
-    ≡ (if s == q then cache_after 1 1 n (cache_of setting journal q) body
-    else cache_of setting journal q)
-unfolding cache_of
-cache_delivered setting journal row s q n body calm calmer sent right =
-    let start : CacheValue = record { entries = []; capacity = setting.net.cache } in
-    let rowed : List Item = journal ++ item.Row row (Deliver n) ∷ [] in
-    let stamp : stamp_of (rowed ++ item.Delivered n ∷ []) q ≡ 1 =
-    ap (λ js. stamp_of js q)
-    (append_assoc journal (item.Row row (Deliver n) ∷ []) (item.Delivered n ∷ []))
-    ∙ calmer.stamp q in
-    let earlier : stamp_of rowed q ≡ 1 =
-    (switch_keeps setting q journal (item.Row row (Deliver n) ∷ []) (refl, tt)).stamp
-    ∙ calm.stamp q in
-    let up : is_up rowed q ≡ true =
-    (switch_keeps setting q journal (item.Row row (Deliver n) ∷ []) (refl, tt)).up ∙ calm.up q in
-    let said : said_to rowed q n ≡ (if s == q then Some body else None) =
-    said_is setting journal rowed s q n body (row_keeps_message journal row n (Deliver n) ∙ sent) up
-    right in
-    folded_append (changes_cache q) start journal
-    (item.Row row (Deliver n) ∷ item.Delivered n ∷ [])
-    ∙ ap (λ earlier. option_map_or (cache_after earlier (stamp_of (rowed ++ item.Delivered n ∷ []) q)
-    n (cache_of setting journal q)) (said_to rowed q n) (cache_of setting journal q)) earlier
-    ∙ ap (λ stamp. option_map_or (cache_after 1 stamp n (cache_of setting journal q))
-    (said_to rowed q n) (cache_of setting journal q)) stamp
-    ∙ ap (λ o. option_map_or (cache_after 1 1 n (cache_of setting journal q)) o
-    (cache_of setting journal q)) said
-    ∙ by_test (s == q) (cache_after 1 1 n (cache_of setting journal q))
-    (cache_of setting journal q)
-  where
-    by_test : (b : Bool) (f : Body → CacheValue) (c : CacheValue)
-        → option_map_or f (if b then Some body else None) c ≡ (if b then f body else c)
-    by_test true f c = refl
-    by_test false f c = refl
-
--- the switch takes the rule into its cache
-heard_right : (setting : Setting) (journal : List Item) (s n handled : ℕ) (cache : CacheValue)
-    (body : Body) → BringsRule setting journal (receiver.Switch s) body
-    → heard (calm_switch setting cache handled s) n body
-    ≡ calm_switch setting (cache_after 1 1 n cache body) handled s
-unfolding heard obeys
-heard_right setting journal s n handled cache (CacheRule version word rule action) right = refl
-heard_right setting journal s n handled cache _ right = absurd right
+opens_none setting journal s switch _ right = absurd right
 
 pub sound_right : (setting : Setting) (journal : List Item) (s : ℕ) (body : Body)
     → BringsRule setting journal (receiver.Switch s) body → IsSoundBody body
@@ -246,46 +188,28 @@ deliver_ready control setting journal switches before count n s message tied the
       sound_right setting journal s message.body held.right,
     )
 
--- each switch behind the delivery
-delivered_switch : (setting : Setting) (journal : List Item) (switches : List SwitchValue)
-    (row n s q : ℕ) (body : Body) (own changed d : SwitchValue) (b : Bool) → (s == q) ≡ b
-    → IsCalm setting journal
-    → IsCalm setting (grown journal row (Deliver n) (item.Delivered n))
-    → message_of journal n ≡ Some (record { to = receiver.Switch s; body = body })
-    → BringsRule setting journal (receiver.Switch s) body → s < length switches
-    → own ≡ calm_switch setting (cache_of setting journal s) (handled_count journal s) s
-    → changed ≡ heard own n body
-    → get_or switches q d
-    ≡ calm_switch setting (cache_of setting journal q) (handled_count journal q) q
-    → get_or (set switches s changed) q d
-    ≡ calm_switch setting
-    (cache_of setting (grown journal row (Deliver n) (item.Delivered n)) q)
-    (handled_count journal q) q
-delivered_switch setting journal switches row n s q body own changed d true is calm calmer sent
-    right there own_is changed_is its =
-    let new : List Item = grown journal row (Deliver n) (item.Delivered n) in
-    let cache : cache_after 1 1 n (cache_of setting journal s) body ≡ cache_of setting new s =
-    sym (cache_delivered setting journal row s s n body calm calmer sent right
-    ∙ ap (λ b. if b then cache_after 1 1 n (cache_of setting journal s) body
-    else cache_of setting journal s) (eq-eqb s s refl)) in
-    let P : ℕ → Type 0 = λ k. get_or (set switches s changed) k d
-    ≡ calm_switch setting (cache_of setting new k) (handled_count journal k) k in
-    subst P (eqb-true s q is)
-    (get_or-set_same switches s changed d there
-    ∙ changed_is ∙ ap (λ w. heard w n body) own_is
-    ∙ heard_right setting journal s n (handled_count journal s) (cache_of setting journal s) body
-    right
-    ∙ ap (λ c. calm_switch setting c (handled_count journal s) s) cache)
-delivered_switch setting journal switches row n s q body own changed d false is calm calmer sent
-    right there own_is changed_is its =
-    let new : List Item = grown journal row (Deliver n) (item.Delivered n) in
-    let other : q ≢ s = λ e. let yes : (s == q) ≡ true = eq-eqb s q (sym e) in cc in
-    let cache : cache_of setting new q ≡ cache_of setting journal q =
-    cache_delivered setting journal row s q n body calm calmer sent right
-    ∙ ap (λ b. if b then cache_after 1 1 n (cache_of setting journal q) body
-    else cache_of setting journal q) is in
-    get_or-set_other switches s q changed d other ∙ its
-    ∙ ap (λ c. calm_switch setting c (handled_count journal q) q) (sym cache)
+-- its switch hears it
+hears : (setting : Setting) (journal : List Item) (row n s : ℕ) (body : Body) → IsSetting setting
+    → IsPlayed setting journal → message_of journal n ≡ Some (to_switch s body)
+    → BringsRule setting journal (receiver.Switch s) body
+    → heard (switch_of setting journal s) n body
+    ≡ switch_of setting (grown journal row (Deliver n) (item.Delivered n)) s
+hears setting journal row n s body sound played sent right =
+    sym ((hear_ties.shut setting journal n s body sound.net
+    (record { sent = sent; names = played_names setting journal sound played })
+    (opens_none setting journal s (switch_of setting journal s) body right)).record_of row)
+
+-- and no other one does
+hears_none : (setting : Setting) (journal : List Item) (row n s q : ℕ) (body : Body)
+    → message_of journal n ≡ Some (to_switch s body) → (s == q) ≡ false
+    → switch_of setting (grown journal row (Deliver n) (item.Delivered n)) q
+    ≡ switch_of setting journal q
+hears_none setting journal row n s q body sent other =
+    let to_other : is_message_to (journal ++ item.Row row (Deliver n) ∷ []) q n ≡ false =
+    ap (λ o. option_map_or (λ (m : Message). is_to_switch q m.to) o false)
+    (row_keeps_message journal row n (Deliver n) ∙ sent) ∙ other in
+    kept_is setting q journal (item.Row row (Deliver n) ∷ item.Delivered n ∷ [])
+    (refl, (ap (λ b. b || false) to_other, tt)) (refl, (refl, tt))
 
 pub delivered_tied : (control : Control) (setting : Setting) (journal : List Item)
     (switches : List SwitchValue) (before : Travellers) (count row n s : ℕ) (message : Message)
@@ -311,9 +235,6 @@ delivered_tied control setting journal switches before count row n s message own
     deliver_piece setting journal row n alone
     ∙ ap (λ b. item.Row row (Deliver n) ∷ (if b then item.Delivered n ∷ [] else nothing))
     held.deliverable in
-    let played : IsPlayed setting new =
-    subst (λ items. IsPlayed setting (journal ++ items)) is
-    (played_more setting journal row (Deliver n) tied.played may) in
     let within : s < length switches =
     (deliver_ready control setting journal switches before count n s message tied there to).0 in
     let rowed : List Item = journal ++ item.Row row (Deliver n) ∷ [] in (
@@ -322,18 +243,16 @@ delivered_tied control setting journal switches before count row n s message own
           (set switches s changed) before count row (Deliver n) (item.Delivered n) tied (record {
             may = may;
             piece_is = is;
-            no_row = tt;
-            idle = λ q. refl;
             apart = λ q. refl;
             as_before = refl;
             as_many = length-set switches s changed;
             each = λ q d below.
-                delivered_switch setting journal switches row n s q message.body own changed d
-                (s == q) refl (played_calm setting journal tied.sound tied.played)
-                (played_calm setting new tied.sound played) held.sent held.right within
-                (own_at ∙ own_switch control setting journal switches before count tied s own
-                within) changed_is
-                (own_switch control setting journal switches before count tied q d below);
+                one_changes setting journal new switches s q changed d (s == q) refl within
+                (changed_is ∙ ap (λ w. heard w n message.body) (own_at ∙ tied.each s own within)
+                ∙ hears setting journal row n s message.body tied.sound tied.played held.sent
+                held.right)
+                (hears_none setting journal row n s q message.body held.sent)
+                (tied.each q d below);
             bag = subst (λ js. IsBagOf js (with_delivered control.posts n))
                 (append_assoc journal (item.Row row (Deliver n) ∷ []) (item.Delivered n ∷ []))
                 (bag_delivered rowed control.posts n held.within
@@ -344,37 +263,24 @@ delivered_tied control setting journal switches before count row n s message own
 
 -- ---- a step that does nothing
 
-quiet_switch : (setting : Setting) (journal : List Item) (row q : ℕ) (step : Step) (one : Item)
-    (x : SwitchValue)
-    → (switch_same : cache_of setting (grown journal row step one) q ≡ cache_of setting journal q)
-    → x ≡ calm_switch setting (cache_of setting journal q) (handled_count journal q) q
-    → x ≡ calm_switch setting (cache_of setting (grown journal row step one) q)
-    (handled_count journal q) q
-quiet_switch setting journal row q step one x same is =
-    is ∙ ap (λ c. calm_switch setting c (handled_count journal q) q) (sym same)
-
 pub nothing_tied : (control : Control) (setting : Setting) (journal : List Item)
     (switches : List SwitchValue) (before : Travellers) (count row : ℕ) (step : Step)
     → AreTied setting journal switches before count control → MayPlay setting step
-    → ((q : ℕ) → calls_in q journal (item.Row row step ∷ item.Nothing ∷ []) ≡ 0)
+    → ((q : ℕ) → IsFalse (concerns_calls q journal (item.Row row step)))
     → piece setting journal row step ≡ item.Row row step ∷ nothing
     → AreTied setting (grown journal row step item.Nothing) switches before count control
 unfolding AreTied
-nothing_tied control setting journal switches before count row step tied may idle is =
+nothing_tied control setting journal switches before count row step tied may uncalled is =
     tied_one control control.posts setting journal switches switches before count row step
     item.Nothing tied (record {
       may = may;
       piece_is = is;
-      no_row = tt;
-      idle = idle;
       apart = λ q. refl;
       as_before = refl;
       as_many = refl;
-      each = λ q d below. quiet_switch setting journal row q step item.Nothing
-          (get_or switches q d)
-          (switch_keeps setting q journal (item.Row row step ∷ item.Nothing ∷ [])
-          (refl, (refl, tt))).cache
-          (own_switch control setting journal switches before count tied q d below);
+      each = switches_stay control setting journal switches before count
+          (item.Row row step ∷ item.Nothing ∷ []) tied (λ q. (refl, (refl, tt)))
+          (λ q. (uncalled q, (refl, tt)));
       bag = bag_on journal (item.Row row step ∷ item.Nothing ∷ []) control.posts (refl, (refl, tt))
           tied.bag;
     })
@@ -402,16 +308,12 @@ forgotten_tied control setting journal switches before count row n tied may ther
           switches before count row (Forget n) (item.Forgotten n) tied (record {
             may = may;
             piece_is = is;
-            no_row = tt;
-            idle = λ q. refl;
             apart = λ q. refl;
             as_before = refl;
             as_many = refl;
-            each = λ q d below. quiet_switch setting journal row q (Forget n) (item.Forgotten n)
-                (get_or switches q d)
-                (switch_keeps setting q journal
-                (item.Row row (Forget n) ∷ item.Forgotten n ∷ []) (refl, (refl, tt))).cache
-                (own_switch control setting journal switches before count tied q d below);
+            each = switches_stay control setting journal switches before count
+                (item.Row row (Forget n) ∷ item.Forgotten n ∷ []) tied (λ q. (refl, (refl, tt)))
+                (λ q. (refl, (refl, tt)));
             bag = subst (λ js. IsBagOf js (with_forgotten control.posts n))
                 (append_assoc journal (item.Row row (Forget n) ∷ []) (item.Forgotten n ∷ []))
                 (bag_forgotten rowed control.posts n (some_within control.posts n there)

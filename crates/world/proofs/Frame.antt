@@ -19,7 +19,7 @@ use Rattle.world.specs.declared.parts.Parts.{Parts}
 use Rattle.world.proofs.OneItem.{grown}
 use Rattle.world.proofs.Writing.{both_ok, grown_more, part_none, step_part, step_written}
 
--- these parts are as this journal says, by the setting and the marks from before the step
+-- these parts are as this journal says, by the setting and the controller from before the step
 abbrev pub AreTiedTo : Parts → List Item → Parts → List Post → Type 0
 AreTiedTo old journal new posts =
     AreTied (setting_in old) journal new.switches.items new.log.travelling new.packets
@@ -35,7 +35,7 @@ as_kept old new keeps tied =
     new.switches.items new.log.travelling new.packets (control_in new)) (sym keeps.same_policies)
     (subst (λ (controller : ControllerValue). AreTied (setting_in old) new.log.journal
     new.switches.items new.log.travelling new.packets
-    (record { marks = controller.marks; posts = new.log.bag })) (sym keeps.same_controller) tied))
+    (record { controller = controller; posts = new.log.bag })) (sym keeps.same_controller) tied))
 
 none_ok : {T E : Type 0} (P : Type 0) (r : Result T E) → IsErr r → OnOk r P
 none_ok P (Ok x) failed = absurd cc

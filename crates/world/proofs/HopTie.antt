@@ -1,9 +1,9 @@
 -- A hop of a packet on its way: what it writes, and how it keeps the tie of a world to its journal.
-use Rattle.std.proofs.Common.{ℕ, ◌≡◌, ◌≢◌, ◌+◌, ◌-◌, ◌^◌, ◌<◌, ◌==◌, Bool, true, false, ◌&&◌, if◌then◌else◌, Option, Some, None, List, [], ◌∷◌, ◌++◌, refl, ap, sym, subst, ◌∙◌, length, get_or, set, min, cond, arith, eq-eqb, eqb-true}
+use Rattle.std.proofs.Common.{ℕ, ◌≡◌, ◌+◌, ◌<◌, ◌==◌, Bool, true, false, ◌&&◌, if◌then◌else◌, Option, Some, None, List, [], ◌∷◌, ◌++◌, refl, ap, sym, subst, ◌∙◌, length, get_or, set, cond, arith, eq-eqb, eqb-true}
 use Rattle.std.specs.Prelude.{is_some, unwrap_or, slice_get}
 use Rattle.std.proofs.lemmas.Bool.Decides.{nat_tests}
 use Rattle.std.proofs.lemmas.List.Sums.{sum_by-cons}
-use Rattle.std.proofs.lemmas.List.{get_or-set_same, get_or-set_other, length-set}
+use Rattle.std.proofs.lemmas.List.{length-set}
 use Rattle.bag.specs.Posts.{Post}
 use Rattle.masks.specs.Masks.{has}
 use Rattle.five_tuple.specs.declared.header.Header.{Header}
@@ -20,8 +20,12 @@ use Rattle.switch_core.specs.State.{SwitchValue, counted}
 use Rattle.switch_core.specs.declared.answers.Arrived.{Arrived}
 use Rattle.tunnel.specs.Moves.{advanced, here, next}
 use Rattle.update_machine.specs.Caches.{cache_of}
+use Rattle.switch_ties.specs.Calls.{AreInStep}
+use Rattle.switch_ties.specs.SwitchOf.{switch_of}
+use Rattle.switch_ties.proofs.Steps.{call_ties}
+use Rattle.update_machine.specs.Concerns.{NoneConcern, concerns_known}
 use Rattle.update_machine.specs.Folds.{count_of}
-use Rattle.update_machine.specs.Handled.{handled_count, hop_calls, is_entry_at, most_handled, stays_on_way}
+use Rattle.update_machine.specs.Handled.{handled_count, stays_on_way}
 use Rattle.update_machine.specs.Links.{near}
 use Rattle.update_machine.specs.Marks.{retired_mark}
 use Rattle.update_machine.specs.Messages.{is_sending, next_message}
@@ -49,15 +53,14 @@ use Rattle.world.proofs.Arrivals.{arrival_goes, arrive_law}
 use Rattle.world.proofs.AtEnd.{IsAtEnd}
 use Rattle.world.proofs.Asking.{ends_here, switch_here}
 use Rattle.world.proofs.Calmness.{calm_at, calm_switch_of}
-use Rattle.world.proofs.Later.{AreLater, arrived_later, arrived_still, hop_sends, later_entries, later_packets, later_rows}
+use Rattle.world.proofs.Later.{arrived_later, arrived_still, hop_sends, later_packets}
 use Rattle.world.proofs.Legs.{near_of}
 use Rattle.world.proofs.Losing.{travels_as}
 use Rattle.world.proofs.OnWay.{IsStanding, known, next_of_words, on_leg, standing_of, stands_at}
 use Rattle.world.proofs.Others.{NoneName, arrived_other, unnamed}
 use Rattle.world.proofs.Played.{played_alone, played_calm}
-use Rattle.world.proofs.Posting.{posts_in}
-use Rattle.world.proofs.Steps.{NoRows, calls_in}
-use Rattle.world.proofs.Tying.{Steps, idle, numbered, tied_more, tied_silent, with_calls}
+use Rattle.world.proofs.Posting.{apart_known, posts_in}
+use Rattle.world.proofs.Tying.{Steps, numbered, one_changes, switches_stay, tied_more, tied_silent}
 use Rattle.world.proofs.Words.{calm_traveller, traveller_by, words_along}
 
 -- ---- what it writes
@@ -209,20 +212,16 @@ hop_piece setting journal row i t switch near_it ports asked goes_on is =
 
 -- ---- the calls that it counts
 
--- items of a hop: none begins a step or is an entry, and whether one is a move
+-- items of a hop: none begins a step or brings a packet in, and whether one is a move
 pub record IsOfHop (row i : ℕ) (stays : Bool) (items : List Item) : Type 0 where
-  pub rows : NoRows items
-  pub entries : (k : ℕ) → count_of (is_entry_at k) (item.Row row (Hop i) ∷ items) ≡ 0
+  pub in_step : AreInStep items
   pub packets : count_of is_packet (item.Row row (Hop i) ∷ items) ≡ 0
   pub moves : stays_on_way items ≡ stays
 
-later_of_hop : (row i : ℕ) (stays : Bool) (items : List Item) → AreLater items
+later_of_hop : (row i : ℕ) (stays : Bool) (items : List Item) → AreInStep items
     → stays_on_way items ≡ stays → IsOfHop row i stays items
 later_of_hop row i stays items later still = record {
-  rows = later_rows items later;
-  entries = λ k.
-      let sum = sum_by-cons (λ x. cond (is_entry_at k x) 1 0) (item.Row row (Hop i)) items in
-      omega (arith, sum, later_entries k items later);
+  in_step = later;
   packets =
       let sum = sum_by-cons (λ x. cond (is_packet x) 1 0) (item.Row row (Hop i)) items in
       omega (arith, sum, later_packets items later);
@@ -244,34 +243,33 @@ items_of_hop row i number switch near_it ports t None =
     later_of_hop row i false (arrived_items number at t answer) (arrived_later number at t answer)
     (arrived_still number at t answer)
 items_of_hop row i number switch near_it ports t (Some two) =
-    record { rows = (tt, tt); entries = λ k. refl; packets = refl; moves = refl }
+    record { in_step = (tt, tt); packets = refl; moves = refl }
 
-calls_of_hop : (journal items : List Item) (row i place k : ℕ) (stays b : Bool)
-    → IsOfHop row i stays items → travels journal i ≡ true → place_of journal i ≡ Some place
-    → (place == k) ≡ b
-    → calls_in k journal (item.Row row (Hop i) ∷ items)
-    ≡ (if b then (if stays then 1 else 2) else 0)
-calls_of_hop journal items row i place k stays b of on stands is =
+hopped_by : (goes_on : Option ℕ) (switch : SwitchValue)
+    → (if goes_further goes_on then counted switch else counted (counted switch))
+    ≡ hopped_switch switch goes_on
+hopped_by None switch = refl
+hopped_by (Some two) switch = refl
+
+-- the switch where the packet stands is called, and no other
+calls_of_hop : (setting : Setting) (journal items : List Item) (row i place k : ℕ)
+    (goes_on : Option ℕ) (b : Bool) → IsOfHop row i (goes_further goes_on) items
+    → NoneConcern (concerns_known k) journal (item.Row row (Hop i) ∷ items)
+    → travels journal i ≡ true → place_of journal i ≡ Some place → (place == k) ≡ b
+    → switch_of setting (journal ++ item.Row row (Hop i) ∷ items) k
+    ≡ (if b then hopped_switch (switch_of setting journal k) goes_on
+    else switch_of setting journal k)
+calls_of_hop setting journal items row i place k goes_on b of none on stands is =
+    let switch : SwitchValue = switch_of setting journal k in
     let at : travels_at journal k i ≡ b =
     ap (λ x. x && is_at k (place_of journal i)) on
     ∙ ap (is_at k) stands ∙ is in
-    let calls : hop_calls k (record { before = journal; items = item.Row row (Hop i) ∷ items })
-    (item.Row row (Hop i) ∷ items) ≡ (if b then (if stays then 1 else 2) else 0) =
-    ap (λ x. if x then (if stays_on_way items then 1 else 2) else 0) at
-    ∙ ap (λ x. if b then (if x then 1 else 2) else 0) of.moves in
-    omega (arith, of.entries k, calls)
-
-one_more : (h : ℕ) → min (h + 1) (2 ^ 64 - 1) ≡ min most_handled (h + 1)
-one_more h = omega arith
-
-two_more : (h : ℕ) → min (min (h + 1) (2 ^ 64 - 1) + 1) (2 ^ 64 - 1) ≡ min most_handled (h + 2)
-two_more h = omega arith
-
-hopped_is : (switch : SwitchValue) (goes_on : Option ℕ) → hopped_switch switch goes_on
-    ≡ with_calls (if goes_further goes_on then 1 else 2) switch
-hopped_is switch None = ap (λ (h : ℕ). record switch { handled = h }) (two_more switch.handled)
-hopped_is switch (Some two) =
-    ap (λ (h : ℕ). record switch { handled = h }) (one_more switch.handled)
+    call_ties.hopped setting journal row i k items of.in_step none
+    ∙ ap (λ x. if x then (if stays_on_way items then counted switch
+    else counted (counted switch)) else switch) at
+    ∙ ap (λ x. if b then (if x then counted switch else counted (counted switch)) else switch)
+    of.moves
+    ∙ ap (λ w. if b then w else switch) (hopped_by goes_on switch)
 
 -- ---- what becomes of the packets
 
@@ -344,36 +342,6 @@ others_go setting journal new items i q this was false is own other none =
     other ∙ ap (traveller_by setting q)
     (sym (unnamed q new items (words_of journal q) (none apart)))
 
--- the switch where the packet stood answered these calls, all others none
-calls_go : (setting : Setting) (journal items : List Item) (switches : List SwitchValue)
-    (row i place k : ℕ) (d switch after : SwitchValue) (stays b : Bool)
-    → IsOfHop row i stays items → travels journal i ≡ true → place_of journal i ≡ Some place
-    → place < length switches → get_or switches place d ≡ switch
-    → after ≡ with_calls (if stays then 1 else 2) switch
-    → get_or switches k d ≡ with_calls 0 (get_or switches k d)
-    → (place == k) ≡ b
-    → get_or (set switches place after) k d
-    ≡ with_calls (calls_in k journal (item.Row row (Hop i) ∷ items)) (get_or switches k d)
-calls_go setting journal items switches row i place k d switch after stays true of on stands
-    there was answered idle_there is =
-    let same : place ≡ k = eqb-true place k is in
-    let count : calls_in k journal (item.Row row (Hop i) ∷ items) ≡ (if stays then 1 else 2) =
-    calls_of_hop journal items row i place k stays true of on stands is in
-    ap (λ p. get_or (set switches place after) p d) (sym same)
-    ∙ get_or-set_same switches place after d there
-    ∙ answered
-    ∙ ap (with_calls (if stays then 1 else 2)) (sym was)
-    ∙ ap (λ p. with_calls (if stays then 1 else 2) (get_or switches p d)) same
-    ∙ ap (λ calls. with_calls calls (get_or switches k d)) (sym count)
-calls_go setting journal items switches row i place k d switch after stays false of on stands
-    there was answered idle_there is =
-    let apart : k ≢ place = grind (arith, nat_tests) in
-    let count : calls_in k journal (item.Row row (Hop i) ∷ items) ≡ 0 =
-    calls_of_hop journal items row i place k stays false of on stands is in
-    get_or-set_other switches place k after d apart
-    ∙ idle_there
-    ∙ ap (λ calls. with_calls calls (get_or switches k d)) (sym count)
-
 hop_steps : (control : Control) (setting : Setting) (journal : List Item)
     (switches : List SwitchValue)
     (before after : Travellers) (count row i : ℕ) (t : Traveller) (switch : SwitchValue)
@@ -395,24 +363,31 @@ hop_steps control setting journal switches before after count row i t switch nea
     let calm_now : IsCalm setting journal = played_calm setting journal tied.sound tied.played in
     let of : IsOfHop row i (goes_further goes_on) items =
     items_of_hop row i number (counted switch) near_it ports t goes_on in
+    let sends = (hop_sends number (counted switch) near_it ports t goes_on).0 in
     let there : place < length switches =
     omega (arith, tied.many, asked.standing.way.under_way.now) in
+    let own : switch ≡ switch_of setting journal place =
+    asked.own
+    ∙ sym (calm_switch_of setting journal calm_now place asked.standing.way.under_way.now) in
     record {
       may = may;
       piece_is = hop_piece setting journal row i t switch near_it ports asked
           goes_on is;
-      one_row = of.rows;
-      sends = (hop_sends number (counted switch) near_it ports t goes_on).0;
+      sends = sends;
       as_many = length-set switches place (hopped_switch switch goes_on);
-      calls = λ k d within.
-          calls_go setting journal items switches row i place k d switch
-          (hopped_switch switch goes_on) (goes_further goes_on) (place == k) of
-          asked.standing.on asked.standing.way.under_way.stands there
-          (tied.each place d there
-          ∙ calm_switch_of setting journal calm_now place asked.standing.way.under_way.now
-          ∙ sym asked.own)
-          (hopped_is switch goes_on)
-          (idle setting journal switches k d (tied.each k d within)) refl;
+      each = λ k d within.
+          let called : (q : ℕ) (b : Bool) → (place == q) ≡ b
+          → switch_of setting (journal ++ item.Row row (Hop i) ∷ items) q
+          ≡ (if b then hopped_switch (switch_of setting journal q) goes_on
+          else switch_of setting journal q) =
+          λ q b same. calls_of_hop setting journal items row i place q goes_on b of
+          (apart_known q number journal (item.Row row (Hop i) ∷ items) sends)
+          asked.standing.on asked.standing.way.under_way.stands same in
+          one_changes setting journal (journal ++ item.Row row (Hop i) ∷ items) switches place k
+          (hopped_switch switch goes_on) d (place == k) refl there
+          (ap (λ w. hopped_switch w goes_on) own
+          ∙ sym (called place true (eq-eqb place place refl)))
+          (called k false) (tied.each k d within);
       travels = λ q. without q
           ∙ others_go setting journal (begun journal row i) items i q
           (hop_traveller (counted switch) near_it ports t goes_on) (traveller before q) (q == i)
@@ -557,22 +532,10 @@ hop_left control setting journal switches before count row i tied may resting =
     (item.Nothing ∷ []) tied (record {
       may = may;
       piece_is = piece_is;
-      one_row = (tt, tt);
       sends = tt;
       as_many = refl;
-      calls = λ s d there.
-          idle setting journal switches s d (tied.each s d there)
-          ∙ ap (λ calls. with_calls calls (get_or switches s d))
-          (sym (no_calls journal row i s off));
+      each = switches_stay control setting journal switches before count
+          (item.Row row (Hop i) ∷ item.Nothing ∷ []) tied (λ s. (refl, (refl, tt)))
+          (λ s. (ap (λ x. x && is_at s (place_of journal i)) off, (refl, tt)));
       travels = λ q. tied.packet q ∙ calm_traveller setting journal calm_now q;
     }) (omega arith) refl in (piece_is, kept)
-  where
-    no_calls : (journal : List Item) (row i s : ℕ) → travels journal i ≡ false
-        → calls_in s journal (item.Row row (Hop i) ∷ item.Nothing ∷ []) ≡ 0
-    no_calls journal row i s off =
-        let all : List Item = item.Row row (Hop i) ∷ item.Nothing ∷ [] in
-        let none : count_of (is_entry_at s) all ≡ 0 = refl in
-        let calls : hop_calls s (record { before = journal; items = all }) all ≡ 0 =
-        ap (λ x. if x && is_at s (place_of journal i)
-        then (if stays_on_way (item.Nothing ∷ []) then 1 else 2) else 0) off in
-        omega (arith, none, calls)

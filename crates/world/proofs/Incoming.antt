@@ -1,6 +1,6 @@
 -- A packet that comes in: its whole step keeps the tie.
-use Rattle.std.proofs.Common.{ℕ, ◌≡◌, ◌≢◌, ◌+◌, ◌-◌, ◌^◌, ◌<◌, ◌≤◌, ◌==◌, Bool, true, false, if◌then◌else◌, cond, List, [], ◌∷◌, ◌++◌, refl, ap, sym, subst, ◌∙◌, length, get_or, set, min, eqb-true, eq-eqb, arith}
-use Rattle.std.proofs.lemmas.List.{get_or-set_other, get_or-set_same, get_or_default, length-set}
+use Rattle.std.proofs.Common.{ℕ, ◌≡◌, ◌+◌, ◌-◌, ◌<◌, ◌≤◌, ◌==◌, Bool, true, false, if◌then◌else◌, cond, List, [], ◌∷◌, ◌++◌, refl, ap, sym, subst, ◌∙◌, length, get_or, set, eqb-true, eq-eqb, arith}
+use Rattle.std.proofs.lemmas.List.{length-set}
 use Rattle.std.proofs.lemmas.List.Sums.{sum_by-cons}
 use Rattle.failover.specs.DownSet.{no_links}
 use Rattle.five_tuple.specs.Header.{IsHeader}
@@ -16,9 +16,12 @@ use Rattle.switch_core.specs.declared.answers.Entered.{Entered}
 use Rattle.switch_core.specs.declared.answers.Entered.TheVariants as entered
 use Rattle.switch_table.specs.Lookup.{lookup_of}
 use Rattle.switch_table.specs.Tables.{tables_of}
+use Rattle.switch_ties.specs.Calls.{AreInStep}
+use Rattle.switch_ties.specs.SwitchOf.{switch_of}
+use Rattle.switch_ties.proofs.Steps.{call_ties}
 use Rattle.update_machine.specs.Caches.{cache_of}
 use Rattle.update_machine.specs.Folds.{count_of}
-use Rattle.update_machine.specs.Handled.{handled_count, is_entry_at, most_handled}
+use Rattle.update_machine.specs.Handled.{handled_count}
 use Rattle.update_machine.specs.Messages.{next_message}
 use Rattle.update_machine.specs.Packets.{is_packet, next_packet}
 use Rattle.update_machine.specs.Pieces.{packet_items, piece}
@@ -28,7 +31,7 @@ use Rattle.packet_laws.specs.Calm.{IsCalm, first_plan}
 use Rattle.packet_laws.specs.OnWay.{IsUnknown}
 use Rattle.packet_laws.specs.Words.{words_of}
 use Rattle.world.specs.Packets.{coming_in, entry}
-use Rattle.world.specs.State.{AreTied, Control, switch_of}
+use Rattle.world.specs.State.{AreTied, Control}
 use Rattle.world.specs.Travelling.{Travellers, WithOne, traveller}
 use Rattle.world.specs.Writing.{answer_items, entered_items, entered_posts, entered_traveller}
 use Rattle.world.specs.declared.log.Standing.{Standing}
@@ -36,90 +39,69 @@ use Rattle.world.proofs.Calmness.{calm_at, calm_switch_of}
 use Rattle.world.proofs.Coming.{come_law}
 use Rattle.world.proofs.Entering.{IsSaid}
 use Rattle.world.proofs.Goings.{GoesIn, entered_goes, found_goes}
-use Rattle.world.proofs.Later.{AreLater, answer_later, entered_sends, later_entries, later_packets, later_rows}
+use Rattle.world.proofs.Later.{answer_later, entered_sends, later_packets}
 use Rattle.world.proofs.Legs.{near_of}
 use Rattle.world.proofs.Others.{entered_other, unnamed}
 use Rattle.world.proofs.Played.{played_alone, played_calm, played_found, played_unknown}
 use Rattle.world.proofs.Owners.{looked_law}
-use Rattle.world.proofs.Steps.{NoRow, NoRows, calls_in}
-use Rattle.world.proofs.Tying.{idle, tied_more, with_calls}
+use Rattle.world.proofs.Posting.{SendFrom, apart_known}
+use Rattle.world.proofs.Tying.{one_changes, tied_more}
 use Rattle.world.proofs.Words.{calm_traveller, traveller_by, words_along}
 
 -- ---- one packet comes in, and then none
 
-pub record ComesOnce (s : ℕ) (items : List Item) : Type 0 where
-  pub rows : NoRows items
-  pub one : count_of is_packet items ≡ 1
-  pub entries : (q : ℕ) → count_of (is_entry_at q) items ≡ cond (s == q) 1 0
-
-once : (s : ℕ) (first : Item) (items : List Item) → NoRow first → is_packet first ≡ true
-    → ((q : ℕ) → is_entry_at q first ≡ (s == q)) → AreLater items → ComesOnce s (first ∷ items)
-once s first items row packet enters later = record {
-  rows = (row, later_rows items later);
-  one =
-      let sum = sum_by-cons (λ x. cond (is_packet x) 1 0) first items in
-      let one : ◌≡◌ {A = ℕ} (cond (is_packet first) 1 0) 1 = ap (λ b. cond b 1 0) packet in
-      omega (arith, sum, one, later_packets items later);
-  entries = λ q.
-      let sum = sum_by-cons (λ x. cond (is_entry_at q x) 1 0) first items in
-      let same : ◌≡◌ {A = ℕ} (cond (is_entry_at q first) 1 0) (cond (s == q) 1 0) =
-      ap (λ b. cond b 1 0) (enters q) in
-      omega (arith, sum, same, later_entries q items later);
-}
+once : (first : Item) (items : List Item) → is_packet first ≡ true → AreInStep items
+    → count_of is_packet (first ∷ items) ≡ 1
+once first items packet later =
+    let sum = sum_by-cons (λ x. cond (is_packet x) 1 0) first items in
+    let one : ◌≡◌ {A = ℕ} (cond (is_packet first) 1 0) 1 = ap (λ b. cond b 1 0) packet in
+    omega (arith, sum, one, later_packets items later)
 
 pub entered_once : (number : ℕ) (at : Standing) (what : Entered)
-    → ComesOnce at.switch (entered_items number at what)
+    → count_of is_packet (entered_items number at what) ≡ 1
 entered_once number at entered.Closed =
-    once at.switch (item.Closed at.packet at.switch) [] tt refl (λ q. refl) tt
+    once (item.Closed at.packet at.switch) [] refl tt
 entered_once number at (entered.Answered what) =
-    once at.switch (item.Entered at.packet at.switch at.header) (answer_items number at what) tt
-    refl (λ q. refl) (answer_later number at what)
+    once (item.Entered at.packet at.switch at.header) (answer_items number at what) refl
+    (answer_later number at what)
 
 -- ---- the switches
 
-called : (s q : ℕ) (journal : List Item) (row : ℕ) (header : Header) (items : List Item)
-    → ComesOnce s items
-    → calls_in q journal (item.Row row (PacketStep s header) ∷ items) ≡ cond (s == q) 1 0
-called s q journal row header items comes =
-    let sum = sum_by-cons (λ x. cond (is_entry_at q x) 1 0)
-    (item.Row row (PacketStep s header)) items in
-    omega (arith, sum, comes.entries q)
-
-counts : (s : SwitchValue) → counted s ≡ with_calls 1 s
-counts s =
-    let same : min (s.handled + 1) (2 ^ 64 - 1) ≡ min most_handled (s.handled + 1) =
-    omega arith in
-    ap (λ handled. record s { handled = handled }) same
-
--- one switch answered a call
-answered : (setting : Setting) (journal : List Item) (switches : List SwitchValue) (s q : ℕ)
-    (own d : SwitchValue) (b : Bool) → (s == q) ≡ b → s < length switches
-    → get_or switches s own ≡ own → get_or switches q d ≡ switch_of setting journal q
-    → get_or (set switches s (counted own)) q d
-    ≡ with_calls (cond b 1 0) (get_or switches q d)
-answered setting journal switches s q own d true is there its each =
-    let same : s ≡ q = eqb-true s q is in
-    let P : ℕ → Type 0 = λ k. get_or (set switches s (counted own)) k d
-    ≡ with_calls 1 (get_or switches k d) in
-    subst P same
-    (get_or-set_same switches s (counted own) d there
-    ∙ counts own
-    ∙ ap (with_calls 1) (sym its ∙ get_or_default switches s own d there))
-answered setting journal switches s q own d false is there its each =
-    let other : q ≢ s = λ e. let yes : (s == q) ≡ true = eq-eqb s q (sym e) in cc in
-    get_or-set_other switches s q (counted own) d other ∙ idle setting journal switches q d each
+-- the switch where it comes in is called, and no other
+called : (setting : Setting) (journal : List Item) (row number q : ℕ) (at : Standing)
+    (what : Entered) (b : Bool) → SendFrom number (entered_items number at what)
+    → (at.switch == q) ≡ b
+    → switch_of setting (journal ++ item.Row row (PacketStep at.switch at.header)
+    ∷ entered_items number at what) q
+    ≡ (if b then counted (switch_of setting journal q) else switch_of setting journal q)
+called setting journal row number q at what b sends is =
+    by_answer what sends
+    ∙ ap (λ b. if b then counted (switch_of setting journal q) else switch_of setting journal q) is
+  where
+    by_answer : (what : Entered) → SendFrom number (entered_items number at what)
+        → switch_of setting (journal ++ item.Row row (PacketStep at.switch at.header)
+        ∷ entered_items number at what) q
+        ≡ (if at.switch == q then counted (switch_of setting journal q)
+        else switch_of setting journal q)
+    by_answer entered.Closed sends =
+        call_ties.closed setting journal row at.packet at.switch q at.header
+    by_answer (entered.Answered what) sends =
+        call_ties.entered setting journal row at.packet at.switch q at.header
+        (answer_items number at what) (answer_later number at what)
+        (apart_known q number journal (item.Row row (PacketStep at.switch at.header)
+        ∷ item.Entered at.packet at.switch at.header ∷ answer_items number at what) sends)
 
 -- ---- the packets
 
 along : (setting : Setting) (journal : List Item) (row number : ℕ) (header : Header)
-    (at : Standing) (answer : Entered) (before : Travellers) (q : ℕ) (b : Bool) → (q == at.packet) ≡ b
-    → IsUnknown (words_of journal at.packet) → (words_of journal at.packet).found ≡ at.down
+    (at : Standing) (answer : Entered) (before : Travellers) (q : ℕ) (b : Bool)
+    → (q == at.packet) ≡ b → IsUnknown (words_of journal at.packet) → (words_of journal at.packet).found ≡ at.down
     → GoesIn setting at answer
     → traveller before q ≡ traveller_by setting q (words_of journal q)
     → (if b then entered_traveller answer else traveller before q)
     ≡ traveller_by setting q
-    (words_along q journal (item.Row row (PacketStep at.switch header) ∷ entered_items number at answer)
-    (words_of journal q))
+    (words_along q journal (item.Row row (PacketStep at.switch header)
+    ∷ entered_items number at answer) (words_of journal q))
 along setting journal row number header at answer before q true is unknown unmarked comes was =
     let first : Item = item.Row row (PacketStep at.switch header) in
     let same : at.packet ≡ q = sym (eqb-true q at.packet is) in
@@ -127,8 +109,8 @@ along setting journal row number header at answer before q true is unknown unmar
     ≡ traveller_by setting k
     (words_along k journal (first ∷ entered_items number at answer) (words_of journal k)) in
     subst P same
-    (entered_goes setting (journal ++ first ∷ []) number at answer (words_of journal at.packet) unknown
-    unmarked comes)
+    (entered_goes setting (journal ++ first ∷ []) number at answer (words_of journal at.packet)
+    unknown unmarked comes)
 along setting journal row number header at answer before q false is unknown unmarked comes was =
     let first : Item = item.Row row (PacketStep at.switch header) in
     let other : (at.packet == q) ≡ false = not_same (at.packet == q) refl in
@@ -227,28 +209,30 @@ come_calm control setting journal switches before after count row s handled head
     let is : piece setting journal row (PacketStep s header) ≡ first ∷ items =
     piece_calm control setting journal switches before count row s handled header ports tied may
     owners in
-    let once : ComesOnce s items = entered_once number at answer in
+    let one : count_of is_packet items ≡ 1 = entered_once number at answer in
+    let own_is : own ≡ switch_of setting journal s = sym its ∙ tied.each s own there in
     let sends = entered_sends number at answer in
     let sum = sum_by-cons (λ x. cond (is_packet x) 1 0) first items in (
       is,
-      subst (λ posts. AreTied setting (journal ++ first ∷ items) (set switches s (counted own)) after
-          (count + 1) (record control { posts = control.posts ++ posts })) sends.1
+      subst (λ posts. AreTied setting (journal ++ first ∷ items) (set switches s (counted own))
+          after (count + 1) (record control { posts = control.posts ++ posts })) sends.1
           (tied_more control setting journal switches (set switches s (counted own)) before after
           count (count + 1) row (PacketStep s header) items tied (record {
             may = may;
             piece_is = is;
-            one_row = once.rows;
             sends = sends.0;
             as_many = length-set switches s (counted own);
-            calls = λ q d below.
-                answered setting journal switches s q own d (s == q) refl there its
-                (tied.each q d below)
-                ∙ ap (λ calls. with_calls calls (get_or switches q d))
-                (sym (called s q journal row header items once));
+            each = λ q d below.
+                one_changes setting journal (journal ++ first ∷ items) switches s q (counted own) d
+                (s == q) refl there
+                (ap counted own_is ∙ sym (called setting journal row number s at answer true sends.0
+                (eq-eqb s s refl)))
+                (called setting journal row number q at answer false sends.0)
+                (tied.each q d below);
             travels = λ q. with q
                 ∙ along setting journal row number header at answer before q (q == i) refl unknown
                 unmarked comes (tied.packet q ∙ calm_traveller setting journal calm q);
-          }) (omega (arith, sum, once.one))),
+          }) (omega (arith, sum, one))),
     )
 
 -- its switch is there, and can be asked

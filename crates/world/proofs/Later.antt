@@ -1,7 +1,6 @@
 -- The items that a switch's answer to a packet writes: they begin no step and bring no other packet
 -- in, and what they send.
 use Rattle.std.proofs.Common.{ℕ, ◌≡◌, ◌+◌, false, Option, Some, None, cond, List, [], ◌∷◌, refl, ap, map, arith}
-use Rattle.std.specs.Prelude.{⊤}
 use Rattle.std.proofs.lemmas.List.Sums.{sum_by-cons}
 use Rattle.bag.specs.Posts.{Post, posted}
 use Rattle.ctrl_msg.specs.declared.message.Message.{Message}
@@ -9,6 +8,7 @@ use Rattle.net_file.specs.declared.ports.Ports.{Ports}
 use Rattle.policy_rules.specs.declared.packet.Leg.{Leg}
 use Rattle.policy_rules.specs.declared.packet.Leg.TheVariants.{Seek, Exit}
 use Rattle.journal.specs.declared.item.Item.{Item}
+use Rattle.journal.specs.declared.item.Item.TheVariants as item
 use Rattle.switch_core.specs.Answering.{arrived}
 use Rattle.switch_core.specs.Ends.{around}
 use Rattle.switch_core.specs.State.{SwitchValue}
@@ -22,76 +22,62 @@ use Rattle.switch_core.specs.declared.answers.Entered.TheVariants as entered
 use Rattle.switch_core.specs.declared.answers.Next.{Next}
 use Rattle.switch_core.specs.declared.answers.Next.TheVariants as next
 use Rattle.update_machine.specs.Folds.{count_of}
-use Rattle.update_machine.specs.Handled.{is_entry_at, stays_on_way}
+use Rattle.update_machine.specs.Handled.{stays_on_way}
 use Rattle.update_machine.specs.Messages.{sent_from}
 use Rattle.update_machine.specs.Moves.{takes_route}
 use Rattle.update_machine.specs.Packets.{is_packet}
+use Rattle.switch_ties.specs.Calls.{AreInStep, IsInStep}
 use Rattle.world.specs.Packets.{arrival_items, arrival_posts, hop_items, hop_posts, standing_at}
 use Rattle.world.specs.Writing.{answer_items, answer_posts, arrived_items, arrived_posts, cache_message, decided_items, end_of, entered_items, entered_posts, messages_in}
 use Rattle.world.specs.declared.log.Standing.{Standing}
 use Rattle.world.specs.declared.travelling.Traveller.{Traveller}
 use Rattle.world.proofs.Posting.{SendFrom, posts_in}
-use Rattle.world.proofs.Steps.{NoRow, NoRows}
 
--- an item that begins no step, and brings no packet in
-abbrev pub IsLater : Item → Type 0
-IsLater one = NoRow one × (is_packet one ≡ false) × ((q : ℕ) → is_entry_at q one ≡ false)
+-- they bring no packet in
+no_packet : (one : Item) → IsInStep one → is_packet one ≡ false
+no_packet (item.Entered packet switch header) is = absurd is
+no_packet (item.Closed packet switch) is = absurd is
+no_packet _ is = refl
 
-abbrev pub AreLater : List Item → Type 0
-AreLater [] = ⊤
-AreLater (first ∷ items) = IsLater first × AreLater items
-
-pub later_rows : (items : List Item) → AreLater items → NoRows items
-later_rows [] later = tt
-later_rows (first ∷ items) later = (later.0.0, later_rows items later.1)
-
-pub later_packets : (items : List Item) → AreLater items → count_of is_packet items ≡ 0
+pub later_packets : (items : List Item) → AreInStep items → count_of is_packet items ≡ 0
 later_packets [] later = refl
 later_packets (first ∷ items) later =
     let sum = sum_by-cons (λ x. cond (is_packet x) 1 0) first items in
-    let none : ◌≡◌ {A = ℕ} (cond (is_packet first) 1 0) 0 = ap (λ b. cond b 1 0) later.0.1 in
+    let none : ◌≡◌ {A = ℕ} (cond (is_packet first) 1 0) 0 =
+    ap (λ b. cond b 1 0) (no_packet first later.0) in
     omega (arith, sum, none, later_packets items later.1)
 
-pub later_entries : (q : ℕ) (items : List Item) → AreLater items
-    → count_of (is_entry_at q) items ≡ 0
-later_entries q [] later = refl
-later_entries q (first ∷ items) later =
-    let sum = sum_by-cons (λ x. cond (is_entry_at q x) 1 0) first items in
-    let none : ◌≡◌ {A = ℕ} (cond (is_entry_at q first) 1 0) 0 = ap (λ b. cond b 1 0)
-    (later.0.2 q) in
-    omega (arith, sum, none, later_entries q items later.1)
-
-pub route_later : (i : ℕ) (leg : Leg) (route : List ℕ) → IsLater (takes_route i leg route)
-route_later i (Seek version partition) route = (tt, refl, λ q. refl)
-route_later i (Exit port) route = (tt, refl, λ q. refl)
+pub route_later : (i : ℕ) (leg : Leg) (route : List ℕ) → IsInStep (takes_route i leg route)
+route_later i (Seek version partition) route = tt
+route_later i (Exit port) route = tt
 
 pub end_later : (at : Standing) (decision : Decision) (onward : Next)
-    → IsLater (end_of at decision onward)
-end_later at decision next.Dropped = (tt, refl, λ q. refl)
-end_later at decision (next.Out port) = (tt, refl, λ q. refl)
+    → IsInStep (end_of at decision onward)
+end_later at decision next.Dropped = tt
+end_later at decision (next.Out port) = tt
 end_later at decision (next.Exit tunnel) = route_later at.packet tunnel.leg tunnel.route
-end_later at decision (next.Stuck cause) = (tt, refl, λ q. refl)
+end_later at decision (next.Stuck cause) = tt
 
 pub decided_later : (number : ℕ) (at : Standing) (decision : Decision) (message : Option Message)
     (onward : Next)
-    → AreLater (decided_items at decision (sent_from number (messages_in message)) onward)
+    → AreInStep (decided_items at decision (sent_from number (messages_in message)) onward)
 unfolding sent_from
 decided_later number at decision None onward =
-    ((tt, refl, λ q. refl), (end_later at decision onward, tt))
+    (tt, (end_later at decision onward, tt))
 decided_later number at decision (Some message) onward =
-    ((tt, refl, λ q. refl), ((tt, refl, λ q. refl), (end_later at decision onward, tt)))
+    (tt, (tt, (end_later at decision onward, tt)))
 
 pub answer_later : (number : ℕ) (at : Standing) (what : Answer)
-    → AreLater (answer_items number at what)
+    → AreInStep (answer_items number at what)
 answer_later number at (answer.Decided decision cache onward) =
     decided_later number at decision (cache_message at.ingress cache) onward
 answer_later number at (answer.Seek tunnel) =
     (route_later at.packet tunnel.leg tunnel.route, tt)
-answer_later number at (answer.Stuck cause leg) = ((tt, refl, λ q. refl), tt)
+answer_later number at (answer.Stuck cause leg) = (tt, tt)
 
 pub arrived_later : (number : ℕ) (at : Standing) (t : Traveller) (what : Arrived)
-    → AreLater (arrived_items number at t what)
-arrived_later number at t (arrived.Out port) = ((tt, refl, λ q. refl), tt)
+    → AreInStep (arrived_items number at t what)
+arrived_later number at t (arrived.Out port) = (tt, tt)
 arrived_later number at t (arrived.Answered what) = answer_later number at what
 
 -- ---- none moves the packet on

@@ -1,6 +1,5 @@
 pub mod Played
 pub mod Words
-pub mod Steps
 pub mod Calmness
 pub mod Losing
 pub mod Tying
@@ -27,7 +26,6 @@ pub mod Goings
 pub mod Later
 pub mod Incoming
 pub mod OverParts
-pub mod Marked
 pub mod Posting
 pub mod OneItem
 pub mod Frame

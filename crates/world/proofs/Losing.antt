@@ -17,7 +17,7 @@ use Rattle.packet_laws.proofs.Words.{words_grow}
 use Rattle.world.specs.State.{AreTied, Control, traveller_in}
 use Rattle.world.specs.Travelling.{Travellers, WithOne, traveller}
 use Rattle.world.proofs.Played.{played_calm}
-use Rattle.world.proofs.Tying.{idle, tied_silent}
+use Rattle.world.proofs.Tying.{switches_stay, tied_silent}
 use Rattle.world.proofs.Words.{calm_traveller, traveller_by, words_along}
 
 -- a row tells nothing of a packet
@@ -83,10 +83,11 @@ lost control setting journal switches before after count row i tied may travelli
           (item.Lost i ∷ []) tied (record {
             may = may;
             piece_is = is;
-            one_row = (tt, tt);
             sends = tt;
             as_many = refl;
-            calls = λ s d there. idle setting journal switches s d (tied.each s d there);
+            each = switches_stay control setting journal switches before count
+                (item.Row row (Lose i) ∷ item.Lost i ∷ []) tied (λ s. (refl, (refl, tt)))
+                (λ s. (refl, (refl, tt)));
             travels = λ q. without q
                 ∙ ap (λ x. if q == i then None else x)
                 (tied.packet q ∙ calm_traveller setting journal calm q)
@@ -125,10 +126,11 @@ not_lost control setting journal switches before after count row i tied may rest
           (item.Nothing ∷ []) tied (record {
             may = may;
             piece_is = is;
-            one_row = (tt, tt);
             sends = tt;
             as_many = refl;
-            calls = λ s d there. idle setting journal switches s d (tied.each s d there);
+            each = switches_stay control setting journal switches before count
+                (item.Row row (Lose i) ∷ item.Nothing ∷ []) tied (λ s. (refl, (refl, tt)))
+                (λ s. (refl, (refl, tt)));
             travels = λ q. without q
                 ∙ ap (λ x. if q == i then None else x)
                 (tied.packet q ∙ calm_traveller setting journal calm q)

@@ -11,7 +11,7 @@ use Rattle.bag.proofs.Numbered.{length_changed, numbered_changed, numbered_pushe
 use Rattle.ctrl_msg.specs.declared.message.Message.{Message}
 use Rattle.journal.specs.declared.item.Item.{Item}
 use Rattle.journal.specs.declared.item.Item.TheVariants as item
-use Rattle.update_machine.specs.Concerns.{NoneConcern, concerns_message, concerns_messages, concerns_switch}
+use Rattle.update_machine.specs.Concerns.{NoneConcern, concerns_known, concerns_message, concerns_messages}
 use Rattle.update_machine.specs.Folds.{count_of, last_told}
 use Rattle.update_machine.specs.Laws.{MessageKeeps}
 use Rattle.update_machine.specs.Messages.{is_forgotten, is_forgetting, is_delivery, is_sending, message_of, next_message, tells_message, was_delivered}
@@ -271,7 +271,8 @@ bag_forgotten before posts k posted_it bag =
 
 -- ---- items of packets
 
--- the items concern no switch, and the messages that they send are numbered from this number
+-- the items concern no switch and no link, and the messages that they send are numbered from this
+-- number
 abbrev pub SendFrom : ℕ → List Item → Type 0
 SendFrom number [] = ⊤
 SendFrom number (item.Sent n message ∷ items) = (n ≡ number) × SendFrom (number + 1) items
@@ -281,6 +282,7 @@ SendFrom number (item.Expired switch place message ∷ items) = ⊥
 SendFrom number (item.Down switch ∷ items) = ⊥
 SendFrom number (item.Booted switch boot ∷ items) = ⊥
 SendFrom number (item.Opened switch version ∷ items) = ⊥
+SendFrom number (item.LinkIs one two up ∷ items) = ⊥
 SendFrom number (_ ∷ items) = SendFrom number items
 
 -- what they post
@@ -289,19 +291,20 @@ posts_in [] = []
 posts_in (item.Sent n message ∷ items) = posted message ∷ posts_in items
 posts_in (_ ∷ items) = posts_in items
 
-pub apart_switch : (s number : ℕ) (before items : List Item) → SendFrom number items
-    → NoneConcern (concerns_switch s) before items
-apart_switch s number before [] of = tt
-apart_switch s number before (item.Sent n message ∷ items) of =
-    (refl, apart_switch s (number + 1) (before ++ item.Sent n message ∷ []) items of.1)
-apart_switch s number before (item.Delivered n ∷ items) of = absurd of
-apart_switch s number before (item.Forgotten n ∷ items) of = absurd of
-apart_switch s number before (item.Expired switch place message ∷ items) of = absurd of
-apart_switch s number before (item.Down switch ∷ items) of = absurd of
-apart_switch s number before (item.Booted switch boot ∷ items) of = absurd of
-apart_switch s number before (item.Opened switch version ∷ items) of = absurd of
-apart_switch s number before (x ∷ items) of =
-    (refl, apart_switch s number (before ++ x ∷ []) items of)
+pub apart_known : (s number : ℕ) (before items : List Item) → SendFrom number items
+    → NoneConcern (concerns_known s) before items
+apart_known s number before [] of = tt
+apart_known s number before (item.Sent n message ∷ items) of =
+    (refl, apart_known s (number + 1) (before ++ item.Sent n message ∷ []) items of.1)
+apart_known s number before (item.Delivered n ∷ items) of = absurd of
+apart_known s number before (item.Forgotten n ∷ items) of = absurd of
+apart_known s number before (item.Expired switch place message ∷ items) of = absurd of
+apart_known s number before (item.Down switch ∷ items) of = absurd of
+apart_known s number before (item.Booted switch boot ∷ items) of = absurd of
+apart_known s number before (item.Opened switch version ∷ items) of = absurd of
+apart_known s number before (item.LinkIs one two up ∷ items) of = absurd of
+apart_known s number before (x ∷ items) of =
+    (refl, apart_known s number (before ++ x ∷ []) items of)
 
 -- behind an item that concerns no message
 bag_next : (before items : List Item) (item : Item) (posts more : List Post)
@@ -342,6 +345,7 @@ bag_sends number before (item.Expired switch place message ∷ items) posts of i
 bag_sends number before (item.Down switch ∷ items) posts of is bag = absurd of
 bag_sends number before (item.Booted switch boot ∷ items) posts of is bag = absurd of
 bag_sends number before (item.Opened switch version ∷ items) posts of is bag = absurd of
+bag_sends number before (item.LinkIs one two up ∷ items) posts of is bag = absurd of
 bag_sends number before (x ∷ items) posts of is bag =
     bag_next before items x posts (posts_in items) refl number
     (λ next more. bag_sends number (before ++ x ∷ []) items posts of next more) is bag

@@ -1,9 +1,13 @@
 -- A world in which nothing happened yet is as its journal says.
 use Rattle.std.proofs.Common.{ℕ, ◌≡◌, ◌<◌, ◌≤◌, List, [], ◌∷◌, refl, ap, sym, subst, ◌∙◌, length, map, get_or, arith, All}
-use Rattle.std.specs.Prelude.{Ok, IsOk}
+use Rattle.std.specs.Prelude.{Ok, IsOk, Some}
 use Rattle.std.specs.List.{range_with_len}
 use Rattle.std.proofs.lemmas.List.Elements.{All-nil}
 use Rattle.std.proofs.lemmas.List.FromFn.{get_or-map-range_with_len, length-map-range_with_len}
+use Rattle.control_ties.specs.Controller.{IsControllerOf, IsPlanOfFile}
+use Rattle.control_ties.proofs.CallerLemmas.{begins}
+use Rattle.controller.specs.Controller.{ControllerValue, first_controller}
+use Rattle.controller.specs.Plan.{PlanValue}
 use Rattle.net_file.specs.Net.{IsNet}
 use Rattle.net_file.specs.declared.net.Net.{Net}
 use Rattle.partition.specs.Plan.{Placed, plan_of}
@@ -15,16 +19,13 @@ use Rattle.update_machine.specs.Packets.{next_packet, travels}
 use Rattle.update_machine.specs.Played.{IsSetting, MayPlay, NamesOwnPort}
 use Rattle.update_machine.specs.Setting.{Setting, plan_of_file, setting_of}
 use Rattle.update_machine.specs.Steps.{steps_in}
-use Rattle.version_update.specs.Marks.{MarksValue, first_marks}
 use Rattle.packet_laws.specs.Calm.{IsCalm, first_plan, first_policy}
 use Rattle.packet_laws.proofs.Plans.{begun}
 use Rattle.packet_laws.proofs.Calm.{calm}
-use Rattle.world.specs.Marks.{AreMarksOf}
 use Rattle.world.specs.State.{AreTied, switch_begun, traveller_in}
 use Rattle.update_machine.proofs.CallerLemmas.{start_laws}
 use Rattle.world.proofs.Posting.{bag_begun}
 use Rattle.world.proofs.Calmness.{calm_switch_of}
-use Rattle.world.proofs.Marked.{marks_begun}
 
 planned_first : (net : Net) (policies : List (List Row)) → 1 ≤ length policies
     → plan_of_file (setting_of net policies) 1 ≡ plan_of (get_or policies 0 []) net
@@ -60,24 +61,35 @@ first_of setting policies net plan planned first is =
     sym planned ∙ ap (λ rows. plan_of rows net) (sym first) ∙ is in
     cc
 
-pub begun_tied : (net : Net) (policies : List (List Row)) (plan : List Placed)
-    (switches : List SwitchValue) (marks : MarksValue) → IsNet net
+-- the controller's plan is that of the first file
+of_first : (net : Net) (policies : List (List Row)) (plan : PlanValue) → 1 ≤ length policies
+    → plan.policy ≡ get_or policies 0 [] → plan_of (get_or policies 0 []) net ≡ Ok plan.placed
+    → IsPlanOfFile (setting_of net policies) 1 plan
+of_first net [] plan some own is = absurd (omega arith)
+of_first net (rows ∷ policies) plan some own is = record {
+  policy = ap Some (sym own);
+  placed = ap (λ these. plan_of these net) own ∙ is;
+}
+
+pub begun_tied : (net : Net) (policies : List (List Row)) (plan : PlanValue)
+    (switches : List SwitchValue) (controller : ControllerValue) → IsNet net
     → 1 ≤ length policies → All IsPolicy policies
     → All (All (λ row. NamesOwnPort (setting_of net policies) row.action)) policies
-    → plan_of (get_or policies 0 []) net ≡ Ok plan
-    → switches ≡ map (switch_begun net plan) (range_with_len 0 (length net.switches))
-    → marks ≡ first_marks (length net.switches)
+    → plan.policy ≡ get_or policies 0 [] → plan_of (get_or policies 0 []) net ≡ Ok plan.placed
+    → switches ≡ map (switch_begun net plan.placed) (range_with_len 0 (length net.switches))
+    → controller ≡ first_controller (length net.switches) plan
     → AreTied (setting_of net policies) [] switches [] 0
-    (record { marks = marks; posts = [] })
+    (record { controller = controller; posts = [] })
 unfolding AreTied traveller_in travels next_packet
-begun_tied net policies plan switches marks sound some rows ports is made marked =
+begun_tied net policies plan switches controller sound some rows ports of_policy is made first_is =
     let setting : Setting = setting_of net policies in
-    let own : IsSetting setting = setting_begun net policies plan sound some rows ports is in
-    let first : first_plan setting ≡ plan = first_of setting policies net plan
+    let own : IsSetting setting = setting_begun net policies plan.placed sound some rows ports is in
+    let first : first_plan setting ≡ plan.placed = first_of setting policies net plan.placed
     (begun setting own).planned (begun setting own).first is in
     let quiet : IsCalm setting [] = calm setting [] sound tt in
     let many : length switches ≡ length net.switches =
-    ap length made ∙ length-map-range_with_len (switch_begun net plan) 0 (length net.switches) in
+    ap length made
+    ∙ length-map-range_with_len (switch_begun net plan.placed) 0 (length net.switches) in
     record {
       sound = own;
       played = record {
@@ -90,8 +102,8 @@ begun_tied net policies plan switches marks sound some rows ports is made marked
       each = λ s d there.
           let own : s < length net.switches = omega (arith, there, many) in
           ap (λ all. get_or all s d) made
-          ∙ get_or-map-range_with_len (switch_begun net plan) 0 (length net.switches) s s d own
-          (omega arith)
+          ∙ get_or-map-range_with_len (switch_begun net plan.placed) 0 (length net.switches) s s d
+          own (omega arith)
           ∙ sym (calm_switch_of setting [] quiet s own ∙ rw (
             start_laws.cache setting s,
             none_handled s,
@@ -99,6 +111,7 @@ begun_tied net policies plan switches marks sound some rows ports is made marked
           ) refl);
       packet = λ i. refl;
       counted = refl;
-      marks = subst (AreMarksOf setting []) (sym marked) (marks_begun setting);
+      controller = subst (IsControllerOf setting []) (sym first_is)
+          (begins setting plan (of_first net policies plan some of_policy is));
       bag = bag_begun;
     }

@@ -1,38 +1,58 @@
 -- One more step keeps the tie of a world to its journal.
-use Rattle.std.proofs.Common.{ℕ, ◌≡◌, ◌+◌, ◌<◌, refl, List, [], ◌∷◌, ◌++◌, ap, sym, append-nil, subst, ◌∙◌, length, get_or, min, arith}
+use Rattle.std.proofs.Common.{ℕ, ◌≡◌, ◌≢◌, ◌+◌, ◌<◌, ◌==◌, Bool, true, false, refl, List, [], ◌∷◌, ◌++◌, ap, sym, append-nil, subst, ◌∙◌, length, get_or, set, arith, eq-eqb, eqb-true}
+use Rattle.std.specs.Prelude.{IsFalse}
+use Rattle.std.proofs.lemmas.List.{get_or-set_other, get_or-set_same}
 use Rattle.bag.specs.Posts.{Post}
+use Rattle.control_ties.specs.Controller.{IsControllerOf}
+use Rattle.control_ties.proofs.CallerLemmas.{steps_leave}
 use Rattle.journal.specs.declared.item.Item.{Item}
 use Rattle.journal.specs.declared.item.Item.TheVariants as item
+use Rattle.settle_laws.specs.Steps.{is_for_controller}
 use Rattle.steps.specs.declared.step.Step.{Step}
+use Rattle.steps.specs.declared.step.Step.TheVariants.{Confirm, Deliver, Update}
 use Rattle.switch_core.specs.State.{SwitchValue}
-use Rattle.switch_table.specs.Cache.{CacheValue}
-use Rattle.update_machine.specs.Caches.{cache_of}
+use Rattle.switch_ties.specs.SwitchOf.{switch_of}
+use Rattle.switch_ties.proofs.Links.{kept_is}
+use Rattle.update_machine.specs.Concerns.{NoneConcern, concerns_calls, concerns_known}
 use Rattle.update_machine.specs.Folds.{count_of}
-use Rattle.update_machine.specs.Handled.{handled_count, most_handled}
 use Rattle.update_machine.specs.Messages.{next_message}
 use Rattle.update_machine.specs.Packets.{is_packet, next_packet}
 use Rattle.update_machine.specs.Pieces.{piece}
-use Rattle.update_machine.specs.Played.{IsPlayed, MayPlay}
+use Rattle.update_machine.specs.Played.{IsPlayed, IsPlayedKind, MayPlay}
 use Rattle.update_machine.specs.Setting.{Setting}
-use Rattle.update_machine.proofs.CallerLemmas.{count_of_append, switch_keeps}
-use Rattle.packet_laws.specs.Calm.{IsCalm}
+use Rattle.update_machine.proofs.CallerLemmas.{count_of_append}
+use Rattle.packet_laws.specs.Calm.{HasPacketsAlone, IsCalm}
 use Rattle.packet_laws.specs.Words.{words_of}
-use Rattle.world.specs.State.{AreTied, Control, IsBagOf, switch_of}
+use Rattle.packet_laws.proofs.Calm.{apart_controller}
+use Rattle.world.specs.State.{AreTied, Control, IsBagOf}
 use Rattle.world.specs.Travelling.{Travellers, traveller}
-use Rattle.world.proofs.Calmness.{calm_switch, calm_switch_of}
-use Rattle.world.proofs.Marked.{apart_played, marks_on}
-use Rattle.world.proofs.Played.{played_calm}
-use Rattle.world.proofs.Posting.{SendFrom, apart_switch, bag_sends, posts_in}
-use Rattle.world.proofs.Steps.{NoRows, calls_in, handled_more, played_more}
+use Rattle.world.proofs.Played.{played_alone, played_calm, played_caused, played_more}
+use Rattle.world.proofs.Posting.{SendFrom, bag_sends, posts_in}
 use Rattle.world.proofs.Words.{calm_traveller, traveller_by, words_all, words_along}
 
--- the switch answered some more calls
-abbrev pub with_calls : ℕ → SwitchValue → SwitchValue
-with_calls calls s = record s { handled = min most_handled (s.handled + calls) }
+-- where one switch became what it is now, and another one stays if it isn't that one
+pub one_changes : (setting : Setting) (journal after : List Item) (switches : List SwitchValue)
+    (s q : ℕ) (changed d : SwitchValue) (b : Bool) → (s == q) ≡ b → s < length switches
+    → changed ≡ switch_of setting after s
+    → ((s == q) ≡ false → switch_of setting after q ≡ switch_of setting journal q)
+    → get_or switches q d ≡ switch_of setting journal q
+    → get_or (set switches s changed) q d ≡ switch_of setting after q
+one_changes setting journal after switches s q changed d true is there own others its =
+    subst (λ k. get_or (set switches s changed) k d ≡ switch_of setting after k) (eqb-true s q is)
+    (get_or-set_same switches s changed d there ∙ own)
+one_changes setting journal after switches s q changed d false is there own others its =
+    let other : q ≢ s = λ e. let yes : (s == q) ≡ true = eq-eqb s q (sym e) in cc in
+    get_or-set_other switches s q changed d other ∙ its ∙ sym (others is)
 
--- and has this cache
-abbrev pub behind : ℕ → CacheValue → SwitchValue → SwitchValue
-behind calls cache s = record (with_calls calls s) { cache = cache }
+-- the controller is told nothing
+not_told : (setting : Setting) (journal : List Item) (step : Step)
+    → HasPacketsAlone setting journal → IsPlayedKind step
+    → IsFalse (is_for_controller journal step)
+not_told setting journal (Deliver n) alone kind =
+    apart_controller setting journal (item.Delivered n) alone tt
+not_told setting journal (Update file) alone kind = absurd kind
+not_told setting journal (Confirm s) alone kind = absurd kind
+not_told setting journal _ alone kind = refl
 
 -- what a step writes, and what the switches, the packets on their way and the messages are behind
 -- it
@@ -41,11 +61,9 @@ pub record IsTaken (setting : Setting) (journal : List Item) (row : ℕ) (step :
     (posts : List Post) : Type 0 where
   pub may : MayPlay setting step
   pub piece_is : piece setting journal row step ≡ item.Row row step ∷ items
-  pub one_row : NoRows items
   pub as_many : length others ≡ length switches
-  pub each : (s : ℕ) (d : SwitchValue) → s < length switches → get_or others s d
-      ≡ behind (calls_in s journal (item.Row row step ∷ items))
-      (cache_of setting (journal ++ item.Row row step ∷ items) s) (get_or switches s d)
+  pub each : (s : ℕ) (d : SwitchValue) → s < length switches
+      → get_or others s d ≡ switch_of setting (journal ++ item.Row row step ∷ items) s
   pub travels : (i : ℕ) → traveller after i
       ≡ traveller_by setting i
       (words_along i journal (item.Row row step ∷ items) (words_of journal i))
@@ -56,12 +74,11 @@ pub record Steps (setting : Setting) (journal : List Item) (row : ℕ) (step : S
     (items : List Item) (switches others : List SwitchValue) (after : Travellers) : Type 0 where
   pub may : MayPlay setting step
   pub piece_is : piece setting journal row step ≡ item.Row row step ∷ items
-  pub one_row : NoRows items
-  -- the messages that it sends have the next numbers, and no switch's cache changes
+  -- the messages that it sends have the next numbers
   pub sends : SendFrom (next_message journal) items
   pub as_many : length others ≡ length switches
-  pub calls : (s : ℕ) (d : SwitchValue) → s < length switches → get_or others s d
-      ≡ with_calls (calls_in s journal (item.Row row step ∷ items)) (get_or switches s d)
+  pub each : (s : ℕ) (d : SwitchValue) → s < length switches
+      → get_or others s d ≡ switch_of setting (journal ++ item.Row row step ∷ items) s
   pub travels : (i : ℕ) → traveller after i
       ≡ traveller_by setting i
       (words_along i journal (item.Row row step ∷ items) (words_of journal i))
@@ -96,31 +113,23 @@ tied_taken control more setting journal switches others before after count next 
     let new : List Item = journal ++ item.Row row step ∷ items in
     let played : IsPlayed setting new =
     played_on setting journal row step items tied.played taken.may taken.piece_is in
-    let calm : IsCalm setting journal = played_calm setting journal tied.sound tied.played in
     let calmer : IsCalm setting new = played_calm setting new tied.sound played in
     record {
       sound = tied.sound;
       played = played;
       many = taken.as_many ∙ tied.many;
-      each = λ s d there.
-          let was : s < length switches = omega (arith, there, taken.as_many) in
-          let own : s < length setting.net.switches = omega (arith, was, tied.many) in
-          let cache : CacheValue = cache_of setting new s in
-          let calls : ℕ = calls_in s journal (item.Row row step ∷ items) in
-          taken.each s d was
-          ∙ ap (behind calls cache)
-          (tied.each s d was ∙ calm_switch_of setting journal calm s own)
-          ∙ ap (λ handled. calm_switch setting cache handled s)
-          (sym (handled_more s journal row step items taken.one_row))
-          ∙ sym (calm_switch_of setting new calmer s own);
+      each = λ s d there. taken.each s d (omega (arith, there, taken.as_many));
       packet = λ i. taken.travels i
           ∙ ap (traveller_by setting i)
           (sym (words_all i journal (item.Row row step ∷ items)))
           ∙ sym (calm_traveller setting new calmer i);
       counted = next_on journal (item.Row row step ∷ items) count next tied.counted counted;
-      marks = marks_on setting journal (item.Row row step ∷ items) control.marks
-          (apart_played setting journal (item.Row row step ∷ items) tied.sound tied.played played)
-          tied.marks;
+      controller = subst (λ more. IsControllerOf setting (journal ++ more) control.controller)
+          taken.piece_is
+          (steps_leave setting journal row step control.controller
+          (played_caused setting journal tied.played)
+          (not_told setting journal step (played_alone setting journal tied.sound tied.played)
+          taken.may.kind) tied.controller);
       bag = taken.bag;
     }
 
@@ -133,19 +142,6 @@ unfolding AreTied
 numbered control setting journal switches before count tied = tied.bag.many
 
 -- ---- a step of packets
-
--- a switch whose cache is as the journal says has it behind such a step
-cache_stays : (setting : Setting) (journal : List Item) (row : ℕ) (step : Step)
-    (items : List Item) (s : ℕ) → SendFrom (next_message journal) items
-    → cache_of setting (journal ++ item.Row row step ∷ items) s ≡ cache_of setting journal s
-cache_stays setting journal row step items s sends =
-    (switch_keeps setting s journal (item.Row row step ∷ items)
-    (apart_switch s (next_message journal) journal (item.Row row step ∷ items) sends)).cache
-
-own_cache : (setting : Setting) (journal : List Item) (s : ℕ)
-    → (switch_of setting journal s).cache ≡ cache_of setting journal s
-unfolding switch_of
-own_cache setting journal s = λ i. cache_of setting journal s
 
 pub tied_more : (control : Control) (setting : Setting)
     (journal : List Item) (switches others : List SwitchValue) (before after : Travellers)
@@ -163,15 +159,8 @@ tied_more control setting journal switches others before after count next row st
     (record {
       may = steps.may;
       piece_is = steps.piece_is;
-      one_row = steps.one_row;
       as_many = steps.as_many;
-      each = λ s d there.
-          let calls : ℕ = calls_in s journal (item.Row row step ∷ items) in
-          let kept : (get_or switches s d).cache
-          ≡ cache_of setting (journal ++ item.Row row step ∷ items) s =
-          ap (λ (w : SwitchValue). w.cache) (tied.each s d there) ∙ own_cache setting journal s
-          ∙ sym (cache_stays setting journal row step items s steps.sends) in
-          steps.calls s d there ∙ ap (λ cache. behind calls cache (get_or switches s d)) kept;
+      each = steps.each;
       travels = steps.travels;
       bag = bag_sends (next_message journal) journal (item.Row row step ∷ items) control.posts
           steps.sends
@@ -194,19 +183,16 @@ tied_silent control setting journal switches others before after count next row 
     (tied_more control setting journal switches others before after count next row step items tied
     steps counted)
 
--- ---- a switch that answers no call
+-- ---- switches that a step leaves
 
-pub idle_count : (journal : List Item) (s : ℕ)
-    → handled_count journal s ≡ min most_handled (handled_count journal s + 0)
-unfolding handled_count
-idle_count journal s = omega arith
-
-pub idle : (setting : Setting) (journal : List Item) (switches : List SwitchValue)
-    (s : ℕ) (d : SwitchValue) → get_or switches s d ≡ switch_of setting journal s
-    → get_or switches s d ≡ with_calls 0 (get_or switches s d)
-unfolding switch_of
-idle setting journal switches s d is =
-    is
-    ∙ ap (λ handled. record (switch_of setting journal s) { handled = handled })
-    (idle_count journal s)
-    ∙ ap (with_calls 0) (sym is)
+-- those that the items don't concern
+pub switches_stay : (control : Control) (setting : Setting) (journal : List Item)
+    (switches : List SwitchValue) (before : Travellers) (count : ℕ) (items : List Item)
+    → AreTied setting journal switches before count control
+    → ((s : ℕ) → NoneConcern (concerns_known s) journal items)
+    → ((s : ℕ) → NoneConcern (concerns_calls s) journal items)
+    → (s : ℕ) (d : SwitchValue) → s < length switches
+    → get_or switches s d ≡ switch_of setting (journal ++ items) s
+unfolding AreTied
+switches_stay control setting journal switches before count items tied none calls s d there =
+    tied.each s d there ∙ sym (kept_is setting s journal items (none s) (calls s))

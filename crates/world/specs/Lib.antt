@@ -3,4 +3,3 @@ pub mod State
 pub mod Writing
 pub mod Packets
 pub mod Parts
-pub mod Marks

@@ -23,7 +23,7 @@ pub record AreSound (parts : Parts) : Type 0 where
   pub masks : AreNear parts.net parts.near
 
 abbrev pub control_in : Parts → Control
-control_in parts = record { marks = parts.controller.marks; posts = parts.log.bag }
+control_in parts = record { controller = parts.controller; posts = parts.log.bag }
 
 -- the parts are as their journal says
 abbrev pub AreTiedIn : Parts → Type 0

@@ -1,13 +1,12 @@
--- A world as contracts see it, and what its journal says of it: what each switch is, and where each
--- packet that travels is on its way.
-use Rattle.std.specs.Prelude.{ℕ, ◌≡◌, ◌+◌, ◌<◌, Bool, false, map, slice_index, ◌==◌, if◌then◌else◌, Option, Some, None, option_map, unwrap_or, List, [], ◌∷◌, ◌++◌, filter, filter_map, fold, length, slice_index_or}
-use Rattle.std.specs.List.{list_any, range_with_len}
+-- A world as contracts see it, and what its journal says of it: where each packet that travels is
+-- on its way, and what became of each message.
+use Rattle.std.specs.Prelude.{ℕ, ◌≡◌, ◌+◌, ◌<◌, Bool, false, map, slice_index, if◌then◌else◌, Option, Some, None, option_map, unwrap_or, List, [], length, slice_index_or}
+use Rattle.std.specs.List.{range_with_len}
 use Rattle.bag.specs.Numbered.{numbered}
 use Rattle.bag.specs.Posts.{Post}
 use Rattle.controller.specs.Controller.{ControllerValue, first_controller}
 use Rattle.controller.specs.Plan.{PlanValue}
-use Rattle.ctrl_msg.specs.declared.message.Body.{Body}
-use Rattle.ctrl_msg.specs.declared.message.Body.TheVariants.{Install, Collect}
+use Rattle.control_ties.specs.Controller.{IsControllerOf}
 use Rattle.policy_rules.specs.declared.packet.Leg.{Leg}
 use Rattle.policy_rules.specs.declared.packet.Leg.TheVariants.{Exit}
 use Rattle.policy_rules.specs.declared.policy.Row.{Row}
@@ -19,20 +18,13 @@ use Rattle.steps.specs.declared.step.Step.{Step}
 use Rattle.steps.specs.declared.step.Step.TheVariants.{Packet}
 use Rattle.switch_core.specs.State.{SwitchValue, begun}
 use Rattle.switch_table.specs.Tables.{Placed, tables_of}
-use Rattle.switch_table.specs.declared.tables.Tables.{Tables}
+use Rattle.switch_ties.specs.SwitchOf.{switch_of}
 use Rattle.tunnel.specs.Tunnel.{TunnelValue}
-use Rattle.update_machine.specs.Adverts.{adverts_known, own_seq}
-use Rattle.update_machine.specs.Boots.{boot_of, heard, is_in_first_boot, is_up, serves}
-use Rattle.update_machine.specs.Caches.{cache_of}
-use Rattle.update_machine.specs.Handled.{handled_count}
 use Rattle.update_machine.specs.Messages.{is_forgotten, message_of, next_message, was_delivered}
 use Rattle.update_machine.specs.Moves.{header_at}
 use Rattle.update_machine.specs.Packets.{decision_of, found_down, ingress_of, leg_of, next_packet, route_in, route_place, targets_of, travels}
 use Rattle.update_machine.specs.Played.{IsPlayed, IsSetting}
 use Rattle.update_machine.specs.Setting.{Setting, setting_of}
-use Rattle.update_machine.specs.Versions.{greatest, holds_version, stamp_of, tables_at}
-use Rattle.version_update.specs.Marks.{MarksValue}
-use Rattle.world.specs.Marks.{AreMarksOf}
 use Rattle.world.specs.Travelling.{Travellers, traveller}
 use Rattle.world.specs.declared.travelling.Traveller.{Traveller}
 
@@ -53,53 +45,6 @@ pub record WorldValue : Type 0 where
 -- what its journal is read against
 abbrev pub setting_at : WorldValue → Setting
 setting_at world = setting_of world.net world.policies
-
--- ---- what a switch is
-
--- the greatest version up to which the switch was told to drop tables in its boot
-abbrev pub collect_in : Body → Option ℕ
-collect_in (Collect boot version) = Some version
-collect_in _ = None
-
-abbrev pub collected_of : List Item → ℕ → ℕ
-collected_of journal s = greatest (filter_map collect_in (heard journal s))
-
--- tables that a body brings
-abbrev pub tables_in : Body → Option Tables
-tables_in (Install boot tables) = Some tables
-tables_in _ = None
-
--- in boot 1 a switch begins with the tables of version 1, otherwise with none
-abbrev pub tables_begun : Setting → List Item → ℕ → List Tables
-tables_begun setting journal s =
-    if is_in_first_boot journal s then tables_at setting journal 1 s ∷ [] else []
-
--- one more, where there is none of its version
-abbrev pub with_tables : List Tables → Tables → List Tables
-with_tables all tables =
-    if list_any (λ other. other.version == tables.version) all then all else all ++ tables ∷ []
-
--- the tables of the versions that the switch holds, in the order in which they came
-abbrev pub held_tables : Setting → List Item → ℕ → List Tables
-held_tables setting journal s =
-    filter (λ tables. holds_version journal s tables.version)
-    (fold with_tables (tables_begun setting journal s) (filter_map tables_in (heard journal s)))
-
--- what the journal says of the switch
-unfoldable pub switch_of : Setting → List Item → ℕ → SwitchValue
-switch_of setting journal s = record {
-  number = s;
-  boot = boot_of journal s;
-  is_up = is_up journal s;
-  is_open = serves journal s;
-  stamp = stamp_of journal s;
-  collected = collected_of journal s;
-  tables = held_tables setting journal s;
-  cache = cache_of setting journal s;
-  database = adverts_known setting journal s;
-  seq = own_seq setting journal s;
-  handled = handled_count journal s;
-}
 
 -- ---- where a packet is
 
@@ -154,12 +99,12 @@ pub record IsBagOf (journal : List Item) (posts : List Post) : Type 0 where
 
 -- ---- the tie
 
--- what is known in the control plane: the controller's marks, and the messages that were sent
+-- what is known in the control plane: the controller, and the messages that were sent
 pub record Control : Type 0 where
-  pub marks : MarksValue
+  pub controller : ControllerValue
   pub posts : List Post
 
--- the journal is played, and the switches, the packets on their way, the controller's marks and the
+-- the journal is played, and the switches, the packets on their way, the controller and the
 -- messages are as it says
 pub record Tied (setting : Setting) (journal : List Item) (switches : List SwitchValue)
     (travelling : Travellers) (count : ℕ) (control : Control) : Type 0 where
@@ -170,7 +115,7 @@ pub record Tied (setting : Setting) (journal : List Item) (switches : List Switc
       slice_index_or switches s d ≡ switch_of setting journal s
   pub packet : (i : ℕ) → traveller travelling i ≡ traveller_in setting journal i
   pub counted : next_packet journal ≡ count + 1
-  pub marks : AreMarksOf setting journal control.marks
+  pub controller : IsControllerOf setting journal control.controller
   pub bag : IsBagOf journal control.posts
 
 unfoldable pub AreTied : Setting → List Item → List SwitchValue → Travellers → ℕ → Control
@@ -184,7 +129,7 @@ AreTied setting journal switches travelling count control =
 abbrev pub IsTied : WorldValue → Type 0
 IsTied world =
     AreTied (setting_at world) world.journal world.switches world.travelling world.packets (record {
-      marks = world.controller.marks;
+      controller = world.controller;
       posts = world.bag;
     })
 

@@ -202,7 +202,7 @@ impl World {
     }
 
     /// As long as memory didn't run out within a step, the switches, the packets on their way, the
-    /// messages and the controller's marks are as the journal says.
+    /// messages and the controller are as the journal says.
     pub fn tied(&self)
         ensures { self.now.is_spent ≡ false → IsTied self.now }
     {

@@ -1,7 +1,6 @@
 use Rattle.std.proofs.Common.{◌≡◌, [], get_or, ap, sym, ◌∙◌, arith, rules}
 use Rattle.std.specs.Prelude.{Ok}
 use Rattle.std.proofs.lemmas.List.{get_or_default}
-use Rattle.controller.specs.Controller.{ControllerValue}
 use Rattle.partition.specs.Plan.{plan_of}
 use Rattle.world.proofs.Starting.{begun_tied}
 use Rattle.world.proofs.world.World.begin.Goals as goal
@@ -22,9 +21,9 @@ invariant_of-result c =
         c.new.ensures,
         c.new-2.ensures,
         c.new-3.ensures,
-      ) (begun_tied net policies c.in_ok-plan.plan.placed c.in_ok-switches.switches.items
-          c.in_ok-controller.controller.marks c.requires.net c.requires.some c.requires.sound
-          c.requires.ports planned
+      ) (begun_tied net policies c.in_ok-plan.plan c.in_ok-switches.switches.items
+          c.in_ok-controller.controller c.requires.net c.requires.some c.requires.sound
+          c.requires.ports (c.in_ok-plan.ensures.policy ∙ first) planned
           (c.in_ok-switches.ensures c.in_ok-plan.plan c.in_ok-controller.ensures.first)
-          (ap (λ (controller : ControllerValue). controller.marks) c.in_ok-controller.ensures.first));
+          c.in_ok-controller.ensures.first);
     }
