@@ -1,11 +1,12 @@
-//! The program's top call: it reads the words and the files, plays the schedule on a network, and
-//! writes the journal.
+//! The program's top call: it reads the words and the files, plays a schedule on a network or plans
+//! a policy for it, and writes the journal, the plan or a switch's tables.
 //!
-//! `run` carries the headline. Where it answers `Ok` there are inputs that its journal answers, is
-//! a run of the abstract machine for, and whose ends have their causes; where files are known,
-//! these are the inputs that the files state. The output gained the journal's text and nothing
-//! else. Where it answers `Full`, the same holds up to the row that it names. Each status other
-//! than want of memory comes exactly where its cause is.
+//! `run` carries the headline. Where a replay answers `Ok` there are inputs that its journal
+//! answers, is a run of the abstract machine for, and whose ends have their causes; where files are
+//! known, these are the inputs that the files state. The output gained the journal's text and
+//! nothing else. Where it answers `Full`, the same holds up to the row that it names. A plan and
+//! tables are the defined ones, and so are their lines. Each status but want of memory has its
+//! cause in a clause.
 #![tactic(auto)]
 
 mod inputs;

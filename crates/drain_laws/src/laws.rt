@@ -20,7 +20,7 @@ pub fn packets_come_in()
         → (i : ℕ) → next_packet journal ≤ i → travels journal i ≡ false }
 {}
 
-/// While it travels a packet takes few routes, at most 64 hops on each, and so at most 20,544 hops.
+/// While it travels a packet takes few routes, at most 64 times as many hops, and so at most 20,544.
 pub fn packets_take_few_hops()
     ensures routes { (setting : Setting) (journal : List Item)
         → IsSetting setting → IsPlayed setting journal

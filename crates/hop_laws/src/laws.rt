@@ -18,9 +18,9 @@ ghost use Rattle.drain_laws.specs.Hops.{detours, exits, hops_taken, most_hops, m
 ghost use Rattle.hop_laws.specs.Routes.{most_routes};
 ghost use Rattle.hop_laws.specs.Stops.{GoesOrStops};
 
-/// A packet takes few routes: each lookup on the way is one under a greater version, and there are
-/// at most 64 versions; it leaves by one port; and it finds each link of the network down once at
-/// most. So it takes at most 321 routes.
+/// A packet takes few routes: at most as many to authority switches as there are versions, which
+/// are at most 64; one to its port; and as many around links that it found down as the network has
+/// links. So it takes at most 321 routes.
 pub fn packets_take_few_routes()
     ensures raised { HoldsReached (λ setting journal. IsSetting setting
         → (i : ℕ) → searches journal i ≤ current_mark journal) }
@@ -34,7 +34,7 @@ pub fn packets_take_few_routes()
         → (i : ℕ) → routes_taken journal i ≤ most_routes) }
 {}
 
-/// While it travels a packet takes at most 64 hops on each route, and so at most 20,544 hops.
+/// While it travels a packet takes at most 64 times as many hops as routes, and so at most 20,544.
 pub fn packets_take_few_hops()
     ensures on_each { HoldsReached (λ setting journal. IsSetting setting
         → (i : ℕ) → hops_taken journal i ≤ most_switches * routes_taken journal i) }

@@ -1,9 +1,9 @@
 //! Policies as CSV text: a heading, and a record of seven fields for each row.
 //!
 //! `read_policy` promises the policy that the text states, or the first refusal in the text and its
-//! row; `write_policy` promises the policy's text, which is read back to the policy; `check_ports`
-//! finds the first row that names a port outside a set. Which bytes make a record is what the crate
-//! `csv` defines.
+//! row; `check_ports` finds the first row that names a port outside a set. `write_policy` promises
+//! the policy's text, which is read back to the policy where that has at most 2,000 rows and ports
+//! below 64. Which bytes make a record is what the crate `csv` defines.
 //!
 //! ```text
 //! fn tidy(alloc: Global, text: &[u8], ports: u64) -> anyhow::Result<Vec<u8>> {
