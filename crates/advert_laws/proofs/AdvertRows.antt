@@ -1,5 +1,5 @@
 -- Adverts of small journals, computed.
-use Rattle.std.proofs.Common.{ℕ, ◌≡◌, ◌<◌, ◌≤◌, true, false, Some, None, List, [], ◌∷◌, refl, ap, arith, inl, inr}
+use Rattle.std.proofs.Common.{ℕ, ◌≡◌, ◌<◌, ◌≤◌, true, false, Some, None, List, [], ◌∷◌, refl, ap, subst, arith, inl, inr}
 use Rattle.std.specs.Prelude.{◌==◌}
 use Rattle.std.proofs.lemmas.Bool.{eq-eqb}
 use Rattle.failover.specs.Adverts.{after_hearing, first_adverts, is_news}
@@ -9,13 +9,17 @@ use Rattle.masks.specs.Masks.{mask_of, mask_where, switches}
 use Rattle.journal.specs.declared.item.Item.{Item}
 use Rattle.journal.specs.declared.item.Item.TheVariants as item
 use Rattle.steps.specs.declared.step.Step.TheVariants as step
-use Rattle.update_machine.specs.Adverts.{advert_known, adverts_known, own_advert, own_seq}
+use Rattle.update_machine.specs.Adverts.{advert_known, adverts_known, held_adverts, own_advert, own_seq}
+use Rattle.update_machine.specs.Answers.{StepOfRow, after_steps}
 use Rattle.update_machine.specs.Boots.{boot_of, heard, is_up, serves}
+use Rattle.update_machine.specs.Deliveries.{link_changes}
 use Rattle.update_machine.specs.Links.{is_link_up, near}
-use Rattle.update_machine.specs.Messages.{message_of}
+use Rattle.update_machine.specs.Messages.{message_of, next_message, sent_from}
+use Rattle.update_machine.specs.Pieces.{link_items, piece}
 use Rattle.update_machine.specs.Steps.{steps_in}
-use Rattle.update_machine.proofs.Examples.{advert, open_net, to, two_switches}
+use Rattle.update_machine.proofs.Examples.{advert, at, open_net, to, two_switches}
 use Rattle.advert_laws.specs.Adverts.{AdvertsAreOfSwitches, IsNoNewer, IsOverLinks, LinksAreThere, NamesLinks, OwnAreNewest}
+use Rattle.advert_laws.proofs.BothCauses.{behind_both}
 use Rattle.advert_laws.proofs.NetLinks.{linked_by_mask, links_there}
 use Rattle.advert_laws.proofs.Newest.{own_newest}
 
@@ -95,13 +99,33 @@ old_is_older : IsNoNewer open_net again (told 1 7 2)
 unfolding own_advert own_seq near is_link_up serves is_up boot_of steps_in mask_of mask_where switches
 old_is_older = record { boot = omega arith; own = λ up. inr refl }
 
--- ---- nothing is wrong at first; journals in which such adverts were sent
+-- ---- behind a link that failed and came back nothing is wrong
 
-linked_at_first : LinksAreThere open_net []
-linked_at_first = links_there open_net [] tt
+abbrev back : List Item
+back =
+    item.Row 1 (step.LinkDown 0 1) ∷ item.LinkIs 0 1 false ∷ item.Row 2 (step.LinkUp 0 1)
+    ∷ item.LinkIs 0 1 true ∷ item.Sent 1 (to 1 (advert 0 1 3 2))
+    ∷ item.Sent 2 (to 1 (advert 1 1 1 1)) ∷ item.Sent 3 (to 0 (advert 0 1 1 2))
+    ∷ item.Sent 4 (to 0 (advert 1 1 3 1)) ∷ []
 
-newest_at_first : OwnAreNewest open_net []
-newest_at_first = own_newest open_net [] tt
+abbrev its_steps : List StepOfRow
+its_steps = at 1 (step.LinkDown 0 1) ∷ at 2 (step.LinkUp 0 1) ∷ []
+
+written : after_steps open_net [] its_steps ≡ back
+unfolding piece link_items link_changes held_adverts adverts_known own_advert own_seq near
+    is_link_up serves is_up boot_of heard steps_in next_message sent_from first_adverts
+    after_hearing is_news has mask_where switches mask_of
+written = refl
+
+linked_once_back : LinksAreThere open_net back
+linked_once_back = subst (LinksAreThere open_net) written
+    ((behind_both LinksAreThere links_there).stepped open_net its_steps)
+
+newest_once_back : OwnAreNewest open_net back
+newest_once_back = subst (OwnAreNewest open_net) written
+    ((behind_both OwnAreNewest own_newest).stepped open_net its_steps)
+
+-- ---- journals in which wrong adverts were sent
 
 unlinked : LinksAreThere open_net (item.Sent 1 (to 1 (advert 0 1 1 4)) ∷ []) → ⊥
 unfolding message_of

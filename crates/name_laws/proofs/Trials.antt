@@ -1,10 +1,17 @@
 -- What messages name, computed on a network of two switches with one version.
-use Rattle.std.proofs.Common.{[], ◌∷◌, refl, arith}
+use Rattle.std.proofs.Common.{ℕ, ◌≡◌, ◌==◌, ◌&&◌, Bool, true, false, if◌then◌else◌, Some, None, List, [], ◌∷◌, ◌++◌, refl, subst, arith}
+use Rattle.std.specs.List.{AllByRecursion}
+use Rattle.std.specs.Option.{option_map_or}
+use Rattle.std.proofs.lemmas.Bool.{eqb-true}
+use Rattle.std.proofs.lemmas.List.Elements.{All-from_recursion}
+use Rattle.ctrl_msg.specs.declared.message.Body.{Body}
 use Rattle.ctrl_msg.specs.declared.message.Body.TheVariants.{OpenAt, Stamp, Hello, Installed}
+use Rattle.ctrl_msg.specs.declared.message.Message.{Message}
 use Rattle.ctrl_msg.specs.declared.message.Receiver.TheVariants as receiver
+use Rattle.journal.specs.declared.item.Item.{Item}
 use Rattle.journal.specs.declared.item.Item.TheVariants as item
 use Rattle.update_machine.specs.Deliveries.{to_controller}
-use Rattle.update_machine.specs.Boots.{heard}
+use Rattle.update_machine.specs.Boots.{boot_of, heard, is_up}
 use Rattle.update_machine.specs.Marks.{controller_heard}
 use Rattle.update_machine.specs.Messages.{message_of}
 use Rattle.update_machine.specs.Settling.{to_switch}
@@ -49,16 +56,41 @@ addressed_to_second = (omega arith, refl)
 not_addressed_to_third : IsAddressed open_net (receiver.Switch 2) (Stamp 1 9) → ⊥
 not_addressed_to_third addressed = absurd (omega (arith, addressed.0))
 
--- ---- whole journals: nothing was said at first; a message to a third switch names none
+-- ---- whole journals: a stamp was sent to the second switch, which heard it
 
-at_first : BodiesNameThere open_net []
-unfolding message_of heard controller_heard
-at_first = record {
-  sent = λ n message is. absurd cc;
-  heard = λ s k body inside. absurd (omega (arith, inside));
+abbrev stamped : List Item
+stamped = item.Sent 1 (to_switch 1 (Stamp 1 1)) ∷ item.Delivered 1 ∷ []
+
+its_names : NamesThere open_net stamped (to_switch 1 (Stamp 1 1))
+unfolding version_count
+its_names = record { addressed = (omega arith, refl); version = (omega arith, omega arith) }
+
+name_there : BodiesNameThere open_net stamped
+unfolding message_of heard is_up boot_of controller_heard
+name_there = record {
+  sent = λ n message is. by_number (1 == n) message is;
+  heard = λ s. All-from_recursion (Names s) (heard stamped s) (by_switch s (1 == s) refl);
   told = λ k body inside. absurd (omega (arith, inside));
 }
+  where
+    Names : ℕ → Body → Type 0
+    Names s body = NamesThere open_net stamped (to_switch s body)
 
+    by_number : (b : Bool) (message : Message)
+        → (if b then Some (to_switch 1 (Stamp 1 1)) else None) ≡ Some message
+        → NamesThere open_net stamped message
+    by_number true message is =
+        let own : to_switch 1 (Stamp 1 1) ≡ message = cc in
+        subst (NamesThere open_net stamped) own its_names
+    by_number false message is = absurd cc
+
+    by_switch : (s : ℕ) (b : Bool) → (1 == s) ≡ b
+        → AllByRecursion (Names s) (option_map_or (λ body. [] ++ body ∷ [])
+        (if b && true && true then Some (Stamp 1 1) else None) [])
+    by_switch s true e = (subst (λ t. Names t (Stamp 1 1)) (eqb-true 1 s e) its_names, tt)
+    by_switch s false e = tt
+
+-- a message to a third switch names none, as it is sent
 not_sent_to_third :
     BodiesNameThere open_net (item.Sent 1 (to_switch 2 (Stamp 1 1)) ∷ []) → ⊥
 unfolding message_of

@@ -2,22 +2,25 @@
 use Rattle.std.proofs.Common.{◌≡◌, ◌≤◌, ◌<◌, ◌-◌, ◌^◌, false, List, [], ◌∷◌, refl, arith}
 use Rattle.std.proofs.lemmas.List.Elements.{All-from_recursion}
 use Rattle.failover.specs.Adverts.{first_adverts, is_news}
+use Rattle.ctrl_msg.specs.declared.message.Body.TheVariants.{Hello}
 use Rattle.masks.specs.Masks.{has, mask_of, mask_where, switches}
 use Rattle.journal.specs.declared.item.Item.{Item}
 use Rattle.journal.specs.declared.item.Item.TheVariants as item
 use Rattle.net_file.specs.Net.{IsNet, IsSwitch, solo_net}
 use Rattle.steps.specs.declared.step.Step.TheVariants as step
+use Rattle.update_machine.specs.Answers.{StepOfRow}
 use Rattle.update_machine.specs.Adverts.{adverts_known, held_adverts, own_advert, own_seq}
 use Rattle.update_machine.specs.Boots.{boot_of, heard, is_up, serves}
 use Rattle.update_machine.specs.Deliveries.{link_changes}
 use Rattle.update_machine.specs.Links.{is_link_up, near}
 use Rattle.update_machine.specs.Messages.{next_message, sent_from}
-use Rattle.update_machine.specs.Pieces.{link_items, piece}
+use Rattle.update_machine.specs.Pieces.{crash_items, link_items, piece, restart_items}
 use Rattle.update_machine.specs.Setting.{Setting}
 use Rattle.update_machine.specs.Steps.{steps_in}
-use Rattle.update_machine.proofs.Examples.{open_net}
-use Rattle.send_laws.specs.Sends.{NumbersAreFew, NumbersFit, StepsSendFew, sent_count}
-use Rattle.send_laws.proofs.Fitting.{fit_behind_room, numbers_few, versions_few}
+use Rattle.update_machine.specs.Versions.{version_count}
+use Rattle.update_machine.proofs.Examples.{at, open_net, to_controller}
+use Rattle.send_laws.specs.Sends.{NumbersAreFew, NumbersFit, StepsSendAtMost, StepsSendFew, sent_count}
+use Rattle.send_laws.proofs.Fitting.{fit_behind_room, numbers_few}
 use Rattle.send_laws.proofs.PieceKinds.{piece_few}
 
 -- ---- a link comes back: each end tells the other both adverts
@@ -30,6 +33,10 @@ unfolding piece link_items link_changes held_adverts adverts_known own_advert ow
     is_link_up serves is_up boot_of heard steps_in next_message sent_from first_adverts is_news has
     mask_where switches mask_of
 four_sent = refl
+
+-- so that step sends more than three
+not_three : StepsSendAtMost 3 open_net failed → ⊥
+not_three few = absurd (omega (arith, few 2 (step.LinkUp 0 1), four_sent))
 
 -- ---- the link failed without a message, so there may be one number more
 
@@ -47,7 +54,7 @@ last_boot : NumbersFit open_net (item.Booted 0 (2 ^ 32 - 1) ∷ []) → ⊥
 unfolding boot_of
 last_boot fit = let limit : 2 ^ 32 - 1 < 2 ^ 32 - 1 = fit.boots 0 in omega arith
 
--- ---- at first, on a network of one switch, all is small
+-- ---- on a network of one switch, which crashed and restarted, all is small
 
 abbrev solo : Setting
 solo = record { net = solo_net; policies = []; plan = open_net.plan }
@@ -68,11 +75,24 @@ is_net = record {
   cache = omega arith;
 }
 
-steps_send_few : StepsSendFew solo []
-steps_send_few row step = piece_few solo is_net [] (versions_few solo [] tt) row step
+abbrev restart : List StepOfRow
+restart = at 1 (step.Crash 0) ∷ at 2 (step.Restart 0) ∷ []
 
-few_at_first : NumbersAreFew solo []
-few_at_first = numbers_few solo [] is_net
+abbrev restarted : List Item
+restarted =
+    item.Row 1 (step.Crash 0) ∷ item.Down 0 ∷ item.Row 2 (step.Restart 0) ∷ item.Booted 0 2
+    ∷ item.Sent 1 (to_controller (Hello 0 2)) ∷ []
 
-fit_at_first : NumbersFit solo []
-fit_at_first = fit_behind_room solo [] is_net tt
+steps_send_few : StepsSendFew solo restarted
+unfolding version_count
+steps_send_few row step = piece_few solo is_net restarted (omega arith) row step
+
+few_behind_them : NumbersAreFew solo restarted
+unfolding piece crash_items restart_items link_changes near is_link_up serves is_up boot_of
+    next_message sent_from mask_of mask_where switches
+few_behind_them = numbers_few solo restart is_net
+
+fit_behind_them : NumbersFit solo restarted
+unfolding piece crash_items restart_items link_changes near is_link_up serves is_up boot_of
+    next_message sent_from mask_of mask_where switches
+fit_behind_them = fit_behind_room solo restart is_net (omega arith, (omega arith, tt))

@@ -16,10 +16,14 @@ use Rattle.update_machine.specs.Setting.{Setting}
 abbrev pub sent_count : List Item → ℕ
 sent_count items = count_of is_sending items
 
--- whatever step comes next, it sends at most 10,000 messages
+-- whatever step comes next, it sends at most so many messages
+abbrev pub StepsSendAtMost : ℕ → Setting → List Item → Type 0
+StepsSendAtMost most setting journal =
+    (row : ℕ) (step : Step) → sent_count (piece setting journal row step) ≤ most
+
+-- few are 10,000
 abbrev pub StepsSendFew : Setting → List Item → Type 0
-StepsSendFew setting journal =
-    (row : ℕ) (step : Step) → sent_count (piece setting journal row step) ≤ 10_000
+StepsSendFew setting journal = StepsSendAtMost 10_000 setting journal
 
 -- each boot but the first one begins with a message; and of two changes of a switch's links one at
 -- least is told to somebody, as only of its last link that fails nobody hears

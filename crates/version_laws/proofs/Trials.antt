@@ -8,12 +8,14 @@ use Rattle.switch_table.specs.declared.tables.Tables.{Tables}
 use Rattle.journal.specs.declared.item.Item.{Item}
 use Rattle.journal.specs.declared.item.Item.TheVariants as item
 use Rattle.update_machine.specs.Boots.{boot_of, heard, is_up, serves}
-use Rattle.update_machine.specs.Marks.{current_mark, retired_mark}
+use Rattle.update_machine.specs.Causes.{HaveCauses}
+use Rattle.update_machine.specs.Marks.{controller_heard, current_mark, is_over, known_boot, retired_mark}
 use Rattle.update_machine.specs.Messages.{message_of}
 use Rattle.update_machine.specs.Setting.{plan_of_file}
 use Rattle.update_machine.specs.Settling.{to_switch}
 use Rattle.update_machine.specs.Versions.{file_of, holds_version, plan_at, stamp_of, version_count}
 use Rattle.update_machine.proofs.Examples.{open_net, plan_q, tables_of, versions}
+use Rattle.boot_laws.specs.ItemCauses.{HasItemCause}
 use Rattle.version_laws.specs.Planned.{AreTablesOf, BringsTables, HasPlan, TablesArePlanned, VersionsArePlanned}
 use Rattle.version_laws.specs.Serving.{HoldsStamp, ServingHold}
 use Rattle.version_laws.proofs.Planned.{tables_planned}
@@ -66,10 +68,7 @@ not_dropped : HoldsStamp dropped 0 → ⊥
 unfolding boot_of heard is_up current_mark retired_mark message_of holds_version stamp_of
 not_dropped holds = let no : false ≡ true = holds.stamp in absurd cc
 
--- switches that serve from the start hold their stamps; one that serves without its tables doesn't
-serve_at_first : ServingHold open_net []
-serve_at_first = serving_hold open_net [] tt
-
+-- a switch that serves without its tables doesn't hold its stamp
 not_while_serving : ServingHold open_net untold → ⊥
 unfolding serves
 not_while_serving hold = not_without_tables (hold 0 (omega arith) refl)
@@ -140,12 +139,62 @@ brings_others = not_others
 brings_none : BringsTables open_net two_versions 0 (OpenAt 1 7)
 brings_none = tt
 
-tables_at_first : TablesArePlanned open_net []
-tables_at_first = tables_planned open_net [] tt
+-- ---- whole journals
 
+-- the second version was submitted, and its tables were sent to switch 0, which heard them
+abbrev told : List Item
+told =
+    item.Submitted 2 2 ∷ item.Sent 1 (to_switch 0 (Install 1 (tables_of plan_q 2 0)))
+    ∷ item.Delivered 1 ∷ []
+
+told_rightly : HaveCauses (HasItemCause open_net) [] told
+unfolding version_count retired_mark known_boot is_over controller_heard file_of plan_at
+told_rightly = (
+  record {
+    next = refl;
+    there = refl;
+    planned = refl;
+    live = λ met. omega (arith, met);
+    few = λ met. omega (arith, met);
+  },
+  (
+    record {
+      to = record { known = refl; not_over = refl };
+      version = 2;
+      which = inl refl;
+      there = omega arith;
+      planned = refl;
+    },
+    (tt, tt),
+  ),
+)
+
+-- each switch serves, and goes on to stamp with the first version
+serve_once_told : ServingHold open_net told
+serve_once_told = serving_hold open_net told told_rightly
+
+tables_once_told : TablesArePlanned open_net told
+tables_once_told = tables_planned open_net told told_rightly
+
+-- tables that aren't planned break it where they are sent, and where they are heard
 not_of_no_plan : TablesArePlanned open_net installed → ⊥
 unfolding message_of file_of plan_at version_count
 not_of_no_plan are =
     let own = are.sent 0 1 1 second refl in
     let parts : 0 ≡ 1 = ap (λ (tables : Tables). length tables.parts) own.planned in
     absurd (omega (arith, parts))
+
+not_heard_of_no_plan : TablesArePlanned open_net installed → ⊥
+unfolding heard is_up boot_of message_of file_of plan_at version_count
+not_heard_of_no_plan are =
+    let own : AreTablesOf open_net installed 0 second = are.heard 0 0 (OpenAt 1 1) (omega arith) in
+    let parts : 0 ≡ 1 = ap (λ (tables : Tables). length tables.parts) own.planned in
+    absurd (omega (arith, parts))
+
+-- and so does a version that is held without being there
+not_held_unless_there :
+    TablesArePlanned open_net
+    (item.Sent 1 (to_switch 0 (Install 1 second)) ∷ item.Delivered 1 ∷ [])
+    → ⊥
+unfolding holds_version heard is_up boot_of message_of version_count
+not_held_unless_there are = let there = are.held 0 2 refl in absurd (omega (arith, there.1))

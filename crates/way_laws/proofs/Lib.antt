@@ -22,4 +22,5 @@ pub mod Ends
 pub mod EndsCaused
 pub mod Runs
 mod Trials
+mod Broken
 pub mod Strong

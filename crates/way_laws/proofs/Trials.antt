@@ -1,6 +1,6 @@
 -- Causes of packets' items on journals of few items, which must fail: what no switch writes.
 use Rattle.std.proofs.Common.{◌≡◌, ◌⊎◌, false, true, Some, None, List, [], ◌∷◌, refl, sym, subst, arith, inl, inr}
-use Rattle.std.specs.Prelude.{IsTrue, IsFalse}
+use Rattle.std.specs.Prelude.{IsTrue}
 use Rattle.failover.specs.DownSet.{has_link, no_links, with_link}
 use Rattle.masks.specs.Masks.{has}
 use Rattle.policy_rules.specs.declared.packet.Cause.TheVariants.{NoAuthority, NoRoute}
@@ -9,16 +9,15 @@ use Rattle.policy_rules.specs.declared.packet.Leg.TheVariants.{Seek, Exit}
 use Rattle.policy_rules.specs.declared.policy.Action.TheVariants.{Drop, Out}
 use Rattle.journal.specs.declared.item.Item.{Item}
 use Rattle.journal.specs.declared.item.Item.TheVariants as item
-use Rattle.steps.specs.declared.step.Step.TheVariants.{Packet, Lose, Crash}
+use Rattle.steps.specs.declared.step.Step.TheVariants.{Packet, Crash}
 use Rattle.update_machine.specs.Boots.{boot_of, heard, is_up, serves}
 use Rattle.update_machine.specs.Packets.{found_down, leg_of, next_packet, standing, travels}
-use Rattle.update_machine.specs.Steps.{present_step}
 use Rattle.update_machine.specs.Versions.{stamp_of}
 use Rattle.update_machine.proofs.Examples.{one, open_net}
 use Rattle.way_laws.specs.Rest.{AreResting}
 use Rattle.way_laws.specs.Stages.{stage_of}
 use Rattle.way_laws.specs.StrongCauses.{StrongCause}
-use Rattle.way_laws.specs.WayCauses.{IsBlockedOn, IsLookedUp, IsLostInCrash, TakesLeg, WayCause}
+use Rattle.way_laws.specs.WayCauses.{IsBlockedOn, IsLookedUp, TakesLeg, WayCause}
 
 -- a packet came in at switch 0
 abbrev in_at_0 : List Item
@@ -31,20 +30,10 @@ decided = item.Row 1 (Packet 0 one) ∷ item.Entered 1 0 one
 
 -- ---- entries
 
-not_at_another_switch : WayCause open_net (item.Row 1 (Packet 0 one) ∷ [])
-    (item.Entered 1 1 one) → ⊥
-unfolding present_step
-not_at_another_switch way = let row = way.0.row in cc
-
 not_under_another_number : WayCause open_net (item.Row 1 (Packet 0 one) ∷ [])
     (item.Entered 2 0 one) → ⊥
 unfolding next_packet
 not_under_another_number way = omega (arith, way.0.number)
-
-not_refused_where_served : WayCause open_net (item.Row 1 (Packet 0 one) ∷ [])
-    (item.Closed 1 0) → ⊥
-unfolding serves
-not_refused_where_served way = let closed : true ≡ false = way.1 in cc
 
 -- ---- decisions
 
@@ -105,24 +94,6 @@ unfolding stage_of
 not_moved_before_it_is_looked_up way = let stage = way.moving in cc
 
 -- ---- crashes
-
--- in the row of a crash that didn't happen
-not_lost_without_a_crash : WayCause open_net
-    (item.Row 1 (Packet 0 one) ∷ item.Entered 1 0 one ∷ item.Row 2 (Crash 0) ∷ [])
-    (item.Lost 1) → ⊥
-unfolding present_step is_up standing
-not_lost_without_a_crash way = by_how way.how
-  where
-    before : List Item
-    before = item.Row 1 (Packet 0 one) ∷ item.Entered 1 0 one ∷ item.Row 2 (Crash 0) ∷ []
-
-    by_how : (present_step before ≡ Some (Lose 1)) ⊎ IsLostInCrash before 1 → ⊥
-    by_how (inl row) = cc
-    by_how (inr crash) =
-        let at : Some 0 ≡ Some crash.switch = crash.stands in
-        let same : 0 ≡ crash.switch = cc in
-        let up : true ≡ false = subst (λ s. IsFalse (is_up before s)) (sym same) crash.down in
-        cc
 
 -- a packet doesn't survive the crash of its switch
 none_survives : AreResting (item.Row 1 (Packet 0 one) ∷ item.Entered 1 0 one

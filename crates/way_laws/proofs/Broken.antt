@@ -1,0 +1,220 @@
+-- Journals that break the promise of one whole version: the last item of each is one that no network
+-- writes. Its strong cause is refuted by the field that it breaks; where the item has a cause of the
+-- plainer sort too, that one holds.
+use Rattle.std.proofs.Common.{ℕ, ◌≡◌, false, true, Option, Some, List, [], ◌∷◌, refl, ap, sym, subst, arith, inl, inr}
+use Rattle.std.specs.Prelude.{IsTrue, IsFalse, ◌⊎◌}
+use Rattle.failover.specs.Adverts.{is_news, after_hearing, first_adverts}
+use Rattle.failover.specs.DownSet.{has_link, no_links}
+use Rattle.failover.specs.Links.{names, told_links, is_link, known_links, is_isolated}
+use Rattle.failover.specs.Routes.{wider, ball, nearer, onward, links_away, route_to, first_route, route_of}
+use Rattle.five_tuple.specs.Header.{number_of}
+use Rattle.masks.specs.Masks.{has, mask_where, mask_of, switches, least_in}
+use Rattle.policy_rules.specs.declared.packet.Cause.TheVariants.{NoAuthority, NoRoute}
+use Rattle.policy_rules.specs.declared.packet.How.TheVariants.{Authority}
+use Rattle.policy_rules.specs.declared.packet.Leg.TheVariants.{Seek, Exit}
+use Rattle.policy_rules.specs.declared.policy.Action.TheVariants.{Drop, Out}
+use Rattle.journal.specs.declared.item.Item.{Item}
+use Rattle.journal.specs.declared.item.Item.TheVariants as item
+use Rattle.steps.specs.declared.step.Step.TheVariants.{Packet, Hop, LinkDown, Update, Deliver, Crash, Lose}
+use Rattle.ternary.specs.Word.{holds}
+use Rattle.update_machine.specs.Adverts.{own_seq, own_advert, adverts_known, route_from, is_cut_off}
+use Rattle.update_machine.specs.Boots.{boot_of, heard, is_up, serves}
+use Rattle.update_machine.specs.Causes.{HasCause}
+use Rattle.update_machine.specs.Links.{is_link_up, near}
+use Rattle.update_machine.specs.Marks.{acked_stamp, controller_heard, current_mark, is_member, is_over, known_boot, next_retired, opened_at, retired_mark}
+use Rattle.update_machine.specs.Packets.{Decision, decision_of, found_down, header_in, next_switch, route_in, route_place, standing}
+use Rattle.update_machine.specs.Steps.{present_step, steps_in}
+use Rattle.update_machine.specs.Versions.{file_of, plan_at}
+use Rattle.update_machine.proofs.Examples.{one, open_net, other, ring, row_of_three}
+use Rattle.packet_laws.specs.Words.{entry_mark}
+use Rattle.way_laws.specs.StrongCauses.{StrongCause}
+use Rattle.way_laws.specs.WayCauses.{IsLostInCrash}
+
+-- ---- packets that are stuck, where the one link failed
+
+abbrev cut : List Item → List Item
+cut items = item.Row 1 (LinkDown 0 1) ∷ item.LinkIs 0 1 false ∷ items
+
+-- version 1 was retired before the packet came in; version 2 isn't current yet; it was decided
+abbrev retired : List Item
+retired = cut (item.Row 2 (Update 2) ∷ item.Submitted 2 2 ∷ item.Current 2 ∷ item.Retired 1
+    ∷ item.Row 3 (Packet 0 one) ∷ item.Entered 1 0 one ∷ [])
+
+abbrev to_come : List Item
+to_come = cut (item.Row 2 (Update 2) ∷ item.Submitted 2 2 ∷ item.Row 3 (Packet 0 one)
+    ∷ item.Entered 1 0 one ∷ [])
+
+abbrev decided : List Item
+decided = cut (item.Row 2 (Packet 0 one) ∷ item.Entered 1 0 one
+    ∷ item.Decided 1 1 (Some 100) (Out 2) (Authority 0 0) ∷ [])
+
+-- the packet seeks an authority by this version, and its switch knows of none
+abbrev seeking : ℕ → Item
+seeking version = item.Stuck 1 0 NoAuthority (Seek version 0) no_links
+
+stuck_have_causes : HasCause open_net retired (seeking 1)
+    × HasCause open_net to_come (seeking 2) × HasCause open_net decided (seeking 1)
+unfolding standing found_down header_in plan_at file_of route_from is_cut_off adverts_known
+    own_advert own_seq near is_link_up serves is_up boot_of heard steps_in first_adverts
+    after_hearing is_news mask_of mask_where switches names told_links is_link known_links
+    is_isolated wider ball nearer onward links_away route_to first_route route_of has has_link
+    least_in holds lib.Count.count_trailing_zeros
+stuck_have_causes = (
+  record { stands = refl; found = refl; own_leg = (one, refl, refl); no_route = refl; why = refl },
+  record { stands = refl; found = refl; own_leg = (one, refl, refl); no_route = refl; why = refl },
+  record { stands = refl; found = refl; own_leg = (one, refl, refl); no_route = refl; why = refl },
+)
+
+not_stuck_by_a_retired_version : StrongCause open_net retired (seeking 1) → ⊥
+unfolding entry_mark retired_mark
+not_stuck_by_a_retired_version cause = absurd (omega (arith, cause.rightly.not_retired))
+
+not_stuck_by_a_version_to_come : StrongCause open_net to_come (seeking 2) → ⊥
+unfolding current_mark
+not_stuck_by_a_version_to_come cause = absurd (omega (arith, cause.rightly.current))
+
+-- nor by one that never was
+not_stuck_by_no_version : StrongCause open_net to_come (seeking 7) → ⊥
+unfolding current_mark
+not_stuck_by_no_version cause = absurd (omega (arith, cause.rightly.current))
+
+not_stuck_seeking_once_decided : StrongCause open_net decided (seeking 1) → ⊥
+unfolding decision_of
+not_stuck_seeking_once_decided cause = let none = cause.rightly.undecided in absurd cc
+
+-- on its way out, on the leg of another port than its decision's
+not_stuck_on_another_leg : StrongCause open_net decided
+    (item.Stuck 1 0 NoRoute (Exit 1) no_links) → ⊥
+unfolding decision_of
+not_stuck_on_another_leg cause =
+    let own : Decision = record { version = 1; rule = Some 100; action = Out 2 } in
+    let decision = cause.stuck.own_leg.0 in
+    let is : Some own ≡ Some decision = cause.stuck.own_leg.1 in
+    let same : own ≡ decision = cc in
+    let by : Out 2 ≡ decision.action = ap (λ (d : Decision). d.action) same in
+    let out : decision.action ≡ Out 1 = cause.stuck.own_leg.2 in
+    absurd cc
+
+-- ---- packets that come in
+
+-- with another header than its row's
+not_with_another_header : StrongCause open_net (item.Row 1 (Packet 0 one) ∷ [])
+    (item.Entered 1 0 other) → ⊥
+unfolding present_step
+not_with_another_header cause =
+    let row : Some (Packet 0 one) ≡ Some (Packet 0 other) = cause.0.row in
+    let same : one ≡ other = cc in
+    let apart : number_of one ≡ number_of other = ap number_of same in
+    absurd (omega (arith, apart))
+
+-- at another switch than its row's
+not_at_another_switch : StrongCause open_net (item.Row 1 (Packet 0 one) ∷ [])
+    (item.Entered 1 1 one) → ⊥
+unfolding present_step
+not_at_another_switch cause = let row = cause.0.row in absurd cc
+
+-- in the row of no packet
+not_in_another_row : StrongCause open_net (item.Row 1 (Deliver 7) ∷ [])
+    (item.Entered 1 0 one) → ⊥
+unfolding present_step
+not_in_another_row cause = let row = cause.0.row in absurd cc
+
+-- at a switch that is down
+not_at_one_that_is_down : StrongCause open_net
+    (item.Row 1 (Crash 0) ∷ item.Down 0 ∷ item.Row 2 (Packet 0 one) ∷ [])
+    (item.Entered 1 0 one) → ⊥
+unfolding serves
+not_at_one_that_is_down cause = let served : false ≡ true = cause.1 in absurd cc
+
+-- or is refused where the switch serves
+not_refused_where_served : StrongCause open_net (item.Row 1 (Packet 0 one) ∷ [])
+    (item.Closed 1 0) → ⊥
+unfolding serves
+not_refused_where_served cause = let closed : true ≡ false = cause.1 in absurd cc
+
+-- ---- packets on their way
+
+-- from a to c, between which there is no link
+abbrev leap : List Item
+leap = item.Row 1 (Packet 0 one) ∷ item.Entered 1 0 one ∷ item.Seeking 1 1 0 (0 ∷ 2 ∷ [])
+    ∷ item.Row 2 (Hop 1) ∷ []
+
+not_hopped_where_no_link_leads : StrongCause row_of_three leap (item.Hopped 1 2) → ⊥
+unfolding near standing has mask_of mask_where switches is_link_up serves
+not_hopped_where_no_link_leads cause =
+    let at : 0 ≡ cause.switch = cause.at.place in
+    let usable : false ≡ true =
+    subst (λ s. IsTrue (has (near row_of_three leap s) 2)) (sym at) cause.usable in absurd cc
+
+leap_has_cause : HasCause row_of_three leap (item.FoundDown 1 0 2)
+unfolding near standing has mask_of mask_where switches is_link_up serves next_switch route_in
+    route_place
+leap_has_cause = record { stands = refl; next = refl; unusable = refl }
+
+not_found_down_where_no_link_is : StrongCause row_of_three leap (item.FoundDown 1 0 2) → ⊥
+not_found_down_where_no_link_is cause =
+    let linked : false ≡ true = cause.linked in absurd cc
+
+-- over a link that failed
+abbrev failing : List Item
+failing = item.Row 1 (Packet 0 one) ∷ item.Entered 1 0 one ∷ item.Seeking 1 1 0 (0 ∷ 1 ∷ [])
+    ∷ item.Row 2 (LinkDown 0 1) ∷ item.LinkIs 0 1 false ∷ item.Row 3 (Hop 1) ∷ []
+
+not_hopped_over_a_failed_link : StrongCause open_net failing (item.Hopped 1 1) → ⊥
+unfolding near standing has mask_of mask_where switches is_link_up serves
+not_hopped_over_a_failed_link cause =
+    let at : 0 ≡ cause.switch = cause.at.place in
+    let usable : false ≡ true =
+    subst (λ s. IsTrue (has (near open_net failing s) 1)) (sym at) cause.usable in absurd cc
+
+-- by another way than its route
+not_hopped_off_its_route : StrongCause ring
+    (item.Row 1 (Packet 0 one) ∷ item.Entered 1 0 one ∷ item.Seeking 1 1 0 (0 ∷ 1 ∷ 3 ∷ [])
+    ∷ item.Row 2 (Hop 1) ∷ [])
+    (item.Hopped 1 2) → ⊥
+unfolding next_switch route_in route_place
+not_hopped_off_its_route cause =
+    let next : ◌≡◌ {A = Option ℕ} (Some 1) (Some 2) = cause.goes_on in absurd cc
+
+-- ---- decisions and losses
+
+-- by a version that isn't current yet
+not_decided_by_a_version_to_come : StrongCause open_net to_come
+    (item.Decided 1 2 (Some 100) Drop (Authority 0 0)) → ⊥
+unfolding current_mark
+not_decided_by_a_version_to_come cause = absurd (omega (arith, cause.current))
+
+-- in the row of a crash that didn't happen
+abbrev uncrashed : List Item
+uncrashed = item.Row 1 (Packet 0 one) ∷ item.Entered 1 0 one ∷ item.Row 2 (Crash 0) ∷ []
+
+lost_has_cause : HasCause open_net uncrashed (item.Lost 1)
+unfolding present_step standing
+lost_has_cause = inr (record { switch = 0; crashes = refl; stands = refl })
+
+not_lost_without_a_crash : StrongCause open_net uncrashed (item.Lost 1) → ⊥
+unfolding present_step is_up standing
+not_lost_without_a_crash cause = by_how cause.how
+  where
+    by_how : (present_step uncrashed ≡ Some (Lose 1)) ⊎ IsLostInCrash uncrashed 1 → ⊥
+    by_how (inl row) = absurd cc
+    by_how (inr crash) =
+        let at : Some 0 ≡ Some crash.switch = crash.stands in
+        let same : 0 ≡ crash.switch = cc in
+        let up : true ≡ false = subst (λ s. IsFalse (is_up uncrashed s)) (sym same) crash.down in
+        absurd cc
+
+-- ---- the controller's items
+
+-- a version of a file that isn't there
+not_submitted_without_a_file : StrongCause open_net (item.Row 1 (Update 7) ∷ [])
+    (item.Submitted 7 2) → ⊥
+not_submitted_without_a_file cause = let there : false ≡ true = cause.there in absurd cc
+
+-- a mark that isn't below the stamp that each member acknowledged
+not_retired_while_stamped : StrongCause open_net
+    (item.Row 1 (Update 2) ∷ item.Submitted 2 2 ∷ item.Current 2 ∷ [])
+    (item.Retired 1) → ⊥
+unfolding next_retired acked_stamp is_member is_over known_boot opened_at controller_heard
+    current_mark
+not_retired_while_stamped cause = let least : 1 ≡ 0 = cause.least in absurd (omega (arith, least))
