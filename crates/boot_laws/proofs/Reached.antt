@@ -1,13 +1,14 @@
 -- Journals of steps of the network: whatever causes each of their pieces has, such a journal has.
 use Rattle.std.specs.Prelude.{⊤, All, get_or, length}
 use Rattle.std.proofs.Common.{ℕ, suc, List, [], ◌∷◌, ◌++◌, sym, subst, arith}
+use Rattle.std.proofs.Math.Seq.{take-append_seam}
 use Rattle.journal.specs.declared.item.Item.{Item}
 use Rattle.steps.specs.Steps.{IsEvent, IsStep}
 use Rattle.steps.specs.declared.step.Event.{Event}
 use Rattle.steps.specs.declared.step.Event.TheVariants.{One, Flush, Drain}
 use Rattle.steps.specs.declared.step.Step.{Step}
 use Rattle.steps.specs.declared.step.Step.TheVariants.{Deliver, Forget, Hop, Lose}
-use Rattle.update_machine.specs.Answers.{BeginsAnswer, StepOfRow, after_steps}
+use Rattle.update_machine.specs.Answers.{BeginsAnswer, IsReached, StepOfRow, after_steps}
 use Rattle.update_machine.specs.Causes.{HaveCauses}
 use Rattle.update_machine.specs.Pieces.{piece}
 use Rattle.update_machine.specs.Setting.{Setting}
@@ -80,6 +81,20 @@ begun_have cause setting pieces events journal own begins =
     subst (HaveCauses cause []) (sym begins.written)
     (have_take cause [] begins.whole begins.length whole)
 
+-- the first items have their causes
+pub begin_has : (cause : List Item → Item → Type 0) (journal rest : List Item)
+    → HaveCauses cause [] (journal ++ rest) → HaveCauses cause [] journal
+begin_has cause journal rest whole =
+    subst (HaveCauses cause []) (take-append_seam journal rest)
+    (have_take cause [] (journal ++ rest) (length journal) whole)
+
+reached_have : (cause : List Item → Item → Type 0) (setting : Setting)
+    → OwnPiecesHave cause setting → (journal : List Item) → IsReached setting journal
+    → HaveCauses cause [] journal
+reached_have cause setting pieces journal is =
+    subst (HaveCauses cause []) (sym is.written)
+    (own_steps_have cause setting pieces [] is.steps (own_steps setting is.steps is.own) tt)
+
 -- so a fact that holds where items have these causes holds of each journal that is reached
 pub reached : (Holds : Setting → List Item → Type 0)
     (cause : Setting → List Item → Item → Type 0)
@@ -88,9 +103,10 @@ pub reached : (Holds : Setting → List Item → Type 0)
     ((setting : Setting) → OwnPiecesHave (cause setting) setting) → HoldsReached Holds
 reached Holds cause caused pieces = record {
   reached = λ setting journal is. caused setting journal
-      (subst (HaveCauses (cause setting) []) (sym is.written)
-      (own_steps_have (cause setting) setting (pieces setting) [] is.steps
-      (own_steps setting is.steps is.own) tt));
+      (reached_have (cause setting) setting (pieces setting) journal is);
+  within = λ setting journal rest is. caused setting journal
+      (begin_has (cause setting) journal rest
+      (reached_have (cause setting) setting (pieces setting) (journal ++ rest) is));
   answered = λ setting events journal own answers. caused setting journal
       (begun_have (cause setting) setting (pieces setting) events journal own
       (begins_itself setting events journal (answers_so_far setting events journal answers)));

@@ -1,6 +1,6 @@
 -- When a fact holds of each journal, whatever was done and in whatever order: by anyone, or on a
 -- network that is asked for steps of its own alone.
-use Rattle.std.specs.Prelude.{ℕ, List, [], All, length, take}
+use Rattle.std.specs.Prelude.{ℕ, List, [], ◌++◌, All, length, take}
 use Rattle.journal.specs.declared.item.Item.{Item}
 use Rattle.steps.specs.Steps.{IsEvent}
 use Rattle.steps.specs.declared.step.Event.{Event}
@@ -21,11 +21,13 @@ pub record HoldsAlways (Holds : Setting → List Item → Type 0) : Type 0 where
   pub begun : (setting : Setting) (events : List Event) (journal : List Item) →
       BeginsAnswer setting events journal → Holds setting journal
 
--- it holds behind any steps of the network, in each answer to events of it, and in each beginning
--- of one
+-- it holds behind any steps of the network, and behind any first items of what they wrote, which may
+-- end within a step; in each answer to events of it, and in each beginning of one
 pub record HoldsReached (Holds : Setting → List Item → Type 0) : Type 0 where
   pub reached : (setting : Setting) (journal : List Item) → IsReached setting journal
       → Holds setting journal
+  pub within : (setting : Setting) (journal rest : List Item)
+      → IsReached setting (journal ++ rest) → Holds setting journal
   pub answered : (setting : Setting) (events : List Event) (journal : List Item)
       → All (IsEvent setting.net (length setting.policies)) events
       → Answers setting events journal → Holds setting journal

@@ -9,3 +9,4 @@ mod Within
 mod Ready
 mod Draining
 mod Playing
+mod RouteRows

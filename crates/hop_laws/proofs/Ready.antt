@@ -17,7 +17,7 @@ use Rattle.update_machine.specs.Setting.{Setting}
 use Rattle.update_machine.proofs.CallerLemmas.{AreOf, answers_so_far, first_steps_are, have_append, have_take, packet_keeps}
 use Rattle.boot_laws.specs.Always.{HoldsReached}
 use Rattle.boot_laws.proofs.Facts.{have_both, have_weaker}
-use Rattle.boot_laws.proofs.Reached.{NamesOwn, has_nexts, own_event, own_steps}
+use Rattle.boot_laws.proofs.Reached.{NamesOwn, begin_has, has_nexts, own_event, own_steps}
 use Rattle.way_laws.proofs.Others.{IsNoRow}
 use Rattle.way_laws.proofs.Pieces.{row_rests}
 use Rattle.way_laws.proofs.Rests.{IsSettled, IsWayItem, no_rows, piece_causes, piece_settled}
@@ -180,6 +180,11 @@ reached Holds caused = record {
   reached = λ setting journal is_reached is.
       caused setting journal is
       (hop_causes setting journal (reached_ready setting journal is is_reached));
+  within = λ setting journal rest is_reached is.
+      caused setting journal is
+      (begin_has (IsHopItem setting) journal rest
+      (hop_causes setting (journal ++ rest)
+      (reached_ready setting (journal ++ rest) is is_reached)));
   answered = λ setting events journal own answers is.
       caused setting journal is
       (hop_causes setting journal

@@ -31,13 +31,13 @@ use Rattle.way_laws.proofs.Here.{IsHere, decision_in, here_of, leg_in, next_in, 
 use Rattle.way_laws.proofs.Kept.{Knows, seeking_after}
 use Rattle.way_laws.proofs.Rests.{IsWayItem, Past, switches_of_all}
 use Rattle.way_laws.proofs.Strong.{strongly_caused}
-use Rattle.hop_laws.specs.Routes.{most_routes}
+use Rattle.hop_laws.specs.Routes.{finds_down, most_routes}
 use Rattle.hop_laws.proofs.Links.{FindsOne, few_unfound, finds_one, unfound}
 use Rattle.hop_laws.proofs.Tally.{Tally, tallied, tally_more, tally_of}
 
 -- what is kept of a packet's routes: it searched at most as often as the version that it seeks
--- says, and left by no port before it was decided; the links that it didn't find down leave room for as
--- many routes, and for one more where it just found one
+-- says, and left by no port before it was decided; the links that it didn't find down leave room
+-- for as many routes, and for one more where it just found one; each was found down once
 pub record IsFew (setting : Setting) (current : ℕ) (words : PacketWords) (stage : Option Stage)
     (tally : Tally) : Type 0 where
   pub none : words.leg ≡ None → tally.searches ≡ 0
@@ -52,6 +52,7 @@ pub record IsFew (setting : Setting) (current : ℕ) (words : PacketWords) (stag
       ≤ length setting.net.links
   pub blocked : stage ≡ Some Blocked
       → tally.detours + unfound setting.net.links words.found < length setting.net.links
+  pub finds : tally.finds + unfound setting.net.links words.found ≤ length setting.net.links
 
 abbrev pub IsFewOf : Setting → List Item → ℕ → Type 0
 IsFewOf setting journal i =
@@ -147,6 +148,7 @@ still_few setting before i current words more few leg decision found = record {
   set = subst IsLinkSet (sym found) few.set;
   detoured = rw found few.detoured;
   blocked = λ is. rw found (few.blocked is);
+  finds = rw found few.finds;
 }
 
 named_few : (setting : Setting) (before : List Item) (next : Item) (i current : ℕ)
@@ -166,6 +168,7 @@ named_few setting before (item.Entered packet s header) i current facts more tru
       set = few.set;
       detoured = few.detoured;
       blocked = λ is. absurd cc;
+      finds = few.finds;
     })
 named_few setting before (item.Seeking packet v p route) i current facts more true e few =
     let same : packet ≡ i = eqb-true packet i e in
@@ -184,6 +187,7 @@ named_few setting before (item.Seeking packet v p route) i current facts more tr
       set = few.set;
       detoured = few.detoured;
       blocked = λ is. absurd cc;
+      finds = few.finds;
     })
 named_few setting before (item.Exiting packet route) i current facts more true e few =
     let same : packet ≡ i = eqb-true packet i e in
@@ -204,6 +208,7 @@ named_few setting before (item.Exiting packet route) i current facts more true e
       set = few.set;
       detoured = few.detoured;
       blocked = λ is. absurd cc;
+      finds = few.finds;
     })
 named_few setting before (item.Rerouted packet route) i current facts more true e few =
     let same : packet ≡ i = eqb-true packet i e in
@@ -220,6 +225,7 @@ named_few setting before (item.Rerouted packet route) i current facts more true 
       set = few.set;
       detoured = omega (arith, room);
       blocked = λ is. absurd cc;
+      finds = few.finds;
     })
 named_few setting before (item.Hopped packet s) i current facts more true e few =
     rw e (record {
@@ -232,6 +238,7 @@ named_few setting before (item.Hopped packet s) i current facts more true e few 
       set = few.set;
       detoured = few.detoured;
       blocked = λ is. absurd cc;
+      finds = few.finds;
     })
 named_few setting before (item.FoundDown packet one two) i current facts more true e few =
     let same : packet ≡ i = eqb-true packet i e in
@@ -249,6 +256,7 @@ named_few setting before (item.FoundDown packet one two) i current facts more tr
       set = one_less.set;
       detoured = omega (arith, few.detoured, one_less.fewer);
       blocked = λ is. omega (arith, few.detoured, one_less.fewer);
+      finds = omega (arith, few.finds, one_less.fewer);
     })
 named_few setting before (item.Decided packet v rule act by) i current facts more true e few =
     let same : packet ≡ i = eqb-true packet i e in
@@ -265,6 +273,7 @@ named_few setting before (item.Decided packet v rule act by) i current facts mor
       set = few.set;
       detoured = few.detoured;
       blocked = λ is. absurd cc;
+      finds = few.finds;
     })
 named_few setting before (item.Left packet port leaving) i current facts more true e few =
     still_few setting before i current _ more few refl refl refl
@@ -324,7 +333,7 @@ facts_of setting before next is both = record {
 }
 
 few_at_first : (setting : Setting) → RoutesAreFew setting []
-unfolding words_of stage_of leg_of decision_of found_down searches exits detours
+unfolding words_of stage_of leg_of decision_of found_down searches exits detours finds_down
 few_at_first setting i = record {
   none = λ is. refl;
   sought = λ version partition is. absurd cc;
@@ -335,6 +344,7 @@ few_at_first setting i = record {
   set = none_is_link_set;
   detoured = omega (arith, few_unfound setting.net no_links);
   blocked = λ is. absurd cc;
+  finds = omega (arith, few_unfound setting.net no_links);
 }
 
 pub routes_few : (setting : Setting) (journal : List Item) → IsSetting setting
@@ -365,6 +375,12 @@ pub detoured_few : (setting : Setting) (journal : List Item) → IsSetting setti
     → detours journal i ≤ length setting.net.links
 detoured_few setting journal is have i =
     omega (arith, (routes_few setting journal is have i).detoured)
+
+pub finds_few : (setting : Setting) (journal : List Item) → IsSetting setting
+    → HaveCauses (IsWayItem setting) [] journal → (i : ℕ)
+    → finds_down journal i ≤ length setting.net.links
+finds_few setting journal is have i =
+    omega (arith, (routes_few setting journal is have i).finds)
 
 pub taken_few : (setting : Setting) (journal : List Item) → IsSetting setting
     → HaveCauses (IsWayItem setting) [] journal → (i : ℕ)

@@ -28,6 +28,7 @@ use Rattle.way_laws.proofs.AllKept.{Before, kept_before, known_before, knows}
 use Rattle.way_laws.proofs.Here.{travels_in}
 use Rattle.way_laws.proofs.Kept.{exiting_after, rerouted_after, seeking_after}
 use Rattle.way_laws.proofs.Rests.{IsWayItem, Past}
+use Rattle.hop_laws.specs.Routes.{changes_on_route, hops_on_route}
 use Rattle.hop_laws.proofs.Routes.{stage_grows, taken_few}
 use Rattle.hop_laws.proofs.Tally.{Tally, tallied, tally_more, tally_of}
 use Rattle.hop_laws.proofs.Told.{changes_told, is_told, told_more}
@@ -46,18 +47,20 @@ BeginsRested before _ = ⊤
 abbrev routes_in : Tally → ℕ
 routes_in tally = tally.searches + tally.exits + tally.detours
 
--- the packet took at most 64 hops on each route, and what is left of its route fits too, less the
--- hop that it was told
+-- the packet took at most 64 hops for each route, and what is left of its route fits too, less the
+-- hop that it was told; on its last route it took as many as its place there says, and at most 64
 record IsWithin (words : PacketWords) (stage : Option Stage) (told : Bool) (tally : Tally)
-    (taken : ℕ) : Type 0 where
+    (taken on : ℕ) : Type 0 where
   all : taken ≤ most_switches * routes_in tally
+  each : on ≤ most_switches
+  place : IsTrue words.travels → stage ≡ Some OnWay → on ≤ words.hops + (if told then 1 else 0)
   left : IsTrue words.travels → stage ≡ Some OnWay → taken + (length words.route - words.hops)
       ≤ most_switches * routes_in tally + (if told then 1 else 0)
 
 abbrev IsWithinOf : List Item → ℕ → Type 0
 IsWithinOf journal i =
     IsWithin (words_of journal i) (stage_of journal i) (is_told journal i) (tally_of journal i)
-    (hops_taken journal i)
+    (hops_taken journal i) (hops_on_route journal i)
 
 one_at_most : (b : Bool) → (if b then 1 else 0) ≤ 1
 one_at_most true = omega arith
@@ -89,6 +92,7 @@ row_within : (setting : Setting) (before : List Item) (packet i : ℕ) → Befor
     → ((packet == i) && travels before i) ≡ b
     → IsWithin (words_of before i) (stage_of before i) (if b then true else is_told before i)
     (tally_of before i) (if b then hops_taken before i + 1 else hops_taken before i)
+    (if b then hops_on_route before i + 1 else hops_on_route before i)
 row_within setting before packet i known rested within false e = within
 row_within setting before packet i known rested within true e =
     let on : IsTrue (travels before i) = second (packet == i) (travels before i) e in
@@ -101,8 +105,11 @@ row_within setting before packet i known rested within true e =
     slice_get_within words.route words.hops way.under_way.place way.stands in
     let off = none_told (is_told before i) (rested.off i) in
     let left = within.left travelling moving in
+    let place = within.place travelling moving in
     record {
       all = omega (arith, left, off, inside);
+      each = omega (arith, place, off, inside, route_few setting before words way);
+      place = λ tr is. omega (arith, place, off);
       left = λ tr is. omega (arith, left, off, inside);
     }
   where
@@ -117,12 +124,18 @@ within_by : (setting : Setting) (before : List Item) (next : Item) (i : ℕ)
     (option_or (tells_stage i next) (stage_of before i))
     (changes_told i before (is_told before i) next) (tallied i next (tally_of before i))
     (changes_taken i before (hops_taken before i) next)
+    (changes_on_route i before (hops_on_route before i) next)
 within_by setting before (item.Row row (Hop packet)) i facts true e within = absurd cc
 within_by setting before (item.Row row (Hop packet)) i facts false e within =
     row_within setting before packet i facts.known facts.begins within
     ((packet == i) && travels before i) refl
 within_by setting before (item.Entered packet s header) i facts true e within =
-    rw e (record { all = within.all; left = λ tr is. absurd cc })
+    rw e (record {
+      all = within.all;
+      each = within.each;
+      place = λ tr is. absurd cc;
+      left = λ tr is. absurd cc;
+    })
 within_by setting before (item.Seeking packet version partition route) i facts true e within =
     let few : IsTrue (words_of before packet).travels → length route ≤ 64 = λ tr.
     route_few setting before
@@ -131,6 +144,8 @@ within_by setting before (item.Seeking packet version partition route) i facts t
     (knows setting before packet facts.known) facts.way).on_way tr (inl refl)) in
     rw e (record {
       all = omega (arith, within.all);
+      each = omega arith;
+      place = λ tr is. omega arith;
       left = λ tr is. omega (
         arith,
         within.all,
@@ -144,6 +159,8 @@ within_by setting before (item.Exiting packet route) i facts true e within =
     facts.way).on_way tr (inl refl)) in
     rw e (record {
       all = omega (arith, within.all);
+      each = omega arith;
+      place = λ tr is. omega arith;
       left = λ tr is. omega (
         arith,
         within.all,
@@ -157,6 +174,8 @@ within_by setting before (item.Rerouted packet route) i facts true e within =
     facts.way).on_way tr (inl refl)) in
     rw e (record {
       all = omega (arith, within.all);
+      each = omega arith;
+      place = λ tr is. omega arith;
       left = λ tr is. omega (
         arith,
         within.all,
@@ -174,6 +193,8 @@ within_by setting before (item.Hopped packet s) i facts true e within =
     slice_get_within words.route words.hops way.under_way.place way.stands in
     rw e (record {
       all = within.all;
+      each = within.each;
+      place = λ tr is. omega (arith, within.place tr moving, one_at_most (is_told before i));
       left = λ tr is. omega (
         arith,
         within.left tr moving,
@@ -182,17 +203,47 @@ within_by setting before (item.Hopped packet s) i facts true e within =
       );
     })
 within_by setting before (item.FoundDown packet one two) i facts true e within =
-    rw e (record { all = within.all; left = λ tr is. absurd cc })
+    rw e (record {
+      all = within.all;
+      each = within.each;
+      place = λ tr is. absurd cc;
+      left = λ tr is. absurd cc;
+    })
 within_by setting before (item.Decided packet version rule act by) i facts true e within =
-    rw e (record { all = within.all; left = λ tr is. absurd cc })
+    rw e (record {
+      all = within.all;
+      each = within.each;
+      place = λ tr is. absurd cc;
+      left = λ tr is. absurd cc;
+    })
 within_by setting before (item.Left packet port leaving) i facts true e within =
-    record { all = within.all; left = λ tr is. absurd cc }
+    record {
+      all = within.all;
+      each = within.each;
+      place = λ tr is. absurd cc;
+      left = λ tr is. absurd cc;
+    }
 within_by setting before (item.Dropped packet) i facts true e within =
-    record { all = within.all; left = λ tr is. absurd cc }
+    record {
+      all = within.all;
+      each = within.each;
+      place = λ tr is. absurd cc;
+      left = λ tr is. absurd cc;
+    }
 within_by setting before (item.Lost packet) i facts true e within =
-    record { all = within.all; left = λ tr is. absurd cc }
+    record {
+      all = within.all;
+      each = within.each;
+      place = λ tr is. absurd cc;
+      left = λ tr is. absurd cc;
+    }
 within_by setting before (item.Stuck packet s cause leg down) i facts true e within =
-    record { all = within.all; left = λ tr is. absurd cc }
+    record {
+      all = within.all;
+      each = within.each;
+      place = λ tr is. absurd cc;
+      left = λ tr is. absurd cc;
+    }
 within_by setting before (item.Entered packet s header) i facts false e within = rw e within
 within_by setting before (item.Seeking packet version partition route) i facts false e within =
     rw e within
@@ -217,6 +268,12 @@ pub hops_more : (before : List Item) (next : Item) (i : ℕ)
 unfolding hops_taken
 hops_more before next i = folded_append (changes_taken i) 0 before (next ∷ [])
 
+on_route_more : (before : List Item) (next : Item) (i : ℕ)
+    → hops_on_route (before ++ next ∷ []) i
+    ≡ changes_on_route i before (hops_on_route before i) next
+unfolding hops_on_route
+on_route_more before next i = folded_append (changes_on_route i) 0 before (next ∷ [])
+
 within_more : (setting : Setting) (before : List Item) (next : Item) (i : ℕ)
     → Facts setting before next → IsWithinOf before i → IsWithinOf (before ++ next ∷ []) i
 within_more setting before next i facts within =
@@ -226,11 +283,17 @@ within_more setting before next i facts within =
       told_more before next i,
       tally_more i before next,
       hops_more before next i,
+      on_route_more before next i,
     ) (within_by setting before next i facts (names i next) refl within)
 
 within_at_first : (i : ℕ) → IsWithinOf [] i
-unfolding words_of stage_of is_told hops_taken travels
-within_at_first i = record { all = omega arith; left = λ tr is. absurd cc }
+unfolding words_of stage_of is_told hops_taken hops_on_route travels
+within_at_first i = record {
+  all = omega arith;
+  each = omega arith;
+  place = λ tr is. absurd cc;
+  left = λ tr is. absurd cc;
+}
 
 -- what is known before an item, and its causes
 abbrev IsKnown : Setting → List Item → Item → Type 0
@@ -266,6 +329,11 @@ pub within_routes : (setting : Setting) (journal : List Item) → IsSetting sett
     → HaveCauses (IsHopItem setting) [] journal → (i : ℕ)
     → hops_taken journal i ≤ most_switches * routes_taken journal i
 within_routes setting journal is have i = (all_within setting journal is have i).all
+
+pub within_each : (setting : Setting) (journal : List Item) → IsSetting setting
+    → HaveCauses (IsHopItem setting) [] journal → (i : ℕ)
+    → hops_on_route journal i ≤ most_switches
+within_each setting journal is have i = (all_within setting journal is have i).each
 
 pub hops_few : (setting : Setting) (journal : List Item) → IsSetting setting
     → HaveCauses (IsHopItem setting) [] journal → (i : ℕ) → hops_taken journal i ≤ most_hops

@@ -15,7 +15,7 @@ ghost use Rattle.update_machine.specs.Setting.{Setting};
 ghost use Rattle.boot_laws.specs.Always.{HoldsReached};
 ghost use Rattle.drain_laws.specs.Drains.{drain_left};
 ghost use Rattle.drain_laws.specs.Hops.{detours, exits, hops_taken, most_hops, most_switches, routes_taken, searches};
-ghost use Rattle.hop_laws.specs.Routes.{most_routes};
+ghost use Rattle.hop_laws.specs.Routes.{finds_down, hops_on_route, most_routes};
 ghost use Rattle.hop_laws.specs.Stops.{GoesOrStops};
 
 /// A packet takes few routes: at most as many to authority switches as there are versions, which
@@ -30,13 +30,17 @@ pub fn packets_take_few_routes()
         → (i : ℕ) → exits journal i ≤ 1) }
     ensures detoured { HoldsReached (λ setting journal. IsSetting setting
         → (i : ℕ) → detours journal i ≤ length setting.net.links) }
+    ensures found { HoldsReached (λ setting journal. IsSetting setting
+        → (i : ℕ) → finds_down journal i ≤ length setting.net.links) }
     ensures few { HoldsReached (λ setting journal. IsSetting setting
         → (i : ℕ) → routes_taken journal i ≤ most_routes) }
 {}
 
-/// While it travels a packet takes at most 64 times as many hops as routes, and so at most 20,544.
+/// While it travels a packet takes at most 64 hops on each route, and so at most 20,544 hops.
 pub fn packets_take_few_hops()
     ensures on_each { HoldsReached (λ setting journal. IsSetting setting
+        → (i : ℕ) → hops_on_route journal i ≤ most_switches) }
+    ensures by_routes { HoldsReached (λ setting journal. IsSetting setting
         → (i : ℕ) → hops_taken journal i ≤ most_switches * routes_taken journal i) }
     ensures few { HoldsReached (λ setting journal. IsSetting setting
         → (i : ℕ) → hops_taken journal i ≤ most_hops) }

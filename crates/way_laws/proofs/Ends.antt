@@ -132,7 +132,7 @@ stuck_rightly setting before i s cause leg down knows finds =
 -- ---- packets that leave
 
 -- where a route doesn't go on, the packet stands at its last switch
-last_here : (route : List ℕ) (hops place target : ℕ) → slice_get route hops ≡ Some place
+pub last_here : (route : List ℕ) (hops place target : ℕ) → slice_get route hops ≡ Some place
     → slice_get route (hops + 1) ≡ None → slice_get route (length route - 1) ≡ Some target
     → place ≡ target
 last_here route hops place target here none last =
@@ -148,7 +148,7 @@ last_here route hops place target here none last =
         ∙ slice_get-get_or route (hops + 1) 0 more in absurd cc
     not_within (inr past) = past
 
-one_target : (target home : ℕ) → IsTrue (list_any (nat_eq target) (home ∷ [])) → target ≡ home
+pub one_target : (target home : ℕ) → IsTrue (list_any (nat_eq target) (home ∷ [])) → target ≡ home
 one_target target home own = grind (arith, nat_tests)
 
 -- the port's switch, and the decision by that port

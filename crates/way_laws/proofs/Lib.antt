@@ -20,7 +20,11 @@ pub mod AllKept
 pub mod Travelling
 pub mod Ends
 pub mod EndsCaused
+pub mod Arriving
 pub mod Runs
 mod Trials
 mod Broken
+mod ArrivingRows
+mod RunRows
+mod StepRows
 pub mod Strong

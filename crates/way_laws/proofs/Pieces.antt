@@ -1,7 +1,8 @@
 -- Each piece has the causes of packets' items, whatever its step, where all packets rest before it.
 use Rattle.std.proofs.Common.{ℕ, zero, suc, ◌≡◌, ◌+◌, ◌≤◌, Bool, true, false, Option, Some, None, List, [], ◌∷◌, ◌++◌, map, refl, ap, sym, ◌∙◌, arith, inr}
-use Rattle.std.specs.Prelude.{IsFalse, filter, if◌then◌else◌}
+use Rattle.std.specs.Prelude.{IsFalse, filter, if◌then◌else◌, unwrap_or}
 use Rattle.std.specs.List.{range_with_len}
+use Rattle.std.specs.Option.{option_or}
 use Rattle.std.proofs.lemmas.Bool.{and_parts, eq-eqb, eqb-true, ne_eqb}
 use Rattle.journal.specs.declared.item.Item.{Item}
 use Rattle.journal.specs.declared.item.Item.TheVariants as item
@@ -9,7 +10,7 @@ use Rattle.steps.specs.declared.step.Step.{Step}
 use Rattle.steps.specs.declared.step.Step.TheVariants.{Packet, Hop, Lose, Deliver, Forget, Expire, Update, LinkDown, LinkUp, Crash, Restart, Confirm, Resend}
 use Rattle.update_machine.specs.Boots.{is_up}
 use Rattle.update_machine.specs.Deliveries.{link_changes}
-use Rattle.update_machine.specs.Folds.{count_of}
+use Rattle.update_machine.specs.Folds.{count_of, last_told}
 use Rattle.update_machine.specs.Laws.{PacketKeeps}
 use Rattle.update_machine.specs.Moves.{put}
 use Rattle.update_machine.specs.Packets.{is_at, is_packet, next_packet, packets_at, standing, travels, travels_at}
@@ -19,7 +20,7 @@ use Rattle.update_machine.specs.Steps.{present_step, tells_step}
 use Rattle.update_machine.proofs.CallerLemmas.{have_first, have_put, last_told_append, packet_keeps, packets_keep, step_stays}
 use Rattle.boot_laws.proofs.Grown.{serving_more, up_more}
 use Rattle.way_laws.specs.Rest.{AreResting, IsServed}
-use Rattle.way_laws.specs.WayCauses.{WayCause}
+use Rattle.way_laws.specs.WayCauses.{WayCause, ends_with_row, fallen, tells_fall, tells_row}
 use Rattle.way_laws.proofs.OtherBlocks.{aside_ways, changes_aside, confirm_aside, deliver_aside, expire_aside, forget_aside, link_aside, resend_aside, restart_aside, update_aside}
 use Rattle.way_laws.proofs.PacketBlocks.{Ways, hop_ways, lose_ways, packet_ways, stage_stays}
 
@@ -33,16 +34,33 @@ AsBefore before journal k = (j : ℕ) → k ≤ j
 -- the switch went down in its crash
 record WentDown (journal : List Item) (s : ℕ) : Type 0 where
   crashes : present_step journal ≡ Some (Crash s)
+  fell : fallen journal ≡ Some s
   down : IsFalse (is_up journal s)
 
 at_place : (s : ℕ) (place : Option ℕ) → is_at s place ≡ true → place ≡ Some s
 at_place s None is = absurd cc
 at_place s (Some place) is = ap Some (eqb-true place s is)
 
+fallen_more : (journal : List Item) (next : Item)
+    → fallen (journal ++ next ∷ [])
+    ≡ unwrap_or (option_or (tells_fall next) (last_told tells_fall journal)) None
+unfolding fallen
+fallen_more journal next =
+    ap (λ o. unwrap_or o None) (last_told_append tells_fall journal (next ∷ []))
+
+fallen_stays : (journal : List Item) (next : Item) → tells_fall next ≡ None
+    → fallen (journal ++ next ∷ []) ≡ fallen journal
+unfolding fallen
+fallen_stays journal next none =
+    let same : last_told tells_fall (journal ++ next ∷ []) ≡ last_told tells_fall journal =
+    rw (last_told_append tells_fall journal (next ∷ []), none) refl in
+    ap (λ (o : Option (Option ℕ)). unwrap_or o None) same
+
 lost_on : (journal : List Item) (s k : ℕ) → WentDown journal s
     → WentDown (journal ++ item.Lost k ∷ []) s
 lost_on journal s k went = record {
   crashes = step_stays journal (item.Lost k ∷ []) (refl, tt) ∙ went.crashes;
+  fell = fallen_stays journal (item.Lost k) refl ∙ went.fell;
   down = rw (up_more journal (item.Lost k) s) went.down;
 }
 
@@ -70,6 +88,7 @@ losts_ways setting before s k (suc n) journal went same =
             how = inr (record {
               switch = s;
               crashes = went.crashes;
+              fell = went.fell;
               down = went.down;
               stands = (same k (omega arith)).1 ∙ at_place s (standing before k) both.1;
             });
@@ -88,6 +107,7 @@ down_now : (journal : List Item) (s : ℕ) → present_step journal ≡ Some (Cr
     → WentDown (journal ++ item.Down s ∷ []) s
 down_now journal s crashes = record {
   crashes = step_stays journal (item.Down s ∷ []) (refl, tt) ∙ crashes;
+  fell = fallen_more journal (item.Down s);
   down = rw (up_more journal (item.Down s) s, eq-eqb s s refl) refl;
 }
 
@@ -125,6 +145,12 @@ step_now : (before : List Item) (row : ℕ) (step : Step)
 unfolding present_step
 step_now before row step = last_told_append tells_step before (item.Row row step ∷ [])
 
+row_now : (before : List Item) (row : ℕ) (step : Step)
+    → ends_with_row (before ++ item.Row row step ∷ []) ≡ true
+unfolding ends_with_row
+row_now before row step =
+    ap (λ o. unwrap_or o false) (last_told_append tells_row before (item.Row row step ∷ []))
+
 -- the row leaves packets and switches as they are
 pub row_rests : (before : List Item) (row : ℕ) (step : Step) → AreResting before
     → AreResting (before ++ item.Row row step ∷ [])
@@ -151,6 +177,7 @@ step_ways setting before row (Packet s header) rests =
     packet_ways setting _ (next_packet before) s header (record {
       number = sym (packets_keep before (item.Row row (Packet s header) ∷ []) (refl, tt)).next;
       row = step_now before row (Packet s header);
+      behind = row_now before row (Packet s header);
     })
 step_ways setting before row (Hop i) rests =
     hop_ways setting _ i (row_rests before row (Hop i) rests)

@@ -12,7 +12,7 @@ use Rattle.update_machine.specs.Played.{IsSetting}
 use Rattle.update_machine.specs.Setting.{Setting}
 use Rattle.update_machine.proofs.CallerLemmas.{AreOf, answers_so_far, first_steps_are, have_take}
 use Rattle.boot_laws.specs.Always.{HoldsReached}
-use Rattle.boot_laws.proofs.Reached.{NamesOwn, has_nexts, own_event, own_steps}
+use Rattle.boot_laws.proofs.Reached.{NamesOwn, begin_has, has_nexts, own_event, own_steps}
 use Rattle.way_laws.specs.Between.{HoldsBetween}
 use Rattle.way_laws.proofs.Rests.{IsSettled, IsWayItem, piece_settled}
 
@@ -83,6 +83,10 @@ pub reached : (Holds : Setting → List Item → Type 0)
 reached Holds caused = record {
   reached = λ setting journal is_reached is.
       caused setting journal is (reached_settled setting journal is is_reached).causes;
+  within = λ setting journal rest is_reached is.
+      caused setting journal is
+      (begin_has (IsWayItem setting) journal rest
+      (reached_settled setting (journal ++ rest) is is_reached).causes);
   answered = λ setting events journal own answers is.
       caused setting journal is
       (so_far_settled setting events journal is own

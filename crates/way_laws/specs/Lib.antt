@@ -5,3 +5,4 @@ pub mod Between
 pub mod Kept
 pub mod Travelling
 pub mod StrongCauses
+pub mod Arriving

@@ -1,7 +1,7 @@
 -- The causes of packets' items: what stands in the journal just before each, as the switch that
 -- writes it finds it. The causes are read off the items alone, for steps of all kinds; packets are
 -- those of Yu, Rexford, Freedman and Wang, "Scalable Flow-Based Networking with DIFANE".
-use Rattle.std.specs.Prelude.{⊤, ℕ, ◌≡◌, ◌==◌, ◌⊎◌, true, false, Option, Some, None, unwrap_or, List, IsTrue, IsFalse}
+use Rattle.std.specs.Prelude.{⊤, ℕ, Bool, ◌≡◌, ◌==◌, ◌⊎◌, true, false, Option, Some, None, unwrap_or, List, IsTrue, IsFalse}
 use Rattle.ctrl_msg.specs.declared.message.Body.{Body}
 use Rattle.ctrl_msg.specs.declared.message.Body.TheVariants.{CacheRule}
 use Rattle.ctrl_msg.specs.declared.message.Message.{Message}
@@ -22,6 +22,7 @@ use Rattle.journal.specs.declared.item.Item.TheVariants as item
 use Rattle.steps.specs.declared.step.Step.TheVariants.{Packet, Lose, Crash}
 use Rattle.update_machine.specs.Boots.{is_up, serves}
 use Rattle.update_machine.specs.Caches.{lookup_at}
+use Rattle.update_machine.specs.Folds.{last_told}
 use Rattle.update_machine.specs.Links.{near}
 use Rattle.update_machine.specs.Moves.{AuthorityRule, authority_rule, cache_rule, cause_at, first_place, header_at, leaves, route_for}
 use Rattle.update_machine.specs.Packets.{Decision, decision_of, found_down, ingress_of, is_at, leg_of, next_packet, next_switch, owner, standing, travels}
@@ -38,10 +39,19 @@ pub record IsAt (before : List Item) (packet switch : ℕ) : Type 0 where
   pub place : unwrap_or (standing before packet) 0 ≡ switch
   pub serving : IsTrue (serves before switch)
 
--- it comes in, or is refused, in the step of its row, under the next number
+abbrev pub tells_row : Item → Option Bool
+tells_row (item.Row row step) = Some true
+tells_row _ = Some false
+
+-- the last item is the row of a step
+unfoldable pub ends_with_row : List Item → Bool
+ends_with_row journal = unwrap_or (last_told tells_row journal) false
+
+-- it comes in, or is refused, right behind its row, under the next number
 pub record IsOfRow (before : List Item) (packet switch : ℕ) (header : Header) : Type 0 where
   pub number : packet ≡ next_packet before
   pub row : present_step before ≡ Some (Packet switch header)
+  pub behind : IsTrue (ends_with_row before)
 
 -- it is on its way, and its route ends here
 pub record Arrives (before : List Item) (packet : ℕ) : Type 0 where
@@ -245,10 +255,20 @@ pub record IsDroppedHere (before : List Item) (packet : ℕ) : Type 0 where
   pub decided : decision_of before packet ≡ Some decision
   pub action : decision.action ≡ action.Drop
 
--- it stands at a switch that went down in its crash
+abbrev pub tells_fall : Item → Option (Option ℕ)
+tells_fall (item.Row row step) = Some None
+tells_fall (item.Down switch) = Some (Some switch)
+tells_fall _ = None
+
+-- the switch that went down in the step that is being taken
+unfoldable pub fallen : List Item → Option ℕ
+fallen journal = unwrap_or (last_told tells_fall journal) None
+
+-- it stands at a switch that went down in its crash, and not before
 pub record IsLostInCrash (before : List Item) (packet : ℕ) : Type 0 where
   pub switch : ℕ
   pub crashes : present_step before ≡ Some (Crash switch)
+  pub fell : fallen before ≡ Some switch
   pub down : IsFalse (is_up before switch)
   pub stands : standing before packet ≡ Some switch
 

@@ -4,6 +4,7 @@ ghost use Rattle.update_machine.specs.Causes.{EndsHaveCauses, HaveCauses};
 ghost use Rattle.update_machine.specs.Machine.{IsRun};
 ghost use Rattle.update_machine.specs.Played.{IsSetting};
 ghost use Rattle.boot_laws.specs.Always.{HoldsReached};
+ghost use Rattle.way_laws.specs.Arriving.{PacketsArrive};
 ghost use Rattle.way_laws.specs.Between.{HoldsBetween};
 ghost use Rattle.way_laws.specs.Kept.{AllKept};
 ghost use Rattle.way_laws.specs.Rest.{AreResting};
@@ -35,6 +36,12 @@ pub fn items_keep_packets()
 /// leads to a target of its leg, over no link that it found down.
 pub fn packets_travel()
     ensures { HoldsBetween (λ setting journal. IsSetting setting → PacketsTravel setting journal) }
+{}
+
+/// A packet at the end of its route, also of one that it took in the midst of a step, is where its
+/// leg leads: at a target of its partition, or at the switch of its port.
+pub fn packets_arrive()
+    ensures { HoldsReached (λ setting journal. IsSetting setting → PacketsArrive setting journal) }
 {}
 
 /// Each cache rule that was sent, and each that a switch caches, is of a version that is at most the

@@ -8,5 +8,5 @@ mod laws;
 
 pub use laws::{
     answers_are_runs, cache_rules_are_right, causes_are_strong, ends_have_causes,
-    items_keep_packets, packet_items_have_causes, packets_rest, packets_travel,
+    items_keep_packets, packet_items_have_causes, packets_arrive, packets_rest, packets_travel,
 };

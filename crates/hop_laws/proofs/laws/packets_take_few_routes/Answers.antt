@@ -1,5 +1,5 @@
 use Rattle.way_laws.proofs.Reached.{reached}
-use Rattle.hop_laws.proofs.Routes.{detoured_few, routes_few, searched_few, taken_few}
+use Rattle.hop_laws.proofs.Routes.{detoured_few, finds_few, routes_few, searched_few, taken_few}
 use Rattle.hop_laws.proofs.laws.packets_take_few_routes.Goals as goal
 
 pub returns-clause-raised : goal.returns-clause-raised
@@ -15,6 +15,9 @@ returns-clause-exited c = reached _ (λ setting journal is have i.
 
 pub returns-clause-detoured : goal.returns-clause-detoured
 returns-clause-detoured c = reached _ detoured_few
+
+pub returns-clause-found : goal.returns-clause-found
+returns-clause-found c = reached _ finds_few
 
 pub returns-clause-few : goal.returns-clause-few
 returns-clause-few c = reached _ taken_few

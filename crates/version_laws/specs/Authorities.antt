@@ -1,0 +1,30 @@
+-- Where a packet's leg leads: to an authority switch of the partition that has its header (Yu,
+-- Rexford, Freedman and Wang, "Scalable Flow-Based Networking with DIFANE", SIGCOMM 2010), by the
+-- plan of the leg's version; or to the switch of its port.
+use Rattle.std.specs.Prelude.{ℕ, ◌≡◌, nat_eq, Some, List, slice_get, IsTrue}
+use Rattle.std.specs.List.{list_any}
+use Rattle.five_tuple.specs.declared.header.Header.{Header}
+use Rattle.net_file.specs.Net.{owner_of}
+use Rattle.policy_rules.specs.Partitions.{is_in}
+use Rattle.policy_rules.specs.declared.packet.Leg.{Leg}
+use Rattle.policy_rules.specs.declared.packet.Leg.TheVariants.{Seek, Exit}
+use Rattle.switch_table.specs.Tables.{Placed, part_of}
+use Rattle.journal.specs.declared.item.Item.{Item}
+use Rattle.update_machine.specs.Setting.{Setting}
+use Rattle.update_machine.specs.Versions.{plan_at}
+
+-- the partition of a version's plan, by its place there, has the header, and the switch is one of
+-- its targets
+pub record IsSoughtAt (setting : Setting) (journal : List Item) (s : ℕ) (header : Header)
+    (version partition : ℕ) : Type 0 where
+  pub placed : Placed
+  pub found : slice_get (plan_at setting journal version) partition ≡ Some placed
+  pub number : placed.0.number ≡ partition
+  pub holds : IsTrue (is_in header (part_of placed))
+  pub target : IsTrue (list_any (nat_eq s) placed.1)
+
+-- a packet at the end of its route is where its leg leads
+abbrev pub EndsAt : Setting → List Item → ℕ → Header → Leg → Type 0
+EndsAt setting journal s header (Seek version partition) =
+    IsSoughtAt setting journal s header version partition
+EndsAt setting journal s header (Exit port) = owner_of setting.net.switches port ≡ Some s

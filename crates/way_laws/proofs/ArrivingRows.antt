@@ -1,0 +1,47 @@
+-- Packets at the end of their route, on journals of few items.
+use Rattle.std.proofs.Common.{◌≡◌, Some, None, List, [], ◌∷◌, refl}
+use Rattle.policy_rules.specs.declared.packet.Leg.TheVariants.{Seek}
+use Rattle.journal.specs.declared.item.Item.{Item}
+use Rattle.journal.specs.declared.item.Item.TheVariants as item
+use Rattle.update_machine.specs.Packets.{header_in, leg_of, next_switch, route_in, route_place, standing, travels}
+use Rattle.update_machine.proofs.Examples.{one}
+use Rattle.way_laws.specs.Arriving.{IsAtEnd}
+use Rattle.way_laws.specs.Stages.{stage_of}
+
+-- a packet came in at switch 0, and seeks an authority at switch 1
+abbrev seeking : List Item
+seeking = item.Entered 1 0 one ∷ item.Seeking 1 1 0 (0 ∷ 1 ∷ []) ∷ []
+
+-- it goes on from switch 0
+not_at_first : IsAtEnd seeking 1 0 one (Seek 1 0) → ⊥
+unfolding next_switch route_in route_place
+not_at_first at = let last : Some 1 ≡ None = at.arrives.last in cc
+
+abbrev moved : List Item
+moved = item.Entered 1 0 one ∷ item.Seeking 1 1 0 (0 ∷ 1 ∷ []) ∷ item.Hopped 1 1 ∷ []
+
+at_end : IsAtEnd moved 1 1 one (Seek 1 0)
+unfolding travels stage_of next_switch route_in route_place standing header_in leg_of
+at_end = record {
+  travelling = refl;
+  arrives = record { moving = refl; last = refl };
+  stands = refl;
+  with_header = refl;
+  takes = refl;
+}
+
+-- in the midst of a hop: it found the link down, and switch 0 is another target
+abbrev rerouted : List Item
+rerouted =
+    item.Entered 1 0 one ∷ item.Seeking 1 1 0 (0 ∷ 1 ∷ []) ∷ item.FoundDown 1 0 1
+    ∷ item.Rerouted 1 (0 ∷ []) ∷ []
+
+at_another_target : IsAtEnd rerouted 1 0 one (Seek 1 0)
+unfolding travels stage_of next_switch route_in route_place standing header_in leg_of
+at_another_target = record {
+  travelling = refl;
+  arrives = record { moving = refl; last = refl };
+  stands = refl;
+  with_header = refl;
+  takes = refl;
+}
