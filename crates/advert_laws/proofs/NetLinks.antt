@@ -102,7 +102,7 @@ known_origin setting journal s origin advert small known = elim (cases_eq origin
 
 -- ---- known links
 
-second : (a b c d : Bool) → (a && b && c && d) ≡ true → b ≡ true
+pub second : (a b c d : Bool) → (a && b && c && d) ≡ true → b ≡ true
 second true true c d is = refl
 second true false c d is = absurd cc
 second false b c d is = absurd cc

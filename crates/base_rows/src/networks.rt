@@ -42,77 +42,92 @@ fn states_pair(alloc: Global, text: &str) -> bool {
     }
 }
 
+// The pair in three spellings.
+const SPELLINGS: [&str; 3] = [
+    "[[switch]]\nname = \"a\"\nports = [1]\n[[switch]]\nname = \"b\"\nports = [2, 63]\n\
+     authority = 100\n[[link]]\nends = [\"a\", \"b\"]\n",
+    "\u{feff}other = 1.5\r\n[[switch]]\r\nname = \"a\"\r\nports = [1]\r\nrack = 4\r\n\
+     [[switch]]\r\nname = \"b\"\r\nports = [63, 2]\r\nauthority = 100\r\n[[link]]\r\n\
+     ends = [\"b\", \"a\"]\r\ncable = true\r\n",
+    "switch = [{name = \"a\", ports = [1], at.rack = 4}, \
+     {name = \"b\", ports = [2, 63], authority = 100}]\nlink = [{ends = [\"a\", \"b\"]}]",
+];
+
 #[test]
-fn reads_each_spelling(rt: HostRuntime) -> Result<(), Fail> {
-    let alloc = rt.alloc();
-    for text in [
-        "[[switch]]\nname = \"a\"\nports = [1]\n[[switch]]\nname = \"b\"\nports = [2, 63]\n\
-          authority = 100\n[[link]]\nends = [\"a\", \"b\"]\n",
-        "\u{feff}other = 1.5\r\n[[switch]]\r\nname = \"a\"\r\nports = [1]\r\nrack = 4\r\n\
-          [[switch]]\r\nname = \"b\"\r\nports = [63, 2]\r\nauthority = 100\r\n[[link]]\r\n\
-          ends = [\"b\", \"a\"]\r\ncable = true\r\n",
-        "switch = [{name = \"a\", ports = [1], at.rack = 4}, \
-          {name = \"b\", ports = [2, 63], authority = 100}]\nlink = [{ends = [\"a\", \"b\"]}]",
-    ] {
-        assert!(rt; states_pair(alloc, text), "at {text}");
+fn reads_each_spelling(rt: HostRuntime) {
+    for text in &SPELLINGS {
+        assert!(rt; states_pair(rt.alloc(), text), "at {text}");
+    }
+}
+
+// Two switches, their link, and a second row of links.
+const PAIR: &str = "[[switch]]\nname = \"a\"\n[[switch]]\nname = \"b\"\n[[link]]\n\
+     ends = [\"a\", \"b\"]\n[[link]]\n";
+
+// Texts of two lines, each with the code and the row of its refusal.
+const REFUSED: [(&str, &str, u32, u32); 22] = [
+    ("", "", 2, 0),
+    ("switch", "", 1, 0),
+    ("cache = 9223372036854775808", "", 1, 0),
+    ("leaf_rules = true\nbackups = 4", "", 3, 0),
+    ("leaf_rules = 0\nbackups = 1.0", "", 4, 0),
+    ("backups = 4\ncache = \"1\"", "", 4, 0),
+    ("cache = 65537", "", 4, 0),
+    ("switch = []", "", 4, 0),
+    ("switch = 1979-05-27", "", 3, 0),
+    ("switch = [1]", "", 3, 1),
+    ("[[switch]]\nports = 1", "", 2, 1),
+    ("[[switch]]\nname = \"controller\"", "", 4, 1),
+    ("[[switch]]\nname = \"a\"\nports = [64, true]", "", 3, 1),
+    (
+        "[[switch]]\nname = \"a\"\nports = [-1]\nauthority = true",
+        "",
+        4,
+        1,
+    ),
+    (
+        "[[switch]]\nname = \"a\"\nports = [1]\n[[switch]]\nname = \"a\"\nports = [1]",
+        "",
+        6,
+        2,
+    ),
+    ("[[switch]]\nname = \"a\"\nports = [1, 1]", "", 7, 1),
+    (
+        "[[switch]]\nname = \"a\"\nports = [1]\n[[switch]]\nname = \"b\"\nports = [1]",
+        "",
+        7,
+        2,
+    ),
+    (PAIR, "ends = [\"a\"]", 3, 102),
+    (PAIR, "", 2, 102),
+    (PAIR, "ends = [\"a\", \"c\"]", 5, 102),
+    (PAIR, "ends = [\"b\", \"b\"]", 8, 102),
+    (PAIR, "ends = [\"b\", \"a\"]", 9, 102),
+];
+
+// Whether a text of these two lines is refused with this code at this row.
+fn is_refused(
+    alloc: Global,
+    before: &str,
+    after: &str,
+    told: (u32, u32),
+) -> Result<bool, AllocError> {
+    let text = format!(in alloc; "{before}\n{after}\n")?;
+    Ok(refusal(read_net(alloc, text.as_bytes())) == Some(told))
+}
+
+#[test]
+fn refuses_with_code_and_row(rt: HostRuntime) -> Result<(), Fail> {
+    for (before, after, code, row) in &REFUSED {
+        let is_so = is_refused(rt.alloc(), before, after, (*code, *row))?;
+        assert!(rt; is_so, "at {before} {after}");
     }
     Ok(())
 }
 
 #[test]
-fn refuses_with_code_and_row(rt: HostRuntime) -> Result<(), Fail> {
-    let alloc = rt.alloc();
-    let pair =
-        "[[switch]]\nname = \"a\"\n[[switch]]\nname = \"b\"\n[[link]]\nends = [\"a\", \"b\"]\n\
-          [[link]]\n";
-    for (before, after, code, row) in [
-        ("", "", 2, 0),
-        ("switch", "", 1, 0),
-        ("cache = 9223372036854775808", "", 1, 0),
-        ("leaf_rules = true\nbackups = 4", "", 3, 0),
-        ("leaf_rules = 0\nbackups = 1.0", "", 4, 0),
-        ("backups = 4\ncache = \"1\"", "", 4, 0),
-        ("cache = 65537", "", 4, 0),
-        ("switch = []", "", 4, 0),
-        ("switch = 1979-05-27", "", 3, 0),
-        ("switch = [1]", "", 3, 1),
-        ("[[switch]]\nports = 1", "", 2, 1),
-        ("[[switch]]\nname = \"controller\"", "", 4, 1),
-        ("[[switch]]\nname = \"a\"\nports = [64, true]", "", 3, 1),
-        (
-            "[[switch]]\nname = \"a\"\nports = [-1]\nauthority = true",
-            "",
-            4,
-            1,
-        ),
-        (
-            "[[switch]]\nname = \"a\"\nports = [1]\n[[switch]]\nname = \"a\"\nports = [1]",
-            "",
-            6,
-            2,
-        ),
-        ("[[switch]]\nname = \"a\"\nports = [1, 1]", "", 7, 1),
-        (
-            "[[switch]]\nname = \"a\"\nports = [1]\n[[switch]]\nname = \"b\"\nports = [1]",
-            "",
-            7,
-            2,
-        ),
-        (pair, "ends = [\"a\"]", 3, 102),
-        (pair, "", 2, 102),
-        (pair, "ends = [\"a\", \"c\"]", 5, 102),
-        (pair, "ends = [\"b\", \"b\"]", 8, 102),
-        (pair, "ends = [\"b\", \"a\"]", 9, 102),
-    ] {
-        let text = format!(in alloc; "{before}\n{after}\n")?;
-        assert_eq!(rt;
-            refusal(read_net(alloc, text.as_bytes())),
-            Some((code, row)),
-            "at {text}"
-        );
-    }
-    assert_eq!(rt; refusal(read_net(alloc, &[255])), Some((1, 0)));
-    Ok(())
+fn refuses_other_bytes(rt: HostRuntime) {
+    assert!(rt; refusal(read_net(rt.alloc(), &[255])) == Some((1, 0)));
 }
 
 // The head of a text, and so many values in the array that it opens.
@@ -125,14 +140,17 @@ fn with_many(alloc: Global, head: &str, count: u32) -> Result<String, AllocError
     Ok(text)
 }
 
+// Whether a text with so many values is refused for their count.
+fn has_too_many(alloc: Global, head: &str, count: u32) -> Result<bool, AllocError> {
+    let text = with_many(alloc, head, count)?;
+    Ok(refusal(read_net(alloc, text.as_bytes())) == Some((10, 0)))
+}
+
 #[test]
 fn counts_switches_and_links(rt: HostRuntime) -> Result<(), Fail> {
     let alloc = rt.alloc();
-    let links = "switch = [{name = \"a\"}]\nlink = [";
-    for (head, count) in [("switch = [", 65), (links, 257)] {
-        let text = with_many(alloc, head, count)?;
-        assert_eq!(rt; refusal(read_net(alloc, text.as_bytes())), Some((10, 0)));
-    }
+    assert!(rt; has_too_many(alloc, "switch = [", 65)?);
+    assert!(rt; has_too_many(alloc, "switch = [{name = \"a\"}]\nlink = [", 257)?);
     Ok(())
 }
 

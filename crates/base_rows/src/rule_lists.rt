@@ -45,28 +45,32 @@ fn two_rules(alloc: Global) -> Result<Vec<Rule>, Fail> {
     rules_of(alloc, &[low, high])
 }
 
+// The place, the name and the mask of each rule.
+const LISTED: [(usize, Option<u32>, u128); 3] = [
+    (0, Some(200), 0xffff_0000_0000_ffff_ff),
+    (1, Some(100), 0xff00_0000_0000_0000_ff),
+    (2, None, 0),
+];
+
 #[test]
 fn lists_rows_by_falling_priority(rt: HostRuntime) -> Result<(), Fail> {
     let rules = two_rules(rt.alloc())?;
-    assert_eq!(rt; rules.len(), 3);
-    for (place, name, mask) in [
-        (0, Some(200), 0xffff_0000_0000_ffff_ff),
-        (1, Some(100), 0xff00_0000_0000_0000_ff),
-        (2, None, 0),
-    ] {
-        let rule = rules.get(place).ok_or("place")?;
-        assert_eq!(rt; rule.rank as usize, place);
-        assert_eq!(rt; rule.rule, name);
-        assert_eq!(rt; rule.word.mask(), mask);
+    assert!(rt; rules.len() == 3);
+    for (place, name, mask) in &LISTED {
+        let rule = rules.get(*place).ok_or("place")?;
+        let is_so = rule.rank as usize == *place && rule.rule == *name && rule.word.mask() == *mask;
+        assert!(rt; is_so, "{place}");
     }
     Ok(())
 }
 
+const HITS: [(&str, usize); 3] = [("10.1.5.5", 0), ("10.2.0.1", 1), ("11.0.0.1", 2)];
+
 #[test]
 fn hits_the_first_rule(rt: HostRuntime) -> Result<(), Fail> {
     let rules = two_rules(rt.alloc())?;
-    for (dst, place) in [("10.1.5.5", 0), ("10.2.0.1", 1), ("11.0.0.1", 2)] {
-        assert_eq!(rt; first_hit(&rules, &header(dst)?), Some(place), "{dst}");
+    for (dst, place) in &HITS {
+        assert!(rt; first_hit(&rules, &header(dst)?) == Some(*place), "{dst}");
     }
     Ok(())
 }

@@ -32,11 +32,8 @@ fn refusal(outcome: Result<Vec<Event>, ScheduleError>) -> Option<(u32, u32)> {
     }
 }
 
-#[test]
-fn reads_events(rt: HostRuntime) -> Result<(), Fail> {
-    let alloc = rt.alloc();
-    let net = read_net(alloc, NETWORK)?;
-    let text = b"\xef\xbb\xbf\"event\",arguments\r\n
+// Each kind of event that is played.
+const EVENTS: &[u8] = b"\xef\xbb\xbf\"event\",arguments\r\n
 packet,b,10.0.1.5,10.0.2.10,40000,443,tcp
 \"hop\",1
 
@@ -46,72 +43,112 @@ forget,0
 expire,c,65536
 flush
 drain";
-    let events = read_schedule(alloc, text, &net, 1)?;
-    let header = Header::pack(&Fields {
+
+fn header() -> Header {
+    Header::pack(&Fields {
         src: 0x0a00_0105,
         dst: 0x0a00_020a,
         sport: 40000,
         dport: 443,
         proto: 6,
-    });
-    assert!(rt;
-        events.as_slice()
-            == [
-                Event::One(Step::Packet { switch: 1, header }),
-                Event::One(Step::Hop { packet: 1 }),
-                Event::One(Step::Lose {
-                    packet: 999_999_999
-                }),
-                Event::One(Step::Deliver { message: 2 }),
-                Event::One(Step::Forget { message: 0 }),
-                Event::One(Step::Expire {
-                    switch: 2,
-                    place: 65536
-                }),
-                Event::Flush,
-                Event::Drain,
-            ]
-            .as_slice()
-    );
-    assert!(rt; read_schedule(alloc, b"event,arguments\n", &net, 1)?.is_empty());
-    assert_eq!(rt; read_kind(b"linkup"), Some(Kind::LinkUp));
-    assert_eq!(rt; read_kind(b"link"), None);
+    })
+}
+
+// Whether the event of this place is so.
+fn is_event(place: usize, event: &Event) -> bool {
+    let wanted = match place {
+        0 => Event::One(Step::Packet {
+            switch: 1,
+            header: header(),
+        }),
+        1 => Event::One(Step::Hop { packet: 1 }),
+        2 => Event::One(Step::Lose {
+            packet: 999_999_999,
+        }),
+        3 => Event::One(Step::Deliver { message: 2 }),
+        4 => Event::One(Step::Forget { message: 0 }),
+        5 => Event::One(Step::Expire {
+            switch: 2,
+            place: 65536,
+        }),
+        6 => Event::Flush,
+        _ => Event::Drain,
+    };
+    *event == wanted
+}
+
+#[test]
+fn reads_events(rt: HostRuntime) -> Result<(), Fail> {
+    let alloc = rt.alloc();
+    let net = read_net(alloc, NETWORK)?;
+    let events = read_schedule(alloc, EVENTS, &net, 1)?;
+    assert!(rt; events.len() == 8);
+    for (place, event) in events.iter().enumerate() {
+        assert!(rt; is_event(place, event), "{place}");
+    }
     Ok(())
 }
 
 #[test]
-fn refuses_with_code_and_row(rt: HostRuntime) -> Result<(), Fail> {
-    let alloc = rt.alloc();
+fn reads_no_events(rt: HostRuntime) -> Result<(), Fail> {
+    let net = read_net(rt.alloc(), NETWORK)?;
+    let events = read_schedule(rt.alloc(), b"event,arguments\n", &net, 1)?;
+    assert!(rt; events.is_empty());
+    Ok(())
+}
+
+#[test]
+fn reads_kinds(rt: HostRuntime) {
+    assert!(rt; read_kind(b"linkup") == Some(Kind::LinkUp));
+    assert!(rt; read_kind(b"link").is_none());
+}
+
+// The code and the row of the refusal of this text, with so many policies.
+fn refused(alloc: Global, text: &[u8], files: u32) -> Result<Option<(u32, u32)>, Fail> {
     let net = read_net(alloc, NETWORK)?;
+    Ok(refusal(read_schedule(alloc, text, &net, files)))
+}
+
+#[test]
+fn refuses_days_and_headings(rt: HostRuntime) -> Result<(), Fail> {
+    let alloc = rt.alloc();
     let day = under_heading(alloc, DAY)?;
-    assert_eq!(rt; refusal(read_schedule(alloc, &day, &net, 2)), Some((10, 6)));
-    assert_eq!(rt; refusal(read_schedule(alloc, b"", &net, 1)), Some((1, 0)));
-    assert_eq!(rt;
-        refusal(read_schedule(alloc, b"event,arguments,\n", &net, 1)),
-        Some((1, 0))
-    );
-    for (row, code) in [
-        ("drain,now", 2),
-        ("packet,z,1.2.3.4,10.2.0.1,any,80", 2),
-        ("skip,1,2,3", 3),
-        ("packet,z,1.2.3,10.2.0.1,5000,80,tcp", 4),
-        ("hop,1000000000", 5),
-        ("lose,01", 5),
-        ("deliver,1000000000", 5),
-        ("forget,", 5),
-        ("expire,a,-1", 5),
-        ("expire,0,a", 4),
-        ("expire,a", 2),
-        ("flush,1", 2),
-        ("packet,a,1.2.3.4,10.2.0.1,any,80,tcp", 6),
-        ("packet,a,1.2.3.4/32,10.2.0.1,5000,80,tcp", 6),
-        ("linkdown,a,z,a", 10),
-    ] {
-        let rows = format!(in alloc; "drain\n{row}\nskip\n")?;
-        let text = under_heading(alloc, rows.as_str())?;
-        assert_eq!(rt;
-            refusal(read_schedule(alloc, &text, &net, 1)),
-            Some((code, 2)),
+    assert!(rt; refused(alloc, &day, 2)? == Some((10, 6)));
+    assert!(rt; refused(alloc, b"", 1)? == Some((1, 0)));
+    assert!(rt; refused(alloc, b"event,arguments,\n", 1)? == Some((1, 0)));
+    Ok(())
+}
+
+// Second rows, each with the code of its refusal.
+const REFUSED: [(&str, u32); 15] = [
+    ("drain,now", 2),
+    ("packet,z,1.2.3.4,10.2.0.1,any,80", 2),
+    ("skip,1,2,3", 3),
+    ("packet,z,1.2.3,10.2.0.1,5000,80,tcp", 4),
+    ("hop,1000000000", 5),
+    ("lose,01", 5),
+    ("deliver,1000000000", 5),
+    ("forget,", 5),
+    ("expire,a,-1", 5),
+    ("expire,0,a", 4),
+    ("expire,a", 2),
+    ("flush,1", 2),
+    ("packet,a,1.2.3.4,10.2.0.1,any,80,tcp", 6),
+    ("packet,a,1.2.3.4/32,10.2.0.1,5000,80,tcp", 6),
+    ("linkdown,a,z,a", 10),
+];
+
+// The code and the row of the refusal of a schedule with this second row.
+fn refused_second(alloc: Global, row: &str) -> Result<Option<(u32, u32)>, Fail> {
+    let rows = format!(in alloc; "drain\n{row}\nskip\n")?;
+    refused(alloc, &under_heading(alloc, rows.as_str())?, 1)
+}
+
+#[test]
+fn refuses_with_code_and_row(rt: HostRuntime) -> Result<(), Fail> {
+    for (row, code) in &REFUSED {
+        assert!(rt;
+            refused_second(rt.alloc(), row)? == Some((*code, 2)),
             "at {row}"
         );
     }

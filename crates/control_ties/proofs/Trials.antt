@@ -1,6 +1,6 @@
 -- The definitions, computed on two switches: what acts write, what a controller is, and what it is
 -- not.
-use Rattle.std.proofs.Common.{ℕ, ◌≡◌, Bool, true, false, List, [], ◌∷◌, ◌++◌, map, refl, ap, ◌∙◌}
+use Rattle.std.proofs.Common.{ℕ, ◌≡◌, Bool, true, false, Some, None, List, [], ◌∷◌, ◌++◌, map, refl, ap, ◌∙◌}
 use Rattle.std.specs.Option.{option_map_or}
 use Rattle.ctrl_msg.specs.declared.message.Body.TheVariants.{Hello, Install, Stamp}
 use Rattle.switch_table.specs.Tables.{tables_of}
@@ -10,11 +10,12 @@ use Rattle.policy_rules.specs.declared.policy.Row.{Row}
 use Rattle.policy_rules.specs.declared.policy.Action.TheVariants.{Drop, Out}
 use Rattle.update_machine.specs.Deliveries.{after_hello, to_controller}
 use Rattle.update_machine.specs.Marks as machine
-use Rattle.update_machine.specs.Marks.{controller_heard, current_mark, known_boot}
+use Rattle.update_machine.specs.Marks.{controller_heard, current_mark, known_boot, retired_mark}
 use Rattle.update_machine.specs.Messages.{message_of, next_message, sent_from}
+use Rattle.update_machine.specs.Pieces.{update_code}
 use Rattle.update_machine.specs.Settling.{installs_to_all, versions_from_current}
 use Rattle.update_machine.specs.Versions.{file_of, plan_at, policy_at, version_count}
-use Rattle.update_machine.proofs.Examples.{all_to, open_net, plan_p, plan_q, to}
+use Rattle.update_machine.proofs.Examples.{all_to, open_net, plan_p, plan_q, to, versions}
 use Rattle.version_update.specs.Record.{first_record}
 use Rattle.controller.specs.Controller.{KeptPlan, first_controller}
 use Rattle.controller.specs.Plan.{PlanValue}
@@ -135,3 +136,24 @@ not_to_both : written later
 unfolding installs_to_all machine.is_over known_boot controller_heard message_of next_message
     sent_from version_count policy_at plan_at file_of
 not_to_both same = cc same
+
+-- ---- refusals: of a file without a plan first, then of too many live versions, then of too many
+
+no_plan_first : update_code open_net (versions 8 0) 7 ≡ Some 14
+no_plan_first = refl
+
+too_many_live : update_code open_net (versions 8 0) 2 ≡ Some 16
+unfolding version_count retired_mark
+too_many_live = refl
+
+live_first : update_code open_net (versions 64 56) 2 ≡ Some 16
+unfolding version_count retired_mark
+live_first = refl
+
+too_many_versions : update_code open_net (versions 64 57) 2 ≡ Some 17
+unfolding version_count retired_mark
+too_many_versions = refl
+
+seven_live : update_code open_net (versions 7 0) 2 ≡ None
+unfolding version_count retired_mark
+seven_live = refl

@@ -4,3 +4,4 @@ pub mod Others
 pub mod Settles
 pub mod Ends
 mod Trials
+mod SettledRows

@@ -1,5 +1,4 @@
--- Steps for the controller, and rises of the current mark, computed on two switches; and a fact
--- that doesn't hold at the end of each step.
+-- Steps for the controller, and rises of the current mark, computed on two switches.
 use Rattle.std.proofs.Common.{ℕ, ◌≡◌, ◌<◌, ◌≤◌, true, false, List, [], ◌∷◌, ◌++◌, refl, subst, arith}
 use Rattle.std.specs.Prelude.{IsTrue}
 use Rattle.ctrl_msg.specs.declared.message.Body.TheVariants.{Install, Installed}

@@ -31,8 +31,9 @@ use Rattle.update_machine.specs.Settling.{to_switch}
 use Rattle.update_machine.specs.Versions.{plan_at, stamp_of}
 use Rattle.boot_laws.specs.BootLaws.{ServingIsKnown}
 use Rattle.send_laws.specs.Sends.{NumbersFit}
+use Rattle.version_laws.specs.Authorities.{EndsAt, IsSoughtAt}
 use Rattle.version_laws.specs.Serving.{ServingHold}
-use Rattle.switch_ties.specs.Asked.{AskedTies, CanReceive, CanRestart, EndsAt, HasNextSeq, IsSoughtAt}
+use Rattle.switch_ties.specs.Asked.{AskedTies, CanReceive, CanRestart, HasNextSeq}
 use Rattle.switch_ties.specs.Knowing.{TablesAreKnown}
 use Rattle.switch_ties.specs.SwitchOf.{switch_of}
 use Rattle.switch_ties.proofs.Knowing.{held_shown, planned, planned_tables, tables_sound}

@@ -21,7 +21,8 @@ use Rattle.update_machine.specs.Messages.{message_of}
 use Rattle.update_machine.specs.Steps.{steps_in}
 use Rattle.update_machine.specs.Versions.{file_of, holds_version, plan_at, stamp_of}
 use Rattle.update_machine.proofs.Examples.{any_word, one, open_net, plan_p, rule, tables_of, to}
-use Rattle.switch_ties.specs.Asked.{CanRestart, EndsAt}
+use Rattle.version_laws.specs.Authorities.{EndsAt}
+use Rattle.switch_ties.specs.Asked.{CanRestart}
 use Rattle.switch_ties.specs.Calls.{AreInStep}
 use Rattle.switch_ties.specs.Life.{message_at}
 use Rattle.switch_ties.specs.Links.{LeavesSwitch}

@@ -1,43 +1,23 @@
 -- What the calls of a switch ask, as laws of journals give it: of versions, tables, boots and
 -- adverts, whatever steps were taken.
-use Rattle.std.specs.Prelude.{⊤, ℕ, ◌≡◌, ◌-◌, ◌^◌, ◌<◌, nat_eq, Some, List, length, slice_get, IsFalse, IsTrue}
-use Rattle.std.specs.List.{list_any}
+use Rattle.std.specs.Prelude.{ℕ, ◌≡◌, ◌-◌, ◌^◌, ◌<◌, Some, List, length, IsFalse, IsTrue}
 use Rattle.ctrl_msg.specs.declared.message.Body.{Body}
 use Rattle.five_tuple.specs.declared.header.Header.{Header}
-use Rattle.policy_rules.specs.Partitions.{is_in}
 use Rattle.policy_rules.specs.declared.packet.Leg.{Leg}
-use Rattle.policy_rules.specs.declared.packet.Leg.TheVariants.{Seek, Exit}
 use Rattle.journal.specs.declared.item.Item.{Item}
 use Rattle.switch_core.specs.Answering.{CanLookUp, IsAtAuthority}
 use Rattle.switch_core.specs.Hearing.{IsSoundBody, heard}
 use Rattle.switch_core.specs.State.{SwitchValue, serves}
-use Rattle.switch_table.specs.Tables.{Placed, part_of}
 use Rattle.update_machine.specs.Boots.{is_up, serves as serves_in}
 use Rattle.update_machine.specs.Messages.{message_of}
 use Rattle.update_machine.specs.Setting.{Setting}
 use Rattle.update_machine.specs.Settling.{to_switch}
-use Rattle.update_machine.specs.Versions.{plan_at}
 use Rattle.boot_laws.specs.BootLaws.{ServingIsKnown}
 use Rattle.send_laws.specs.Sends.{NumbersFit}
+use Rattle.version_laws.specs.Authorities.{EndsAt}
 use Rattle.version_laws.specs.Serving.{ServingHold}
 use Rattle.switch_ties.specs.Knowing.{TablesAreKnown}
 use Rattle.switch_ties.specs.SwitchOf.{switch_of}
-
--- the partition of a version's plan, by its place there, has the header, and the switch is one of
--- its targets
-pub record IsSoughtAt (setting : Setting) (journal : List Item) (s : ℕ) (header : Header)
-    (version partition : ℕ) : Type 0 where
-  pub placed : Placed
-  pub found : slice_get (plan_at setting journal version) partition ≡ Some placed
-  pub number : placed.0.number ≡ partition
-  pub holds : IsTrue (is_in header (part_of placed))
-  pub target : IsTrue (list_any (nat_eq s) placed.1)
-
--- a packet at the end of its route is where its leg leads
-abbrev pub EndsAt : Setting → List Item → ℕ → Header → Leg → Type 0
-EndsAt setting journal s header (Seek version partition) =
-    IsSoughtAt setting journal s header version partition
-EndsAt setting journal s header (Exit port) = ⊤
 
 -- what `arrive` asks of the switch
 pub record CanReceive (switch : SwitchValue) (header : Header) (leg : Leg) : Type 0 where

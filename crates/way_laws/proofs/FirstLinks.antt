@@ -13,11 +13,7 @@ use Rattle.update_machine.specs.Adverts.{adverts_known, links_known, route_from}
 use Rattle.update_machine.specs.Links.{near}
 use Rattle.update_machine.specs.Setting.{Setting}
 use Rattle.update_machine.proofs.CallerLemmas.{known_link_laws}
-
-second : (a b c d : Bool) → (a && b && c && d) ≡ true → b ≡ true
-second true true c d is = refl
-second true false c d is = absurd cc
-second false b c d is = absurd cc
+use Rattle.advert_laws.proofs.NetLinks.{second}
 
 -- of its own links a switch knows what it sees
 own_row : (rows : List ℕ) (at own other : ℕ) → IsTrue (has (get_or (set rows at own) at 0) other)

@@ -21,7 +21,7 @@ use Rattle.update_machine.specs.Setting.{Setting}
 use Rattle.update_machine.specs.Versions.{stamp_of}
 use Rattle.update_machine.proofs.CallerLemmas.{have_append, last_told_append, packet_keeps}
 use Rattle.boot_laws.specs.ItemCauses.{HasItemCause}
-use Rattle.boot_laws.proofs.Facts.{fact_on, have_weaker}
+use Rattle.boot_laws.proofs.Facts.{Both, fact_on, have_both, have_weaker}
 use Rattle.boot_laws.proofs.Grown.{serving_more}
 use Rattle.boot_laws.proofs.Pieces.{pieces_have}
 use Rattle.boot_laws.proofs.Reached.{NamesOwn}
@@ -40,21 +40,7 @@ use Rattle.way_laws.proofs.Others.{IsNoRow, Spares, aside_spares, crash_spares, 
 use Rattle.way_laws.proofs.Pieces.{piece_ways, row_rests}
 use Rattle.way_laws.proofs.Served.{AreNumbered, HaveLegs, IsCausedUp, NotDown, legs_kept, numbered_kept, served_kept}
 
--- ---- two causes of one item
-
-pub record Both (one other : List Item → Item → Type 0) (before : List Item) (next : Item)
-    : Type 0 where
-  pub first : one before next
-  pub second : other before next
-
-pub have_both : (one other : List Item → Item → Type 0) (before items : List Item)
-    → HaveCauses one before items → HaveCauses other before items
-    → HaveCauses (Both one other) before items
-have_both one other before [] first second = tt
-have_both one other before (next ∷ items) first second = (
-  record { first = first.0; second = second.0 },
-  have_both one other (before ++ next ∷ []) items first.1 second.1,
-)
+-- ---- causes with their past
 
 -- a cause, where all items before have theirs too
 pub record Past (cause : List Item → Item → Type 0) (before : List Item) (next : Item)

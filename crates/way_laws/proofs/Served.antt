@@ -25,23 +25,13 @@ use Rattle.boot_laws.specs.BootLaws.{ServingIsKnown}
 use Rattle.boot_laws.specs.ItemCauses.{HasItemCause}
 use Rattle.boot_laws.proofs.Facts.{AreKept}
 use Rattle.boot_laws.proofs.Grown.{serving_more}
+use Rattle.advert_laws.proofs.NetLinks.{linked_by_mask}
 use Rattle.way_laws.specs.Rest.{AreServed, IsServed}
 use Rattle.way_laws.specs.Stages.{OnWay, stage_of, tells_stage}
 use Rattle.way_laws.specs.WayCauses.{WayCause}
 use Rattle.way_laws.proofs.Others.{ends_or_not}
 
 -- ---- the end of a link that can be used serves
-
-pub linked_by_mask : (links : List LinkRow) (s k : ℕ) → IsTrue (has (links_of links s) k)
-    → IsTrue (are_linked links s k)
-unfolding has
-linked_by_mask links s k is = elim (cases_lt k 64) [
-  | inl small ↦ sym (in_mask_of (are_linked links s) k small) ∙ is
-  | inr past ↦
-      let none : in_mask (links_of links s) k ≡ false =
-      in_mask_past (links_of links s) k (mask_of_small (are_linked links s)) past in
-      absurd cc
-]
 
 usable_serves : (journal : List Item) (s k : ℕ) (link : LinkRow) → joins s k link ≡ true
     → is_usable journal link ≡ true → (serves journal s ≡ true) × (serves journal k ≡ true)

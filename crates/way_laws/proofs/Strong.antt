@@ -29,7 +29,7 @@ use Rattle.way_laws.proofs.Here.{IsHere, here_of, leg_in, next_in, seeking_of, s
 use Rattle.way_laws.proofs.Kept.{IsDecidedNow, Knows, decided_now, stage_when, undecided_of}
 use Rattle.way_laws.proofs.Rests.{IsWayItem, Past}
 use Rattle.way_laws.proofs.Routes.{route_way}
-use Rattle.way_laws.proofs.Served.{linked_by_mask}
+use Rattle.advert_laws.proofs.NetLinks.{linked_by_mask}
 
 mark_in : (journal : List Item) (i : ℕ) → (words_of journal i).mark ≡ entry_mark journal i
 unfolding words_of
