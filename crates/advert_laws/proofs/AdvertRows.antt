@@ -2,12 +2,15 @@
 use Rattle.std.proofs.Common.{ℕ, ◌≡◌, ◌<◌, ◌≤◌, true, false, Some, None, List, [], ◌∷◌, refl, ap, subst, arith, inl, inr}
 use Rattle.std.specs.Prelude.{◌==◌}
 use Rattle.std.proofs.lemmas.Bool.{eq-eqb}
+use Rattle.std.proofs.lemmas.List.Elements.{All-from_recursion}
+use Rattle.ctrl_msg.specs.declared.message.Body.TheVariants.{Hello}
 use Rattle.failover.specs.Adverts.{after_hearing, first_adverts, is_news}
 use Rattle.masks.specs.Masks.{has}
 use Rattle.failover.specs.declared.advert.Advert.{Advert}
 use Rattle.masks.specs.Masks.{mask_of, mask_where, switches}
 use Rattle.journal.specs.declared.item.Item.{Item}
 use Rattle.journal.specs.declared.item.Item.TheVariants as item
+use Rattle.net_file.specs.Net.{IsNet, IsSwitch, solo_net}
 use Rattle.steps.specs.declared.step.Step.TheVariants as step
 use Rattle.update_machine.specs.Adverts.{advert_known, adverts_known, held_adverts, own_advert, own_seq}
 use Rattle.update_machine.specs.Answers.{StepOfRow, after_steps}
@@ -15,13 +18,15 @@ use Rattle.update_machine.specs.Boots.{boot_of, heard, is_up, serves}
 use Rattle.update_machine.specs.Deliveries.{link_changes}
 use Rattle.update_machine.specs.Links.{is_link_up, near}
 use Rattle.update_machine.specs.Messages.{message_of, next_message, sent_from}
-use Rattle.update_machine.specs.Pieces.{link_items, piece}
+use Rattle.update_machine.specs.Pieces.{crash_items, link_items, piece, restart_items}
+use Rattle.update_machine.specs.Setting.{Setting}
 use Rattle.update_machine.specs.Steps.{steps_in}
-use Rattle.update_machine.proofs.Examples.{advert, at, open_net, to, two_switches}
+use Rattle.update_machine.proofs.Examples.{advert, at, open_net, to, to_controller, two_switches}
 use Rattle.advert_laws.specs.Adverts.{AdvertsAreOfSwitches, IsNoNewer, IsOverLinks, LinksAreThere, NamesLinks, OwnAreNewest}
 use Rattle.advert_laws.proofs.BothCauses.{behind_both}
 use Rattle.advert_laws.proofs.NetLinks.{linked_by_mask, links_there}
 use Rattle.advert_laws.proofs.Newest.{own_newest}
+use Rattle.advert_laws.proofs.Origins.{of_switches}
 
 -- ---- links of the network: switches a and b, and their link
 
@@ -154,3 +159,39 @@ unfolding message_of
 of_third are =
     let there : 2 < 2 =
     are.sent 1 1 (record { origin = 2; boot = 1; seq = 1; up = 0 }) refl in omega arith
+
+-- ---- a network of one switch, which crashed and restarted
+
+abbrev pub solo : Setting
+solo = record { net = solo_net; policies = []; plan = open_net.plan }
+
+pub is_net : IsNet solo_net
+is_net = record {
+  some_switch = omega arith;
+  few_switches = omega arith;
+  switches = All-from_recursion IsSwitch solo_net.switches
+      (record { name = refl; ports = omega arith; room = omega arith }, tt);
+  apart = λ i j row before inside. absurd (omega (arith, before, inside));
+  few_links = omega arith;
+  links = λ k link inside. absurd (omega (arith, inside));
+  others = λ i j link before inside. absurd (omega (arith, inside));
+  some_rules = omega arith;
+  leaf_rules = omega arith;
+  backups = omega arith;
+  cache = omega arith;
+}
+
+abbrev pub restart : List StepOfRow
+restart = at 1 (step.Crash 0) ∷ at 2 (step.Restart 0) ∷ []
+
+abbrev pub restarted : List Item
+restarted =
+    item.Row 1 (step.Crash 0) ∷ item.Down 0 ∷ item.Row 2 (step.Restart 0) ∷ item.Booted 0 2
+    ∷ item.Sent 1 (to_controller (Hello 0 2)) ∷ []
+
+of_the_switch : AdvertsAreOfSwitches solo restarted
+unfolding piece crash_items restart_items link_changes near is_link_up serves is_up boot_of
+    next_message sent_from mask_of mask_where switches
+of_the_switch =
+    (behind_both (λ setting journal. IsNet setting.net → AdvertsAreOfSwitches setting journal)
+    of_switches).stepped solo restart is_net

@@ -9,4 +9,4 @@ pub mod AllAdverts
 pub mod Newest
 pub mod NetLinks
 pub mod Origins
-mod AdvertRows
+pub mod AdvertRows

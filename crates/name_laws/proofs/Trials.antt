@@ -100,3 +100,17 @@ not_sent_to_third name = not_to_fresh_third (name.sent 1 (to_switch 2 (Stamp 1 1
         NamesThere open_net (item.Sent 1 (to_switch 2 (Stamp 1 1)) ∷ [])
         (to_switch 2 (Stamp 1 1)) → ⊥
     not_to_fresh_third names = absurd (omega (arith, names.addressed.0))
+
+-- nor is it as a switch hears of a version that isn't there, or the controller of a third switch
+not_heard_of_version_2 :
+    BodiesNameThere open_net (item.Sent 1 (to_switch 1 (Stamp 1 2)) ∷ item.Delivered 1 ∷ []) → ⊥
+unfolding message_of heard is_up boot_of version_count
+not_heard_of_version_2 name =
+    let heard = name.heard 1 0 (Stamp 1 1) (omega arith) in absurd (omega (arith, heard.version.1))
+
+not_told_of_third :
+    BodiesNameThere open_net (item.Sent 1 (to_controller (Hello 2 1)) ∷ item.Delivered 1 ∷ [])
+    → ⊥
+unfolding message_of controller_heard
+not_told_of_third name =
+    let told = name.told 0 (Hello 0 1) (omega arith) in absurd (omega (arith, told.addressed))

@@ -1,24 +1,20 @@
 -- Messages and numbers of small journals, computed.
 use Rattle.std.proofs.Common.{◌≡◌, ◌≤◌, ◌<◌, ◌-◌, ◌^◌, false, List, [], ◌∷◌, refl, arith}
-use Rattle.std.proofs.lemmas.List.Elements.{All-from_recursion}
 use Rattle.failover.specs.Adverts.{first_adverts, is_news}
-use Rattle.ctrl_msg.specs.declared.message.Body.TheVariants.{Hello}
 use Rattle.masks.specs.Masks.{has, mask_of, mask_where, switches}
 use Rattle.journal.specs.declared.item.Item.{Item}
 use Rattle.journal.specs.declared.item.Item.TheVariants as item
-use Rattle.net_file.specs.Net.{IsNet, IsSwitch, solo_net}
 use Rattle.steps.specs.declared.step.Step.TheVariants as step
-use Rattle.update_machine.specs.Answers.{StepOfRow}
 use Rattle.update_machine.specs.Adverts.{adverts_known, held_adverts, own_advert, own_seq}
 use Rattle.update_machine.specs.Boots.{boot_of, heard, is_up, serves}
 use Rattle.update_machine.specs.Deliveries.{link_changes}
 use Rattle.update_machine.specs.Links.{is_link_up, near}
 use Rattle.update_machine.specs.Messages.{next_message, sent_from}
 use Rattle.update_machine.specs.Pieces.{crash_items, link_items, piece, restart_items}
-use Rattle.update_machine.specs.Setting.{Setting}
 use Rattle.update_machine.specs.Steps.{steps_in}
 use Rattle.update_machine.specs.Versions.{version_count}
-use Rattle.update_machine.proofs.Examples.{at, open_net, to_controller}
+use Rattle.update_machine.proofs.Examples.{open_net}
+use Rattle.advert_laws.proofs.AdvertRows.{is_net, restart, restarted, solo}
 use Rattle.send_laws.specs.Sends.{NumbersAreFew, NumbersFit, StepsSendAtMost, StepsSendFew, sent_count}
 use Rattle.send_laws.proofs.Fitting.{fit_behind_room, numbers_few}
 use Rattle.send_laws.proofs.PieceKinds.{piece_few}
@@ -55,33 +51,6 @@ unfolding boot_of
 last_boot fit = let limit : 2 ^ 32 - 1 < 2 ^ 32 - 1 = fit.boots 0 in omega arith
 
 -- ---- on a network of one switch, which crashed and restarted, all is small
-
-abbrev solo : Setting
-solo = record { net = solo_net; policies = []; plan = open_net.plan }
-
-is_net : IsNet solo_net
-is_net = record {
-  some_switch = omega arith;
-  few_switches = omega arith;
-  switches = All-from_recursion IsSwitch solo_net.switches
-      (record { name = refl; ports = omega arith; room = omega arith }, tt);
-  apart = λ i j row before inside. absurd (omega (arith, before, inside));
-  few_links = omega arith;
-  links = λ k link inside. absurd (omega (arith, inside));
-  others = λ i j link before inside. absurd (omega (arith, inside));
-  some_rules = omega arith;
-  leaf_rules = omega arith;
-  backups = omega arith;
-  cache = omega arith;
-}
-
-abbrev restart : List StepOfRow
-restart = at 1 (step.Crash 0) ∷ at 2 (step.Restart 0) ∷ []
-
-abbrev restarted : List Item
-restarted =
-    item.Row 1 (step.Crash 0) ∷ item.Down 0 ∷ item.Row 2 (step.Restart 0) ∷ item.Booted 0 2
-    ∷ item.Sent 1 (to_controller (Hello 0 2)) ∷ []
 
 steps_send_few : StepsSendFew solo restarted
 unfolding version_count
