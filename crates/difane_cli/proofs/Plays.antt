@@ -1,10 +1,14 @@
 -- What comes of a task that is done, by what became of its text.
 use Rattle.std.specs.Prelude.{⊤}
-use Rattle.std.proofs.Common.{ℕ, ◌≡◌, inr, refl, Option, Some, None, Result, Ok, Err, OnOk, OnErr, IsErrOf, List, [], All}
+use Rattle.std.proofs.Common.{ℕ, ◌≡◌, inr, refl, Option, Some, None, Result, Ok, Err, OnOk, OnErr, IsErrOf, List, [], All, length}
 use Rattle.std.specs.Option.{ForSome}
+use Rattle.std.proofs.lemmas.List.Elements.{All-weaker}
+use Rattle.boot_laws.specs.Always.{HoldsReached}
 use Rattle.journal.specs.declared.item.Item.{Item}
 use Rattle.journal_text.specs.Lines.{journal_text}
+use Rattle.steps.specs.Steps.{IsEvent}
 use Rattle.steps.specs.declared.step.Event.{Event}
+use Rattle.steps.specs.declared.step.Event.TheVariants.{Drain, Flush, One}
 use Rattle.update_machine.specs.Answers.{BeginsAnswer}
 use Rattle.update_machine.specs.Causes.{EndsHaveCauses}
 use Rattle.update_machine.specs.Full.{IsPlay}
@@ -20,14 +24,24 @@ use Rattle.difane_cli.specs.Run.{Begun, GainedSome, IsAnswer, IsPrintingOf, IsRe
 use Rattle.difane_cli.specs.Status.{status_after}
 use Rattle.difane_cli.specs.Words.{PrintCommand, ReplayCommand}
 
--- what follows from answers, and from what begins them
+-- what follows behind steps of the network
 pub record AnswerLaws : Type 0 where
-  pub run : (setting : Setting) (events : List Event) (journal : List Item) → IsSetting setting
-      → All (MayHappen setting) events → BeginsAnswer setting events journal
-      → IsRun setting journal
-  pub causes : (setting : Setting) (events : List Event) (journal : List Item) → IsSetting setting
-      → All (MayHappen setting) events → BeginsAnswer setting events journal
-      → EndsHaveCauses setting journal
+  pub run : HoldsReached (λ setting journal. IsSetting setting → IsRun setting journal)
+  pub causes : HoldsReached (λ setting journal.
+      IsSetting setting → EndsHaveCauses setting journal)
+
+-- what may happen are events of the network
+is_event : (setting : Setting) (event : Event) → MayHappen setting event
+    → IsEvent setting.net (length setting.policies) event
+is_event setting (One step) may = may.own
+is_event setting Flush may = tt
+is_event setting Drain may = tt
+
+are_events : (setting : Setting) (events : List Event) → All (MayHappen setting) events
+    → All (IsEvent setting.net (length setting.policies)) events
+are_events setting events may =
+    All-weaker (MayHappen setting) (IsEvent setting.net (length setting.policies))
+    (is_event setting) events may
 
 begins : (inputs : Inputs) (journal : List Item) (full : Option ℕ)
     → IsPlay inputs.setting inputs.events journal full
@@ -46,10 +60,12 @@ played laws command known inputs journal full asked accepted play = record {
   asked = asked;
   accepted = accepted;
   play = play;
-  run = laws.run inputs.setting inputs.events journal asked.setting asked.events
-      (begins inputs journal full play);
-  causes = laws.causes inputs.setting inputs.events journal asked.setting asked.events
-      (begins inputs journal full play);
+  run = laws.run.begun inputs.setting inputs.events journal
+      (are_events inputs.setting inputs.events asked.events) (begins inputs journal full play)
+      asked.setting;
+  causes = laws.causes.begun inputs.setting inputs.events journal
+      (are_events inputs.setting inputs.events asked.events) (begins inputs journal full play)
+      asked.setting;
 }
 
 -- what a play leaves begins an answer, so that some of its text may be written

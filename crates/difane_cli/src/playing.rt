@@ -17,9 +17,9 @@ use crate::status::{Finished, Status};
 use journal::{Item, Journal};
 use journal_text::lines;
 use net_file::Net;
-use packet_laws::{answers_are_runs, ends_have_causes};
 use shelf::{Sink, SinkError, write_whole};
 use std::alloc::Global;
+use way_laws::{answers_are_runs, ends_have_causes};
 
 /// How many items are printed before they are written: their lines have about 50,000 bytes.
 const BLOCK: usize = 1_024;

@@ -23,8 +23,8 @@ use Rattle.update_machine.specs.Played.{IsSetting}
 use Rattle.update_machine.specs.Setting.{Setting}
 use Rattle.update_machine.specs.Versions.{holds_version, plan_at, policy_at, stamp_of}
 use Rattle.boot_laws.specs.ItemCauses.{HasItemCause}
-use Rattle.packet_laws.specs.OnWay.{IsOnWay, IsSeeking}
-use Rattle.packet_laws.specs.Words.{PacketWords, words_of}
+use Rattle.way_laws.specs.OnWay.{IsOnWay, IsSeeking}
+use Rattle.way_laws.specs.Words.{PacketWords, words_of}
 use Rattle.way_laws.specs.Kept.{AllKept}
 use Rattle.way_laws.specs.Rest.{AreResting}
 use Rattle.way_laws.specs.Stages.{stage_of}

@@ -19,8 +19,8 @@ use Rattle.update_machine.specs.Setting.{Setting}
 use Rattle.update_machine.specs.Steps.{present_step, tells_step}
 use Rattle.update_machine.proofs.CallerLemmas.{Nears, last_told_append, loop_ends, step_stays}
 use Rattle.boot_laws.proofs.Facts.{AreKept, Both, fact_on, have_both}
-use Rattle.drain_laws.specs.Drains.{drain_left, hops_left}
-use Rattle.drain_laws.specs.Hops.{changes_taken, hops_taken, most_hops}
+use Rattle.hop_laws.specs.Drains.{drain_left, hops_left}
+use Rattle.hop_laws.specs.Hops.{changes_taken, hops_taken, most_hops}
 use Rattle.way_laws.specs.WayCauses.{WayCause}
 use Rattle.way_laws.proofs.Others.{IsNoRow}
 use Rattle.way_laws.proofs.Pieces.{piece_ways}

@@ -18,10 +18,10 @@ use Rattle.boot_laws.proofs.Facts.{Behind, Both, fact_on, have_both}
 use Rattle.mark_laws.proofs.Marks.{bounded}
 use Rattle.mark_laws.proofs.Planned.{current_rises}
 use Rattle.version_laws.proofs.Planned.{versions_planned}
-use Rattle.packet_laws.specs.OnWay.{IsOnWay, IsSeeking}
-use Rattle.packet_laws.specs.Words.{PacketWords, names, told_by, words_of}
-use Rattle.packet_laws.proofs.Words.{words_grow}
-use Rattle.drain_laws.specs.Hops.{detours, exits, routes_taken, searches}
+use Rattle.way_laws.specs.OnWay.{IsOnWay, IsSeeking}
+use Rattle.way_laws.specs.Words.{PacketWords, names, told_by, words_of}
+use Rattle.way_laws.proofs.Words.{words_grow}
+use Rattle.hop_laws.specs.Hops.{detours, exits, routes_taken, searches}
 use Rattle.way_laws.specs.Kept.{AllKept}
 use Rattle.way_laws.specs.Stages.{Blocked, Judged, Stage, stage_of, tells_stage}
 use Rattle.way_laws.specs.StrongCauses.{StrongCause}

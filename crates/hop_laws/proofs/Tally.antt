@@ -3,7 +3,7 @@ use Rattle.std.proofs.Common.{ℕ, ◌≡◌, ◌+◌, Bool, true, false, if◌t
 use Rattle.journal.specs.declared.item.Item.{Item}
 use Rattle.update_machine.specs.Folds.{count_of}
 use Rattle.update_machine.proofs.CallerLemmas.{count_of_append}
-use Rattle.drain_laws.specs.Hops.{detours, exits, is_detour, is_exit, is_search, searches}
+use Rattle.hop_laws.specs.Hops.{detours, exits, is_detour, is_exit, is_search, searches}
 use Rattle.hop_laws.specs.Routes.{finds_down, is_finding}
 
 pub record Tally : Type 0 where

@@ -10,7 +10,7 @@ use Rattle.update_machine.specs.Folds.{folded}
 use Rattle.update_machine.specs.Packets.{travels}
 use Rattle.update_machine.proofs.CallerLemmas.{folded_append}
 use Rattle.boot_laws.proofs.Facts.{AreKept, fact_on}
-use Rattle.packet_laws.specs.Words.{names}
+use Rattle.way_laws.specs.Words.{names}
 use Rattle.way_laws.proofs.Others.{IsNoRow}
 
 abbrev pub changes_told : ℕ → List Item → Bool → Item → Bool

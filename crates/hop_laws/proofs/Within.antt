@@ -16,10 +16,10 @@ use Rattle.update_machine.specs.Played.{IsSetting}
 use Rattle.update_machine.specs.Setting.{Setting}
 use Rattle.update_machine.proofs.CallerLemmas.{folded_append}
 use Rattle.boot_laws.proofs.Facts.{Behind, Both, fact_on, have_both, have_weaker}
-use Rattle.packet_laws.specs.OnWay.{IsOnLeg, IsOnWay}
-use Rattle.packet_laws.specs.Words.{PacketWords, names, told_by, words_of}
-use Rattle.packet_laws.proofs.Words.{words_grow}
-use Rattle.drain_laws.specs.Hops.{changes_taken, hops_taken, most_hops, most_switches, routes_taken}
+use Rattle.way_laws.specs.OnWay.{IsOnLeg, IsOnWay}
+use Rattle.way_laws.specs.Words.{PacketWords, names, told_by, words_of}
+use Rattle.way_laws.proofs.Words.{words_grow}
+use Rattle.hop_laws.specs.Hops.{changes_taken, hops_taken, most_hops, most_switches, routes_taken}
 use Rattle.way_laws.specs.Kept.{AllKept}
 use Rattle.way_laws.specs.Rest.{AreResting}
 use Rattle.way_laws.specs.Stages.{OnWay, Stage, stage_of, tells_stage}

@@ -1,2 +1,4 @@
+pub mod Hops
+pub mod Drains
 pub mod Routes
 pub mod Stops

@@ -13,8 +13,8 @@ ghost use Rattle.update_machine.specs.Pieces.{piece};
 ghost use Rattle.update_machine.specs.Played.{IsSetting};
 ghost use Rattle.update_machine.specs.Setting.{Setting};
 ghost use Rattle.boot_laws.specs.Always.{HoldsReached};
-ghost use Rattle.drain_laws.specs.Drains.{drain_left};
-ghost use Rattle.drain_laws.specs.Hops.{detours, exits, hops_taken, most_hops, most_switches, routes_taken, searches};
+ghost use Rattle.hop_laws.specs.Drains.{drain_left};
+ghost use Rattle.hop_laws.specs.Hops.{detours, exits, hops_taken, most_hops, most_switches, routes_taken, searches};
 ghost use Rattle.hop_laws.specs.Routes.{finds_down, hops_on_route, most_routes};
 ghost use Rattle.hop_laws.specs.Stops.{GoesOrStops};
 

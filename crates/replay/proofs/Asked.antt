@@ -1,5 +1,5 @@
 -- The step that an event asks for next: it may be played, and leaves the event fewer to ask for.
-use Rattle.std.proofs.Common.{ℕ, ◌≡◌, ◌+◌, ◌<◌, ◌≤◌, Bool, true, false, Option, Some, None, List, ◌++◌, refl, subst, arith}
+use Rattle.std.proofs.Common.{ℕ, ◌≡◌, ◌+◌, ◌-◌, ◌^◌, ◌<◌, ◌≤◌, Bool, true, false, Option, Some, None, List, ◌++◌, refl, sym, subst, arith}
 use Rattle.std.specs.Prelude.{option_map}
 use Rattle.journal.specs.declared.item.Item.{Item}
 use Rattle.steps.specs.declared.step.Event.{Event}
@@ -7,18 +7,18 @@ use Rattle.steps.specs.declared.step.Event.TheVariants.{Drain, Flush, One}
 use Rattle.steps.specs.declared.step.Step.{Step}
 use Rattle.steps.specs.declared.step.Step.TheVariants.{Deliver, Hop, Packet}
 use Rattle.steps.specs.Steps.{max_events}
-use Rattle.drain_laws.specs.Drains.{drain_left}
-use Rattle.drain_laws.specs.Flushes.{waiting_left}
+use Rattle.hop_laws.specs.Drains.{drain_left}
+use Rattle.update_machine.specs.Answers.{IsReached}
 use Rattle.update_machine.specs.Full.{HasRoom}
 use Rattle.update_machine.specs.Messages.{next_waiting}
 use Rattle.update_machine.specs.Packets.{next_packet, next_travelling}
 use Rattle.update_machine.specs.Pieces.{piece}
-use Rattle.update_machine.specs.Played.{IsPlayed, IsSetting, MayHappen, MayPlay}
+use Rattle.update_machine.specs.Played.{IsSetting, MayHappen, MayPlay}
 use Rattle.update_machine.specs.Setting.{Setting}
 use Rattle.world.specs.State.{IsTied, WorldValue, comes_in, setting_at}
 use Rattle.replay.specs.Playing.{brought_in, next_step}
 use Rattle.replay.proofs.Small.{least_is_packet, least_is_small}
-use Rattle.replay.proofs.Ties.{tie_of}
+use Rattle.replay.proofs.Ties.{reached_of, tie_of}
 
 -- so many packets an event brought in, which began or has yet to
 abbrev pub brought_so_far : Event → Bool → ℕ
@@ -27,11 +27,16 @@ brought_so_far (One step) true = comes_in step
 brought_so_far Flush is_begun = 0
 brought_so_far Drain is_begun = 0
 
+-- how far the number of the message that is delivered next is from the greatest one
+unfoldable pub flush_left : Option ℕ → ℕ
+flush_left None = 0
+flush_left (Some number) = 2 ^ 32 - number
+
 -- what an event has yet to do
 abbrev pub steps_left : Event → Bool → List Item → ℕ
 steps_left (One step) false journal = 1
 steps_left (One step) true journal = 0
-steps_left Flush is_begun journal = waiting_left journal
+steps_left Flush is_begun journal = flush_left (next_waiting journal)
 steps_left Drain is_begun journal = drain_left journal
 
 -- ---- a step that is asked for
@@ -43,7 +48,7 @@ pub record Asked (setting : Setting) (row : ℕ) (event : Event) (is_begun : Boo
   -- it is the first that may bring one in
   pub none : brought_so_far event is_begun ≡ 0
   pub brought : comes_in step ≡ brought_so_far event true
-  pub fewer : steps_left event true (journal ++ piece setting journal row step)
+  pub fewer : HasRoom journal → steps_left event true (journal ++ piece setting journal row step)
       < steps_left event is_begun journal
 
 -- the step is of the number that was found
@@ -60,35 +65,47 @@ found_by make (Some number) step is = record { number = number; is = refl; made 
 -- the laws by which drains and flushes end
 abbrev pub DrainsEnd : Type 0
 DrainsEnd = (setting : Setting) (journal : List Item) (row i : ℕ) → IsSetting setting
-    → IsPlayed setting journal → next_travelling journal ≡ Some i
+    → IsReached setting journal → next_travelling journal ≡ Some i
     → drain_left (journal ++ piece setting journal row (Hop i)) < drain_left journal
 
-abbrev pub FlushesEnd : Type 0
-FlushesEnd = (setting : Setting) (journal : List Item) (row n : ℕ) → IsSetting setting
-    → IsPlayed setting journal → next_waiting journal ≡ Some n
-    → waiting_left (journal ++ piece setting journal row (Deliver n)) < waiting_left journal
+abbrev pub DeliveriesRise : Type 0
+DeliveriesRise = (setting : Setting) (journal : List Item) (row n m : ℕ)
+    → next_waiting journal ≡ Some n
+    → next_waiting (journal ++ piece setting journal row (Deliver n)) ≡ Some m → n < m
 
-pub asked : DrainsEnd → FlushesEnd → (world : WorldValue) (row : ℕ) (event : Event)
+-- the next number is greater, if there is one
+nearer : (later : Option ℕ) (n : ℕ) → n < 2 ^ 32 → ((m : ℕ) → later ≡ Some m → n < m)
+    → flush_left later < flush_left (Some n)
+unfolding flush_left
+nearer None n small rises = omega (arith, small)
+nearer (Some m) n small rises = omega (arith, small, rises m refl)
+
+pub asked : DrainsEnd → DeliveriesRise → (world : WorldValue) (row : ℕ) (event : Event)
     (is_begun : Bool) (step : Step) → IsTied world
     → next_step event is_begun world.journal ≡ Some step
     → Asked (setting_at world) row event is_begun world.journal step
-asked hops deliveries world row (One own) true step tied is = cc is
-asked hops deliveries world row (One own) false step tied is =
+asked hops rise world row (One own) true step tied is = cc is
+asked hops rise world row (One own) false step tied is =
     let same : own ≡ step = cc is in
     subst (Asked (setting_at world) row (One own) false world.journal) same
-    (record { may = λ may few room. may; none = refl; brought = refl; fewer = omega arith })
-asked hops deliveries world row Flush is_begun step tied is =
+    (record { may = λ may few room. may; none = refl; brought = refl; fewer = λ room. omega arith })
+asked hops rise world row Flush is_begun step tied is =
     let journal = world.journal in
     let at = found_by Deliver (next_waiting journal) step is in
-    let whole = tie_of world tied in
     subst (Asked (setting_at world) row Flush is_begun journal) at.made (record {
       may = λ may few room.
           record { kind = tt; own = omega (arith, least_is_small journal at.number at.is room) };
       none = refl;
       brought = refl;
-      fewer = deliveries (setting_at world) journal row at.number whole.sound whole.played at.is;
+      fewer = λ room.
+          subst (λ o. flush_left (next_waiting (journal
+          ++ piece (setting_at world) journal row (Deliver at.number))) < flush_left o) (sym at.is)
+          (nearer (next_waiting (journal
+          ++ piece (setting_at world) journal row (Deliver at.number))) at.number
+          (omega (arith, least_is_small journal at.number at.is room))
+          (λ m is. rise (setting_at world) journal row at.number m at.is is));
     })
-asked hops deliveries world row Drain is_begun step tied is =
+asked hops rise world row Drain is_begun step tied is =
     let journal = world.journal in
     let at = found_by Hop (next_travelling journal) step is in
     let whole = tie_of world tied in
@@ -97,7 +114,8 @@ asked hops deliveries world row Drain is_begun step tied is =
           record { kind = tt; own = omega (arith, few, least_is_packet journal at.number at.is) };
       none = refl;
       brought = refl;
-      fewer = hops (setting_at world) journal row at.number whole.sound whole.played at.is;
+      fewer = λ room. hops (setting_at world) journal row at.number whole.sound
+          (reached_of world tied) at.is;
     })
 
 -- ---- packets that come in

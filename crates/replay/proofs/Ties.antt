@@ -1,14 +1,25 @@
 -- What a world that is as its journal says is.
 use Rattle.std.proofs.Common.{ℕ, ◌≤◌, arith}
 use Rattle.steps.specs.Steps.{max_events}
+use Rattle.update_machine.specs.Answers.{IsReached}
 use Rattle.update_machine.specs.Packets.{next_packet}
 use Rattle.world.specs.State.{AreTied, IsTied, Tied, WorldValue, setting_at}
 
 pub tie_of : (world : WorldValue) → IsTied world
     → Tied (setting_at world) world.journal world.switches world.travelling world.packets
-    (record { controller = world.controller; posts = world.bag })
+    (record {
+      controller = world.controller;
+      posts = world.bag;
+      links = world.links;
+      near = world.near;
+    })
 unfolding AreTied
 tie_of world tied = tied
+
+-- its journal is of steps of the network
+pub reached_of : (world : WorldValue) → IsTied world
+    → IsReached (setting_at world) world.journal
+reached_of world tied = (tie_of world tied).reached
 
 -- few packets came in, so that another one may
 pub few_packets : (world : WorldValue) (count : ℕ) → IsTied world → world.packets ≤ count

@@ -5,7 +5,7 @@ ghost use Rattle.world.specs.declared.error.StepError.TheVariants.{Full};
 ghost use Rattle.replay.specs.Playing.{Begins, Happens, StopsWithin, brought_in, next_step};
 ghost use Rattle.world.specs.State.{setting_at};
 
-use drain_laws::{drains_end, flushes_end};
+use hop_laws::{deliveries_rise, drains_end};
 use std::alloc::Global;
 use steps::{Event, Step};
 use world::{StepError, World};
@@ -40,7 +40,7 @@ pub fn take_steps(
     let mut is_begun = false;
     while let Some(next) = next_of(world, event, is_begun) {
         drains_end();
-        flushes_end();
+        deliveries_rise();
         world.tied();
         world.step(alloc, row, &next)?;
         is_begun = true;

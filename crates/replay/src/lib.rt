@@ -2,9 +2,10 @@
 //!
 //! `replay` promises the one play of the schedule, or why the first policy has no plan on the
 //! network. A play is the journal that answers the schedule, or that of the steps before the first
-//! one that would begin behind a full journal. What follows is said by the laws of `packet_laws`:
-//! that it is a run of the abstract machine, and that the ends in it have causes. That drains and
-//! flushes end are laws of `drain_laws`: a packet takes few hops, and a message is delivered once.
+//! one that would begin behind a full journal. What follows is said by the laws of `way_laws`: that
+//! it is a run of the abstract machine, and that the ends in it have causes. That drains and flushes
+//! end are laws of `hop_laws`: a packet takes few hops, and each message that is delivered in a
+//! flush has a greater number than the one before it.
 //!
 //! ```text
 //! let played = replay(alloc, &net, policies, &events)?; // Plan(why) where there is no first plan

@@ -32,10 +32,10 @@ use Rattle.boot_laws.proofs.SwitchBlocks.{said_parts}
 use Rattle.advert_laws.specs.Adverts.{LinksAreThere}
 use Rattle.advert_laws.proofs.BothCauses.{HasBothCauses}
 use Rattle.advert_laws.proofs.NetLinks.{links_there}
-use Rattle.packet_laws.specs.Calm.{IsRightEntry, IsRightRule}
-use Rattle.packet_laws.specs.OnWay.{IsUnknown}
-use Rattle.packet_laws.specs.Words.{names, told_by, words_of}
-use Rattle.packet_laws.proofs.Blocks.{words_named, words_other}
+use Rattle.way_laws.specs.Rules.{IsRightEntry, IsRightRule}
+use Rattle.way_laws.specs.OnWay.{IsUnknown}
+use Rattle.way_laws.specs.Words.{names, told_by, words_of}
+use Rattle.way_laws.proofs.Words.{words_named, words_other}
 use Rattle.way_laws.specs.Kept.{AllKept, BringsRight, IsJudged, IsKept}
 use Rattle.way_laws.specs.Stages.{Blocked, CameIn, Judged, OnWay, Stage, stage_of, tells_stage}
 use Rattle.way_laws.specs.WayCauses.{TellsRightly, TellsRule, WayCause}

@@ -9,8 +9,8 @@ use Rattle.journal.specs.declared.item.Item.{Item}
 use Rattle.update_machine.specs.Packets.{header_in, standing}
 use Rattle.update_machine.specs.Setting.{Setting}
 use Rattle.version_laws.specs.Authorities.{EndsAt}
-use Rattle.packet_laws.specs.OnWay.{EndsAtTarget, IsOnLeg, IsOnWay}
-use Rattle.packet_laws.specs.Words.{PacketWords, words_of}
+use Rattle.way_laws.specs.OnWay.{EndsAtTarget, IsOnLeg, IsOnWay}
+use Rattle.way_laws.specs.Words.{PacketWords, words_of}
 use Rattle.way_laws.specs.Arriving.{IsAtEnd, PacketsArrive}
 use Rattle.way_laws.specs.Kept.{AllKept}
 use Rattle.way_laws.proofs.Ends.{last_here, one_target}

@@ -26,7 +26,7 @@ use Rattle.update_machine.specs.Packets.{Decision, decision_of, found_down, head
 use Rattle.update_machine.specs.Steps.{present_step, steps_in}
 use Rattle.update_machine.specs.Versions.{file_of, plan_at}
 use Rattle.update_machine.proofs.Examples.{one, open_net, other, ring, row_of_three}
-use Rattle.packet_laws.specs.Words.{entry_mark}
+use Rattle.way_laws.specs.Words.{entry_mark}
 use Rattle.way_laws.specs.StrongCauses.{StrongCause}
 use Rattle.way_laws.specs.WayCauses.{IsLostInCrash}
 

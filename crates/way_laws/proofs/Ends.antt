@@ -22,8 +22,8 @@ use Rattle.update_machine.specs.Moves.{header_at}
 use Rattle.update_machine.specs.Packets.{Decision, decision_of, header_in, owner, standing}
 use Rattle.update_machine.specs.Setting.{Setting}
 use Rattle.update_machine.specs.Versions.{plan_at}
-use Rattle.packet_laws.specs.OnWay.{IsExiting, IsOnWay, IsSeeking}
-use Rattle.packet_laws.specs.Words.{PacketWords, words_of}
+use Rattle.way_laws.specs.OnWay.{IsExiting, IsOnWay, IsSeeking}
+use Rattle.way_laws.specs.Words.{PacketWords, words_of}
 use Rattle.way_laws.specs.Kept.{IsJudged}
 use Rattle.way_laws.specs.Stages.{stage_of}
 use Rattle.way_laws.specs.WayCauses.{FindsNoRoute, IsAtPort, IsBlockedOn, IsLostHere, LeavesHere, MeetsDown, TakesLeg, WayCause}

@@ -1,5 +1,5 @@
 -- The first link of a route that a switch knows is one that it can use.
-use Rattle.std.proofs.Common.{ℕ, ◌≡◌, ◌<◌, ◌&&◌, Bool, true, false, Some, List, [], ◌∷◌, map, length, get_or, set, refl, sym, subst, ◌∙◌, arith, inl, inr, get_or-set_same, length-set}
+use Rattle.std.proofs.Common.{ℕ, ◌≡◌, ◌<◌, true, false, Some, List, [], ◌∷◌, map, length, get_or, set, sym, subst, ◌∙◌, arith, inl, inr, get_or-set_same, length-set}
 use Rattle.std.specs.Prelude.{IsTrue, slice_get}
 use Rattle.std.proofs.lemmas.Bool.{cases_lt}
 use Rattle.std.proofs.lemmas.List.{get_or_past}

@@ -21,9 +21,9 @@ use Rattle.mark_laws.proofs.Planned.{current_rises}
 use Rattle.mark_laws.proofs.Retired.{retired_rises}
 use Rattle.version_laws.specs.Planned.{HasPlan}
 use Rattle.version_laws.proofs.Planned.{versions_planned}
-use Rattle.packet_laws.specs.Calm.{IsRightRule}
-use Rattle.packet_laws.specs.OnWay.{IsOnLeg, IsOnWay, IsPartitionOf, IsUnderWay}
-use Rattle.packet_laws.specs.Words.{PacketWords}
+use Rattle.way_laws.specs.Rules.{IsRightRule}
+use Rattle.way_laws.specs.OnWay.{IsOnLeg, IsOnWay, IsPartitionOf, IsUnderWay}
+use Rattle.way_laws.specs.Words.{PacketWords}
 use Rattle.way_laws.specs.Kept.{IsJudged, IsKept, IsSought}
 use Rattle.way_laws.specs.Stages.{Stage}
 

@@ -17,8 +17,8 @@ use Rattle.update_machine.specs.Played.{IsSetting}
 use Rattle.update_machine.specs.Setting.{Setting}
 use Rattle.update_machine.specs.Versions.{plan_at, policy_at, stamp_of}
 use Rattle.boot_laws.specs.ItemCauses.{HasItemCause}
-use Rattle.packet_laws.specs.OnWay.{IsExiting, IsOnLeg, IsOnWay, IsSeeking, IsUnderWay}
-use Rattle.packet_laws.specs.Words.{PacketWords, words_of}
+use Rattle.way_laws.specs.OnWay.{IsExiting, IsOnLeg, IsOnWay, IsSeeking, IsUnderWay}
+use Rattle.way_laws.specs.Words.{PacketWords, words_of}
 use Rattle.way_laws.specs.Kept.{IsKept, IsSought}
 use Rattle.way_laws.specs.Stages.{Stage}
 use Rattle.way_laws.specs.WayCauses.{AuthorityFinds, IsAt}

@@ -41,9 +41,9 @@ use Rattle.update_machine.specs.Setting.{Setting}
 use Rattle.update_machine.specs.Versions.{plan_at, policy_at, stamp_of, tables_at}
 use Rattle.boot_laws.specs.ItemCauses.{HasItemCause}
 use Rattle.advert_laws.specs.Adverts.{LinksAreThere}
-use Rattle.packet_laws.specs.Calm.{IsRightEntry}
-use Rattle.packet_laws.specs.OnWay.{IsExiting, IsOnLeg, IsOnWay, IsPartitionOf, IsSeeking, IsUnderWay, LeadsTo}
-use Rattle.packet_laws.specs.Words.{PacketWords, port_of, told_by, words_of}
+use Rattle.way_laws.specs.Rules.{IsRightEntry}
+use Rattle.way_laws.specs.OnWay.{IsExiting, IsOnLeg, IsOnWay, IsPartitionOf, IsSeeking, IsUnderWay, LeadsTo}
+use Rattle.way_laws.specs.Words.{PacketWords, port_of, told_by, words_of}
 use Rattle.way_laws.specs.Kept.{IsJudged, IsKept, IsSought}
 use Rattle.way_laws.specs.Stages.{Blocked, CameIn, Judged, OnWay, Stage, stage_of}
 use Rattle.way_laws.specs.WayCauses.{AuthorityDecides, CacheDecides, DecidesBy, IsDecided, MeetsDown, MovesOver, TakesDetour, TakesExit, TakesRoute}

@@ -1,3 +1,4 @@
+pub mod Words
 pub mod FirstLinks
 pub mod PacketBlocks
 pub mod OtherBlocks

@@ -1,5 +1,5 @@
 -- What a serving switch says of a header, by the plan of the version of its stamp.
-use Rattle.std.proofs.Common.{ℕ, ◌≡◌, ◌<◌, ◌≤◌, Bool, true, false, Option, Some, None, List, [], length, ap, sym, ◌∙◌, arith, if◌then◌else◌}
+use Rattle.std.proofs.Common.{ℕ, ◌≡◌, ◌<◌, ◌≤◌, Bool, true, false, Option, Some, None, List, [], length, refl, ap, sym, ◌∙◌, arith, if◌then◌else◌}
 use Rattle.std.specs.Prelude.{IsTrue, option_map, position, slice_get, unwrap_or}
 use Rattle.std.specs.Option.{option_map_or}
 use Rattle.five_tuple.specs.Header.{IsHeader, number_of}
@@ -90,13 +90,14 @@ pub record FindsRule (setting : Setting) (journal : List Item) (s : ℕ) (header
     (partition place : ℕ) : Type 0 where
   pub part : FindsPart setting journal s header partition
   pub found_at : part.finds.place ≡ place
+  pub target : IsTrue (has_target s part.placed)
 
 pub authority_told : (setting : Setting) (journal : List Item) (s : ℕ) (header : Header)
     (partition place : ℕ) → IsStamped setting journal s → IsHeader header
     → lookup_at setting journal s header ≡ found.Authority partition place
     → FindsRule setting journal s header partition place
 authority_told setting journal s header partition at stamped sound told =
-    by_target (has_target s looks.placed) (sym looks.says ∙ said)
+    by_target (has_target s looks.placed) refl (sym looks.says ∙ said)
   where
     looks : LooksUp (policy_at setting journal (stamp_of journal s))
         (plan_at setting journal (stamp_of journal s)) (stamp_of journal s) s header
@@ -109,17 +110,18 @@ authority_told setting journal s header partition at stamped sound told =
     said = table_says setting journal s header (found.Authority partition at) told
         (λ entry e. absurd cc)
 
-    by_target : (b : Bool) → (if b then authority_of header (part_of looks.placed)
+    by_target : (b : Bool) → has_target s looks.placed ≡ b → (if b then authority_of header (part_of looks.placed)
         else found.Redirect looks.placed.0.number looks.placed.1) ≡ found.Authority partition at
         → FindsRule setting journal s header partition at
-    by_target true e =
+    by_target true is e =
         let place : unwrap_or (position (is_held (number_of header)) looks.placed.0.rules) 0 ≡ at =
         cc in
         record {
           part = record { placed = looks.placed; finds = looks.finds; number = cc };
           found_at = sym looks.finds.position ∙ place;
+          target = is;
         }
-    by_target false e = absurd cc
+    by_target false is e = absurd cc
 
 pub record FindsTargets (setting : Setting) (journal : List Item) (s : ℕ) (header : Header)
     (partition : ℕ) (targets : List ℕ) : Type 0 where

@@ -31,7 +31,7 @@ settled_at_first setting = record {
   rests = record { served = λ i travelling. absurd cc; moving = λ i travelling. absurd cc };
 }
 
-reached_settled : (setting : Setting) (journal : List Item) → IsSetting setting
+pub reached_settled : (setting : Setting) (journal : List Item) → IsSetting setting
     → IsReached setting journal → IsSettled setting journal
 reached_settled setting journal is reached =
     subst (IsSettled setting) (sym reached.written)

@@ -18,7 +18,7 @@ use Rattle.update_machine.specs.Links.{near}
 use Rattle.update_machine.specs.Setting.{Setting}
 use Rattle.update_machine.proofs.CallerLemmas.{known_link_laws}
 use Rattle.advert_laws.specs.Adverts.{LinksAreThere}
-use Rattle.packet_laws.specs.OnWay.{IsFirst, LeadsTo}
+use Rattle.way_laws.specs.OnWay.{IsFirst, LeadsTo}
 use Rattle.way_laws.specs.Kept.{Avoids}
 
 -- what a joined pair is: a link of the network, not found down

@@ -29,10 +29,10 @@ use Rattle.boot_laws.proofs.Facts.{Behind}
 use Rattle.boot_laws.proofs.Grown.{count_more, retired_more}
 use Rattle.boot_laws.proofs.Versions.{caused_numbered}
 use Rattle.mark_laws.proofs.Marks.{bounded}
-use Rattle.packet_laws.specs.OnWay.{IsUnknown}
-use Rattle.packet_laws.specs.Words.{PacketWords, names, told_by, words_of}
-use Rattle.packet_laws.proofs.Blocks.{other_number, own_number, words_named, words_other}
-use Rattle.packet_laws.proofs.Words.{words_grow}
+use Rattle.way_laws.specs.OnWay.{IsUnknown}
+use Rattle.way_laws.specs.Words.{PacketWords, names, told_by, words_of}
+use Rattle.way_laws.proofs.Words.{other_number, own_number, words_named, words_other}
+use Rattle.way_laws.proofs.Words.{words_grow}
 use Rattle.way_laws.specs.Kept.{AllKept}
 use Rattle.way_laws.specs.Stages.{stage_of}
 use Rattle.way_laws.specs.WayCauses.{IsDecided, WayCause}

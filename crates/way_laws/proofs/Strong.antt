@@ -17,8 +17,8 @@ use Rattle.update_machine.specs.Versions.{holds_version, stamp_of}
 use Rattle.boot_laws.specs.ItemCauses.{HasItemCause}
 use Rattle.boot_laws.proofs.Facts.{Behind, have_weaker}
 use Rattle.version_laws.proofs.Serving.{serving_hold}
-use Rattle.packet_laws.specs.OnWay.{FollowsLinks, IsOnLeg, IsOnWay, IsSeeking}
-use Rattle.packet_laws.specs.Words.{PacketWords, entry_mark, words_of}
+use Rattle.way_laws.specs.OnWay.{FollowsLinks, IsOnLeg, IsOnWay, IsSeeking}
+use Rattle.way_laws.specs.Words.{PacketWords, entry_mark, words_of}
 use Rattle.way_laws.specs.Kept.{AllKept}
 use Rattle.way_laws.specs.Stages.{stage_of}
 use Rattle.way_laws.specs.StrongCauses.{AvoidsFound, FindsLinkDown, IsDecidedRightly, IsOnRightLeg, IsStuckOnLeg, RaisesVersion, SeeksRightly, StrongCause}

@@ -7,8 +7,8 @@ use Rattle.update_machine.specs.Packets.{found_down, route_in}
 use Rattle.update_machine.specs.Played.{IsSetting}
 use Rattle.update_machine.specs.Setting.{Setting}
 use Rattle.version_laws.proofs.Serving.{serving_hold}
-use Rattle.packet_laws.specs.OnWay.{IsOnWay}
-use Rattle.packet_laws.specs.Words.{words_of}
+use Rattle.way_laws.specs.OnWay.{IsOnWay}
+use Rattle.way_laws.specs.Words.{words_of}
 use Rattle.way_laws.specs.Kept.{AllKept, Avoids}
 use Rattle.way_laws.specs.Travelling.{PacketsTravel, RulesAreRight}
 use Rattle.way_laws.proofs.AllKept.{all_kept}

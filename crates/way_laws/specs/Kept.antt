@@ -16,9 +16,9 @@ use Rattle.update_machine.specs.Packets.{Decision, next_packet}
 use Rattle.update_machine.specs.Played.{NamesOwnPort}
 use Rattle.update_machine.specs.Setting.{Setting}
 use Rattle.update_machine.specs.Versions.{policy_at}
-use Rattle.packet_laws.specs.Calm.{IsRightEntry, IsRightRule}
-use Rattle.packet_laws.specs.OnWay.{IsOnWay, IsPartitionOf, IsUnderWay, IsUnknown}
-use Rattle.packet_laws.specs.Words.{PacketWords, words_of}
+use Rattle.way_laws.specs.Rules.{IsRightEntry, IsRightRule}
+use Rattle.way_laws.specs.OnWay.{IsOnWay, IsPartitionOf, IsUnderWay, IsUnknown}
+use Rattle.way_laws.specs.Words.{PacketWords, words_of}
 use Rattle.way_laws.specs.Stages.{Blocked, CameIn, Judged, OnWay, Stage, stage_of}
 
 -- the route uses none of the links of the set

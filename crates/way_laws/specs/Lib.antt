@@ -1,3 +1,6 @@
+pub mod Words
+pub mod OnWay
+pub mod Rules
 pub mod Stages
 pub mod WayCauses
 pub mod Rest

@@ -17,7 +17,7 @@ use Rattle.update_machine.specs.Marks.{current_mark}
 use Rattle.update_machine.specs.Packets.{decision_of, found_down, leg_of}
 use Rattle.update_machine.specs.Setting.{Setting}
 use Rattle.boot_laws.specs.ItemCauses.{RetiresRightly, SubmitsRightly}
-use Rattle.packet_laws.specs.Words.{entry_mark}
+use Rattle.way_laws.specs.Words.{entry_mark}
 use Rattle.way_laws.specs.Kept.{Avoids}
 use Rattle.way_laws.specs.WayCauses.{IsDecided, IsDroppedHere, IsLostHere, IsOfRow, MovesOver}
 

@@ -9,9 +9,9 @@ use Rattle.update_machine.specs.Messages.{message_of}
 use Rattle.update_machine.specs.Packets.{found_down, leg_of, route_in, travels}
 use Rattle.update_machine.specs.Setting.{Setting}
 use Rattle.update_machine.specs.Versions.{holds_version, stamp_of}
-use Rattle.packet_laws.specs.Calm.{IsRightEntry}
-use Rattle.packet_laws.specs.OnWay.{IsOnWay}
-use Rattle.packet_laws.specs.Words.{words_of}
+use Rattle.way_laws.specs.Rules.{IsRightEntry}
+use Rattle.way_laws.specs.OnWay.{IsOnWay}
+use Rattle.way_laws.specs.Words.{words_of}
 use Rattle.way_laws.specs.Kept.{Avoids, BringsRight}
 use Rattle.way_laws.specs.Rest.{IsServed}
 

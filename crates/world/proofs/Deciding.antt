@@ -1,37 +1,32 @@
--- An authority rule decides a packet at a switch of a calm network as the journal's definitions
--- say.
-use Rattle.std.proofs.Common.{ℕ, ◌≡◌, ◌<◌, ◌==◌, Bool, true, false, Option, Some, None, List, [], ◌∷◌, ◌++◌, refl, ap, sym, subst, ◌∙◌, length, append-nil, arith, eq-eqb}
+-- An authority rule decides a packet at a switch as the journal's definitions say.
+use Rattle.std.proofs.Common.{ℕ, ◌≡◌, ◌<◌, ◌==◌, Bool, true, false, Option, Some, None, List, [], ◌∷◌, ◌++◌, refl, ap, sym, subst, ◌∙◌, append-nil, arith, eq-eqb}
 use Rattle.std.specs.Prelude.{slice_get, unwrap_or}
 use Rattle.std.proofs.lemmas.Option.{get_or_from_slice_get}
 use Rattle.ctrl_msg.specs.declared.message.Message.{Message}
 use Rattle.five_tuple.specs.Header.{header_of}
 use Rattle.five_tuple.specs.declared.header.Header.{Header}
-use Rattle.net_file.specs.Net.{IsNet}
 use Rattle.net_file.specs.Owners.{AreOwners}
 use Rattle.net_file.specs.declared.ports.Ports.{Ports}
 use Rattle.journal.specs.declared.item.Item.{Item}
 use Rattle.journal.specs.declared.item.Item.TheVariants as item
 use Rattle.switch_core.specs.Deciding.{by_rule, cache_rule, no_rule, rule_in}
 use Rattle.switch_core.specs.Ends.{around, next_of}
+use Rattle.switch_core.specs.State.{SwitchValue}
 use Rattle.switch_core.specs.declared.answers.Decision.{Decision}
 use Rattle.switch_core.specs.declared.packet.Packet.{Packet}
-use Rattle.switch_table.specs.Cache.{CacheValue}
 use Rattle.update_machine.specs.Messages.{is_sending, next_message, sends, sent_from}
-use Rattle.update_machine.specs.Moves.{AuthorityRule, authority_items, cache_items, end_items, header_at}
+use Rattle.update_machine.specs.Moves.{AuthorityRule, authority_items, cache_items, end_items, header_at, in_turn}
 use Rattle.update_machine.specs.Moves.{cache_rule as rule_message}
-use Rattle.update_machine.specs.Packets.{is_at}
+use Rattle.update_machine.specs.Packets.{found_down, is_at}
 use Rattle.update_machine.specs.Setting.{Setting}
 use Rattle.update_machine.proofs.CallerLemmas.{count_of_append}
-use Rattle.packet_laws.specs.Calm.{HasPacketsAlone, IsOfPackets}
-use Rattle.packet_laws.specs.Words.{words_of}
-use Rattle.packet_laws.proofs.Blocks.{in_turn_both}
-use Rattle.packet_laws.proofs.Calm.{alone_more, calm}
-use Rattle.packet_laws.proofs.Words.{words_grow}
+use Rattle.way_laws.specs.Words.{words_of}
+use Rattle.way_laws.proofs.Words.{words_grow}
 use Rattle.world.specs.Writing.{cache_message, decided_items, messages_in}
-use Rattle.world.proofs.Calmness.{calm_switch}
-use Rattle.world.proofs.Ends.{HasOwner, IsDecided, at_switch, end_law}
-use Rattle.world.proofs.Legs.{near_of}
+use Rattle.world.proofs.Ends.{IsDecided, end_law}
+use Rattle.world.proofs.Legs.{at_switch}
 use Rattle.world.proofs.Others.{sends_unnamed, unnamed}
+use Rattle.world.proofs.Seeing.{Sees, sees_one}
 use Rattle.world.proofs.Words.{words_all}
 
 -- a packet with this header that came in at this switch and found these links down
@@ -52,17 +47,16 @@ header_is journal i header entered =
       proto = 0;
     }))) entered
 
+pub found_of : (journal : List Item) (packet : Packet) → IsPacket journal packet
+    → found_down journal packet.number ≡ packet.down
+unfolding words_of
+found_of journal packet is = is.found
+
 -- ---- what is sent
 
--- a rule of a partition, whose action names a port of the network, and whose cache rule is right,
--- where it goes to another switch
-pub record IsOwnRule (setting : Setting) (s : ℕ) (packet : Packet) (found : AuthorityRule) : Type 0
-  where
-    pub there : slice_get found.part.rules found.place ≡ Some found.rule
-    pub owner : HasOwner setting found.rule.action
-    pub right : (packet.ingress == s) ≡ false → (journal : List Item)
-        → HasPacketsAlone setting journal → IsOfPackets setting journal
-        (item.Sent (next_message journal) (rule_message found packet.ingress packet.header))
+-- the rule stands at its place of its partition
+abbrev pub IsOwnRule : AuthorityRule → Type 0
+IsOwnRule found = slice_get found.part.rules found.place ≡ Some found.rule
 
 -- the message of the switch's answer
 abbrev pub told_by_rule : ℕ → Packet → AuthorityRule → Option Message
@@ -70,26 +64,25 @@ told_by_rule s packet found =
     cache_message packet.ingress (cache_rule s packet found.version found.part found.place)
 
 -- a rule of this place is what the switch finds there
-own_rule : (setting : Setting) (s : ℕ) (packet : Packet) (found : AuthorityRule)
-    → IsOwnRule setting s packet found → rule_in found.part found.place ≡ found.rule
-own_rule setting s packet found own =
-    get_or_from_slice_get found.part.rules found.place found.rule no_rule own.there
+own_rule : (found : AuthorityRule) → IsOwnRule found
+    → rule_in found.part found.place ≡ found.rule
+own_rule found own =
+    get_or_from_slice_get found.part.rules found.place found.rule no_rule own
 
 -- it tells the rule by which it decides
-pub told_is : (setting : Setting) (s : ℕ) (packet : Packet) (found : AuthorityRule)
-    → IsOwnRule setting s packet found → (b : Bool) → (packet.ingress == s) ≡ b
+pub told_is : (s : ℕ) (packet : Packet) (found : AuthorityRule) → IsOwnRule found → (b : Bool) → (packet.ingress == s) ≡ b
     → told_by_rule s packet found ≡ elim b [
       | true ↦ None
       | false ↦ Some (rule_message found packet.ingress packet.header)
     ]
 unfolding cache_rule
-told_is setting s packet found own true here = rw here refl
-told_is setting s packet found own false other =
-    rw (other, own_rule setting s packet found own) refl
+told_is s packet found own true here = rw here refl
+told_is s packet found own false other =
+    rw (other, own_rule found own) refl
 
 -- which is what the journal's definitions say
 sends_law : (setting : Setting) (journal : List Item) (s : ℕ) (packet : Packet)
-    (found : AuthorityRule) → IsPacket journal packet → IsOwnRule setting s packet found
+    (found : AuthorityRule) → IsPacket journal packet → IsOwnRule found
     → cache_items setting packet.number s found journal
     ≡ sent_from (next_message journal) (messages_in (told_by_rule s packet found))
 unfolding cache_items sent_from words_of
@@ -113,35 +106,21 @@ sends_law setting journal s packet found is own =
         ≡ sent_from (next_message journal) (messages_in (told_by_rule s packet found))
     by_ingress true here =
         ap (λ message. sent_from (next_message journal) (messages_in message))
-        (sym (told_is setting s packet found own true here))
+        (sym (told_is s packet found own true here))
     by_ingress false other =
         ap (λ message. sent_from (next_message journal) (messages_in message))
-        (sym (told_is setting s packet found own false other))
+        (sym (told_is s packet found own false other))
 
--- the journal behind it is one of packets and right cache rules too
-sends_alone : (setting : Setting) (journal : List Item) (s : ℕ) (packet : Packet)
-    (found : AuthorityRule) → HasPacketsAlone setting journal → IsOwnRule setting s packet found
-    → HasPacketsAlone setting
-    (journal ++ sent_from (next_message journal) (messages_in (told_by_rule s packet found)))
+-- the switch is as it was behind it
+sees_sent : (setting : Setting) (journal : List Item) (s : ℕ) (w : SwitchValue) (mask number : ℕ)
+    (message : Option Message) → Sees setting journal s w mask
+    → Sees setting (journal ++ sent_from number (messages_in message)) s w mask
 unfolding sent_from
-sends_alone setting journal s packet found alone own =
-    by_ingress (packet.ingress == s) refl
-  where
-    by_ingress : (b : Bool) → (packet.ingress == s) ≡ b
-        → HasPacketsAlone setting
-        (journal ++ sent_from (next_message journal) (messages_in (told_by_rule s packet found)))
-    by_ingress true here =
-        subst (λ message. HasPacketsAlone setting
-        (journal ++ sent_from (next_message journal) (messages_in message)))
-        (sym (told_is setting s packet found own true here))
-        (subst (HasPacketsAlone setting) (sym (append-nil journal)) alone)
-    by_ingress false other =
-        subst (λ message. HasPacketsAlone setting
-        (journal ++ sent_from (next_message journal) (messages_in message)))
-        (sym (told_is setting s packet found own false other))
-        (alone_more setting journal
-        (item.Sent (next_message journal) (rule_message found packet.ingress packet.header)) alone
-        (own.right other journal alone))
+sees_sent setting journal s w mask number None sees =
+    subst (λ js. Sees setting js s w mask) (sym (append-nil journal)) sees
+sees_sent setting journal s w mask number (Some message) sees =
+    sees_one setting journal (item.Sent number message) s w mask
+    (record { switch = refl; links = refl; policies = refl }) sees
 
 -- ---- what is decided
 
@@ -206,20 +185,23 @@ number_stays journal packet decision =
     let sum = count_of_append is_sending journal (decided ∷ []) in
     omega (arith, sum)
 
-pub authority_law : (setting : Setting) (journal : List Item) → IsNet setting.net
-    → HasPacketsAlone setting journal
-    → (cache : CacheValue) (s handled : ℕ) → s < length setting.net.switches
+both_blocks : (first second : List Item → List Item) (journal : List Item)
+    → in_turn (first ∷ second ∷ []) journal
+    ≡ first journal ++ second (journal ++ first journal)
+both_blocks first second journal =
+    ap (λ more. first journal ++ more) (append-nil (second (journal ++ first journal)))
+
+pub authority_law : (setting : Setting) (journal : List Item) (s : ℕ) (w : SwitchValue) (mask : ℕ)
+    → Sees setting journal s w mask → s < 64
     → (ports : Ports) → AreOwners setting.net.switches ports
-    → (packet : Packet) → IsPacket journal packet
-    → (found : AuthorityRule) → IsOwnRule setting s packet found
+    → (packet : Packet) → IsPacket journal packet → (found : AuthorityRule) → IsOwnRule found
     → authority_items setting packet.number s (Some found) journal
     ≡ decided_items (at_switch s packet)
     (by_rule s found.version found.part.number found.rule)
     (sent_from (next_message journal) (messages_in (told_by_rule s packet found)))
-    (next_of (calm_switch setting cache handled s) (around (near_of setting s) ports) packet
-    found.rule.action)
+    (next_of w (around mask ports) packet found.rule.action)
 unfolding authority_items
-authority_law setting journal net alone cache s handled there ports owners packet is found own =
+authority_law setting journal s w mask sees there ports owners packet is found own =
     let i : ℕ = packet.number in
     let decision : Decision = by_rule s found.version found.part.number found.rule in
     let decided : Item = item.Decided i decision.version decision.rule decision.action
@@ -232,16 +214,15 @@ authority_law setting journal net alone cache s handled there ports owners packe
     let told : cache_items setting i s found after ≡ sent =
     sends_law setting after s packet found (decided_packet journal packet decision is) own
     ∙ ap (λ n. sent_from n (messages_in (told_by_rule s packet found))) same in
-    let quiet : HasPacketsAlone setting (after ++ sent) =
-    subst (λ n. HasPacketsAlone setting
-    (after ++ sent_from n (messages_in (told_by_rule s packet found)))) same
-    (sends_alone setting after s packet found (alone_more setting journal decided alone tt) own) in
+    let seen : Sees setting (after ++ sent) s w mask =
+    sees_sent setting after s w mask (next_message journal) (told_by_rule s packet found)
+    (sees_one setting journal decided s w mask
+    (record { switch = refl; links = refl; policies = refl }) sees) in
     ap (λ items. decided ∷ items)
-    (in_turn_both (cache_items setting i s found) (end_items setting i s found.rule.action) after
+    (both_blocks (cache_items setting i s found) (end_items setting i s found.rule.action) after
     ∙ ap (λ items. items ++ end_items setting i s found.rule.action (after ++ items)) told
     ∙ ap (λ items. sent ++ items)
-    (end_law setting (after ++ sent) (calm setting (after ++ sent) net quiet)
-    cache s handled there ports owners packet decision
+    (end_law setting (after ++ sent) s w mask seen there ports owners packet decision
     (decided_sent after packet decision (next_message journal) (told_by_rule s packet found)
     (decided_words journal packet decision is))
-    found.rule.action refl own.owner))
+    found.rule.action refl))

@@ -129,7 +129,9 @@ expired_writes : (control : Control) (setting : Setting) (journal : List Item)
 expired_writes control setting journal switches row s place changed None may bag is each = record {
   may = may;
   piece_is = is;
-  apart = λ q. refl;
+  not_told = (refl, (refl, tt));
+  apart = λ q. (refl, (refl, tt));
+  no_links = (refl, (refl, tt));
   as_before = refl;
   as_many = length-set switches s changed;
   each = each;
@@ -140,7 +142,9 @@ expired_writes control setting journal switches row s place changed (Some messag
     = record {
       may = may;
       piece_is = is;
-      apart = λ q. refl;
+      not_told = (refl, (refl, tt));
+      apart = λ q. (refl, (refl, tt));
+      no_links = (refl, (refl, tt));
       as_before = refl;
       as_many = length-set switches s changed;
       each = each;

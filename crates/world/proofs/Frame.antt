@@ -7,41 +7,67 @@ use Rattle.bag.specs.Posts.{Post}
 use Rattle.controller.specs.Controller.{ControllerValue}
 use Rattle.journal.specs.declared.item.Item.{Item}
 use Rattle.journal.specs.declared.item.Item.TheVariants as item
-use Rattle.net_file.specs.declared.net.Net.{Net}
-use Rattle.policy_rules.specs.declared.policy.Row.{Row}
 use Rattle.steps.specs.declared.step.Step.{Step}
 use Rattle.update_machine.specs.Pieces.{piece, step_items}
 use Rattle.update_machine.specs.Setting.{Setting, setting_of}
+use Rattle.world.specs.Files.{FilesValue}
 use Rattle.world.specs.Parts.{AreTiedIn, Begins, Goes, HasBegun, IsReady, KeepNet, Plays, control_in, setting_in}
-use Rattle.world.specs.State.{AreTied, comes_in}
+use Rattle.world.specs.State.{AreTied, Control, comes_in}
 use Rattle.world.specs.Writing.{IsPart}
 use Rattle.world.specs.declared.parts.Parts.{Parts}
 use Rattle.world.proofs.OneItem.{grown}
 use Rattle.world.proofs.Writing.{both_ok, grown_more, part_none, step_part, step_written}
 
--- these parts are as this journal says, by the setting and the controller from before the step
-abbrev pub AreTiedTo : Parts → List Item → Parts → List Post → Type 0
-AreTiedTo old journal new posts =
-    AreTied (setting_in old) journal new.switches.items new.log.travelling new.packets
-    (record (control_in old) { posts = posts })
+-- these parts are as this journal says, by the setting from before the step
+abbrev pub AreTiedTo : Parts → List Item → Parts → Control → Type 0
+AreTiedTo old journal new control =
+    AreTied (setting_in old) journal new.switches.items new.log.travelling new.packets control
 
--- the network, the policies and the controller stayed
-as_kept : (old new : Parts) → KeepNet old new → AreTiedTo old new.log.journal new new.log.bag
-    → AreTiedIn new
+-- the network and the policies stayed
+as_kept : (old new : Parts) → KeepNet old new
+    → AreTiedTo old new.log.journal new (control_in new) → AreTiedIn new
 as_kept old new keeps tied =
-    subst (λ (net : Net). AreTied (setting_of net new.policies.items) new.log.journal
-    new.switches.items new.log.travelling new.packets (control_in new)) (sym keeps.same_net)
-    (subst (λ (policies : List (List Row)). AreTied (setting_of old.net policies) new.log.journal
-    new.switches.items new.log.travelling new.packets (control_in new)) (sym keeps.same_policies)
-    (subst (λ (controller : ControllerValue). AreTied (setting_in old) new.log.journal
-    new.switches.items new.log.travelling new.packets
-    (record { controller = controller; posts = new.log.bag })) (sym keeps.same_controller) tied))
+    subst (λ (files : FilesValue). AreTied (setting_of files.net files.policies) new.log.journal
+    new.switches.items new.log.travelling new.packets (control_in new)) (sym keeps.same_files) tied
 
-none_ok : {T E : Type 0} (P : Type 0) (r : Result T E) → IsErr r → OnOk r P
+-- the controller stayed, and which links are up and can be used
+pub record KeepControl (old new : Parts) : Type 0 where
+  pub same_controller : new.controller ≡ old.controller
+  pub same_links : new.links ≡ old.links
+  pub same_near : new.near ≡ old.near
+
+-- so of the control plane only messages changed
+abbrev pub with_posts : Parts → List Post → Control
+with_posts old posts = record (control_in old) { posts = posts }
+
+pub by_posts : (old new : Parts) (journal : List Item) → KeepControl old new
+    → AreTiedTo old journal new (with_posts old new.log.bag)
+    → AreTiedTo old journal new (control_in new)
+by_posts old new journal keeps tied =
+    subst (λ (controller : ControllerValue). AreTiedTo old journal new (record {
+      controller = controller;
+      posts = new.log.bag;
+      links = new.links;
+      near = new.near;
+    })) (sym keeps.same_controller)
+    (subst (λ links. AreTiedTo old journal new (record {
+      controller = old.controller;
+      posts = new.log.bag;
+      links = links;
+      near = new.near;
+    })) (sym keeps.same_links)
+    (subst (λ near. AreTiedTo old journal new (record {
+      controller = old.controller;
+      posts = new.log.bag;
+      links = old.links;
+      near = near;
+    })) (sym keeps.same_near) tied))
+
+pub none_ok : {T E : Type 0} (P : Type 0) (r : Result T E) → IsErr r → OnOk r P
 none_ok P (Ok x) failed = absurd cc
 none_ok P (Err e) failed = tt
 
-by_error : {T E P : Type 0} (r : Result T E) → P → OnErr r P
+pub by_error : {T E P : Type 0} (r : Result T E) → P → OnErr r P
 by_error (Ok x) p = tt
 by_error (Err e) p = p
 
@@ -59,7 +85,7 @@ module _ {T E : Type 0} (r : Result T E) (before : List Item) (row : ℕ) (step 
       → OnOk r (new.packets ≡ old.packets + comes_in step)
       → OnOk r (new.log.journal ≡ old.log.journal ++ items)
       → OnErr r (IsPart old.log.journal items new.log.journal)
-      → OnOk r (AreTiedTo old (before ++ item.Row row step ∷ items) new new.log.bag)
+      → OnOk r (AreTiedTo old (before ++ item.Row row step ∷ items) new (control_in new))
       → Goes r before row step old new
   goes items is counted written part tied = record {
     net = keeps;
@@ -67,26 +93,39 @@ module _ {T E : Type 0} (r : Result T E) (before : List Item) (row : ℕ) (step 
     written = step_written r before old.log.journal new.log.journal items
         (piece (setting_in old) before row step) (item.Row row step) is begins.rowed written;
     tied = both_ok r (λ grown kept. as_kept old new keeps
-        (subst (λ js. AreTiedTo old js new new.log.bag)
+        (subst (λ js. AreTiedTo old js new (control_in new))
         (sym (grown_more before old.log.journal new.log.journal items (item.Row row step)
         begins.rowed grown)) kept)) written tied;
     part = step_part r before old.log.journal new.log.journal items
         (piece (setting_in old) before row step) (item.Row row step) is begins.rowed part;
   }
 
+  -- and of the control plane it changes messages alone
+  pub goes_quiet : (items : List Item) → KeepControl old new
+      → piece (setting_in old) before row step ≡ item.Row row step ∷ items
+      → OnOk r (new.packets ≡ old.packets + comes_in step)
+      → OnOk r (new.log.journal ≡ old.log.journal ++ items)
+      → OnErr r (IsPart old.log.journal items new.log.journal)
+      → OnOk r (AreTiedTo old (before ++ item.Row row step ∷ items) new
+      (with_posts old new.log.bag))
+      → Goes r before row step old new
+  goes_quiet items control is counted written part tied =
+      goes items is counted written part
+      (on_ok_weaker r (by_posts old new (before ++ item.Row row step ∷ items) control) tied)
+
   -- it writes one item, and no packet comes in
-  pub goes_one : (one : Item) (posts : List Post) → new.log.bag ≡ posts
+  pub goes_one : (one : Item) (posts : List Post) → KeepControl old new → new.log.bag ≡ posts
       → new.packets ≡ old.packets + comes_in step
       → (piece (setting_in old) before row step ≡ item.Row row step ∷ one ∷ [])
-      × AreTiedTo old (grown before row step one) new posts
+      × AreTiedTo old (grown before row step one) new (with_posts old posts)
       → OnOk r (new.log.journal ≡ old.log.journal ++ one ∷ [])
       → OnErr r (new.log.journal ≡ old.log.journal)
       → Goes r before row step old new
-  goes_one one posts same counted is pushed unchanged =
-      goes (one ∷ []) is.0 (on_ok_weaker r (λ grown. counted) pushed) pushed
+  goes_one one posts control same counted is pushed unchanged =
+      goes_quiet (one ∷ []) control is.0 (on_ok_weaker r (λ grown. counted) pushed) pushed
       (on_err_weaker r (λ same. part_none old.log.journal (one ∷ []) new.log.journal same) unchanged)
-      (on_ok_weaker r (λ grown. subst (AreTiedTo old (before ++ item.Row row step ∷ one ∷ []) new)
-      (sym same) is.1) pushed)
+      (on_ok_weaker r (λ grown. subst (λ bag. AreTiedTo old
+      (before ++ item.Row row step ∷ one ∷ []) new (with_posts old bag)) (sym same) is.1) pushed)
 
   -- it gives up behind its row, for want of memory
   pub nothing_goes : IsErr r → new.log.journal ≡ old.log.journal → Goes r before row step old new
@@ -115,7 +154,6 @@ ready_behind before step parts journal ready = record {
   sound = record {
     sound = ready.sound.sound;
     owners = ready.sound.owners;
-    masks = ready.sound.masks;
   };
   tied = ready.tied;
   may = ready.may;
@@ -145,11 +183,8 @@ module _ (row : ℕ) (step kind : Step) (old : Parts) (rowed : List Item)
       plays old.log.journal row begins_kind in
       subst (λ (k : Step). Goes r old.log.journal row k old new) (sym kind_is) (record {
         net = record {
-          same_net = its.net.same_net;
-          same_policies = its.net.same_policies;
+          same_files = its.net.same_files;
           same_ports = its.net.same_ports;
-          same_near = its.net.same_near;
-          same_controller = its.net.same_controller;
         };
         counted = its.counted;
         written = its.written;

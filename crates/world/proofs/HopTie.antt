@@ -1,71 +1,54 @@
--- A hop of a packet on its way: what it writes, and how it keeps the tie of a world to its journal.
+-- A hop of a packet on its way keeps the tie of a world to its journal.
 use Rattle.std.proofs.Common.{ℕ, ◌≡◌, ◌+◌, ◌<◌, ◌==◌, Bool, true, false, ◌&&◌, if◌then◌else◌, Option, Some, None, List, [], ◌∷◌, ◌++◌, refl, ap, sym, subst, ◌∙◌, length, get_or, set, cond, arith, eq-eqb, eqb-true}
-use Rattle.std.specs.Prelude.{is_some, unwrap_or, slice_get}
+use Rattle.std.specs.Prelude.{is_some, unwrap_or}
 use Rattle.std.proofs.lemmas.Bool.Decides.{nat_tests}
 use Rattle.std.proofs.lemmas.List.Sums.{sum_by-cons}
 use Rattle.std.proofs.lemmas.List.{length-set}
-use Rattle.bag.specs.Posts.{Post}
-use Rattle.masks.specs.Masks.{has}
-use Rattle.five_tuple.specs.declared.header.Header.{Header}
-use Rattle.net_file.specs.Net.{links_of}
-use Rattle.net_file.specs.Owners.{AreOwners}
-use Rattle.net_file.specs.declared.ports.Ports.{Ports}
-use Rattle.policy_rules.specs.declared.packet.Leg.{Leg}
 use Rattle.journal.specs.declared.item.Item.{Item}
 use Rattle.journal.specs.declared.item.Item.TheVariants as item
+use Rattle.net_file.specs.declared.ports.Ports.{Ports}
 use Rattle.steps.specs.declared.step.Step.TheVariants.{Hop}
 use Rattle.switch_core.specs.Ends.{around}
 use Rattle.switch_core.specs.Answering.{arrived}
+use Rattle.switch_core.specs.Moving.{found_down, hopped}
 use Rattle.switch_core.specs.State.{SwitchValue, counted}
-use Rattle.switch_core.specs.declared.answers.Arrived.{Arrived}
-use Rattle.tunnel.specs.Moves.{advanced, here, next}
-use Rattle.update_machine.specs.Caches.{cache_of}
+use Rattle.switch_core.specs.declared.answers.HopEnd.{HopEnd}
+use Rattle.switch_core.specs.declared.answers.HopEnd.TheVariants as hop
+use Rattle.tunnel.specs.Moves.{next}
 use Rattle.switch_ties.specs.Calls.{AreInStep}
 use Rattle.switch_ties.specs.SwitchOf.{switch_of}
 use Rattle.switch_ties.proofs.Steps.{call_ties}
 use Rattle.update_machine.specs.Concerns.{NoneConcern, concerns_known}
 use Rattle.update_machine.specs.Folds.{count_of}
-use Rattle.update_machine.specs.Handled.{handled_count, stays_on_way}
-use Rattle.update_machine.specs.Links.{near}
-use Rattle.update_machine.specs.Marks.{retired_mark}
-use Rattle.update_machine.specs.Messages.{is_sending, next_message}
-use Rattle.update_machine.specs.Moves.{arrive_items, move_items, put, reroute_items}
-use Rattle.update_machine.specs.Packets.{is_at, is_packet, next_switch, travels, travels_at}
+use Rattle.update_machine.specs.Handled.{stays_on_way}
+use Rattle.update_machine.specs.Messages.{next_message}
+use Rattle.update_machine.specs.Moves.{move_items}
+use Rattle.update_machine.specs.Packets.{is_at, is_packet, targets_of, travels, travels_at}
 use Rattle.update_machine.specs.Packets.{standing as place_of}
 use Rattle.update_machine.specs.Pieces.{nothing, piece}
 use Rattle.update_machine.specs.Pieces.{hop_items as hop_items_of}
-use Rattle.update_machine.specs.Played.{IsSetting, MayPlay}
+use Rattle.update_machine.specs.Played.{MayPlay}
 use Rattle.update_machine.specs.Setting.{Setting}
-use Rattle.packet_laws.specs.Calm.{HasPacketsAlone, IsCalm}
-use Rattle.packet_laws.specs.OnWay.{IsOnWay}
-use Rattle.packet_laws.specs.Words.{PacketWords, told_by, words_of}
-use Rattle.packet_laws.proofs.Blocks.{joined_on}
-use Rattle.update_machine.proofs.CallerLemmas.{count_of_append}
-use Rattle.packet_laws.proofs.Calm.{alone_more, calm}
-use Rattle.packet_laws.proofs.Words.{words_grow}
-use Rattle.world.specs.Packets.{arrival, arrival_items, hop_items, hop_posts, hop_traveller, hopped_switch, standing_at}
-use Rattle.world.specs.State.{AreTied, Control}
+use Rattle.way_laws.specs.Words.{PacketWords, words_of}
+use Rattle.way_laws.proofs.Words.{words_grow}
+use Rattle.world.specs.Packets.{arrival_items, ended_items, ended_switch, hop_items, hop_posts, hop_traveller, hopped_switch, hopped_traveller, standing_at, turned_items}
+use Rattle.world.specs.State.{AreTied, Control, traveller_in}
 use Rattle.world.specs.Travelling.{Travellers, WithOne, traveller}
-use Rattle.world.specs.Writing.{arrived_items}
-use Rattle.world.specs.declared.log.Standing.{Standing}
 use Rattle.world.specs.declared.travelling.Traveller.{Traveller}
-use Rattle.world.proofs.Arrivals.{arrival_goes, arrive_law}
-use Rattle.world.proofs.AtEnd.{IsAtEnd}
-use Rattle.world.proofs.Asking.{ends_here, switch_here}
-use Rattle.world.proofs.Calmness.{calm_at, calm_switch_of}
-use Rattle.world.proofs.Later.{arrived_later, arrived_still, hop_sends, later_packets}
-use Rattle.world.proofs.Legs.{near_of}
+use Rattle.world.proofs.Asking.{CanAsk, known_of}
+use Rattle.world.proofs.Hopping.{hopped_same}
+use Rattle.world.proofs.Known.{Known, traveller_stays}
+use Rattle.world.proofs.Later.{arrived_later, hop_sends, later_packets}
 use Rattle.world.proofs.Losing.{travels_as}
-use Rattle.world.proofs.OnWay.{IsStanding, known, next_of_words, on_leg, standing_of, stands_at}
-use Rattle.world.proofs.Others.{NoneName, arrived_other, unnamed}
-use Rattle.world.proofs.Played.{played_alone, played_calm}
-use Rattle.world.proofs.Posting.{apart_known, posts_in}
-use Rattle.world.proofs.Tying.{Steps, numbered, one_changes, switches_stay, tied_more, tied_silent}
-use Rattle.world.proofs.Words.{calm_traveller, traveller_by, words_along}
+use Rattle.world.proofs.Moving.{hop_goes, hop_law, hop_stays, stays_by}
+use Rattle.world.proofs.OnWay.{IsStanding, on_leg}
+use Rattle.world.proofs.Others.{NoneName, arrived_other, none_more}
+use Rattle.world.proofs.Posting.{SendFrom, apart_known, apart_policies, posts_in}
+use Rattle.world.proofs.Tying.{Steps, numbered, one_changes, packets_are, switches_are, switches_stay, tied_more, tied_silent}
+use Rattle.world.proofs.Words.{traveller_along}
 
 -- ---- what it writes
 
--- the journal as the hop is written
 abbrev begun : List Item → ℕ → ℕ → List Item
 begun journal row i = journal ++ item.Row row (Hop i) ∷ []
 
@@ -73,432 +56,249 @@ same_words : (journal : List Item) (row i q : ℕ)
     → words_of (begun journal row i) q ≡ words_of journal q
 same_words journal row i q = words_grow q journal (item.Row row (Hop i))
 
--- where it stands, and what its switch is told
-pub record IsAsked (setting : Setting) (journal : List Item) (i : ℕ) (t : Traveller)
-    (switch : SwitchValue) (near : ℕ) (ports : Ports) : Type 0 where
-  pub sound : IsSetting setting
-  pub alone : HasPacketsAlone setting journal
-  pub standing : IsStanding setting journal i t
-  pub owners : AreOwners setting.net.switches ports
-  pub own : switch
-      ≡ calm_at setting journal (handled_count journal standing.way.under_way.place)
-      standing.way.under_way.place
-  pub told : near ≡ near_of setting standing.way.under_way.place
-  pub ends : next t.tunnel ≡ None
-      → IsAtEnd setting standing.way.under_way.place (words_of journal i)
-      standing.way.under_way.header standing.way.leg
-
--- the row is no message
-same_number : (journal : List Item) (row i : ℕ)
-    → next_message (begun journal row i) ≡ next_message journal
-unfolding next_message
-same_number journal row i =
-    let sum = count_of_append is_sending journal (item.Row row (Hop i) ∷ []) in
-    omega (arith, sum)
-
--- it moves over the next link, which is usable
-moves_law : (setting : Setting) (journal : List Item) (row i : ℕ) (t : Traveller)
-    (switch : SwitchValue) (near_it : ℕ) (ports : Ports) (two : ℕ)
-    → (asked : IsAsked setting journal i t switch near_it ports)
-    → next t.tunnel ≡ Some two
-    → move_items setting i asked.standing.way.under_way.place (begun journal row i)
-    ≡ hop_items (next_message journal) (counted switch) near_it ports t (Some two)
-unfolding move_items next_switch words_of
-moves_law setting journal row i t switch near_it ports two asked goes =
-    let new : List Item = begun journal row i in
-    let way : IsOnWay setting journal (words_of journal i) = asked.standing.way in
-    let place : ℕ = way.under_way.place in
-    let at : next_switch new i ≡ Some two =
-    ap (λ (words : PacketWords). slice_get words.route (words.hops + 1))
-    (same_words journal row i i)
-    ∙ sym (next_of_words setting journal i t asked.standing) ∙ goes in
-    let alone : HasPacketsAlone setting new =
-    alone_more setting journal (item.Row row (Hop i)) asked.alone tt in
-    let joined : has (links_of setting.net.links place) two ≡ true =
-    joined_on setting journal (words_of journal i) way.under_way.header way.leg way.on_leg
-    (words_of journal i).hops place two way.stands
-    (sym (next_of_words setting journal i t asked.standing) ∙ goes) in
-    let usable : has (near setting new place) two ≡ true =
-    ap (λ links. has links two) ((calm setting new asked.sound.net alone).near place) ∙ joined in
-    ap (λ o. elim o [
-      | None ↦ arrive_items setting i place new
-      | Some next ↦ elim (has (near setting new place) next) [
-        | true ↦ item.Hopped i next ∷ []
-        | false ↦ put (item.FoundDown i place next ∷ []) (reroute_items setting i place) new
-      ]
-    ]) at
-    ∙ ap (λ b. elim b [
-      | true ↦ item.Hopped i two ∷ []
-      | false ↦ put (item.FoundDown i place two ∷ []) (reroute_items setting i place) new
-    ]) usable
-    ∙ ap (λ (u : Traveller). item.Hopped u.tunnel.packet two ∷ []) (sym asked.standing.is)
-
--- it arrives at the end of its route
-arrives_law : (setting : Setting) (journal : List Item) (row i : ℕ) (t : Traveller)
-    (switch : SwitchValue) (near_it : ℕ) (ports : Ports)
-    → (asked : IsAsked setting journal i t switch near_it ports)
-    → next t.tunnel ≡ None
-    → move_items setting i asked.standing.way.under_way.place (begun journal row i)
-    ≡ hop_items (next_message journal) (counted switch) near_it ports t None
-unfolding move_items next_switch words_of
-arrives_law setting journal row i t switch near_it ports asked last =
-    let new : List Item = begun journal row i in
-    let way : IsOnWay setting journal (words_of journal i) = asked.standing.way in
-    let place : ℕ = way.under_way.place in
-    let same : words_of new i ≡ words_of journal i = same_words journal row i i in
-    let at : next_switch new i ≡ None =
-    ap (λ (words : PacketWords). slice_get words.route (words.hops + 1)) same
-    ∙ sym (next_of_words setting journal i t asked.standing) ∙ last in
-    let alone : HasPacketsAlone setting new =
-    alone_more setting journal (item.Row row (Hop i)) asked.alone tt in
-    let calm_new : IsCalm setting new = calm setting new asked.sound.net alone in
-    let as_calm : SwitchValue =
-    counted (calm_at setting journal (handled_count journal place) place) in
-    let number : ℕ = next_message journal in
-    ap (λ o. elim o [
-      | None ↦ arrive_items setting i place new
-      | Some next ↦ elim (has (near setting new place) next) [
-        | true ↦ item.Hopped i next ∷ []
-        | false ↦ put (item.FoundDown i place next ∷ []) (reroute_items setting i place) new
-      ]
-    ]) at
-    ∙ arrive_law setting new asked.sound.net alone calm_new
-    (cache_of setting journal place) place as_calm.handled i way.under_way.ingress
-    way.under_way.now ports asked.owners way.under_way.header way.leg
-    (ap (λ (words : PacketWords). words.header) same ∙ way.under_way.entered)
-    (ap (λ (words : PacketWords). words.ingress) same ∙ way.under_way.came) way.under_way.at_first
-    (ap (λ (words : PacketWords). words.leg) same ∙ way.takes)
-    (subst (λ words. IsAtEnd setting place words way.under_way.header way.leg) (sym same)
-    (asked.ends last))
-    ∙ ap (λ n. arrival_items n as_calm (near_of setting place) ports
-    (on_leg setting i (words_of new i) way.under_way.header way.under_way.ingress way.leg))
-    (same_number journal row i)
-    ∙ ap (λ words. arrival_items number as_calm (near_of setting place) ports
-    (on_leg setting i words way.under_way.header way.under_way.ingress way.leg)) same
-    ∙ ap (arrival_items number as_calm (near_of setting place) ports) (sym asked.standing.is)
-    ∙ ap (λ near. arrival_items number as_calm near ports t) (sym asked.told)
-    ∙ ap (λ w. arrival_items number (counted w) near_it ports t) (sym asked.own)
-
-move_law : (setting : Setting) (journal : List Item) (row i : ℕ) (t : Traveller)
-    (switch : SwitchValue) (near_it : ℕ) (ports : Ports)
-    → (asked : IsAsked setting journal i t switch near_it ports)
-    → (goes_on : Option ℕ) → next t.tunnel ≡ goes_on
-    → move_items setting i asked.standing.way.under_way.place (begun journal row i)
-    ≡ hop_items (next_message journal) (counted switch) near_it ports t goes_on
-move_law setting journal row i t switch near_it ports asked None is =
-    arrives_law setting journal row i t switch near_it ports asked is
-move_law setting journal row i t switch near_it ports asked (Some two) is =
-    moves_law setting journal row i t switch near_it ports two asked is
-
-pub hop_piece : (setting : Setting) (journal : List Item) (row i : ℕ) (t : Traveller)
-    (switch : SwitchValue) (near_it : ℕ) (ports : Ports)
-    → (asked : IsAsked setting journal i t switch near_it ports)
-    → (goes_on : Option ℕ) → next t.tunnel ≡ goes_on
+pub hop_piece : (setting : Setting) (journal : List Item) (row i : ℕ) (t : Traveller) (s near : ℕ)
+    (w : SwitchValue) (ports : Ports) → CanAsk setting journal i t s near w ports
     → piece setting journal row (Hop i)
-    ≡ item.Row row (Hop i)
-    ∷ hop_items (next_message journal) (counted switch) near_it ports t goes_on
+    ≡ item.Row row (Hop i) ∷ hop_items (next_message journal) w near ports t
 unfolding piece hop_items_of words_of
-hop_piece setting journal row i t switch near_it ports asked goes_on is =
+hop_piece setting journal row i t s near w ports can =
     let new : List Item = begun journal row i in
     let same : words_of new i ≡ words_of journal i = same_words journal row i i in
+    let standing : IsStanding setting journal i t = can.standing in
     ap (λ b. item.Row row (Hop i) ∷ elim b [
       | false ↦ nothing
       | true ↦ move_items setting i (unwrap_or (place_of new i) 0) new
-    ]) (ap (λ (words : PacketWords). words.travels) same ∙ asked.standing.on)
+    ]) (ap (λ (words : PacketWords). words.travels) same ∙ standing.stands.on)
     ∙ ap (λ o. item.Row row (Hop i) ∷ move_items setting i (unwrap_or o 0) new)
-    (ap (λ (words : PacketWords). words.place) same ∙ asked.standing.way.under_way.stands)
+    (ap (λ (words : PacketWords). words.place) same ∙ standing.stands.stands)
     ∙ ap (λ items. item.Row row (Hop i) ∷ items)
-    (move_law setting journal row i t switch near_it ports asked goes_on is)
+    (hop_law setting journal row i standing.place standing.header standing.ingress standing.leg w
+    near ports can.hops
+    ∙ ap (hop_items (next_message journal) w near ports) (sym standing.is))
 
 -- ---- the calls that it counts
 
--- items of a hop: none begins a step or brings a packet in, and whether one is a move
-pub record IsOfHop (row i : ℕ) (stays : Bool) (items : List Item) : Type 0 where
-  pub in_step : AreInStep items
-  pub packets : count_of is_packet (item.Row row (Hop i) ∷ items) ≡ 0
-  pub moves : stays_on_way items ≡ stays
+turned_later : (i here : ℕ) (found : Option ℕ) (end : HopEnd) (route : List ℕ)
+    (rest : List Item) → AreInStep rest → AreInStep (turned_items i here found end route ++ rest)
+turned_later i here None end route rest later = later
+turned_later i here (Some other) hop.Arrive route rest later = (tt, (tt, later))
+turned_later i here (Some other) (hop.Move next) route rest later = (tt, (tt, later))
+turned_later i here (Some other) (hop.Stuck cause) route rest later = (tt, later)
 
-later_of_hop : (row i : ℕ) (stays : Bool) (items : List Item) → AreInStep items
-    → stays_on_way items ≡ stays → IsOfHop row i stays items
-later_of_hop row i stays items later still = record {
-  in_step = later;
-  packets =
-      let sum = sum_by-cons (λ x. cond (is_packet x) 1 0) (item.Row row (Hop i)) items in
-      omega (arith, sum, later_packets items later);
-  moves = still;
-}
-
--- the packet moves on
-abbrev goes_further : Option ℕ → Bool
-goes_further None = false
-goes_further (Some two) = true
-
-items_of_hop : (row i number : ℕ) (switch : SwitchValue) (near_it : ℕ) (ports : Ports)
-    (t : Traveller) (goes_on : Option ℕ)
-    → IsOfHop row i (goes_further goes_on) (hop_items number switch near_it ports t goes_on)
+ended_later : (number : ℕ) (w : SwitchValue) (near : ℕ) (ports : Ports) (t : Traveller)
+    (end : HopEnd) → AreInStep (ended_items number w near ports t end)
 unfolding arrival_items
-items_of_hop row i number switch near_it ports t None =
-    let at : Standing = standing_at switch.number t in
-    let answer : Arrived = arrived switch (around near_it ports) t.tunnel in
-    later_of_hop row i false (arrived_items number at t answer) (arrived_later number at t answer)
-    (arrived_still number at t answer)
-items_of_hop row i number switch near_it ports t (Some two) =
-    record { in_step = (tt, tt); packets = refl; moves = refl }
+ended_later number w near ports t hop.Arrive =
+    arrived_later number (standing_at w.number t) t (arrived w (around near ports) t.tunnel)
+ended_later number w near ports t (hop.Move other) = (tt, tt)
+ended_later number w near ports t (hop.Stuck cause) = (tt, tt)
 
-hopped_by : (goes_on : Option ℕ) (switch : SwitchValue)
-    → (if goes_further goes_on then counted switch else counted (counted switch))
-    ≡ hopped_switch switch goes_on
-hopped_by None switch = refl
-hopped_by (Some two) switch = refl
+pub hop_later : (number : ℕ) (w : SwitchValue) (near : ℕ) (ports : Ports) (t : Traveller)
+    → AreInStep (hop_items number w near ports t)
+hop_later number w near ports t =
+    turned_later t.tunnel.packet w.number (found_down near (next t.tunnel))
+    (hopped w near t.tunnel).end (hopped w near t.tunnel).tunnel.route _
+    (ended_later number (counted w) near ports (hopped_traveller w near t)
+    (hopped w near t.tunnel).end)
+
+pub hop_packets : (row i : ℕ) (items : List Item) → AreInStep items
+    → count_of is_packet (item.Row row (Hop i) ∷ items) ≡ 0
+hop_packets row i items later =
+    let sum = sum_by-cons (λ x. cond (is_packet x) 1 0) (item.Row row (Hop i)) items in
+    omega (arith, sum, later_packets items later)
+
+hopped_by : (w : SwitchValue) (end : HopEnd)
+    → (if stays_by end then counted w else counted (counted w)) ≡ ended_switch (counted w) end
+hopped_by w hop.Arrive = refl
+hopped_by w (hop.Move other) = refl
+hopped_by w (hop.Stuck cause) = refl
 
 -- the switch where the packet stands is called, and no other
-calls_of_hop : (setting : Setting) (journal items : List Item) (row i place k : ℕ)
-    (goes_on : Option ℕ) (b : Bool) → IsOfHop row i (goes_further goes_on) items
+calls_of_hop : (setting : Setting) (journal items : List Item) (row i place k : ℕ) (end : HopEnd)
+    (b : Bool) → AreInStep items → stays_on_way items ≡ stays_by end
     → NoneConcern (concerns_known k) journal (item.Row row (Hop i) ∷ items)
     → travels journal i ≡ true → place_of journal i ≡ Some place → (place == k) ≡ b
     → switch_of setting (journal ++ item.Row row (Hop i) ∷ items) k
-    ≡ (if b then hopped_switch (switch_of setting journal k) goes_on
+    ≡ (if b then ended_switch (counted (switch_of setting journal k)) end
     else switch_of setting journal k)
-calls_of_hop setting journal items row i place k goes_on b of none on stands is =
-    let switch : SwitchValue = switch_of setting journal k in
+calls_of_hop setting journal items row i place k end b later stays none on stands is =
+    let w : SwitchValue = switch_of setting journal k in
     let at : travels_at journal k i ≡ b =
     ap (λ x. x && is_at k (place_of journal i)) on
     ∙ ap (is_at k) stands ∙ is in
-    call_ties.hopped setting journal row i k items of.in_step none
-    ∙ ap (λ x. if x then (if stays_on_way items then counted switch
-    else counted (counted switch)) else switch) at
-    ∙ ap (λ x. if b then (if x then counted switch else counted (counted switch)) else switch)
-    of.moves
-    ∙ ap (λ w. if b then w else switch) (hopped_by goes_on switch)
+    call_ties.hopped setting journal row i k items later none
+    ∙ ap (λ x. if x then (if stays_on_way items then counted w else counted (counted w)) else w) at
+    ∙ ap (λ x. if b then (if x then counted w else counted (counted w)) else w) stays
+    ∙ ap (λ (u : SwitchValue). if b then u else w) (hopped_by w end)
 
--- ---- what becomes of the packets
+-- ---- other packets
 
-moved_goes : (setting : Setting) (before : List Item) (i two ingress : ℕ) (words : PacketWords)
-    (header : Header) (leg : Leg) → words.travels ≡ true → words.header ≡ Some header
-    → words.ingress ≡ Some ingress → words.leg ≡ Some leg
-    → Some (record (on_leg setting i words header ingress leg) {
-      tunnel = advanced (on_leg setting i words header ingress leg).tunnel;
-    })
-    ≡ traveller_by setting i (words_along i before (item.Hopped i two ∷ []) words)
-moved_goes setting before i two ingress words header leg on its came takes =
-    let after : PacketWords = told_by (retired_mark before) (item.Hopped i two) words in
-    sym (ap (λ b. traveller_by setting i (if b then after else words)) (eq-eqb i i refl)
-    ∙ known setting i after header ingress leg on its came takes)
+turned_other : (q i here : ℕ) (found : Option ℕ) (end : HopEnd) (route : List ℕ)
+    → (i == q) ≡ false → NoneName q (turned_items i here found end route)
+turned_other q i here None end route other = tt
+turned_other q i here (Some two) hop.Arrive route other = (other, (other, tt))
+turned_other q i here (Some two) (hop.Move next) route other = (other, (other, tt))
+turned_other q i here (Some two) (hop.Stuck cause) route other = (other, tt)
 
-hop_goes : (setting : Setting) (journal before : List Item) (number i : ℕ) (t : Traveller)
-    (switch : SwitchValue) (near_it : ℕ) (ports : Ports)
-    → (asked : IsAsked setting journal i t switch near_it ports)
-    → (goes_on : Option ℕ) → next t.tunnel ≡ goes_on
-    → hop_traveller (counted switch) near_it ports t goes_on
-    ≡ traveller_by setting i (words_along i before
-    (hop_items number (counted switch) near_it ports t goes_on) (words_of journal i))
-hop_goes setting journal before number i t switch near_it ports asked None last =
-    let words : PacketWords = words_of journal i in
-    let way : IsOnWay setting journal words = asked.standing.way in
-    let place : ℕ = way.under_way.place in
-    let as_calm : SwitchValue =
-    counted (calm_at setting journal (handled_count journal place) place) in
-    let Goes : SwitchValue → Traveller → Type 0 = λ w u. arrival w near_it ports u
-    ≡ traveller_by setting i
-    (words_along i before (arrival_items number w near_it ports u) words) in
-    subst (λ w. Goes (counted w) t) (sym asked.own)
-    (subst (Goes as_calm) (sym asked.standing.is)
-    (arrival_goes setting before (cache_of setting journal place) number place as_calm.handled i
-    near_it way.under_way.ingress ports words way.under_way.header way.leg asked.owners
-    asked.standing.on way.under_way.entered way.under_way.came (asked.ends last)))
-hop_goes setting journal before number i t switch near_it ports asked (Some two) goes =
-    let words : PacketWords = words_of journal i in
-    let way : IsOnWay setting journal words = asked.standing.way in
-    subst (λ (u : Traveller). Some (record u { tunnel = advanced u.tunnel })
-    ≡ traveller_by setting i
-    (words_along i before (item.Hopped u.tunnel.packet two ∷ []) words))
-    (sym asked.standing.is)
-    (moved_goes setting before i two way.under_way.ingress words way.under_way.header way.leg
-    asked.standing.on way.under_way.entered way.under_way.came way.takes)
-
-hop_other : (q number : ℕ) (switch : SwitchValue) (near_it : ℕ) (ports : Ports) (t : Traveller)
-    (goes_on : Option ℕ) → (t.tunnel.packet == q) ≡ false
-    → NoneName q (hop_items number switch near_it ports t goes_on)
+ended_other : (q number : ℕ) (w : SwitchValue) (near : ℕ) (ports : Ports) (t : Traveller)
+    (end : HopEnd) → (t.tunnel.packet == q) ≡ false
+    → NoneName q (ended_items number w near ports t end)
 unfolding arrival_items
-hop_other q number switch near_it ports t None other =
-    arrived_other q number (standing_at switch.number t) t
-    (arrived switch (around near_it ports) t.tunnel) other
-hop_other q number switch near_it ports t (Some two) other = (other, tt)
+ended_other q number w near ports t hop.Arrive other =
+    arrived_other q number (standing_at w.number t) t (arrived w (around near ports) t.tunnel) other
+ended_other q number w near ports t (hop.Move two) other = (other, tt)
+ended_other q number w near ports t (hop.Stuck cause) other = (other, tt)
+
+pub hop_other : (q number : ℕ) (w : SwitchValue) (near : ℕ) (ports : Ports) (t : Traveller)
+    → (t.tunnel.packet == q) ≡ false → NoneName q (hop_items number w near ports t)
+hop_other q number w near ports t other =
+    let m = hopped w near t.tunnel in
+    none_more q
+    (turned_items t.tunnel.packet w.number (found_down near (next t.tunnel)) m.end m.tunnel.route)
+    (ended_items number (counted w) near ports (hopped_traveller w near t) m.end)
+    (turned_other q t.tunnel.packet w.number (found_down near (next t.tunnel)) m.end
+    m.tunnel.route other)
+    (ended_other q number (counted w) near ports (hopped_traveller w near t) m.end
+    (ap (λ k. k == q) (hopped_same w near t.tunnel).packet ∙ other))
 
 -- ---- the tie
 
-others_go : (setting : Setting) (journal new items : List Item) (i q : ℕ)
-    (this was : Option Traveller) → (b : Bool) → (q == i) ≡ b
-    → this ≡ traveller_by setting i (words_along i new items (words_of journal i))
-    → was ≡ traveller_by setting q (words_of journal q)
-    → ((i == q) ≡ false → NoneName q items)
-    → (if b then this else was)
-    ≡ traveller_by setting q (words_along q new items (words_of journal q))
-others_go setting journal new items i q this was true is own other none =
-    subst (λ p. this ≡ traveller_by setting p (words_along p new items (words_of journal p)))
-    (sym (eqb-true q i is)) own
-others_go setting journal new items i q this was false is own other none =
-    let apart : (i == q) ≡ false = grind (arith, nat_tests) in
-    other ∙ ap (traveller_by setting q)
-    (sym (unnamed q new items (words_of journal q) (none apart)))
+module _ (control : Control) (setting : Setting) (journal : List Item)
+    (switches : List SwitchValue) (before : Travellers) (count row i : ℕ) (t : Traveller)
+    (s near : ℕ) (w : SwitchValue) (ports : Ports)
+    (tied : AreTied setting journal switches before count control)
+    (may : MayPlay setting (Hop i)) (can : CanAsk setting journal i t s near w ports) where
+  abbrev number : ℕ
+  number = next_message journal
 
-hop_steps : (control : Control) (setting : Setting) (journal : List Item)
-    (switches : List SwitchValue)
-    (before after : Travellers) (count row i : ℕ) (t : Traveller) (switch : SwitchValue)
-    (near_it : ℕ) (ports : Ports)
-    → AreTied setting journal switches before count control → MayPlay setting (Hop i)
-    → (asked : IsAsked setting journal i t switch near_it ports)
-    → (goes_on : Option ℕ) → next t.tunnel ≡ goes_on
-    → WithOne before i (hop_traveller (counted switch) near_it ports t goes_on) after
-    → Steps setting journal row (Hop i)
-    (hop_items (next_message journal) (counted switch) near_it ports t goes_on)
-    switches (set switches asked.standing.way.under_way.place (hopped_switch switch goes_on))
-    after
-unfolding AreTied words_of
-hop_steps control setting journal switches before after count row i t switch near_it ports tied may
-    asked goes_on is without =
-    let place : ℕ = asked.standing.way.under_way.place in
-    let number : ℕ = next_message journal in
-    let items : List Item = hop_items number (counted switch) near_it ports t goes_on in
-    let calm_now : IsCalm setting journal = played_calm setting journal tied.sound tied.played in
-    let of : IsOfHop row i (goes_further goes_on) items =
-    items_of_hop row i number (counted switch) near_it ports t goes_on in
-    let sends = (hop_sends number (counted switch) near_it ports t goes_on).0 in
-    let there : place < length switches =
-    omega (arith, tied.many, asked.standing.way.under_way.now) in
-    let own : switch ≡ switch_of setting journal place =
-    asked.own
-    ∙ sym (calm_switch_of setting journal calm_now place asked.standing.way.under_way.now) in
-    record {
-      may = may;
-      piece_is = hop_piece setting journal row i t switch near_it ports asked
-          goes_on is;
-      sends = sends;
-      as_many = length-set switches place (hopped_switch switch goes_on);
-      each = λ k d within.
-          let called : (q : ℕ) (b : Bool) → (place == q) ≡ b
-          → switch_of setting (journal ++ item.Row row (Hop i) ∷ items) q
-          ≡ (if b then hopped_switch (switch_of setting journal q) goes_on
-          else switch_of setting journal q) =
-          λ q b same. calls_of_hop setting journal items row i place q goes_on b of
-          (apart_known q number journal (item.Row row (Hop i) ∷ items) sends)
-          asked.standing.on asked.standing.way.under_way.stands same in
-          one_changes setting journal (journal ++ item.Row row (Hop i) ∷ items) switches place k
-          (hopped_switch switch goes_on) d (place == k) refl there
-          (ap (λ w. hopped_switch w goes_on) own
-          ∙ sym (called place true (eq-eqb place place refl)))
-          (called k false) (tied.each k d within);
-      travels = λ q. without q
-          ∙ others_go setting journal (begun journal row i) items i q
-          (hop_traveller (counted switch) near_it ports t goes_on) (traveller before q) (q == i)
-          refl
-          (hop_goes setting journal (begun journal row i) number i t switch near_it ports asked
-          goes_on is)
-          (tied.packet q ∙ calm_traveller setting journal calm_now q)
-          (λ apart. hop_other q number (counted switch) near_it ports t goes_on
-          (ap (λ (u : Traveller). u.tunnel.packet == q) asked.standing.is ∙ apart));
-    }
+  abbrev items : List Item
+  items = hop_items number w near ports t
 
--- ---- the step
+  abbrev all : List Item
+  all = item.Row row (Hop i) ∷ items
 
-pub asked_of : (control : Control) (setting : Setting) (journal : List Item)
-    (switches : List SwitchValue)
-    (before : Travellers) (count i : ℕ) (t : Traveller) (s : ℕ) (switch : SwitchValue)
-    (near_it : ℕ) (ports : Ports)
-    → (tied : AreTied setting journal switches before count control) → traveller before i ≡ Some t
-    → AreOwners setting.net.switches ports → s ≡ here t.tunnel
-    → switch ≡ get_or switches s switch → near_it ≡ near_of setting s
-    → IsStanding setting journal i t → IsAsked setting journal i t switch near_it ports
-unfolding AreTied
-asked_of control setting journal switches before count i t s switch near_it ports tied its owners at
-    own told standing_it =
-    let place : ℕ = standing_it.way.under_way.place in
-    let same : s ≡ place = at ∙ stands_at setting journal i t standing_it in
-    record {
-      sound = tied.sound;
-      alone = played_alone setting journal tied.sound tied.played;
-      standing = standing_it;
-      owners = owners;
-      own = own ∙ ap (λ p. get_or switches p switch) same
-          ∙ switch_here control setting journal switches before count i t tied standing_it switch;
-      told = told ∙ ap (near_of setting) same;
-      ends = λ last. ends_here control setting journal switches before count i t tied standing_it
-          last;
-    }
+  abbrev end : HopEnd
+  end = (hopped w near t.tunnel).end
 
--- the number of the next message
+  knows : Known setting journal
+  knows = known_of control setting journal switches before count tied
 
-pub hop_tied : (control : Control) (setting : Setting) (journal : List Item)
-    (switches : List SwitchValue)
-    (before after : Travellers) (count row i : ℕ) (t : Traveller) (s : ℕ)
-    (switch other : SwitchValue) (near_it : ℕ) (ports : Ports)
-    → AreTied setting journal switches before count control → MayPlay setting (Hop i)
-    → traveller before i ≡ Some t → AreOwners setting.net.switches ports → s ≡ here t.tunnel
-    → switch ≡ get_or switches s switch → near_it ≡ near_of setting s
-    → other ≡ hopped_switch switch (next t.tunnel)
-    → WithOne before i (hop_traveller (counted switch) near_it ports t (next t.tunnel)) after
-    → AreTied setting (journal ++ item.Row row (Hop i)
-    ∷ hop_items (length control.posts + 1) (counted switch) near_it ports t (next t.tunnel))
-    (set switches s other) after count (record control {
-      posts = control.posts ++ hop_posts (counted switch) near_it ports t (next t.tunnel);
-    })
-hop_tied control setting journal switches before after count row i t s switch other near_it ports
-    tied may its owners at own told answered without =
-    let standing_it : IsStanding setting journal i t =
-    standing_of control setting journal switches before count i t tied its in
-    let asked : IsAsked setting journal i t switch near_it ports =
-    asked_of control setting journal switches before count i t s switch near_it ports tied its
-    owners at own told standing_it in
-    let place : ℕ = asked.standing.way.under_way.place in
-    let same : s ≡ place = at ∙ stands_at setting journal i t asked.standing in
-    let number : ℕ = next_message journal in
-    let items : List Item = hop_items number (counted switch) near_it ports t (next t.tunnel) in
-    let of : IsOfHop row i (goes_further (next t.tunnel)) items =
-    items_of_hop row i number (counted switch) near_it ports t (next t.tunnel) in
-    let last : SwitchValue = hopped_switch switch (next t.tunnel) in
-    let posts : List Post =
-    control.posts ++ hop_posts (counted switch) near_it ports t (next t.tunnel) in
-    let kept : AreTied setting (journal ++ item.Row row (Hop i) ∷ items)
-    (set switches place last) after count
-    (record control { posts = control.posts ++ posts_in items }) =
-    tied_more control setting journal switches (set switches place last) before after count count
-    row (Hop i) items tied
-    (hop_steps control setting journal switches before after count row i t switch near_it ports tied
-    may asked (next t.tunnel) refl without)
-    (omega (arith, of.packets)) in
-    subst (λ n. AreTied setting (journal ++ item.Row row (Hop i)
-    ∷ hop_items n (counted switch) near_it ports t (next t.tunnel)) (set switches s other) after
-    count (record control { posts = posts }))
-    (numbered control setting journal switches before count tied)
-    (subst (λ w. AreTied setting (journal ++ item.Row row (Hop i) ∷ items) (set switches s w)
-    after count (record control { posts = posts })) (sym answered)
-    (subst (λ p. AreTied setting (journal ++ item.Row row (Hop i) ∷ items) (set switches p last)
-    after count (record control { posts = posts })) (sym same)
-    (subst (λ more. AreTied setting (journal ++ item.Row row (Hop i) ∷ items)
-    (set switches place last) after count (record control { posts = control.posts ++ more }))
-    (hop_sends number (counted switch) near_it ports t (next t.tunnel)).1 kept)))
+  sends : SendFrom number items
+  sends = (hop_sends number w near ports t).0
 
--- the piece of a hop, by what its switch is told
-pub hop_piece_of : (control : Control) (setting : Setting) (journal : List Item)
-    (switches : List SwitchValue)
-    (before : Travellers) (count row i : ℕ) (t : Traveller) (s : ℕ) (switch : SwitchValue)
-    (near_it : ℕ) (ports : Ports)
-    → (tied : AreTied setting journal switches before count control) → traveller before i ≡ Some t
-    → AreOwners setting.net.switches ports → s ≡ here t.tunnel
-    → switch ≡ get_or switches s switch → near_it ≡ near_of setting s
-    → piece setting journal row (Hop i)
-    ≡ item.Row row (Hop i)
-    ∷ hop_items (length control.posts + 1) (counted switch) near_it ports t (next t.tunnel)
-hop_piece_of control setting journal switches before count row i t s switch near_it ports tied its
-    owners at own told =
-    let standing_it : IsStanding setting journal i t =
-    standing_of control setting journal switches before count i t tied its in
-    hop_piece setting journal row i t switch near_it ports
-    (asked_of control setting journal switches before count i t s switch near_it ports tied its
-    owners at own told standing_it) (next t.tunnel) refl
-    ∙ ap (λ n. item.Row row (Hop i)
-    ∷ hop_items n (counted switch) near_it ports t (next t.tunnel))
-    (numbered control setting journal switches before count tied)
+  -- the packet itself
+  hop_own : hop_traveller w near ports t ≡ traveller_in setting (journal ++ all) i
+  hop_own =
+      let standing : IsStanding setting journal i t = can.standing in
+      subst (λ (u : Traveller). hop_traveller w near ports u ≡ traveller_in setting
+      (journal ++ item.Row row (Hop i) ∷ hop_items number w near ports u) i) (sym standing.is)
+      (hop_goes setting journal row i standing.place standing.header standing.ingress standing.leg
+      w near ports can.hops
+      ∙ sym (traveller_along setting journal
+      (item.Row row (Hop i) ∷ hop_items number w near ports
+      (on_leg (targets_of setting journal) i (words_of journal i) standing.header
+      standing.ingress standing.leg)) i (
+        refl,
+        apart_policies number (begun journal row i)
+            (hop_items number w near ports (on_leg (targets_of setting journal) i
+            (words_of journal i) standing.header standing.ingress standing.leg))
+            (hop_sends number w near ports (on_leg (targets_of setting journal) i
+            (words_of journal i) standing.header standing.ingress standing.leg)).0,
+      )))
+
+  stays : stays_on_way items ≡ stays_by end
+  stays =
+      let standing : IsStanding setting journal i t = can.standing in
+      subst (λ (u : Traveller). stays_on_way (hop_items number w near ports u)
+      ≡ stays_by (hopped w near u.tunnel).end) (sym standing.is)
+      (hop_stays setting journal row i standing.place standing.header standing.ingress standing.leg
+      w near ports can.hops)
+
+  hop_is_packet : t.tunnel.packet ≡ i
+  hop_is_packet = ap (λ (u : Traveller). u.tunnel.packet) can.standing.is
+
+  -- and all packets
+  travels_then : (after : Travellers) → WithOne before i (hop_traveller w near ports t) after
+      → (q : ℕ) → traveller before q ≡ traveller_in setting journal q
+      → traveller after q ≡ traveller_in setting (journal ++ all) q
+  travels_then after with q was = with q ∙ by_test (q == i) refl
+    where
+      by_test : (b : Bool) → (q == i) ≡ b
+          → (if b then hop_traveller w near ports t else traveller before q)
+          ≡ traveller_in setting (journal ++ all) q
+      by_test true is =
+          hop_own ∙ ap (traveller_in setting (journal ++ all)) (sym (eqb-true q i is))
+      by_test false is =
+          let apart : (i == q) ≡ false = grind (arith, nat_tests) in
+          was ∙ sym (traveller_stays setting journal all q knows
+          (refl, hop_other q number w near ports t (ap (λ k. k == q) hop_is_packet ∙ apart)))
+
+  called : (k : ℕ) (b : Bool) → (s == k) ≡ b
+      → switch_of setting (journal ++ all) k
+      ≡ (if b then ended_switch (counted (switch_of setting journal k)) end
+      else switch_of setting journal k)
+  unfolding words_of
+  called k b is =
+      calls_of_hop setting journal items row i s k end b (hop_later number w near ports t) stays
+      (refl, apart_known k number (begun journal row i) items sends)
+      can.standing.stands.on (can.standing.stands.stands ∙ ap Some (sym can.at)) is
+
+  steps_of : (after : Travellers) → WithOne before i (hop_traveller w near ports t) after
+      → s < length switches → w ≡ switch_of setting journal s
+      → ((q : ℕ) → traveller before q ≡ traveller_in setting journal q)
+      → ((k : ℕ) (d : SwitchValue) → k < length switches
+      → get_or switches k d ≡ switch_of setting journal k)
+      → Steps setting journal row (Hop i) items switches
+      (set switches s (hopped_switch w near t)) after
+  steps_of after with there own packets each = record {
+    may = may;
+    piece_is = hop_piece setting journal row i t s near w ports can;
+    not_told = refl;
+    sends = sends;
+    as_many = length-set switches s (hopped_switch w near t);
+    each = λ k d within.
+        one_changes setting journal (journal ++ all) switches s k (hopped_switch w near t) d
+        (s == k) refl there
+        (ap (λ (u : SwitchValue). ended_switch (counted u) end) own
+        ∙ sym (called s true (eq-eqb s s refl)))
+        (called k false) (each k d within);
+    travels = λ q. travels_then after with q (packets q);
+  }
+
+  pub hop_tied : (after : Travellers) (other : SwitchValue)
+      → s < length switches → w ≡ switch_of setting journal s
+      → other ≡ hopped_switch w near t
+      → WithOne before i (hop_traveller w near ports t) after
+      → AreTied setting (journal ++ item.Row row (Hop i)
+      ∷ hop_items (length control.posts + 1) w near ports t)
+      (set switches s other) after count (record control {
+        posts = control.posts ++ hop_posts w near ports t;
+      })
+  hop_tied after other there own answered with =
+      let last : SwitchValue = hopped_switch w near t in
+      let kept : AreTied setting (journal ++ all) (set switches s last) after count
+      (record control { posts = control.posts ++ posts_in items }) =
+      tied_more control setting journal switches (set switches s last) before after count count
+      row (Hop i) items tied
+      (steps_of after with there own (packets_are control setting journal switches before count tied)
+      (switches_are control setting journal switches before count tied))
+      (omega (arith, hop_packets row i items (hop_later number w near ports t))) in
+      subst (λ n. AreTied setting (journal ++ item.Row row (Hop i) ∷ hop_items n w near ports t)
+      (set switches s other) after count
+      (record control { posts = control.posts ++ hop_posts w near ports t }))
+      (numbered control setting journal switches before count tied)
+      (subst (λ u. AreTied setting (journal ++ all) (set switches s u) after count
+      (record control { posts = control.posts ++ hop_posts w near ports t })) (sym answered)
+      (subst (λ more. AreTied setting (journal ++ all) (set switches s last) after count
+      (record control { posts = control.posts ++ more })) (hop_sends number w near ports t).1 kept))
+
+  -- the piece of a hop, by what its switch is told
+  pub hop_piece_of : piece setting journal row (Hop i) ≡ item.Row row (Hop i)
+      ∷ hop_items (length control.posts + 1) w near ports t
+  hop_piece_of =
+      hop_piece setting journal row i t s near w ports can
+      ∙ ap (λ n. item.Row row (Hop i) ∷ hop_items n w near ports t)
+      (numbered control setting journal switches before count tied)
 
 -- ---- a packet that doesn't travel
 
@@ -521,7 +321,6 @@ pub hop_left : (control : Control) (setting : Setting) (journal : List Item)
     control
 unfolding AreTied
 hop_left control setting journal switches before count row i tied may resting =
-    let calm_now : IsCalm setting journal = played_calm setting journal tied.sound tied.played in
     let off : travels journal i ≡ false =
     sym (ap is_some (tied.packet i) ∙ travels_as setting journal i) ∙ resting in
     let piece_is : piece setting journal row (Hop i) ≡ item.Row row (Hop i) ∷ item.Nothing ∷ [] =
@@ -532,10 +331,13 @@ hop_left control setting journal switches before count row i tied may resting =
     (item.Nothing ∷ []) tied (record {
       may = may;
       piece_is = piece_is;
+      not_told = refl;
       sends = tt;
       as_many = refl;
       each = switches_stay control setting journal switches before count
           (item.Row row (Hop i) ∷ item.Nothing ∷ []) tied (λ s. (refl, (refl, tt)))
           (λ s. (ap (λ x. x && is_at s (place_of journal i)) off, (refl, tt)));
-      travels = λ q. tied.packet q ∙ calm_traveller setting journal calm_now q;
+      travels = λ q. tied.packet q
+          ∙ sym (traveller_stays setting journal (item.Row row (Hop i) ∷ item.Nothing ∷ []) q
+          (known_of control setting journal switches before count tied) (refl, (refl, tt)));
     }) (omega arith) refl in (piece_is, kept)

@@ -1,59 +1,60 @@
--- A hop over a link that is usable, or at the end of the route.
-use Rattle.std.proofs.Common.{ℕ, ◌≡◌, Option, Some, None, refl, ap, sym, ◌∙◌}
+-- What a switch's move makes of a packet: it keeps its number and its leg, and where no link was
+-- found down all but its place.
+use Rattle.std.proofs.Common.{ℕ, ◌≡◌, Option, Some, None, List, refl, sym, subst}
 use Rattle.five_tuple.specs.declared.header.Header.{Header}
-use Rattle.policy_rules.specs.declared.packet.Cause.{Cause}
 use Rattle.policy_rules.specs.declared.packet.Leg.{Leg}
 use Rattle.policy_rules.specs.declared.packet.Leg.TheVariants.{Seek, Exit}
 use Rattle.switch_core.specs.Answering.{IsAtAuthority}
-use Rattle.switch_core.specs.Moving.{Moved, found_down, hopped, moved}
+use Rattle.switch_core.specs.Moving.{found_down, hopped, hopped_to, moved, moved_along, rerouted}
 use Rattle.switch_core.specs.State.{SwitchValue, counted}
-use Rattle.switch_core.specs.declared.answers.HopEnd.TheVariants.{Arrive, Move, Stuck}
-use Rattle.tunnel.specs.Moves.{next}
+use Rattle.tunnel.specs.Moves.{marked_down, next, on_route, route_from_here}
 use Rattle.tunnel.specs.Tunnel.{TunnelValue}
 
-pub hop_moves : (s : SwitchValue) (near : ℕ) (t : TunnelValue)
-    → found_down near (next t) ≡ None → hopped s near t ≡ moved t (next t)
+-- the same packet on the same leg
+pub record SamePacket (old new : TunnelValue) : Type 0 where
+  pub packet : new.packet ≡ old.packet
+  pub header : new.header ≡ old.header
+  pub leg : new.leg ≡ old.leg
+
+moved_same : (t : TunnelValue) (onward : Option ℕ) → SamePacket t (moved t onward).tunnel
+moved_same t None = record { packet = refl; header = refl; leg = refl }
+moved_same t (Some other) = record { packet = refl; header = refl; leg = refl }
+
+along_same : (w : SwitchValue) (near : ℕ) (t : TunnelValue) (route : Option (List ℕ))
+    → SamePacket t (moved_along w near t route).tunnel
+along_same w near t None = record { packet = refl; header = refl; leg = refl }
+along_same w near t (Some route) =
+    let same = moved_same (on_route t route) (next (on_route t route)) in
+    record { packet = same.packet; header = same.header; leg = same.leg }
+
+pub hopped_same : (w : SwitchValue) (near : ℕ) (t : TunnelValue)
+    → SamePacket t (hopped w near t).tunnel
+unfolding hopped rerouted
+hopped_same w near t = by_link (found_down near (next t))
+  where
+    by_link : (o : Option ℕ) → SamePacket t (hopped_to w near t o).tunnel
+    by_link None = moved_same t (next t)
+    by_link (Some other) =
+        let met : TunnelValue = marked_down t other in
+        let same = along_same w near met (route_from_here met w.database near) in
+        record { packet = same.packet; header = same.header; leg = same.leg }
+
+-- where no link was found down, its place alone may change
+abbrev pub OnlyPlace : TunnelValue → TunnelValue → Type 0
+OnlyPlace old new = record old { place = new.place } ≡ new
+
+pub none_found : (w : SwitchValue) (near : ℕ) (t : TunnelValue) → found_down near (next t) ≡ None
+    → OnlyPlace t (hopped w near t).tunnel
 unfolding hopped
-hop_moves s near t usable = rw usable refl
-
-arrives_at : (t : TunnelValue) (onward : Option ℕ) → (moved t onward).end ≡ Arrive → onward ≡ None
-arrives_at t None is = refl
-arrives_at t (Some other) is = absurd cc
-
-pub arrives : (s : SwitchValue) (near : ℕ) (t : TunnelValue)
-    → found_down near (next t) ≡ None → (hopped s near t).end ≡ Arrive → next t ≡ None
-arrives s near t usable is =
-    arrives_at t (next t) (ap (λ (m : Moved). m.end) (sym (hop_moves s near t usable)) ∙ is)
-
-pub stays_at_end : (s : SwitchValue) (near : ℕ) (t : TunnelValue)
-    → found_down near (next t) ≡ None → next t ≡ None → (hopped s near t).tunnel ≡ t
-stays_at_end s near t usable none =
-    ap (λ (m : Moved). m.tunnel) (hop_moves s near t usable)
-    ∙ ap (λ onward. (moved t onward).tunnel) none
-
-moves_to : (t : TunnelValue) (onward : Option ℕ) (other : ℕ) → (moved t onward).end ≡ Move other
-    → onward ≡ Some other
-moves_to t None other is = absurd cc
-moves_to t (Some one) other is = cc
-
-pub moves : (s : SwitchValue) (near : ℕ) (t : TunnelValue) (other : ℕ)
-    → found_down near (next t) ≡ None → (hopped s near t).end ≡ Move other
-    → next t ≡ Some other
-moves s near t other usable is =
-    moves_to t (next t) other (ap (λ (m : Moved). m.end) (sym (hop_moves s near t usable)) ∙ is)
-
-stuck_at : (t : TunnelValue) (onward : Option ℕ) (cause : Cause)
-    → (moved t onward).end ≡ Stuck cause → ⊥
-stuck_at t None cause is = cc
-stuck_at t (Some other) cause is = cc
-
-pub not_stuck : (s : SwitchValue) (near : ℕ) (t : TunnelValue) (cause : Cause)
-    → found_down near (next t) ≡ None → (hopped s near t).end ≡ Stuck cause → ⊥
-not_stuck s near t cause usable is =
-    stuck_at t (next t) cause (ap (λ (m : Moved). m.end) (sym (hop_moves s near t usable)) ∙ is)
+none_found w near t none =
+    subst (λ o. OnlyPlace t (hopped_to w near t o).tunnel) (sym none) (by_next (next t))
+  where
+    by_next : (o : Option ℕ) → OnlyPlace t (moved t o).tunnel
+    by_next None = refl
+    by_next (Some other) = refl
 
 -- one more call changes nothing at an authority switch
-pub authority_counted : (s : SwitchValue) (header : Header) (leg : Leg)
-    → IsAtAuthority s header leg → IsAtAuthority (counted s) header leg
-authority_counted s header (Seek version partition) at = at
-authority_counted s header (Exit port) at = tt
+pub authority_counted : (w : SwitchValue) (header : Header) (leg : Leg)
+    → IsAtAuthority w header leg → IsAtAuthority (counted w) header leg
+authority_counted w header (Seek version partition) at = at
+authority_counted w header (Exit port) at = tt

@@ -1,6 +1,6 @@
 -- The items that a switch's answer to a packet writes: they begin no step and bring no other packet
 -- in, and what they send.
-use Rattle.std.proofs.Common.{ℕ, ◌≡◌, ◌+◌, false, Option, Some, None, cond, List, [], ◌∷◌, refl, ap, map, arith}
+use Rattle.std.proofs.Common.{ℕ, ◌≡◌, ◌+◌, false, Option, Some, None, cond, List, [], ◌∷◌, ◌++◌, refl, ap, map, arith}
 use Rattle.std.proofs.lemmas.List.Sums.{sum_by-cons}
 use Rattle.bag.specs.Posts.{Post, posted}
 use Rattle.ctrl_msg.specs.declared.message.Message.{Message}
@@ -11,7 +11,8 @@ use Rattle.journal.specs.declared.item.Item.{Item}
 use Rattle.journal.specs.declared.item.Item.TheVariants as item
 use Rattle.switch_core.specs.Answering.{arrived}
 use Rattle.switch_core.specs.Ends.{around}
-use Rattle.switch_core.specs.State.{SwitchValue}
+use Rattle.switch_core.specs.Moving.{found_down, hopped}
+use Rattle.switch_core.specs.State.{SwitchValue, counted}
 use Rattle.switch_core.specs.declared.answers.Answer.{Answer}
 use Rattle.switch_core.specs.declared.answers.Answer.TheVariants as answer
 use Rattle.switch_core.specs.declared.answers.Arrived.{Arrived}
@@ -19,15 +20,18 @@ use Rattle.switch_core.specs.declared.answers.Arrived.TheVariants as arrived
 use Rattle.switch_core.specs.declared.answers.Decision.{Decision}
 use Rattle.switch_core.specs.declared.answers.Entered.{Entered}
 use Rattle.switch_core.specs.declared.answers.Entered.TheVariants as entered
+use Rattle.switch_core.specs.declared.answers.HopEnd.{HopEnd}
+use Rattle.switch_core.specs.declared.answers.HopEnd.TheVariants as hop
 use Rattle.switch_core.specs.declared.answers.Next.{Next}
 use Rattle.switch_core.specs.declared.answers.Next.TheVariants as next
+use Rattle.tunnel.specs.Moves.{next as next_switch}
 use Rattle.update_machine.specs.Folds.{count_of}
 use Rattle.update_machine.specs.Handled.{stays_on_way}
 use Rattle.update_machine.specs.Messages.{sent_from}
 use Rattle.update_machine.specs.Moves.{takes_route}
 use Rattle.update_machine.specs.Packets.{is_packet}
 use Rattle.switch_ties.specs.Calls.{AreInStep, IsInStep}
-use Rattle.world.specs.Packets.{arrival_items, arrival_posts, hop_items, hop_posts, standing_at}
+use Rattle.world.specs.Packets.{arrival_items, arrival_posts, ended_items, ended_posts, hop_items, hop_posts, hopped_traveller, standing_at, turned_items}
 use Rattle.world.specs.Writing.{answer_items, answer_posts, arrived_items, arrived_posts, cache_message, decided_items, end_of, entered_items, entered_posts, messages_in}
 use Rattle.world.specs.declared.log.Standing.{Standing}
 use Rattle.world.specs.declared.travelling.Traveller.{Traveller}
@@ -162,13 +166,30 @@ arrived_sends : (number : ℕ) (at : Standing) (t : Traveller) (what : Arrived)
 arrived_sends number at t (arrived.Out port) = (tt, refl)
 arrived_sends number at t (arrived.Answered what) = answer_sends number at what
 
-pub hop_sends : (number : ℕ) (switch : SwitchValue) (near : ℕ) (ports : Ports) (t : Traveller)
-    (goes_on : Option ℕ)
-    → SendFrom number (hop_items number switch near ports t goes_on)
-    × (posts_in (hop_items number switch near ports t goes_on)
-    ≡ hop_posts switch near ports t goes_on)
+turned_sends : (number i here : ℕ) (found : Option ℕ) (end : HopEnd) (route : List ℕ)
+    (rest : List Item) (posts : List Post) → SendPosts number rest posts
+    → SendPosts number (turned_items i here found end route ++ rest) posts
+turned_sends number i here None end route rest posts sends = sends
+turned_sends number i here (Some other) hop.Arrive route rest posts sends = sends
+turned_sends number i here (Some other) (hop.Move next) route rest posts sends = sends
+turned_sends number i here (Some other) (hop.Stuck cause) route rest posts sends = sends
+
+ended_sends : (number : ℕ) (switch : SwitchValue) (near : ℕ) (ports : Ports) (t : Traveller)
+    (end : HopEnd)
+    → SendPosts number (ended_items number switch near ports t end)
+    (ended_posts switch near ports t end)
 unfolding arrival_items arrival_posts
-hop_sends number switch near ports t None =
+ended_sends number switch near ports t hop.Arrive =
     arrived_sends number (standing_at switch.number t) t
     (arrived switch (around near ports) t.tunnel)
-hop_sends number switch near ports t (Some two) = (tt, refl)
+ended_sends number switch near ports t (hop.Move other) = (tt, refl)
+ended_sends number switch near ports t (hop.Stuck cause) = (tt, refl)
+
+pub hop_sends : (number : ℕ) (switch : SwitchValue) (near : ℕ) (ports : Ports) (t : Traveller)
+    → SendFrom number (hop_items number switch near ports t)
+    × (posts_in (hop_items number switch near ports t) ≡ hop_posts switch near ports t)
+hop_sends number switch near ports t =
+    turned_sends number t.tunnel.packet switch.number (found_down near (next_switch t.tunnel))
+    (hopped switch near t.tunnel).end (hopped switch near t.tunnel).tunnel.route _ _
+    (ended_sends number (counted switch) near ports (hopped_traveller switch near t)
+    (hopped switch near t.tunnel).end)

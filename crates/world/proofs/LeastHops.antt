@@ -6,10 +6,10 @@ use Rattle.std.proofs.lemmas.Bool.{cases_lt}
 use Rattle.journal.specs.declared.item.Item.{Item}
 use Rattle.update_machine.specs.Packets.{next_packet, next_travelling, travels}
 use Rattle.update_machine.specs.Setting.{Setting}
-use Rattle.packet_laws.specs.Words.{words_of}
+use Rattle.way_laws.specs.Words.{words_of}
 use Rattle.world.specs.State.{AreTied, IsTied, WorldValue, setting_at, traveller_in, traveller_of}
 use Rattle.world.specs.Travelling.{IsNextFrom, Travellers, traveller}
-use Rattle.world.proofs.Played.{played_unknown}
+use Rattle.world.proofs.Known.{reached_known}
 
 -- the least number from here on that satisfies the test
 abbrev IsLeast : (ℕ → Bool) → ℕ → Option ℕ → Type 0
@@ -99,5 +99,6 @@ pub least_travels_in : (world : WorldValue) (next : Option ℕ) → IsTied world
 unfolding AreTied words_of
 least_travels_in world next tied least =
     least_travels (setting_at world) world.journal world.travelling next tied.packet
-    (λ i new. (played_unknown (setting_at world) world.journal tied.sound tied.played i new).travels)
+    (λ i new. ((reached_known (setting_at world) world.journal tied.sound
+    tied.reached).kept.unknown i new).travels)
     least

@@ -11,14 +11,13 @@ use Rattle.update_machine.specs.Packets.{travels}
 use Rattle.update_machine.specs.Pieces.{lose_items, nothing, piece}
 use Rattle.update_machine.specs.Played.{MayPlay}
 use Rattle.update_machine.specs.Setting.{Setting}
-use Rattle.packet_laws.specs.Calm.{IsCalm}
-use Rattle.packet_laws.specs.Words.{words_of}
-use Rattle.packet_laws.proofs.Words.{words_grow}
+use Rattle.way_laws.specs.Words.{words_of}
+use Rattle.way_laws.proofs.Words.{words_grow}
 use Rattle.world.specs.State.{AreTied, Control, traveller_in}
 use Rattle.world.specs.Travelling.{Travellers, WithOne, traveller}
-use Rattle.world.proofs.Played.{played_calm}
+use Rattle.world.proofs.Known.{Known, reached_known, traveller_stays}
 use Rattle.world.proofs.Tying.{switches_stay, tied_silent}
-use Rattle.world.proofs.Words.{calm_traveller, traveller_by, words_along}
+use Rattle.world.proofs.Words.{traveller_along}
 
 -- a row tells nothing of a packet
 pub travels_on : (journal : List Item) (row i : ℕ) (step : Step)
@@ -53,15 +52,19 @@ lose_piece setting journal row i =
     by_case false = refl
 
 -- of the packets, it is gone
-gone : (setting : Setting) (journal : List Item) (row i : ℕ) (q : ℕ) (b : Bool)
-    → (q == i) ≡ b
-    → (if b then None else traveller_by setting q (words_of journal q))
-    ≡ traveller_by setting q
-    (words_along q journal (item.Row row (Lose i) ∷ item.Lost i ∷ []) (words_of journal q))
-gone setting journal row i q true is = let same : (i == q) ≡ true = grind (arith, nat_tests) in rw
-    same refl
-gone setting journal row i q false is = let other : (i == q) ≡ false = grind (arith, nat_tests) in
-    rw other refl
+gone : (setting : Setting) (journal : List Item) (row i : ℕ) (before : Travellers) (q : ℕ)
+    (b : Bool) → Known setting journal → (q == i) ≡ b
+    → traveller before q ≡ traveller_in setting journal q
+    → (if b then None else traveller before q)
+    ≡ traveller_in setting (journal ++ item.Row row (Lose i) ∷ item.Lost i ∷ []) q
+gone setting journal row i before q true knows is was =
+    let same : (i == q) ≡ true = grind (arith, nat_tests) in
+    sym (traveller_along setting journal (item.Row row (Lose i) ∷ item.Lost i ∷ []) q
+    (refl, (refl, tt)) ∙ rw same refl)
+gone setting journal row i before q false knows is was =
+    let other : (i == q) ≡ false = grind (arith, nat_tests) in
+    was ∙ sym (traveller_stays setting journal (item.Row row (Lose i) ∷ item.Lost i ∷ []) q knows
+    (refl, (other, tt)))
 
 pub lost : (control : Control) (setting : Setting) (journal : List Item)
     (switches : List SwitchValue) (before after : Travellers) (count row i : ℕ)
@@ -72,7 +75,6 @@ pub lost : (control : Control) (setting : Setting) (journal : List Item)
     control
 unfolding AreTied
 lost control setting journal switches before after count row i tied may travelling without =
-    let calm : IsCalm setting journal = played_calm setting journal tied.sound tied.played in
     let on : travels journal i ≡ true =
     sym (ap is_some (tied.packet i) ∙ travels_as setting journal i) ∙ travelling in
     let is : piece setting journal row (Lose i) ≡ item.Row row (Lose i) ∷ item.Lost i ∷ [] =
@@ -83,28 +85,36 @@ lost control setting journal switches before after count row i tied may travelli
           (item.Lost i ∷ []) tied (record {
             may = may;
             piece_is = is;
+            not_told = refl;
             sends = tt;
             as_many = refl;
             each = switches_stay control setting journal switches before count
                 (item.Row row (Lose i) ∷ item.Lost i ∷ []) tied (λ s. (refl, (refl, tt)))
                 (λ s. (refl, (refl, tt)));
             travels = λ q. without q
-                ∙ ap (λ x. if q == i then None else x)
-                (tied.packet q ∙ calm_traveller setting journal calm q)
-                ∙ gone setting journal row i q (q == i) refl;
+                ∙ gone setting journal row i before q (q == i)
+                (reached_known setting journal tied.sound tied.reached) refl (tied.packet q);
           }) (omega arith) refl,
     )
 
 -- of a packet that didn't travel, nothing changes
-stayed : (setting : Setting) (journal : List Item) (row i : ℕ) (q : ℕ) (b : Bool)
-    → (q == i) ≡ b → travels journal i ≡ false
-    → (if b then None else traveller_by setting q (words_of journal q))
-    ≡ traveller_by setting q
-    (words_along q journal (item.Row row (Lose i) ∷ item.Nothing ∷ []) (words_of journal q))
-unfolding words_of
-stayed setting journal row i q true is off = let same : travels journal q ≡ false =
-    ap (travels journal) (eqb-true _ _ is) ∙ off in rw same refl
-stayed setting journal row i q false is off = refl
+stayed : (setting : Setting) (journal : List Item) (row i : ℕ) (before : Travellers) (q : ℕ)
+    (b : Bool) → Known setting journal → (q == i) ≡ b → travels journal i ≡ false
+    → traveller before q ≡ traveller_in setting journal q
+    → (if b then None else traveller before q)
+    ≡ traveller_in setting (journal ++ item.Row row (Lose i) ∷ item.Nothing ∷ []) q
+unfolding traveller_in
+stayed setting journal row i before q b knows is off was =
+    by_test b is
+    ∙ sym (traveller_stays setting journal (item.Row row (Lose i) ∷ item.Nothing ∷ []) q knows
+    (refl, (refl, tt)))
+  where
+    by_test : (b : Bool) → (q == i) ≡ b
+        → (if b then None else traveller before q) ≡ traveller_in setting journal q
+    by_test true is =
+        let same : travels journal q ≡ false = ap (travels journal) (eqb-true _ _ is) ∙ off in
+        rw same refl
+    by_test false is = was
 
 pub not_lost : (control : Control) (setting : Setting) (journal : List Item)
     (switches : List SwitchValue) (before after : Travellers) (count row i : ℕ)
@@ -115,7 +125,6 @@ pub not_lost : (control : Control) (setting : Setting) (journal : List Item)
     control
 unfolding AreTied
 not_lost control setting journal switches before after count row i tied may resting without =
-    let calm : IsCalm setting journal = played_calm setting journal tied.sound tied.played in
     let off : travels journal i ≡ false =
     sym (ap is_some (tied.packet i) ∙ travels_as setting journal i) ∙ resting in
     let is : piece setting journal row (Lose i) ≡ item.Row row (Lose i) ∷ item.Nothing ∷ [] =
@@ -126,14 +135,14 @@ not_lost control setting journal switches before after count row i tied may rest
           (item.Nothing ∷ []) tied (record {
             may = may;
             piece_is = is;
+            not_told = refl;
             sends = tt;
             as_many = refl;
             each = switches_stay control setting journal switches before count
                 (item.Row row (Lose i) ∷ item.Nothing ∷ []) tied (λ s. (refl, (refl, tt)))
                 (λ s. (refl, (refl, tt)));
             travels = λ q. without q
-                ∙ ap (λ x. if q == i then None else x)
-                (tied.packet q ∙ calm_traveller setting journal calm q)
-                ∙ stayed setting journal row i q (q == i) refl off;
+                ∙ stayed setting journal row i before q (q == i)
+                (reached_known setting journal tied.sound tied.reached) refl off (tied.packet q);
           }) (omega arith) refl,
     )

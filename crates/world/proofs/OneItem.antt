@@ -1,23 +1,23 @@
 -- A step that writes one item, by which no packet moves and no switch answers a call.
-use Rattle.std.proofs.Common.{ℕ, ◌≡◌, ◌<◌, List, [], ◌∷◌, ◌++◌, ap, sym, ◌∙◌, length, get_or, arith}
+use Rattle.std.proofs.Common.{ℕ, ◌≡◌, ◌<◌, List, [], ◌∷◌, ◌++◌, sym, ◌∙◌, length, get_or, arith}
 use Rattle.bag.specs.Posts.{Post}
+use Rattle.control_ties.proofs.CallerLemmas.{items_leave}
 use Rattle.journal.specs.declared.item.Item.{Item}
 use Rattle.journal.specs.declared.item.Item.TheVariants as item
 use Rattle.steps.specs.declared.step.Step.{Step}
 use Rattle.switch_core.specs.State.{SwitchValue}
 use Rattle.switch_ties.specs.SwitchOf.{switch_of}
+use Rattle.update_machine.specs.Concerns.{NoneConcern, concerns_controller, concerns_links}
 use Rattle.update_machine.specs.Folds.{count_of}
 use Rattle.update_machine.specs.Packets.{is_packet}
 use Rattle.update_machine.specs.Pieces.{piece}
 use Rattle.update_machine.specs.Played.{MayPlay}
 use Rattle.update_machine.specs.Setting.{Setting}
-use Rattle.packet_laws.specs.Calm.{IsCalm}
-use Rattle.packet_laws.specs.Words.{words_of}
 use Rattle.world.specs.State.{AreTied, Control, IsBagOf}
 use Rattle.world.specs.Travelling.{Travellers}
-use Rattle.world.proofs.Played.{played_calm}
-use Rattle.world.proofs.Tying.{tied_taken}
-use Rattle.world.proofs.Words.{calm_traveller, traveller_by, words_along}
+use Rattle.world.proofs.Known.{reached_known, traveller_stays}
+use Rattle.world.proofs.Others.{NoneName}
+use Rattle.world.proofs.Tying.{links_stay, tied_taken, up_stay}
 
 -- the journal behind the step
 abbrev pub grown : List Item → ℕ → Step → Item → List Item
@@ -28,9 +28,11 @@ pub record WritesOne (setting : Setting) (journal : List Item) (row : ℕ) (step
     (switches others : List SwitchValue) (posts : List Post) : Type 0 where
   pub may : MayPlay setting step
   pub piece_is : piece setting journal row step ≡ item.Row row step ∷ one ∷ []
-  -- it names no packet
-  pub apart : (i : ℕ) → words_along i journal (item.Row row step ∷ one ∷ []) (words_of journal i)
-      ≡ words_of journal i
+  -- the controller isn't told of it
+  pub not_told : NoneConcern concerns_controller journal (item.Row row step ∷ one ∷ [])
+  -- nor does it name a packet, or do anything to links
+  pub apart : (i : ℕ) → NoneName i (item.Row row step ∷ one ∷ [])
+  pub no_links : NoneConcern concerns_links journal (item.Row row step ∷ one ∷ [])
   pub as_before : count_of is_packet (item.Row row step ∷ one ∷ []) ≡ 0
   pub as_many : length others ≡ length switches
   pub each : (s : ℕ) (d : SwitchValue) → s < length switches
@@ -45,14 +47,20 @@ pub tied_one : (control : Control) (posts : List Post) (setting : Setting) (jour
     (record control { posts = posts })
 unfolding AreTied
 tied_one control posts setting journal switches others before count row step one tied writes =
-    let calm : IsCalm setting journal = played_calm setting journal tied.sound tied.played in
-    tied_taken control posts setting journal switches others before before count count row step
-    (one ∷ []) tied (record {
+    let items : List Item = item.Row row step ∷ one ∷ [] in
+    tied_taken control (record control { posts = posts }) setting journal switches others before
+    before count count row step (one ∷ []) tied (record {
       may = writes.may;
       piece_is = writes.piece_is;
       as_many = writes.as_many;
       each = writes.each;
-      travels = λ i. tied.packet i ∙ calm_traveller setting journal calm i
-          ∙ ap (traveller_by setting i) (sym (writes.apart i));
+      travels = λ i. tied.packet i ∙ sym (traveller_stays setting journal items i
+          (reached_known setting journal tied.sound tied.reached) (writes.apart i));
+      controller = items_leave setting journal items control.controller
+          (reached_known setting journal tied.sound tied.reached).caused writes.not_told
+          tied.controller;
       bag = writes.bag;
+      up = up_stay control setting journal switches before count items tied writes.no_links;
+      usable = links_stay control setting journal switches before count items tied
+          writes.no_links;
     }) (omega (arith, writes.as_before))

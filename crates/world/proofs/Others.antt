@@ -17,7 +17,7 @@ use Rattle.switch_core.specs.declared.answers.Next.TheVariants as next
 use Rattle.update_machine.specs.Marks.{retired_mark}
 use Rattle.update_machine.specs.Messages.{sent_from}
 use Rattle.update_machine.specs.Moves.{takes_route}
-use Rattle.packet_laws.specs.Words.{PacketWords, names, told_by}
+use Rattle.way_laws.specs.Words.{PacketWords, names, told_by}
 use Rattle.world.specs.Writing.{answer_items, arrived_items, cache_message, end_of, entered_items, messages_in}
 use Rattle.world.specs.declared.log.Standing.{Standing}
 use Rattle.world.specs.declared.travelling.Traveller.{Traveller}
@@ -46,7 +46,7 @@ unnamed_first i before (one ∷ first) items words none =
     ∙ unnamed_first i (before ++ one ∷ []) first items words none.1
     ∙ ap (λ js. words_along i js items words) (append_assoc before (one ∷ []) first)
 
-none_more : (i : ℕ) (first items : List Item) → NoneName i first → NoneName i items
+pub none_more : (i : ℕ) (first items : List Item) → NoneName i first → NoneName i items
     → NoneName i (first ++ items)
 none_more i [] items none more = more
 none_more i (one ∷ first) items none more = (none.0, none_more i first items none.1 more)

@@ -10,12 +10,11 @@ use Rattle.switch_core.specs.declared.answers.Next.{Next}
 use Rattle.switch_core.specs.declared.answers.Next.TheVariants as next
 use Rattle.tunnel.specs.Moves.{begun}
 use Rattle.tunnel.specs.Tunnel.{TunnelValue}
-use Rattle.update_machine.specs.Setting.{Setting}
-use Rattle.packet_laws.specs.Words.{PacketWords}
+use Rattle.way_laws.specs.Words.{PacketWords}
 use Rattle.world.specs.Writing.{decided_items, decided_traveller, end_of}
 use Rattle.world.specs.declared.log.Standing.{Standing}
 use Rattle.world.proofs.Others.{NoneName, unnamed_first}
-use Rattle.world.proofs.Words.{first_targets, traveller_by, words_along}
+use Rattle.world.proofs.Words.{Targets, traveller_by, words_along}
 
 -- the packet's words as its switch decides it
 pub record IsSeen (at : Standing) (ingress : ℕ) (words : PacketWords) : Type 0 where
@@ -32,66 +31,65 @@ decided_words decision words = record words {
     rule = decision.rule;
     action = decision.action;
   });
-  pending = true;
 }
 
 -- a tunnel to the port of the decision, at the beginning of its route
-pub record IsExit (setting : Setting) (at : Standing) (ingress port : ℕ) (tunnel : TunnelValue)
+pub record IsExit (targets : Targets) (at : Standing) (ingress port : ℕ) (tunnel : TunnelValue)
     : Type 0 where
   pub route : List ℕ
   pub is : tunnel ≡ begun at.packet at.header ingress (Exit port)
-      (first_targets setting (Exit port)) route at.down
+      (targets (Exit port)) route at.down
 
 -- what goes on goes by the port of the decision
-abbrev pub GoesOn : Setting → Standing → ℕ → Decision → Next → Type 0
-GoesOn setting at ingress decision (next.Exit tunnel) =
-    (port : ℕ) × (decision.action ≡ action.Out port) × IsExit setting at ingress port tunnel
-GoesOn setting at ingress decision _ = ⊤
+abbrev pub GoesOn : Targets → Standing → ℕ → Decision → Next → Type 0
+GoesOn targets at ingress decision (next.Exit tunnel) =
+    (port : ℕ) × (decision.action ≡ action.Out port) × IsExit targets at ingress port tunnel
+GoesOn targets at ingress decision _ = ⊤
 
 -- what becomes of it once its decision is known
-by_port : (setting : Setting) (before : List Item) (at : Standing) (ingress : ℕ)
+by_port : (targets : Targets) (before : List Item) (at : Standing) (ingress : ℕ)
     (decision : Decision) (route : List ℕ) (port : ℕ) (words : PacketWords)
     → IsSeen at ingress words → decision.action ≡ action.Out port
     → (let tunnel : TunnelValue = begun at.packet at.header ingress (Exit port)
-    (first_targets setting (Exit port)) route at.down in
+    (targets (Exit port)) route at.down in
     decided_traveller decision (next.Exit tunnel)
-    ≡ traveller_by setting at.packet (words_along at.packet before
+    ≡ traveller_by targets at.packet (words_along at.packet before
     (end_of at decision (next.Exit tunnel) ∷ []) (decided_words decision words)))
-by_port setting before at ingress decision route port words seen acts =
+by_port targets before at ingress decision route port words seen acts =
     let own : (at.packet == at.packet) ≡ true = eq-eqb _ _ refl in
     rw (own, acts, seen.on, seen.header, seen.came, seen.found) refl
 
-end_goes : (setting : Setting) (before : List Item) (at : Standing) (ingress : ℕ)
+end_goes : (targets : Targets) (before : List Item) (at : Standing) (ingress : ℕ)
     (decision : Decision) (onward : Next) (words : PacketWords)
-    → IsSeen at ingress words → GoesOn setting at ingress decision onward
+    → IsSeen at ingress words → GoesOn targets at ingress decision onward
     → decided_traveller decision onward
-    ≡ traveller_by setting at.packet (words_along at.packet before
+    ≡ traveller_by targets at.packet (words_along at.packet before
     (end_of at decision onward ∷ []) (decided_words decision words))
-end_goes setting before at ingress decision next.Dropped words seen goes =
+end_goes targets before at ingress decision next.Dropped words seen goes =
     let own : (at.packet == at.packet) ≡ true = eq-eqb _ _ refl in
     rw own refl
-end_goes setting before at ingress decision (next.Out port) words seen goes =
+end_goes targets before at ingress decision (next.Out port) words seen goes =
     let own : (at.packet == at.packet) ≡ true = eq-eqb _ _ refl in
     rw own refl
-end_goes setting before at ingress decision (next.Stuck cause) words seen goes =
+end_goes targets before at ingress decision (next.Stuck cause) words seen goes =
     let own : (at.packet == at.packet) ≡ true = eq-eqb _ _ refl in
     rw own refl
-end_goes setting before at ingress decision (next.Exit tunnel) words seen goes =
+end_goes targets before at ingress decision (next.Exit tunnel) words seen goes =
     let P : TunnelValue → Type 0 = λ t. decided_traveller decision (next.Exit t)
-    ≡ traveller_by setting at.packet (words_along at.packet before
+    ≡ traveller_by targets at.packet (words_along at.packet before
     (end_of at decision (next.Exit t) ∷ []) (decided_words decision words)) in
     subst P (sym goes.2.is)
-    (by_port setting before at ingress decision goes.2.route goes.0 words seen goes.1)
+    (by_port targets before at ingress decision goes.2.route goes.0 words seen goes.1)
 
 -- what is sent meanwhile names no packet
-pub decided_goes : (setting : Setting) (before sends : List Item) (at : Standing) (ingress : ℕ)
+pub decided_goes : (targets : Targets) (before sends : List Item) (at : Standing) (ingress : ℕ)
     (decision : Decision) (onward : Next) (words : PacketWords)
     → NoneName at.packet sends → IsSeen at ingress words
-    → GoesOn setting at ingress decision onward
+    → GoesOn targets at ingress decision onward
     → decided_traveller decision onward
-    ≡ traveller_by setting at.packet
+    ≡ traveller_by targets at.packet
     (words_along at.packet before (decided_items at decision sends onward) words)
-decided_goes setting before sends at ingress decision onward words none seen goes =
+decided_goes targets before sends at ingress decision onward words none seen goes =
     let own : (at.packet == at.packet) ≡ true = eq-eqb _ _ refl in
     let decided : Item = item.Decided at.packet decision.version decision.rule decision.action
     decision.how in
@@ -102,5 +100,5 @@ decided_goes setting before sends at ingress decision onward words none seen goe
     (if b then decided_words decision words else words)) own
     ∙ unnamed_first at.packet (before ++ decided ∷ []) sends end (decided_words decision words)
     none in
-    end_goes setting (before ++ decided ∷ [] ++ sends) at ingress decision onward words seen goes
-    ∙ sym (ap (traveller_by setting at.packet) said)
+    end_goes targets (before ++ decided ∷ [] ++ sends) at ingress decision onward words seen goes
+    ∙ sym (ap (traveller_by targets at.packet) said)

@@ -11,7 +11,7 @@ use Rattle.bag.proofs.Numbered.{length_changed, numbered_changed, numbered_pushe
 use Rattle.ctrl_msg.specs.declared.message.Message.{Message}
 use Rattle.journal.specs.declared.item.Item.{Item}
 use Rattle.journal.specs.declared.item.Item.TheVariants as item
-use Rattle.update_machine.specs.Concerns.{NoneConcern, concerns_known, concerns_message, concerns_messages}
+use Rattle.update_machine.specs.Concerns.{NoneConcern, concerns_known, concerns_links, concerns_message, concerns_messages, concerns_policies}
 use Rattle.update_machine.specs.Folds.{count_of, last_told}
 use Rattle.update_machine.specs.Laws.{MessageKeeps}
 use Rattle.update_machine.specs.Messages.{is_forgotten, is_forgetting, is_delivery, is_sending, message_of, next_message, tells_message, was_delivered}
@@ -57,7 +57,7 @@ other_number : (n k : ℕ) → (n == k) ≡ false → (k == n) ≡ false
 other_number n k apart = ne_eqb k n (λ same. let yes : (n == k) ≡ true = eq-eqb n k (sym same) in
     cc)
 
-sending_one : (before : List Item) (number : ℕ) (message : Message)
+pub sending_one : (before : List Item) (number : ℕ) (message : Message)
     → next_message (before ++ item.Sent number message ∷ []) ≡ next_message before + 1
 unfolding next_message
 sending_one before number message =
@@ -271,7 +271,7 @@ bag_forgotten before posts k posted_it bag =
 
 -- ---- items of packets
 
--- the items concern no switch and no link, and the messages that they send are numbered from this
+-- the items concern no switch, no link and no policy, and the messages that they send are numbered from this
 -- number
 abbrev pub SendFrom : ℕ → List Item → Type 0
 SendFrom number [] = ⊤
@@ -283,6 +283,7 @@ SendFrom number (item.Down switch ∷ items) = ⊥
 SendFrom number (item.Booted switch boot ∷ items) = ⊥
 SendFrom number (item.Opened switch version ∷ items) = ⊥
 SendFrom number (item.LinkIs one two up ∷ items) = ⊥
+SendFrom number (item.Submitted file version ∷ items) = ⊥
 SendFrom number (_ ∷ items) = SendFrom number items
 
 -- what they post
@@ -303,8 +304,42 @@ apart_known s number before (item.Down switch ∷ items) of = absurd of
 apart_known s number before (item.Booted switch boot ∷ items) of = absurd of
 apart_known s number before (item.Opened switch version ∷ items) of = absurd of
 apart_known s number before (item.LinkIs one two up ∷ items) of = absurd of
+apart_known s number before (item.Submitted file version ∷ items) of = absurd of
 apart_known s number before (x ∷ items) of =
     (refl, apart_known s number (before ++ x ∷ []) items of)
+
+-- nor whether links can be used, nor a policy
+pub apart_links : (number : ℕ) (before items : List Item) → SendFrom number items
+    → NoneConcern concerns_links before items
+apart_links number before [] of = tt
+apart_links number before (item.Sent n message ∷ items) of =
+    (refl, apart_links (number + 1) (before ++ item.Sent n message ∷ []) items of.1)
+apart_links number before (item.Delivered n ∷ items) of = absurd of
+apart_links number before (item.Forgotten n ∷ items) of = absurd of
+apart_links number before (item.Expired switch place message ∷ items) of = absurd of
+apart_links number before (item.Down switch ∷ items) of = absurd of
+apart_links number before (item.Booted switch boot ∷ items) of = absurd of
+apart_links number before (item.Opened switch version ∷ items) of = absurd of
+apart_links number before (item.LinkIs one two up ∷ items) of = absurd of
+apart_links number before (item.Submitted file version ∷ items) of = absurd of
+apart_links number before (x ∷ items) of =
+    (refl, apart_links number (before ++ x ∷ []) items of)
+
+pub apart_policies : (number : ℕ) (before items : List Item) → SendFrom number items
+    → NoneConcern concerns_policies before items
+apart_policies number before [] of = tt
+apart_policies number before (item.Sent n message ∷ items) of =
+    (refl, apart_policies (number + 1) (before ++ item.Sent n message ∷ []) items of.1)
+apart_policies number before (item.Delivered n ∷ items) of = absurd of
+apart_policies number before (item.Forgotten n ∷ items) of = absurd of
+apart_policies number before (item.Expired switch place message ∷ items) of = absurd of
+apart_policies number before (item.Down switch ∷ items) of = absurd of
+apart_policies number before (item.Booted switch boot ∷ items) of = absurd of
+apart_policies number before (item.Opened switch version ∷ items) of = absurd of
+apart_policies number before (item.LinkIs one two up ∷ items) of = absurd of
+apart_policies number before (item.Submitted file version ∷ items) of = absurd of
+apart_policies number before (x ∷ items) of =
+    (refl, apart_policies number (before ++ x ∷ []) items of)
 
 -- behind an item that concerns no message
 bag_next : (before items : List Item) (item : Item) (posts more : List Post)
@@ -346,6 +381,7 @@ bag_sends number before (item.Down switch ∷ items) posts of is bag = absurd of
 bag_sends number before (item.Booted switch boot ∷ items) posts of is bag = absurd of
 bag_sends number before (item.Opened switch version ∷ items) posts of is bag = absurd of
 bag_sends number before (item.LinkIs one two up ∷ items) posts of is bag = absurd of
+bag_sends number before (item.Submitted file version ∷ items) posts of is bag = absurd of
 bag_sends number before (x ∷ items) posts of is bag =
     bag_next before items x posts (posts_in items) refl number
     (λ next more. bag_sends number (before ++ x ∷ []) items posts of next more) is bag

@@ -1,5 +1,5 @@
 -- A world in which nothing happened yet is as its journal says.
-use Rattle.std.proofs.Common.{ℕ, ◌≡◌, ◌<◌, ◌≤◌, List, [], ◌∷◌, refl, ap, sym, subst, ◌∙◌, length, map, get_or, arith, All}
+use Rattle.std.proofs.Common.{ℕ, ◌≡◌, ◌<◌, ◌≤◌, List, [], ◌∷◌, refl, ap, sym, subst, ◌∙◌, length, cond, filter, map, get_or, arith, All}
 use Rattle.std.specs.Prelude.{Ok, IsOk, Some}
 use Rattle.std.specs.List.{range_with_len}
 use Rattle.std.proofs.lemmas.List.Elements.{All-nil}
@@ -8,33 +8,27 @@ use Rattle.control_ties.specs.Controller.{IsControllerOf, IsPlanOfFile}
 use Rattle.control_ties.proofs.CallerLemmas.{begins}
 use Rattle.controller.specs.Controller.{ControllerValue, first_controller}
 use Rattle.controller.specs.Plan.{PlanValue}
-use Rattle.net_file.specs.Net.{IsNet}
+use Rattle.net_file.specs.Net.{IsNet, links_of}
+use Rattle.net_file.specs.declared.net.LinkRow.{LinkRow}
 use Rattle.net_file.specs.declared.net.Net.{Net}
 use Rattle.partition.specs.Plan.{Placed, plan_of}
 use Rattle.policy_rules.specs.Policy.{IsPolicy}
 use Rattle.policy_rules.specs.declared.policy.Row.{Row}
+use Rattle.steps.specs.Steps.{IsStep}
 use Rattle.switch_core.specs.State.{SwitchValue}
-use Rattle.update_machine.specs.Handled.{handled_count}
+use Rattle.switch_ties.specs.SwitchOf.{switch_of}
 use Rattle.update_machine.specs.Packets.{next_packet, travels}
-use Rattle.update_machine.specs.Played.{IsSetting, MayPlay, NamesOwnPort}
-use Rattle.update_machine.specs.Setting.{Setting, plan_of_file, setting_of}
-use Rattle.update_machine.specs.Steps.{steps_in}
-use Rattle.packet_laws.specs.Calm.{IsCalm, first_plan, first_policy}
-use Rattle.packet_laws.proofs.Plans.{begun}
-use Rattle.packet_laws.proofs.Calm.{calm}
-use Rattle.world.specs.State.{AreTied, switch_begun, traveller_in}
-use Rattle.update_machine.proofs.CallerLemmas.{start_laws}
+use Rattle.update_machine.specs.Played.{IsSetting, NamesOwnPort}
+use Rattle.update_machine.specs.Setting.{Setting, placed_in, plan_of_file, setting_of}
+use Rattle.update_machine.specs.Versions.{plan_at}
+use Rattle.update_machine.proofs.CallerLemmas.{of_its_file, start_laws}
+use Rattle.world.specs.State.{AreNear, AreTied, switch_begun, traveller_in, is_up_link}
 use Rattle.world.proofs.Posting.{bag_begun}
-use Rattle.world.proofs.Calmness.{calm_switch_of}
 
 planned_first : (net : Net) (policies : List (List Row)) → 1 ≤ length policies
     → plan_of_file (setting_of net policies) 1 ≡ plan_of (get_or policies 0 []) net
 planned_first net [] some = absurd (omega arith)
 planned_first net (rows ∷ policies) some = refl
-
-none_handled : (s : ℕ) → handled_count [] s ≡ 0
-unfolding handled_count steps_in
-none_handled s = refl
 
 pub setting_begun : (net : Net) (policies : List (List Row)) (plan : List Placed) → IsNet net
     → 1 ≤ length policies → All IsPolicy policies
@@ -52,14 +46,32 @@ setting_begun net policies plan sound some rows ports is =
     }
 
 -- the plan of the first version is that of the first policy
-first_of : (setting : Setting) (policies : List (List Row)) (net : Net) (plan : List Placed)
-    → plan_of (first_policy setting) net ≡ Ok (first_plan setting)
-    → get_or policies 0 [] ≡ first_policy setting → plan_of (get_or policies 0 []) net ≡ Ok plan
-    → first_plan setting ≡ plan
-first_of setting policies net plan planned first is =
-    let same : Ok (first_plan setting) ≡ Ok plan =
-    sym planned ∙ ap (λ rows. plan_of rows net) (sym first) ∙ is in
-    cc
+first_plan_is : (net : Net) (policies : List (List Row)) (plan : List Placed)
+    → 1 ≤ length policies → plan_of (get_or policies 0 []) net ≡ Ok plan
+    → plan_at (setting_of net policies) [] 1 ≡ plan
+first_plan_is net [] plan some is = absurd (omega arith)
+first_plan_is net (rows ∷ policies) plan some is =
+    (of_its_file (setting_of net (rows ∷ policies)) [] 1 1 rows (start_laws.file 1) refl).1
+    ∙ ap placed_in is
+
+-- a switch before the first item
+switch_first : (setting : Setting) (s : ℕ) → s < length setting.net.switches
+    → length setting.net.switches ≤ 64
+    → switch_of setting [] s ≡ switch_begun setting.net (plan_at setting [] 1) s
+unfolding switch_of
+switch_first setting s there few =
+    rw (
+      start_laws.boot s,
+      start_laws.up s,
+      start_laws.serving s,
+      start_laws.stamp s,
+      start_laws.heard s,
+      start_laws.adverts setting s there few,
+      start_laws.seq setting s,
+      start_laws.versions s 1,
+      start_laws.cache setting s,
+      start_laws.handled s,
+    ) refl
 
 -- the controller's plan is that of the first file
 of_first : (net : Net) (policies : List (List Row)) (plan : PlanValue) → 1 ≤ length policies
@@ -71,30 +83,38 @@ of_first net (rows ∷ policies) plan some own is = record {
   placed = ap (λ these. plan_of these net) own ∙ is;
 }
 
+-- all links are up
+all_up : (links : List LinkRow) → filter (is_up_link []) links ≡ links
+all_up [] = refl
+all_up (link ∷ links) =
+    ap (λ b. cond b (link ∷ filter (is_up_link []) links) (filter (is_up_link []) links))
+    (start_laws.links link.one link.two)
+    ∙ ap (λ rest. link ∷ rest) (all_up links)
+
 pub begun_tied : (net : Net) (policies : List (List Row)) (plan : PlanValue)
-    (switches : List SwitchValue) (controller : ControllerValue) → IsNet net
+    (switches : List SwitchValue) (controller : ControllerValue) (near : List ℕ) → IsNet net
     → 1 ≤ length policies → All IsPolicy policies
     → All (All (λ row. NamesOwnPort (setting_of net policies) row.action)) policies
     → plan.policy ≡ get_or policies 0 [] → plan_of (get_or policies 0 []) net ≡ Ok plan.placed
     → switches ≡ map (switch_begun net plan.placed) (range_with_len 0 (length net.switches))
-    → controller ≡ first_controller (length net.switches) plan
+    → controller ≡ first_controller (length net.switches) plan → AreNear net near
     → AreTied (setting_of net policies) [] switches [] 0
-    (record { controller = controller; posts = [] })
+    (record { controller = controller; posts = []; links = near; near = near })
 unfolding AreTied traveller_in travels next_packet
-begun_tied net policies plan switches controller sound some rows ports of_policy is made first_is =
+begun_tied net policies plan switches controller near sound some rows ports of_policy is made
+    first_is masks =
     let setting : Setting = setting_of net policies in
     let own : IsSetting setting = setting_begun net policies plan.placed sound some rows ports is in
-    let first : first_plan setting ≡ plan.placed = first_of setting policies net plan.placed
-    (begun setting own).planned (begun setting own).first is in
-    let quiet : IsCalm setting [] = calm setting [] sound tt in
+    let first : plan_at setting [] 1 ≡ plan.placed =
+    first_plan_is net policies plan.placed some is in
     let many : length switches ≡ length net.switches =
     ap length made
     ∙ length-map-range_with_len (switch_begun net plan.placed) 0 (length net.switches) in
     record {
       sound = own;
-      played = record {
+      reached = record {
         steps = [];
-        may = All-nil (λ next. MayPlay setting next.step);
+        own = All-nil (λ next. IsStep setting.net (length setting.policies) next.step);
         written =
             refl;
       };
@@ -104,14 +124,13 @@ begun_tied net policies plan switches controller sound some rows ports of_policy
           ap (λ all. get_or all s d) made
           ∙ get_or-map-range_with_len (switch_begun net plan.placed) 0 (length net.switches) s s d
           own (omega arith)
-          ∙ sym (calm_switch_of setting [] quiet s own ∙ rw (
-            start_laws.cache setting s,
-            none_handled s,
-            first,
-          ) refl);
+          ∙ sym (switch_first setting s own sound.few_switches
+          ∙ ap (λ placed. switch_begun net placed s) first);
       packet = λ i. refl;
       counted = refl;
       controller = subst (IsControllerOf setting []) (sym first_is)
           (begins setting plan (of_first net policies plan some of_policy is));
       bag = bag_begun;
+      up = λ s below. masks s below ∙ ap (λ rows. links_of rows s) (sym (all_up net.links));
+      usable = λ s below. masks s below ∙ sym (start_laws.near setting s);
     }

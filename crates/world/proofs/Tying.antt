@@ -1,34 +1,31 @@
 -- One more step keeps the tie of a world to its journal.
-use Rattle.std.proofs.Common.{ℕ, ◌≡◌, ◌≢◌, ◌+◌, ◌<◌, ◌==◌, Bool, true, false, refl, List, [], ◌∷◌, ◌++◌, ap, sym, append-nil, subst, ◌∙◌, length, get_or, set, arith, eq-eqb, eqb-true}
+use Rattle.std.proofs.Common.{ℕ, ◌≡◌, ◌≢◌, ◌+◌, ◌<◌, ◌==◌, Bool, true, false, cond, refl, List, [], ◌∷◌, ◌++◌, ap, sym, append-nil, subst, ◌∙◌, length, filter, get_or, set, arith, eq-eqb, eqb-true}
 use Rattle.std.specs.Prelude.{IsFalse}
 use Rattle.std.proofs.lemmas.List.{get_or-set_other, get_or-set_same}
-use Rattle.bag.specs.Posts.{Post}
 use Rattle.control_ties.specs.Controller.{IsControllerOf}
 use Rattle.control_ties.proofs.CallerLemmas.{steps_leave}
 use Rattle.journal.specs.declared.item.Item.{Item}
 use Rattle.journal.specs.declared.item.Item.TheVariants as item
+use Rattle.net_file.specs.Net.{links_of}
+use Rattle.net_file.specs.declared.net.LinkRow.{LinkRow}
 use Rattle.settle_laws.specs.Steps.{is_for_controller}
 use Rattle.steps.specs.declared.step.Step.{Step}
-use Rattle.steps.specs.declared.step.Step.TheVariants.{Confirm, Deliver, Update}
 use Rattle.switch_core.specs.State.{SwitchValue}
 use Rattle.switch_ties.specs.SwitchOf.{switch_of}
 use Rattle.switch_ties.proofs.Links.{kept_is}
-use Rattle.update_machine.specs.Concerns.{NoneConcern, concerns_calls, concerns_known}
+use Rattle.update_machine.specs.Answers.{IsReached}
+use Rattle.update_machine.specs.Concerns.{NoneConcern, concerns_calls, concerns_known, concerns_links}
 use Rattle.update_machine.specs.Folds.{count_of}
 use Rattle.update_machine.specs.Messages.{next_message}
 use Rattle.update_machine.specs.Packets.{is_packet, next_packet}
 use Rattle.update_machine.specs.Pieces.{piece}
-use Rattle.update_machine.specs.Played.{IsPlayed, IsPlayedKind, MayPlay}
+use Rattle.update_machine.specs.Played.{MayPlay}
 use Rattle.update_machine.specs.Setting.{Setting}
-use Rattle.update_machine.proofs.CallerLemmas.{count_of_append}
-use Rattle.packet_laws.specs.Calm.{HasPacketsAlone, IsCalm}
-use Rattle.packet_laws.specs.Words.{words_of}
-use Rattle.packet_laws.proofs.Calm.{apart_controller}
-use Rattle.world.specs.State.{AreTied, Control, IsBagOf}
+use Rattle.update_machine.proofs.CallerLemmas.{count_of_append, links_keep, near_stays}
+use Rattle.world.specs.State.{AreTied, AreUp, AreUsable, Control, IsBagOf, is_up_link, traveller_in}
 use Rattle.world.specs.Travelling.{Travellers, traveller}
-use Rattle.world.proofs.Played.{played_alone, played_calm, played_caused, played_more}
-use Rattle.world.proofs.Posting.{SendFrom, bag_sends, posts_in}
-use Rattle.world.proofs.Words.{calm_traveller, traveller_by, words_all, words_along}
+use Rattle.world.proofs.Known.{reached_known, reached_more}
+use Rattle.world.proofs.Posting.{SendFrom, apart_links, bag_sends, posts_in}
 
 -- where one switch became what it is now, and another one stays if it isn't that one
 pub one_changes : (setting : Setting) (journal after : List Item) (switches : List SwitchValue)
@@ -44,52 +41,100 @@ one_changes setting journal after switches s q changed d false is there own othe
     let other : q ≢ s = λ e. let yes : (s == q) ≡ true = eq-eqb s q (sym e) in cc in
     get_or-set_other switches s q changed d other ∙ its ∙ sym (others is)
 
--- the controller is told nothing
-not_told : (setting : Setting) (journal : List Item) (step : Step)
-    → HasPacketsAlone setting journal → IsPlayedKind step
-    → IsFalse (is_for_controller journal step)
-not_told setting journal (Deliver n) alone kind =
-    apart_controller setting journal (item.Delivered n) alone tt
-not_told setting journal (Update file) alone kind = absurd kind
-not_told setting journal (Confirm s) alone kind = absurd kind
-not_told setting journal _ alone kind = refl
+-- ---- what a step leaves
 
--- what a step writes, and what the switches, the packets on their way and the messages are behind
--- it
+-- the journal behind a step
+abbrev pub stepped : List Item → ℕ → Step → List Item → List Item
+stepped journal row step items = journal ++ item.Row row step ∷ items
+
+-- the controller, where the step isn't for it
+pub controller_stays : (control : Control) (setting : Setting) (journal : List Item)
+    (switches : List SwitchValue) (before : Travellers) (count row : ℕ) (step : Step)
+    (items : List Item) → AreTied setting journal switches before count control
+    → piece setting journal row step ≡ item.Row row step ∷ items
+    → IsFalse (is_for_controller journal step)
+    → IsControllerOf setting (stepped journal row step items) control.controller
+unfolding AreTied
+controller_stays control setting journal switches before count row step items tied is not_told =
+    subst (λ more. IsControllerOf setting (journal ++ more) control.controller) is
+    (steps_leave setting journal row step control.controller
+    (reached_known setting journal tied.sound tied.reached).caused not_told tied.controller)
+
+-- and the links, where it does nothing to links
+pub links_stay : (control : Control) (setting : Setting) (journal : List Item)
+    (switches : List SwitchValue) (before : Travellers) (count : ℕ) (items : List Item)
+    → AreTied setting journal switches before count control
+    → NoneConcern concerns_links journal items
+    → AreUsable setting (journal ++ items) control.near
+unfolding AreTied
+links_stay control setting journal switches before count items tied none =
+    λ s below. tied.usable s below ∙ sym (near_stays setting s journal items none)
+
+-- links that are up as before are the same
+pub same_links : (now before : List Item) (links : List LinkRow)
+    → ((link : LinkRow) → is_up_link now link ≡ is_up_link before link)
+    → filter (is_up_link now) links ≡ filter (is_up_link before) links
+same_links now before [] same = refl
+same_links now before (link ∷ links) same =
+    ap (λ b. cond b (link ∷ filter (is_up_link now) links) (filter (is_up_link now) links))
+    (same link)
+    ∙ ap (λ rest. cond (is_up_link before link) (link ∷ rest) rest)
+    (same_links now before links same)
+
+pub up_stays : (setting : Setting) (journal items : List Item) (links : List ℕ)
+    → NoneConcern concerns_links journal items → AreUp setting journal links
+    → AreUp setting (journal ++ items) links
+up_stays setting journal items links none up = λ s below. up s below
+    ∙ ap (λ rows. links_of rows s) (sym (same_links (journal ++ items) journal setting.net.links
+    (λ link. (links_keep setting journal items none).up link.one link.two)))
+
+pub up_stay : (control : Control) (setting : Setting) (journal : List Item)
+    (switches : List SwitchValue) (before : Travellers) (count : ℕ) (items : List Item)
+    → AreTied setting journal switches before count control
+    → NoneConcern concerns_links journal items
+    → AreUp setting (journal ++ items) control.links
+unfolding AreTied
+up_stay control setting journal switches before count items tied none =
+    up_stays setting journal items control.links none tied.up
+
+-- what a step writes, and what the switches, the packets on their way and the control plane are
+-- behind it
 pub record IsTaken (setting : Setting) (journal : List Item) (row : ℕ) (step : Step)
     (items : List Item) (switches others : List SwitchValue) (after : Travellers)
-    (posts : List Post) : Type 0 where
+    (later : Control) : Type 0 where
   pub may : MayPlay setting step
   pub piece_is : piece setting journal row step ≡ item.Row row step ∷ items
   pub as_many : length others ≡ length switches
   pub each : (s : ℕ) (d : SwitchValue) → s < length switches
-      → get_or others s d ≡ switch_of setting (journal ++ item.Row row step ∷ items) s
+      → get_or others s d ≡ switch_of setting (stepped journal row step items) s
   pub travels : (i : ℕ) → traveller after i
-      ≡ traveller_by setting i
-      (words_along i journal (item.Row row step ∷ items) (words_of journal i))
-  pub bag : IsBagOf (journal ++ item.Row row step ∷ items) posts
+      ≡ traveller_in setting (stepped journal row step items) i
+  pub controller : IsControllerOf setting (stepped journal row step items) later.controller
+  pub bag : IsBagOf (stepped journal row step items) later.posts
+  pub up : AreUp setting (stepped journal row step items) later.links
+  pub usable : AreUsable setting (stepped journal row step items) later.near
 
 -- what a step of packets writes, and what it makes of the switches and of the packets on their way
 pub record Steps (setting : Setting) (journal : List Item) (row : ℕ) (step : Step)
     (items : List Item) (switches others : List SwitchValue) (after : Travellers) : Type 0 where
   pub may : MayPlay setting step
   pub piece_is : piece setting journal row step ≡ item.Row row step ∷ items
+  pub not_told : IsFalse (is_for_controller journal step)
   -- the messages that it sends have the next numbers
   pub sends : SendFrom (next_message journal) items
   pub as_many : length others ≡ length switches
   pub each : (s : ℕ) (d : SwitchValue) → s < length switches
-      → get_or others s d ≡ switch_of setting (journal ++ item.Row row step ∷ items) s
+      → get_or others s d ≡ switch_of setting (stepped journal row step items) s
   pub travels : (i : ℕ) → traveller after i
-      ≡ traveller_by setting i
-      (words_along i journal (item.Row row step ∷ items) (words_of journal i))
+      ≡ traveller_in setting (stepped journal row step items) i
 
-played_on : (setting : Setting) (journal : List Item) (row : ℕ) (step : Step) (items : List Item)
-    → IsPlayed setting journal → MayPlay setting step
+reached_on : (setting : Setting) (journal : List Item) (row : ℕ) (step : Step) (items : List Item)
+    → IsReached setting journal → MayPlay setting step
     → piece setting journal row step ≡ item.Row row step ∷ items
-    → IsPlayed setting (journal ++ item.Row row step ∷ items)
-played_on setting journal row step items played may is =
-    let P : List Item → Type 0 = λ more. IsPlayed setting (journal ++ more) in
-    subst P is (played_more setting journal row step played may)
+    → IsReached setting (journal ++ item.Row row step ∷ items)
+reached_on setting journal row step items reached may is =
+    let P : List Item → Type 0 = λ more. IsReached setting (journal ++ more) in
+    subst P is (reached_more setting journal row step reached may.own)
 
 next_on : (journal items : List Item) (count next : ℕ) → next_packet journal ≡ count + 1
     → next ≡ count + count_of is_packet items
@@ -98,40 +143,44 @@ unfolding next_packet
 next_on journal items count next is more =
     rw (count_of_append is_packet journal items) (omega (arith, is, more))
 
-pub tied_taken : (control : Control) (more : List Post) (setting : Setting)
+pub tied_taken : (control later : Control) (setting : Setting)
     (journal : List Item) (switches others : List SwitchValue) (before after : Travellers)
     (count next row : ℕ) (step : Step) (items : List Item)
     → AreTied setting journal switches before count control
-    → IsTaken setting journal row step items switches others after more
+    → IsTaken setting journal row step items switches others after later
     → next ≡ count + count_of is_packet (item.Row row step ∷ items)
-    → AreTied setting (journal ++ item.Row row step ∷ items) others after next
-    (record control { posts = more })
+    → AreTied setting (journal ++ item.Row row step ∷ items) others after next later
 unfolding AreTied
-tied_taken control more setting journal switches others before after count next row step items tied
-    taken
-    counted =
-    let new : List Item = journal ++ item.Row row step ∷ items in
-    let played : IsPlayed setting new =
-    played_on setting journal row step items tied.played taken.may taken.piece_is in
-    let calmer : IsCalm setting new = played_calm setting new tied.sound played in
+tied_taken control later setting journal switches others before after count next row step items tied
+    taken counted =
     record {
       sound = tied.sound;
-      played = played;
+      reached = reached_on setting journal row step items tied.reached taken.may taken.piece_is;
       many = taken.as_many ∙ tied.many;
       each = λ s d there. taken.each s d (omega (arith, there, taken.as_many));
-      packet = λ i. taken.travels i
-          ∙ ap (traveller_by setting i)
-          (sym (words_all i journal (item.Row row step ∷ items)))
-          ∙ sym (calm_traveller setting new calmer i);
+      packet = taken.travels;
       counted = next_on journal (item.Row row step ∷ items) count next tied.counted counted;
-      controller = subst (λ more. IsControllerOf setting (journal ++ more) control.controller)
-          taken.piece_is
-          (steps_leave setting journal row step control.controller
-          (played_caused setting journal tied.played)
-          (not_told setting journal step (played_alone setting journal tied.sound tied.played)
-          taken.may.kind) tied.controller);
+      controller = taken.controller;
       bag = taken.bag;
+      up = taken.up;
+      usable = taken.usable;
     }
+
+-- what the tie says of one packet, and of one switch
+pub packets_are : (control : Control) (setting : Setting) (journal : List Item)
+    (switches : List SwitchValue) (before : Travellers) (count : ℕ)
+    → AreTied setting journal switches before count control
+    → (i : ℕ) → traveller before i ≡ traveller_in setting journal i
+unfolding AreTied
+packets_are control setting journal switches before count tied = tied.packet
+
+pub switches_are : (control : Control) (setting : Setting) (journal : List Item)
+    (switches : List SwitchValue) (before : Travellers) (count : ℕ)
+    → AreTied setting journal switches before count control
+    → (s : ℕ) (d : SwitchValue) → s < length switches
+    → get_or switches s d ≡ switch_of setting journal s
+unfolding AreTied
+switches_are control setting journal switches before count tied = tied.each
 
 -- the next message's number
 pub numbered : (control : Control) (setting : Setting) (journal : List Item)
@@ -154,14 +203,28 @@ pub tied_more : (control : Control) (setting : Setting)
 unfolding AreTied
 tied_more control setting journal switches others before after count next row step items tied
     steps counted =
-    tied_taken control (control.posts ++ posts_in items) setting journal switches others before
-    after count next row step items tied
+    tied_taken control (record control { posts = control.posts ++ posts_in items }) setting journal
+    switches others before after count next row step items tied
     (record {
       may = steps.may;
       piece_is = steps.piece_is;
       as_many = steps.as_many;
       each = steps.each;
       travels = steps.travels;
+      controller = controller_stays control setting journal switches before count row step items
+          tied steps.piece_is steps.not_told;
+      up = up_stay control setting journal switches before count
+          (item.Row row step ∷ items) tied (
+            refl,
+            apart_links (next_message journal) (journal ++ item.Row row step ∷ []) items
+                steps.sends,
+          );
+      usable = links_stay control setting journal switches before count
+          (item.Row row step ∷ items) tied (
+            refl,
+            apart_links (next_message journal) (journal ++ item.Row row step ∷ []) items
+                steps.sends,
+          );
       bag = bag_sends (next_message journal) journal (item.Row row step ∷ items) control.posts
           steps.sends
           refl tied.bag;

@@ -5,13 +5,13 @@ use Rattle.policy_rules.specs.declared.packet.Leg.{Leg}
 use Rattle.policy_rules.specs.declared.packet.Leg.TheVariants.{Seek, Exit}
 use Rattle.five_tuple.specs.Header.{header_of}
 use Rattle.journal.specs.declared.item.Item.{Item}
+use Rattle.update_machine.specs.Concerns.{NoneConcern, concerns_policies}
 use Rattle.update_machine.specs.Marks.{retired_mark}
-use Rattle.update_machine.specs.Packets.{owner, targets_in, targets_of, leg_of}
+use Rattle.update_machine.specs.Packets.{targets_in, targets_of}
 use Rattle.update_machine.specs.Setting.{Setting}
-use Rattle.update_machine.specs.Versions.{plan_at}
-use Rattle.packet_laws.specs.Calm.{IsCalm}
-use Rattle.packet_laws.specs.Words.{PacketWords, names, told_by, words_of}
-use Rattle.packet_laws.proofs.Words.{words_grow}
+use Rattle.update_machine.proofs.CallerLemmas.{policies_keep}
+use Rattle.way_laws.specs.Words.{PacketWords, names, told_by, words_of}
+use Rattle.way_laws.proofs.Words.{words_grow}
 use Rattle.world.specs.State.{traveller_in, traveller_of}
 use Rattle.world.specs.declared.travelling.Traveller.{Traveller}
 
@@ -30,28 +30,32 @@ words_all i before (item ∷ items) =
     ∙ words_all i (before ++ item ∷ []) items
     ∙ ap (words_along i (before ++ item ∷ []) items) (words_grow i before item)
 
--- the targets of a leg by the plans that are there at the start
-abbrev pub first_targets : Setting → Leg → List ℕ
-first_targets setting (Seek version partition) =
-    targets_in (plan_at setting [] version) partition
-first_targets setting (Exit port) = owner setting port ∷ []
+-- ---- targets
 
-pub calm_targets : (setting : Setting) (journal : List Item) → IsCalm setting journal
-    → (leg : Leg) → targets_of setting journal leg ≡ first_targets setting leg
-calm_targets setting journal calm (Seek version partition) =
-    ap (λ plan. targets_in plan partition) (calm.plan version)
-calm_targets setting journal calm (Exit port) = refl
+-- the targets of legs
+abbrev pub Targets : Type 0
+Targets = Leg → List ℕ
+
+-- no policy, no other targets
+pub same_targets : (setting : Setting) (before items : List Item)
+    → NoneConcern concerns_policies before items → (leg : Leg)
+    → targets_of setting (before ++ items) leg ≡ targets_of setting before leg
+same_targets setting before items none (Seek version partition) =
+    ap (λ plan. targets_in plan partition) ((policies_keep before items none).plan setting version)
+same_targets setting before items none (Exit port) = refl
+
+-- ---- what is known of a packet
 
 -- what is known of a packet with these words
-abbrev pub traveller_by : Setting → ℕ → PacketWords → Option Traveller
-traveller_by setting i words = if words.travels then Some (record {
+abbrev pub traveller_by : Targets → ℕ → PacketWords → Option Traveller
+traveller_by targets i words = if words.travels then Some (record {
   tunnel = record {
     packet = i;
     header = unwrap_or words.header
         (header_of (record { src = 0; dst = 0; sport = 0; dport = 0; proto = 0 }));
     ingress = unwrap_or words.ingress 0;
     leg = unwrap_or words.leg (Exit 0);
-    targets = first_targets setting (unwrap_or words.leg (Exit 0));
+    targets = targets (unwrap_or words.leg (Exit 0));
     route = words.route;
     place = words.hops;
     down = words.found;
@@ -60,8 +64,27 @@ traveller_by setting i words = if words.travels then Some (record {
   rule = unwrap_or (option_map (λ decision. decision.rule) words.decision) None;
 }) else None
 
-pub calm_traveller : (setting : Setting) (journal : List Item) → IsCalm setting journal
-    → (i : ℕ) → traveller_in setting journal i ≡ traveller_by setting i (words_of journal i)
+pub traveller_now : (setting : Setting) (journal : List Item) (i : ℕ)
+    → traveller_in setting journal i
+    ≡ traveller_by (targets_of setting journal) i (words_of journal i)
 unfolding traveller_in traveller_of words_of
-calm_traveller setting journal calm i =
-    rw (calm_targets setting journal calm (unwrap_or (leg_of journal i) (Exit 0))) refl
+traveller_now setting journal i = refl
+
+-- by the targets of its own leg alone
+pub by_targets : (one other : Targets) (i : ℕ) (words : PacketWords)
+    → one (unwrap_or words.leg (Exit 0)) ≡ other (unwrap_or words.leg (Exit 0))
+    → traveller_by one i words ≡ traveller_by other i words
+by_targets one other i words same = rw same refl
+
+-- behind items by which no policy comes
+pub traveller_along : (setting : Setting) (before items : List Item) (i : ℕ)
+    → NoneConcern concerns_policies before items
+    → traveller_in setting (before ++ items) i
+    ≡ traveller_by (targets_of setting before) i
+    (words_along i before items (words_of before i))
+traveller_along setting before items i none =
+    traveller_now setting (before ++ items) i
+    ∙ ap (traveller_by (targets_of setting (before ++ items)) i) (words_all i before items)
+    ∙ by_targets (targets_of setting (before ++ items)) (targets_of setting before) i
+    (words_along i before items (words_of before i))
+    (same_targets setting before items none _)

@@ -16,6 +16,11 @@ pub both_ok : {T E P Q R : Type 0} (r : Result T E) → (P → Q → R) → OnOk
 both_ok (Ok x) f p q = f p q
 both_ok (Err e) f p q = tt
 
+pub three_ok : {T E P Q R S : Type 0} (r : Result T E) → (P → Q → R → S) → OnOk r P → OnOk r Q
+    → OnOk r R → OnOk r S
+three_ok (Ok x) f p q s = f p q s
+three_ok (Err e) f p q s = tt
+
 pub grown_more : (journal begun new items : List Item) (first : Item)
     → begun ≡ journal ++ first ∷ [] → new ≡ begun ++ items → new ≡ journal ++ first ∷ items
 grown_more journal begun new items first row_is grown =

@@ -3,3 +3,6 @@ pub mod State
 pub mod Writing
 pub mod Packets
 pub mod Parts
+pub mod Sending
+pub mod Linking
+pub mod Files

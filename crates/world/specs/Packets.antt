@@ -1,5 +1,5 @@
 -- What becomes of the journal and of the packets on their way as a packet comes in or moves on.
-use Rattle.std.specs.Prelude.{ℕ, Option, Some, None, List, [], ◌∷◌}
+use Rattle.std.specs.Prelude.{ℕ, ◌≡◌, Option, Some, None, List, [], ◌∷◌, ◌++◌}
 use Rattle.bag.specs.Posts.{Post}
 use Rattle.failover.specs.DownSet.{no_links}
 use Rattle.five_tuple.specs.declared.header.Header.{Header}
@@ -8,9 +8,13 @@ use Rattle.journal.specs.declared.item.Item.TheVariants as item
 use Rattle.net_file.specs.declared.ports.Ports.{Ports}
 use Rattle.switch_core.specs.Answering.{arrived, entered, incoming}
 use Rattle.switch_core.specs.Ends.{around}
+use Rattle.switch_core.specs.Moving.{found_down, hopped}
 use Rattle.switch_core.specs.State.{SwitchValue, counted}
 use Rattle.switch_core.specs.declared.answers.Entered.{Entered}
-use Rattle.world.specs.Travelling.{moved_on}
+use Rattle.switch_core.specs.declared.answers.HopEnd.{HopEnd}
+use Rattle.switch_core.specs.declared.answers.HopEnd.TheVariants as hop
+use Rattle.tunnel.specs.Moves.{next}
+use Rattle.world.specs.Travelling.{OthersStay, Travellers, WithOne}
 use Rattle.world.specs.Writing.{arrived_items, arrived_posts, arrived_traveller}
 use Rattle.world.specs.declared.log.Standing.{Standing}
 use Rattle.world.specs.declared.travelling.Traveller.{Traveller}
@@ -55,22 +59,68 @@ unfoldable pub arrival : SwitchValue → ℕ → Ports → Traveller → Option 
 arrival s near ports traveller =
     arrived_traveller traveller (arrived s (around near ports) traveller.tunnel)
 
--- over a link that is usable, or at the end of its route
-abbrev pub hop_items : ℕ → SwitchValue → ℕ → Ports → Traveller → Option ℕ → List Item
-hop_items number s near ports traveller None = arrival_items number s near ports traveller
-hop_items number s near ports traveller (Some other) =
-    item.Hopped traveller.tunnel.packet other ∷ []
+-- ---- as it moves on
 
-abbrev pub hop_posts : SwitchValue → ℕ → Ports → Traveller → Option ℕ → List Post
-hop_posts s near ports traveller None = arrival_posts s near ports traveller
-hop_posts s near ports traveller (Some other) = []
+-- a link was found down, and the packet takes this route around it, unless it is stuck
+abbrev pub turned_items : ℕ → ℕ → Option ℕ → HopEnd → List ℕ → List Item
+turned_items packet here None end route = []
+turned_items packet here (Some other) (hop.Stuck cause) route =
+    item.FoundDown packet here other ∷ []
+turned_items packet here (Some other) _ route =
+    item.FoundDown packet here other ∷ item.Rerouted packet route ∷ []
 
-abbrev pub hop_traveller : SwitchValue → ℕ → Ports → Traveller → Option ℕ → Option Traveller
-hop_traveller s near ports traveller None = arrival s near ports traveller
-hop_traveller s near ports traveller (Some other) =
-    Some (moved_on traveller)
+-- where a packet that moves is kept on its way, and all others are as before
+abbrev pub IsTurned : HopEnd → Traveller → Travellers → Travellers → Type 0
+IsTurned (hop.Move other) t before after = WithOne before t.tunnel.packet (Some t) after
+IsTurned _ t before after = OthersStay before t.tunnel.packet after
 
--- the switch answered a hop, and where the packet's route ends there its arrival too
-abbrev pub hopped_switch : SwitchValue → Option ℕ → SwitchValue
-hopped_switch s None = counted (counted s)
-hopped_switch s (Some other) = counted s
+-- it is at the end of its route, moves to the next switch or is stuck
+abbrev pub ended_items : ℕ → SwitchValue → ℕ → Ports → Traveller → HopEnd → List Item
+ended_items number s near ports t hop.Arrive = arrival_items number s near ports t
+ended_items number s near ports t (hop.Move other) = item.Hopped t.tunnel.packet other ∷ []
+ended_items number s near ports t (hop.Stuck cause) =
+    item.Stuck t.tunnel.packet s.number cause t.tunnel.leg t.tunnel.down ∷ []
+
+abbrev pub ended_posts : SwitchValue → ℕ → Ports → Traveller → HopEnd → List Post
+ended_posts s near ports t hop.Arrive = arrival_posts s near ports t
+ended_posts s near ports t _ = []
+
+abbrev pub IsEnded : SwitchValue → ℕ → Ports → Traveller → HopEnd → Travellers → Travellers
+    → Type 0
+IsEnded s near ports t hop.Arrive before after =
+    WithOne before t.tunnel.packet (arrival s near ports t) after
+IsEnded s near ports t (hop.Move other) before after = after ≡ before
+IsEnded s near ports t (hop.Stuck cause) before after = WithOne before t.tunnel.packet None after
+
+-- the switch is asked once more where it arrives
+abbrev pub ended_switch : SwitchValue → HopEnd → SwitchValue
+ended_switch s hop.Arrive = counted s
+ended_switch s _ = s
+
+-- the packet behind the switch's move
+abbrev pub hopped_traveller : SwitchValue → ℕ → Traveller → Traveller
+hopped_traveller s near t = record t { tunnel = (hopped s near t.tunnel).tunnel }
+
+-- all that a hop writes and posts, and where the packet is then
+abbrev pub hop_items : ℕ → SwitchValue → ℕ → Ports → Traveller → List Item
+hop_items number s near ports t =
+    let moved = hopped s near t.tunnel in
+    turned_items t.tunnel.packet s.number (found_down near (next t.tunnel)) moved.end
+    moved.tunnel.route
+    ++ ended_items number (counted s) near ports (hopped_traveller s near t) moved.end
+
+abbrev pub hop_posts : SwitchValue → ℕ → Ports → Traveller → List Post
+hop_posts s near ports t =
+    ended_posts (counted s) near ports (hopped_traveller s near t) (hopped s near t.tunnel).end
+
+abbrev pub ended_traveller : SwitchValue → ℕ → Ports → Traveller → HopEnd → Option Traveller
+ended_traveller s near ports t hop.Arrive = arrival s near ports t
+ended_traveller s near ports t (hop.Move other) = Some t
+ended_traveller s near ports t (hop.Stuck cause) = None
+
+abbrev pub hop_traveller : SwitchValue → ℕ → Ports → Traveller → Option Traveller
+hop_traveller s near ports t =
+    ended_traveller (counted s) near ports (hopped_traveller s near t) (hopped s near t.tunnel).end
+
+abbrev pub hopped_switch : SwitchValue → ℕ → Traveller → SwitchValue
+hopped_switch s near t = ended_switch (counted s) (hopped s near t.tunnel).end

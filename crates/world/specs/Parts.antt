@@ -1,5 +1,5 @@
 -- The parts of a world, and what holds of them.
-use Rattle.std.specs.Prelude.{ℕ, ◌≡◌, ◌+◌, ◌-◌, ◌^◌, ◌<◌, ◌≤◌, Bool, false, List, [], ◌∷◌, ◌++◌, length, OnErr, OnOk, Result}
+use Rattle.std.specs.Prelude.{ℕ, ◌≡◌, ◌+◌, ◌<◌, ◌≤◌, Bool, false, List, [], ◌∷◌, ◌++◌, length, OnErr, OnOk, Result}
 use Rattle.journal.specs.declared.item.Item.{Item}
 use Rattle.journal.specs.declared.item.Item.TheVariants as item
 use Rattle.net_file.specs.Net.{IsNet}
@@ -9,21 +9,25 @@ use Rattle.update_machine.specs.Packets.{next_packet}
 use Rattle.update_machine.specs.Pieces.{piece}
 use Rattle.update_machine.specs.Played.{MayPlay}
 use Rattle.update_machine.specs.Setting.{Setting, setting_of}
-use Rattle.world.specs.State.{AreNear, AreTied, Control, WorldValue, comes_in}
+use Rattle.world.specs.State.{AreTied, Control, WorldValue, comes_in}
 use Rattle.world.specs.Writing.{IsPart}
 use Rattle.world.specs.declared.parts.Parts.{Parts}
 
 abbrev pub setting_in : Parts → Setting
-setting_in parts = setting_of parts.net parts.policies.items
+setting_in parts = setting_of parts.files.net parts.files.policies
 
--- the tables of the ports and the neighbours are the network's
+-- the table of the ports is the network's
 pub record AreSound (parts : Parts) : Type 0 where
-  pub sound : IsNet parts.net
-  pub owners : AreOwners parts.net.switches parts.ports
-  pub masks : AreNear parts.net parts.near
+  pub sound : IsNet parts.files.net
+  pub owners : AreOwners parts.files.net.switches parts.ports
 
 abbrev pub control_in : Parts → Control
-control_in parts = record { controller = parts.controller; posts = parts.log.bag }
+control_in parts = record {
+  controller = parts.controller;
+  posts = parts.log.bag;
+  links = parts.links;
+  near = parts.near;
+}
 
 -- the parts are as their journal says
 abbrev pub AreTiedIn : Parts → Type 0
@@ -33,13 +37,19 @@ AreTiedIn parts =
 
 -- ---- one step
 
--- the network, the policies and the controller stay, and what is told of them
+-- the network, its ports and the policies stay
 pub record KeepNet (before after : Parts) : Type 0 where
-  pub same_net : after.net ≡ before.net
-  pub same_policies : after.policies.items ≡ before.policies.items
+  pub same_files : after.files ≡ before.files
   pub same_ports : after.ports ≡ before.ports
-  pub same_near : after.near ≡ before.near
-  pub same_controller : after.controller ≡ before.controller
+
+-- all but the switches, their usable links and the log stays, and so do the packets on their way
+pub record KeepRest (before after : Parts) : Type 0 where
+  pub files : after.files ≡ before.files
+  pub ports : after.ports ≡ before.ports
+  pub links : after.links ≡ before.links
+  pub packets : after.packets ≡ before.packets
+  pub controller : after.controller ≡ before.controller
+  pub travelling : after.log.travelling ≡ before.log.travelling
 
 -- a step may be played on the parts, which are as this journal says
 pub record IsReady (before : List Item) (step : Step) (parts : Parts) : Type 0 where
@@ -48,7 +58,7 @@ pub record IsReady (before : List Item) (step : Step) (parts : Parts) : Type 0 w
       parts.packets (control_in parts)
   pub may : MayPlay (setting_in parts) step
   pub few : next_packet before ≤ 4_000_000_000
-  pub room : length parts.log.bag < 2 ^ 32 - 1
+  pub room : length parts.log.bag < 990_000
 
 -- and its row was written behind that journal
 pub record Begins (before : List Item) (row : ℕ) (step : Step) (parts : Parts) : Type 0 where
@@ -82,14 +92,16 @@ Plays step result old new =
 -- a world as contracts see it
 abbrev pub value_of : Parts → Bool → WorldValue
 value_of parts is_spent = record {
-  net = parts.net;
-  policies = parts.policies.items;
+  net = parts.files.net;
+  policies = parts.files.policies;
   journal = parts.log.journal;
   switches = parts.switches.items;
   travelling = parts.log.travelling;
   bag = parts.log.bag;
   packets = parts.packets;
   controller = parts.controller;
+  links = parts.links;
+  near = parts.near;
   is_spent = is_spent;
 }
 

@@ -1,6 +1,6 @@
 -- A world as contracts see it, and what its journal says of it: where each packet that travels is
 -- on its way, and what became of each message.
-use Rattle.std.specs.Prelude.{ℕ, ◌≡◌, ◌+◌, ◌<◌, Bool, false, map, slice_index, if◌then◌else◌, Option, Some, None, option_map, unwrap_or, List, [], length, slice_index_or}
+use Rattle.std.specs.Prelude.{ℕ, ◌≡◌, ◌+◌, ◌<◌, Bool, false, filter, map, slice_index, if◌then◌else◌, Option, Some, None, option_map, unwrap_or, List, [], length, slice_index_or}
 use Rattle.std.specs.List.{range_with_len}
 use Rattle.bag.specs.Numbered.{numbered}
 use Rattle.bag.specs.Posts.{Post}
@@ -13,6 +13,7 @@ use Rattle.policy_rules.specs.declared.policy.Row.{Row}
 use Rattle.journal.specs.declared.item.Item.{Item}
 use Rattle.failover.specs.Adverts.{first_adverts}
 use Rattle.net_file.specs.Net.{links_of}
+use Rattle.net_file.specs.declared.net.LinkRow.{LinkRow}
 use Rattle.net_file.specs.declared.net.Net.{Net}
 use Rattle.steps.specs.declared.step.Step.{Step}
 use Rattle.steps.specs.declared.step.Step.TheVariants.{Packet}
@@ -20,10 +21,12 @@ use Rattle.switch_core.specs.State.{SwitchValue, begun}
 use Rattle.switch_table.specs.Tables.{Placed, tables_of}
 use Rattle.switch_ties.specs.SwitchOf.{switch_of}
 use Rattle.tunnel.specs.Tunnel.{TunnelValue}
+use Rattle.update_machine.specs.Answers.{IsReached}
+use Rattle.update_machine.specs.Links.{is_link_up, near as near_of}
 use Rattle.update_machine.specs.Messages.{is_forgotten, message_of, next_message, was_delivered}
 use Rattle.update_machine.specs.Moves.{header_at}
 use Rattle.update_machine.specs.Packets.{decision_of, found_down, ingress_of, leg_of, next_packet, route_in, route_place, targets_of, travels}
-use Rattle.update_machine.specs.Played.{IsPlayed, IsSetting}
+use Rattle.update_machine.specs.Played.{IsSetting}
 use Rattle.update_machine.specs.Setting.{Setting, setting_of}
 use Rattle.world.specs.Travelling.{Travellers, traveller}
 use Rattle.world.specs.declared.travelling.Traveller.{Traveller}
@@ -39,6 +42,9 @@ pub record WorldValue : Type 0 where
   -- how many packets came in or were refused
   pub packets : ℕ
   pub controller : ControllerValue
+  -- the switches to which each switch has a link that is up, as masks, and a usable one
+  pub links : List ℕ
+  pub near : List ℕ
   -- memory ran out within a step, so that no further one is taken
   pub is_spent : Bool
 
@@ -99,17 +105,36 @@ pub record IsBagOf (journal : List Item) (posts : List Post) : Type 0 where
 
 -- ---- the tie
 
--- what is known in the control plane: the controller, and the messages that were sent
+-- what is known in the control plane: the controller, the messages that were sent, and the
+-- switches to which each switch has a link that is up, and to which it has a usable one, as masks
 pub record Control : Type 0 where
   pub controller : ControllerValue
   pub posts : List Post
+  pub links : List ℕ
+  pub near : List ℕ
 
--- the journal is played, and the switches, the packets on their way, the controller and the
--- messages are as it says
+-- the links that are up
+abbrev pub is_up_link : List Item → LinkRow → Bool
+is_up_link journal link = is_link_up journal link.one link.two
+
+abbrev pub up_links : Setting → List Item → List LinkRow
+up_links setting journal = filter (is_up_link journal) setting.net.links
+
+-- the masks are those of the links that are up
+abbrev pub AreUp : Setting → List Item → List ℕ → Type 0
+AreUp setting journal links = (s : ℕ) → s < 64
+    → slice_index links s ≡ links_of (up_links setting journal) s
+
+-- the masks are those of the links that can be used
+abbrev pub AreUsable : Setting → List Item → List ℕ → Type 0
+AreUsable setting journal near = (s : ℕ) → s < 64 → slice_index near s ≡ near_of setting journal s
+
+-- the journal is of steps of the network, and the switches, the packets on their way, the
+-- controller, the messages and the links are as it says
 pub record Tied (setting : Setting) (journal : List Item) (switches : List SwitchValue)
     (travelling : Travellers) (count : ℕ) (control : Control) : Type 0 where
   pub sound : IsSetting setting
-  pub played : IsPlayed setting journal
+  pub reached : IsReached setting journal
   pub many : length switches ≡ length setting.net.switches
   pub each : (s : ℕ) (d : SwitchValue) → s < length switches →
       slice_index_or switches s d ≡ switch_of setting journal s
@@ -117,6 +142,8 @@ pub record Tied (setting : Setting) (journal : List Item) (switches : List Switc
   pub counted : next_packet journal ≡ count + 1
   pub controller : IsControllerOf setting journal control.controller
   pub bag : IsBagOf journal control.posts
+  pub up : AreUp setting journal control.links
+  pub usable : AreUsable setting journal control.near
 
 unfoldable pub AreTied : Setting → List Item → List SwitchValue → Travellers → ℕ → Control
     → Type 0
@@ -131,6 +158,8 @@ IsTied world =
     AreTied (setting_at world) world.journal world.switches world.travelling world.packets (record {
       controller = world.controller;
       posts = world.bag;
+      links = world.links;
+      near = world.near;
     })
 
 -- the neighbours of each switch as masks, by its number

@@ -1,7 +1,6 @@
 -- The packets on their way, by their numbers.
-use Rattle.std.specs.Prelude.{ℕ, ◌≡◌, ◌+◌, ◌<◌, ◌≤◌, ◌==◌, if◌then◌else◌, Option, None, List, IsSome, MatchOption, length, slice_index_or, unwrap_or}
+use Rattle.std.specs.Prelude.{ℕ, ◌≡◌, ◌<◌, ◌≤◌, ◌==◌, false, if◌then◌else◌, Option, None, List, IsSome, IsSomeAnd, MatchOption, length, slice_index_or, unwrap_or}
 use Rattle.failover.specs.DownSet.{no_links}
-use Rattle.tunnel.specs.Moves.{advanced}
 use Rattle.world.specs.declared.kept.Kept.TheInside.{Inside}
 use Rattle.world.specs.declared.travelling.Traveller.{Traveller}
 
@@ -24,13 +23,23 @@ IsNextFrom travellers from next = MatchOption next
     (λ least. (from ≤ least) × IsSome (traveller travellers least)
     × ((i : ℕ) → from ≤ i → i < least → traveller travellers i ≡ None))
 
--- its route goes on where it stands
-abbrev pub GoesOn : Traveller → Type 0
-GoesOn t = t.tunnel.place + 1 < length t.tunnel.route
+-- all other packets are as before
+abbrev pub OthersStay : Travellers → ℕ → Travellers → Type 0
+OthersStay before packet after =
+    (i : ℕ) → (i == packet) ≡ false → traveller after i ≡ traveller before i
 
--- one place further
-abbrev pub moved_on : Traveller → Traveller
-moved_on t = record t { tunnel = advanced t.tunnel }
+-- its route has this place
+abbrev pub HasPlace : ℕ → Traveller → Type 0
+HasPlace place t = place < length t.tunnel.route
+
+-- at this place of its route
+abbrev pub placed_at : ℕ → Traveller → Traveller
+placed_at place t = record t { tunnel = record t.tunnel { place = place } }
+
+-- it is known but for its place
+abbrev pub IsKeptOn : Travellers → Traveller → Type 0
+IsKeptOn travellers t = IsSomeAnd (traveller travellers t.tunnel.packet)
+    (λ was. placed_at t.tunnel.place was ≡ t)
 
 -- ---- how they are kept
 

@@ -1,5 +1,5 @@
-ghost use Rattle.std.specs.Prelude.{◌≡◌, ◌+◌, ◌<◌, length, IfOk};
-ghost use Rattle.world.specs.Travelling.{moved_on};
+ghost use Rattle.std.specs.Prelude.{◌≡◌, IfOk};
+ghost use Rattle.world.specs.Travelling.{HasPlace, placed_at};
 
 use crate::travelling::Traveller;
 use five_tuple::Header;
@@ -93,11 +93,11 @@ impl Kept {
         }
     }
 
-    /// Moves one place on. It takes no memory.
-    pub fn advance(&mut self)
-        requires { self.old.tunnel.place + 1 < length self.old.tunnel.route }
-        ensures { self.new ≡ moved_on self.old }
+    /// It stands at this place of its route. It takes no memory.
+    pub fn move_to(&mut self, place: u32)
+        requires { HasPlace place self.old }
+        ensures { self.new ≡ placed_at place self.old }
     {
-        self.place += 1;
+        self.place = place;
     }
 }

@@ -3,10 +3,10 @@
 //! A `World` promises that each step writes exactly the items that the definitions over journals
 //! state, and that it stays tied to its journal: each switch is what the journal says of it, with
 //! as many calls as the journal counts, the packets on their way are those that travel, the bag has
-//! the messages that were sent, each as it was delivered or forgotten, and the controller's marks
-//! and plans are those that the journal says. Behind a full journal no step begins (`Full`). Where
-//! memory runs out within a step, a part of the step's items is written, and no further step is
-//! taken.
+//! the messages that were sent, each as it was delivered or forgotten, the controller's marks and
+//! plans are those that the journal says, and so are the links that each switch can use. Behind a
+//! full journal no step begins (`Full`). Where memory runs out within a step, a part of the step's
+//! items is written, and no further step is taken.
 //!
 //! ```text
 //! let mut world = World::begin(alloc, &net, policies)?;   // why the first policy has no plan
@@ -18,11 +18,15 @@
 #![tactic(auto)]
 
 mod beginning;
+mod delivery;
 mod error;
+mod files;
 mod kept;
+mod links;
 mod log;
 mod packets;
 mod parts;
+mod sending;
 mod travelling;
 mod world;
 

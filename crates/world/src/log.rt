@@ -1,9 +1,10 @@
 ghost use Rattle.std.specs.Prelude.{◌≡◌, ◌+◌, ◌-◌, ◌^◌, ◌<◌, [], ◌∷◌, ◌++◌, Some, None, IfSome, OnOk, OnErr, length, map};
 ghost use Rattle.bag.specs.Posts.{posted};
-ghost use Rattle.journal.specs.declared.item.Item.TheVariants.{Sent as SentItem, Stuck as StuckItem};
+ghost use Rattle.journal.specs.declared.item.Item.TheVariants.{Rerouted, Sent as SentItem, Stuck as StuckItem};
 ghost use Rattle.update_machine.specs.Messages.{sent_from};
 ghost use Rattle.update_machine.specs.Moves.{takes_route};
-ghost use Rattle.world.specs.Travelling.{WithOne};
+ghost use Rattle.world.specs.Packets.{IsTurned, turned_items};
+ghost use Rattle.world.specs.Travelling.{IsKeptOn, WithOne};
 ghost use Rattle.world.specs.Writing.{IsPart, decided_items, decided_traveller, end_of, exit_leg, leaves, messages_in};
 
 use crate::kept::Kept;
@@ -13,7 +14,7 @@ use five_tuple::Header;
 use journal::{DownSet, Item, Journal, Leaving, Message, SharedLinks, SharedMessage, SharedRoute};
 use policy_rules::{Action, Cause, Leg};
 use std::alloc::{AllocError, Global};
-use switch_core::{Decision, Next};
+use switch_core::{Decision, Hop, HopEnd, Next};
 
 /// What happened so far, the packets that are on their way, and the messages that were sent.
 #[derive(Drop)]
@@ -76,6 +77,66 @@ impl Log {
         self.travelling.put(packet, kept)?;
         self.journal
             .push(takes_route(packet, traveller.tunnel.leg, route))
+    }
+
+    /// The packet stands where its hop ended: at its place of its route; or a link was found down,
+    /// and it takes the route of its tunnel around it, unless it is stuck.
+    ///
+    /// # Errors
+    /// Want of memory alone, which is taken only where a link was found down; a part of the items is
+    /// written then.
+    pub fn turn(
+        &mut self,
+        alloc: Global,
+        traveller: &Traveller,
+        here: u32,
+        hop: Hop,
+    ) -> Result<(), AllocError>
+        requires known { hop.found ≡ None → IsKeptOn self.old.travelling traveller.now }
+        ensures written { OnOk result (self.new.journal ≡ self.old.journal
+            ++ turned_items traveller.now.tunnel.packet here hop.found hop.end
+            traveller.now.tunnel.route) }
+        ensures travels { OnOk result
+            (IsTurned hop.end traveller.now self.old.travelling self.new.travelling) }
+        ensures part { OnErr result (IsPart self.old.journal
+            (turned_items traveller.now.tunnel.packet here hop.found hop.end
+            traveller.now.tunnel.route) self.new.journal) }
+        ensures unsent { self.new.bag ≡ self.old.bag }
+    {
+        let packet = traveller.tunnel.packet;
+        let other = match hop.found {
+            None => {
+                let _here = traveller.tunnel.here();
+                self.travelling.move_to(packet, traveller.tunnel.place);
+                return Ok(());
+            }
+            Some(other) => other,
+        };
+        self.journal.push(Item::FoundDown {
+            packet,
+            one: here,
+            two: other,
+        })?;
+        match hop.end {
+            HopEnd::Stuck(_) => Ok(()),
+            _ => self.reroute(alloc, traveller),
+        }
+    }
+
+    // The packet takes another route on its leg.
+    fn reroute(&mut self, alloc: Global, traveller: &Traveller) -> Result<(), AllocError>
+        ensures written { OnOk result (self.new.journal ≡ self.old.journal
+            ++ Rerouted traveller.now.tunnel.packet traveller.now.tunnel.route ∷ []) }
+        ensures travels { OnOk result (WithOne self.old.travelling traveller.now.tunnel.packet
+            (Some traveller.now) self.new.travelling) }
+        ensures unwritten { OnErr result (self.new.journal ≡ self.old.journal) }
+        ensures unsent { self.new.bag ≡ self.old.bag }
+    {
+        let packet = traveller.tunnel.packet;
+        let route = SharedRoute::new(alloc, traveller.tunnel.route)?;
+        let kept = Kept::new(alloc, traveller, route.clone()?)?;
+        self.travelling.put(packet, kept)?;
+        self.journal.push(Item::Rerouted { packet, route })
     }
 
     /// The packet ends in this way.

@@ -1,9 +1,9 @@
 ghost use Rattle.std.specs.Prelude.{◌≡◌, ◌+◌, ◌-◌, ◌^◌, ◌<◌, ◌++◌, Some, None, IsTrue, OnOk, OnErr, length};
 ghost use Rattle.switch_core.specs.Answering.{CanLookUp, IsAtAuthority};
-ghost use Rattle.switch_core.specs.Moving.{found_down};
+ghost use Rattle.switch_core.specs.Moving.{hopped};
 ghost use Rattle.switch_core.specs.State.{counted, serves};
-ghost use Rattle.tunnel.specs.Moves.{next};
-ghost use Rattle.world.specs.Packets.{arrival, arrival_items, arrival_posts, coming_in, entry, hop_items, hop_posts, hop_traveller, hopped_switch};
+ghost use Rattle.switch_core.specs.declared.answers.HopEnd.TheVariants.{Arrive};
+ghost use Rattle.world.specs.Packets.{IsEnded, arrival, arrival_items, arrival_posts, coming_in, ended_items, ended_posts, ended_switch, entry, hop_items, hop_posts, hop_traveller, hopped_switch, standing_at};
 ghost use Rattle.world.specs.Travelling.{WithOne, traveller as traveller_of};
 ghost use Rattle.world.specs.Writing.{IsPart, answer_items, answer_posts, answer_traveller, arrived_items, arrived_posts, arrived_traveller, cache_message, entered_items, entered_posts, entered_traveller};
 
@@ -134,10 +134,10 @@ fn note_answer(
     }
 }
 
-/// A packet on its way that stands at the switch moves on over a link that is usable, or is at the
-/// end of its route.
+/// A packet on its way that stands at the switch moves on, or is at the end of its route. Where the
+/// link to the next switch is found down, it takes another route on its leg, or is stuck.
 ///
-/// A move takes no memory but the journal's.
+/// A move over a link that is usable takes no memory but the journal's.
 ///
 /// # Errors
 /// Want of memory alone; a part of the items is written then.
@@ -151,39 +151,78 @@ pub fn hop(
 ) -> Result<(), AllocError>
     requires known { traveller_of log.old.travelling traveller.old.tunnel.packet
         ≡ Some traveller.old }
-    requires usable { found_down near (next traveller.old.tunnel) ≡ None }
     requires serving { IsTrue (serves switch.old) }
     requires stamped { CanLookUp switch.old }
-    requires authority { next traveller.old.tunnel ≡ None →
+    requires authority { (hopped switch.old near traveller.old.tunnel).end ≡ Arrive →
         IsAtAuthority switch.old traveller.old.tunnel.header traveller.old.tunnel.leg }
     requires few { length log.old.bag < 2 ^ 32 - 1 }
-    ensures written { OnOk result (log.new.journal
-        ≡ log.old.journal ++ hop_items (length log.old.bag + 1) (counted switch.old) near
-        ports.now traveller.old (next traveller.old.tunnel)) }
+    ensures written { OnOk result (log.new.journal ≡ log.old.journal
+        ++ hop_items (length log.old.bag + 1) switch.old near ports.now traveller.old) }
     ensures posted { OnOk result (log.new.bag
-        ≡ log.old.bag ++ hop_posts (counted switch.old) near ports.now traveller.old
-        (next traveller.old.tunnel)) }
+        ≡ log.old.bag ++ hop_posts switch.old near ports.now traveller.old) }
     ensures travels { OnOk result (WithOne log.old.travelling traveller.old.tunnel.packet
-        (hop_traveller (counted switch.old) near ports.now traveller.old
-        (next traveller.old.tunnel)) log.new.travelling) }
+        (hop_traveller switch.old near ports.now traveller.old) log.new.travelling) }
     ensures part { OnErr result (IsPart log.old.journal
-        (hop_items (length log.old.bag + 1) (counted switch.old) near ports.now traveller.old
-        (next traveller.old.tunnel)) log.new.journal) }
-    ensures counted { switch.new ≡ hopped_switch switch.old (next traveller.old.tunnel) }
+        (hop_items (length log.old.bag + 1) switch.old near ports.now traveller.old)
+        log.new.journal) }
+    ensures counted { OnOk result (switch.new ≡ hopped_switch switch.old near traveller.old) }
 {
-    let packet = traveller.tunnel.packet;
     let hop = switch.hop(&mut traveller.tunnel, near);
-    match hop.end {
+    log.turn(alloc, traveller, switch.number(), hop)?;
+    end_hop(alloc, log, traveller, switch, near, ports, hop.end)
+}
+
+// The packet is where its hop ended.
+fn end_hop(
+    alloc: Global,
+    log: &mut Log,
+    traveller: &Traveller,
+    switch: &mut Switch,
+    near: u64,
+    ports: &Ports,
+    end: HopEnd,
+) -> Result<(), AllocError>
+    requires serving { IsTrue (serves switch.old) }
+    requires stamped { CanLookUp switch.old }
+    requires authority { end ≡ Arrive →
+        IsAtAuthority switch.old traveller.now.tunnel.header traveller.now.tunnel.leg }
+    requires few { length log.old.bag < 2 ^ 32 - 1 }
+    ensures written { OnOk result (log.new.journal ≡ log.old.journal
+        ++ ended_items (length log.old.bag + 1) switch.old near ports.now traveller.now end) }
+    ensures posted { OnOk result (log.new.bag
+        ≡ log.old.bag ++ ended_posts switch.old near ports.now traveller.now end) }
+    ensures travels { OnOk result (IsEnded switch.old near ports.now traveller.now end
+        log.old.travelling log.new.travelling) }
+    ensures part { OnErr result (IsPart log.old.journal
+        (ended_items (length log.old.bag + 1) switch.old near ports.now traveller.now end)
+        log.new.journal) }
+    ensures counted { switch.new ≡ ended_switch switch.old end }
+{
+    match end {
         HopEnd::Arrive => arrive(alloc, log, traveller, switch, near, ports),
         HopEnd::Move(next) => {
-            log.travelling.advance(packet);
             log.journal.push(Item::Hopped {
-                packet,
+                packet: traveller.tunnel.packet,
                 switch: next,
             })
         }
-        // No link fails yet.
-        HopEnd::Stuck(_) => unreachable!(),
+        HopEnd::Stuck(cause) => {
+            let at = standing(traveller, switch);
+            log.stuck(alloc, &at, cause, traveller.tunnel.leg)
+        }
+    }
+}
+
+// A packet on its way that stands at the switch.
+fn standing(traveller: &Traveller, switch: &Switch) -> Standing
+    ensures { result ≡ standing_at switch.now.number traveller.now }
+{
+    Standing {
+        packet: traveller.tunnel.packet,
+        header: traveller.tunnel.header,
+        ingress: traveller.tunnel.ingress,
+        switch: switch.number(),
+        down: traveller.tunnel.down,
     }
 }
 
@@ -216,13 +255,7 @@ fn arrive(
         log.new.journal) }
     ensures counted { switch.new ≡ counted switch.old }
 {
-    let at = Standing {
-        packet: traveller.tunnel.packet,
-        header: traveller.tunnel.header,
-        ingress: traveller.tunnel.ingress,
-        switch: switch.number(),
-        down: traveller.tunnel.down,
-    };
+    let at = standing(traveller, switch);
     let arrived = switch.arrive(&traveller.tunnel, near, ports);
     note_arrived(alloc, log, &at, traveller, arrived)
 }

@@ -2,14 +2,13 @@ ghost use Rattle.std.specs.Prelude.{◌≡◌};
 ghost use Rattle.steps.specs.declared.step.Step.TheVariants.{Deliver as DeliverStep, Expire as ExpireStep, Forget as ForgetStep, Hop as HopStep, Lose as LoseStep, Packet as PacketStep};
 ghost use Rattle.world.specs.Parts.{Goes, HasBegun, IsReady, Plays};
 
+use crate::files::Files;
 use crate::log::Log;
 use crate::packets::{enter, hop};
 use controller::Controller;
-use ctrl_msg::Receiver;
 use five_tuple::Header;
 use journal::Item;
-use net_file::{Net, Ports};
-use policy_rules::Policy;
+use net_file::Ports;
 use std::alloc::{AllocError, Global};
 use steps::Step;
 use switch_core::Switch;
@@ -17,10 +16,11 @@ use switch_core::Switch;
 /// What a world is made of.
 #[derive(Drop)]
 pub struct Parts {
-    pub net: Net,
-    pub policies: Vec<Policy>,
+    pub files: Files,
     pub ports: Ports,
-    /// The neighbours of each switch, as masks.
+    /// For each switch those to which it has a link that is up.
+    pub links: [u64; 64],
+    /// For each switch those to which it has a usable link.
     pub near: [u64; 64],
     pub switches: Vec<Switch>,
     pub log: Log,
@@ -97,27 +97,6 @@ impl Parts {
             return self.log.journal.push(Item::Nothing);
         }
         self.log.journal.push(Item::Lost { packet })
-    }
-
-    // A message is delivered to its switch, which hears it.
-    fn deliver(&mut self, alloc: Global, number: u32) -> Result<(), AllocError>
-        requires { HasBegun (DeliverStep number) self.old }
-        ensures { Plays (DeliverStep number) result self.old self.new }
-    {
-        let message = match self.log.bag.get(number)? {
-            None => return self.log.journal.push(Item::Nothing),
-            Some(message) => message,
-        };
-        let here = match message.to {
-            Receiver::Switch(switch) => switch as usize,
-            // Cache rules alone are sent so far, and those go to switches.
-            Receiver::Controller => unreachable!(),
-        };
-        let near = self.near[here];
-        // A switch answers a cache rule by nothing, and doesn't open.
-        let _ = self.switches[here].hear(alloc, number, &message.body, near)?;
-        self.log.bag.deliver(number);
-        self.log.journal.push(Item::Delivered { number })
     }
 
     // A message is never delivered again.

@@ -7,7 +7,7 @@
 //! No slot is given back before the end, as in a journal.
 ghost use Rattle.std.specs.Prelude.{◌≡◌, ◌+◌, ◌<◌, ◌≤◌, ℕ, max, [], Some, None, is_some, option_map, length, IsSome, OnOk};
 ghost use Rattle.std.specs.Option.{IsSomeAnd};
-ghost use Rattle.world.specs.Travelling.{GoesOn, IsNextFrom, WithOne, moved_on, traveller};
+ghost use Rattle.world.specs.Travelling.{HasPlace, IsNextFrom, WithOne, placed_at, traveller};
 
 use crate::kept::Kept;
 use std::alloc::{AllocError, Global};
@@ -88,14 +88,14 @@ impl Travelling {
         Ok(())
     }
 
-    /// The packet, whose route goes on, is one place further. It takes no memory.
-    pub fn advance(&mut self, packet: u32)
-        requires { IsSomeAnd (traveller self.old packet) GoesOn }
-        ensures { WithOne self.old packet (option_map moved_on (traveller self.old packet))
-            self.new }
+    /// The packet stands at this place of its route. It takes no memory.
+    pub fn move_to(&mut self, packet: u32, place: u32)
+        requires { IsSomeAnd (traveller self.old packet) (HasPlace place) }
+        ensures { WithOne self.old packet
+            (option_map (placed_at place) (traveller self.old packet)) self.new }
     {
         if let Some(kept) = &mut self.slots[packet as usize] {
-            kept.advance();
+            kept.move_to(place);
         }
     }
 

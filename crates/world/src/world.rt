@@ -16,6 +16,7 @@ ghost use Rattle.world.specs.Writing.{IsPart};
 
 use crate::beginning::{near_masks, switches_of};
 use crate::error::StepError;
+use crate::files::Files;
 use crate::log::Log;
 use crate::parts::Parts;
 use crate::travelling::Travelling;
@@ -69,13 +70,14 @@ impl World {
             (RefusesPlan (slice_index_or policies.items 0 []) net.now) }
     {
         let plan = compile(alloc, &policies[0], net)?;
+        let files = Files::new(alloc, net.clone()?, policies, plan.clone()?)?;
         let near = near_masks(net);
         let controller = Controller::begin(alloc, net, plan)?;
         let switches = switches_of(alloc, net, &controller, &near)?;
         let parts = Parts {
-            net: net.clone()?,
-            policies,
+            files,
             ports: net.ports(),
+            links: near,
             near,
             switches,
             log: Log {

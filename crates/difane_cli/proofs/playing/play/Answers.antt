@@ -12,8 +12,8 @@ returns-clause-outcome g c = λ command known asked read.
     let full = c.in-Ok.played.full in
     let journal = c.in-Ok.played.journal in
     let laws : AnswerLaws = record {
-      run = c.answers_are_runs.ensures.begun;
-      causes = c.ends_have_causes.ensures.begun;
+      run = c.answers_are_runs.ensures;
+      causes = c.ends_have_causes.ensures;
     } in
     let play = subst (λ (events : List Event). IsPlay inputs.setting events journal full)
     c.deref.ensures.value c.in-Ok.ensures in

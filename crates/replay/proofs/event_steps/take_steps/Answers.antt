@@ -20,7 +20,7 @@ step-requires-clause-few c =
     let so_far = c.loop-next.invariant in
     let world = c.loop-next.world in
     let tied = c.tied.ensures so_far.able in
-    let next = asked c.drains_end.ensures.fewer c.flushes_end.ensures.fewer world c.args.row
+    let next = asked c.drains_end.ensures.fewer c.deliveries_rise.ensures world c.args.row
     c.args.event.now c.loop-next.is_begun c.in-Some.next tied (sym c.in-Some.ensures) in
     few_packets world c.args.world.now.packets tied
     (omega (arith, so_far.packets, next.none)) c.requires.few
@@ -30,7 +30,7 @@ step-requires-clause-may c =
     let so_far = c.loop-next.invariant in
     let world = c.loop-next.world in
     let tied = c.tied.ensures so_far.able in
-    let next = asked c.drains_end.ensures.fewer c.flushes_end.ensures.fewer world c.args.row
+    let next = asked c.drains_end.ensures.fewer c.deliveries_rise.ensures world c.args.row
     c.args.event.now c.loop-next.is_begun c.in-Some.next tied (sym c.in-Some.ensures) in
     next.may (rw so_far.setting c.requires.may)
     (omega (arith, (tie_of world tied).counted, so_far.packets, next.none, c.requires.few))
@@ -40,9 +40,9 @@ loop-next-smaller c =
     let so_far = c.loop-next.invariant in
     let world = c.loop-next.world in
     let tied = c.tied.ensures so_far.able in
-    let next = asked c.drains_end.ensures.fewer c.flushes_end.ensures.fewer world c.args.row
+    let next = asked c.drains_end.ensures.fewer c.deliveries_rise.ensures world c.args.row
     c.args.event.now c.loop-next.is_begun c.in-Some.next tied (sym c.in-Some.ensures) in
-    rw c.in_ok-step.ensures.written next.fewer
+    rw c.in_ok-step.ensures.written (next.fewer c.in_ok-step.ensures.room)
 
 pub loop-next-preserved : goal.loop-next-preserved
 loop-next-preserved c =
@@ -50,7 +50,7 @@ loop-next-preserved c =
     let world = c.loop-next.world in
     let tied = c.tied.ensures so_far.able in
     let is = sym c.in-Some.ensures in
-    let next = asked c.drains_end.ensures.fewer c.flushes_end.ensures.fewer world c.args.row
+    let next = asked c.drains_end.ensures.fewer c.deliveries_rise.ensures world c.args.row
     c.args.event.now c.loop-next.is_begun c.in-Some.next tied is in record {
       setting = c.in_ok-step.ensures.setting ∙ so_far.setting;
       able = c.in_ok-step.ensures.goes_on;

@@ -1,11 +1,29 @@
-use Rattle.std.proofs.Common.{refl, ap, sym, ◌∙◌, arith, rules}
+use Rattle.std.proofs.Common.{◌≡◌, ◌+◌, ◌^◌, ◌<◌, ◌++◌, ◌∷◌, List, OnOk, OnErr, get_or, length, map, set, refl, ap, sym, subst, ◌∙◌, arith, rules}
 use Rattle.std.specs.Prelude.{is_some}
-use Rattle.bag.specs.Posts.{with_delivered}
+use Rattle.bag.specs.Deliveries.{delivered}
+use Rattle.std.proofs.lemmas.List.{length-set}
+use Rattle.std.proofs.lemmas.Result.{on_ok_weaker}
+use Rattle.bag.specs.Posts.{posted, with_delivered, with_status}
+use Rattle.bag.proofs.Numbered.{length_changed}
+use Rattle.controller.specs.Controller.{ControllerValue}
+use Rattle.controller.specs.Sends.{hearing}
+use Rattle.ctrl_msg.specs.declared.message.Message.{Message}
+use Rattle.journal.specs.declared.item.Item.{Item}
 use Rattle.journal.specs.declared.item.Item.TheVariants as item
 use Rattle.steps.specs.declared.step.Step.TheVariants.{Deliver}
+use Rattle.switch_core.specs.Hearing.{replies}
+use Rattle.update_machine.specs.Messages.{sent_from}
 use Rattle.world.specs.Parts.{control_in, setting_in}
-use Rattle.world.proofs.Delivering.{deliver_ready, delivered_tied, not_controller, undelivered}
+use Rattle.world.specs.Linking.{all_told, near_all}
+use Rattle.world.specs.Sending.{act_items, act_posts}
+use Rattle.world.specs.State.{AreTied}
+use Rattle.world.specs.Writing.{IsPart}
+use Rattle.world.proofs.GoesTold.{first_goes, goes_told, same_control}
+use Rattle.world.proofs.HeardBy.{control_few, control_piece, control_tied, first_piece, names_known, shut_few, shut_piece, shut_tied, undelivered}
+use Rattle.world.proofs.HearReady.{few_switches, hear_ready, usable_here}
+use Rattle.world.proofs.Opening.{opening_few, opening_next, opening_piece, opening_tied}
 use Rattle.world.proofs.Frame.{goes_one, nothing_goes}
+use Rattle.world.proofs.Writing.{both_ok, step_part, step_written}
 use Rattle.world.proofs.parts.Parts.deliver.Goals as goal
 
 -- ---- no such message
@@ -19,32 +37,82 @@ pub returns-in-None : goal.returns-in-None
 returns-in-None c = λ before row begins.
     let self = c.args.self.now in
     goes_one c.push.result before row (Deliver c.args.number) self _ begins (search rules)
-    item.Nothing self.log.bag refl (omega arith)
+    item.Nothing self.log.bag (search rules) refl (omega arith)
     (undelivered (control_in self) (setting_in self) before self.switches.items
     self.log.travelling self.packets row c.args.number begins.ready.tied begins.ready.may
     (ap is_some (sym c.in_ok-get.ensures ∙ c.in-None.is)))
     c.push.ensures.pushed c.push.ensures.unchanged
 
--- ---- what its switch needs
+-- ---- at the controller
 
-pub unreachable-requires : goal.unreachable-requires
-unreachable-requires c =
+pub returns-in_err-push : goal.returns-in_err-push
+returns-in_err-push c = λ before row begins.
+    nothing_goes c.from_residual-in_err-push.result before row (Deliver c.args.number)
+    c.args.self.now _ begins (search rules) c.from_residual-in_err-push.ensures.0
+    c.in_err-push.ensures.unchanged
+
+pub tell_controller-requires-clause-there : goal.tell_controller-requires-clause-there
+tell_controller-requires-clause-there c =
     let self = c.args.self.now in
-    not_controller (control_in self) (setting_in self) c.requires.before self.switches.items
+    names_known (control_in self) (setting_in self) c.requires.before self.switches.items
     self.log.travelling self.packets c.args.number c.in-Some.message c.requires.begins.ready.tied
     (sym c.in_ok-get.ensures ∙ c.in-Some.is) c.in-Controller.is
 
-pub bounds-self-here : goal.bounds-self-here
-bounds-self-here c =
+pub tell_controller-requires-clause-few : goal.tell_controller-requires-clause-few
+tell_controller-requires-clause-few c = λ new settles.
     let self = c.args.self.now in
-    (deliver_ready (control_in self) (setting_in self) c.requires.before self.switches.items
+    let ready = c.requires.begins.ready in
+    subst (λ bag. length bag
+    + length (act_posts (hearing c.in-Some.message.body self.controller.marks new)) < 2 ^ 32)
+    (sym c.deliver.ensures)
+    (control_few (control_in self) (setting_in self) c.requires.before self.switches.items
+    self.log.travelling self.packets c.requires.row c.args.number c.in-Some.message new ready.tied
+    ready.may (sym c.in_ok-get.ensures ∙ c.in-Some.is) c.in-Controller.is settles ready.room)
+
+pub returns-in-Controller : goal.returns-in-Controller
+returns-in-Controller c = λ before row begins.
+    let self = c.args.self.now in
+    let n = c.args.number in
+    let message = c.in-Some.message in
+    let new : ControllerValue = c.tell_controller.new.controller in
+    let acts = hearing message.body self.controller.marks new in
+    let there = sym c.in_ok-get.ensures ∙ c.in-Some.is in
+    let ready = begins.ready in
+    goes_told c.tell_controller.result before row (Deliver n) self _ (item.Delivered n)
+    (λ k. act_items k acts) c.push-2.new.self (length c.deliver.new.self)
+    (with_delivered self.log.bag n) (act_posts acts) begins (search rules) (record {
+      piece_is = control_piece (control_in self) (setting_in self) before self.switches.items
+          self.log.travelling self.packets row n message new ready.tied ready.may there
+          c.in-Controller.is c.tell_controller.ensures.after;
+      counted = omega arith;
+      pushed = c.in_ok-push.ensures.pushed;
+      number_is = ap length c.deliver.ensures
+          ∙ length_changed (with_status delivered) self.log.bag n;
+      travelling = c.tell_controller.ensures.travelling;
+      written = c.tell_controller.ensures.written;
+      part = c.tell_controller.ensures.part;
+      posted = subst (λ bag. OnOk c.tell_controller.result
+          (c.tell_controller.new.log.bag ≡ bag ++ act_posts acts)) c.deliver.ensures
+          c.tell_controller.ensures.posted;
+      tied = on_ok_weaker c.tell_controller.result (λ done. control_tied (control_in self)
+          (setting_in self) before self.switches.items self.log.travelling self.packets row n
+          message new ready.tied ready.may there c.in-Controller.is
+          c.tell_controller.ensures.after) c.tell_controller.ensures.written;
+    })
+
+-- ---- what its switch needs
+
+pub bounds-self-switch : goal.bounds-self-switch
+bounds-self-switch c =
+    let self = c.args.self.now in
+    (hear_ready (control_in self) (setting_in self) c.requires.before self.switches.items
     self.log.travelling self.packets c.args.number c.in-Switch.switch c.in-Some.message
     c.requires.begins.ready.tied (sym c.in_ok-get.ensures ∙ c.in-Some.is) c.in-Switch.is).1
 
 pub index_mut-requires : goal.index_mut-requires
 index_mut-requires c =
     let self = c.args.self.now in
-    let ready = deliver_ready (control_in self) (setting_in self) c.requires.before
+    let ready = hear_ready (control_in self) (setting_in self) c.requires.before
     self.switches.items self.log.travelling self.packets c.args.number c.in-Switch.switch
     c.in-Some.message c.requires.begins.ready.tied (sym c.in_ok-get.ensures ∙ c.in-Some.is)
     c.in-Switch.is in
@@ -53,26 +121,201 @@ index_mut-requires c =
 pub hear-requires : goal.hear-requires
 hear-requires c =
     let self = c.args.self.now in
-    (deliver_ready (control_in self) (setting_in self) c.requires.before self.switches.items
+    (hear_ready (control_in self) (setting_in self) c.requires.before self.switches.items
     self.log.travelling self.packets c.args.number c.in-Switch.switch c.in-Some.message
     c.requires.begins.ready.tied (sym c.in_ok-get.ensures ∙ c.in-Some.is) c.in-Switch.is).2
 
--- ---- what is written
+pub returns-in_err-heard : goal.returns-in_err-heard
+returns-in_err-heard c = λ before row begins.
+    let self = c.args.self.now in
+    first_goes c.from_residual-in_err-heard.result before row (Deliver c.args.number) self _
+    (item.Delivered c.args.number) _ begins (search rules)
+    (first_piece (control_in self) (setting_in self) before self.switches.items
+    self.log.travelling self.packets row c.args.number c.in-Some.message begins.ready.tied
+    (sym c.in_ok-get.ensures ∙ c.in-Some.is)) c.from_residual-in_err-heard.ensures.0
+    c.in_ok-push.ensures.pushed
 
-pub returns-in_err-hear : goal.returns-in_err-hear
-returns-in_err-hear c = λ before row begins.
-    nothing_goes c.from_residual-in_err-hear.result before row (Deliver c.args.number)
-    c.args.self.now _ begins (search rules) c.from_residual-in_err-hear.ensures.0 refl
+-- ---- it stays as it was
+
+pub send_all-requires : goal.send_all-requires
+send_all-requires c =
+    let self = c.args.self.now in
+    let ready = c.requires.begins.ready in
+    let there = sym c.in_ok-get.ensures ∙ c.in-Some.is in
+    let within = hear_ready (control_in self) (setting_in self) c.requires.before
+    self.switches.items self.log.travelling self.packets c.args.number c.in-Switch.switch
+    c.in-Some.message ready.tied there c.in-Switch.is in
+    record {
+      few = subst (λ messages. length c.deliver.new.self + length messages < 2 ^ 32)
+          (sym (c.items.ensures ∙ c.in_ok-heard.ensures.replies))
+          (subst (λ bag. length bag + length (replies c.index_mut.result.now
+          (get_or self.near c.in-Switch.switch 0) c.in-Some.message.body) < 2 ^ 32)
+          (sym c.deliver.ensures)
+          (shut_few (control_in self) (setting_in self) c.requires.before self.switches.items
+          self.log.travelling self.packets c.requires.row c.args.number c.in-Switch.switch
+          c.in-Some.message c.index_mut.result.now c.hear.new.self
+          (get_or self.near c.in-Switch.switch 0) ready.tied ready.may there c.in-Switch.is
+          within.0 c.index_mut.ensures.value
+          (usable_here (control_in self) (setting_in self) c.requires.before self.switches.items
+          self.log.travelling self.packets c.in-Switch.switch ready.tied within.1)
+          c.in_ok-heard.ensures.after
+          (sym c.in_ok-heard.ensures.opened ∙ c.in-None-opened.is) ready.room));
+    }
+
+pub returns-in-None-opened : goal.returns-in-None-opened
+returns-in-None-opened c = λ before row begins.
+    let self = c.args.self.now in
+    let n = c.args.number in
+    let s = c.in-Switch.switch in
+    let message = c.in-Some.message in
+    let ready = begins.ready in
+    let there = sym c.in_ok-get.ensures ∙ c.in-Some.is in
+    let own = c.index_mut.result.now in
+    let near = get_or self.near s 0 in
+    let within = hear_ready (control_in self) (setting_in self) before self.switches.items
+    self.log.travelling self.packets n s message ready.tied there c.in-Switch.is in
+    let usable = usable_here (control_in self) (setting_in self) before self.switches.items
+    self.log.travelling self.packets s ready.tied within.1 in
+    let shut = sym c.in_ok-heard.ensures.opened ∙ c.in-None-opened.is in
+    let messages : List Message = replies own near message.body in
+    let are : c.items.result.now ≡ messages = c.items.ensures ∙ c.in_ok-heard.ensures.replies in
+    goes_told c.send_all.result before row (Deliver n) self _ (item.Delivered n)
+    (λ k. sent_from k messages) c.push-2.new.self (length c.deliver.new.self)
+    (with_delivered self.log.bag n) (map posted messages) begins (search rules) (record {
+      piece_is = shut_piece (control_in self) (setting_in self) before self.switches.items
+          self.log.travelling self.packets row n s message own c.hear.new.self near ready.tied
+          ready.may there c.in-Switch.is within.0 c.index_mut.ensures.value usable
+          c.in_ok-heard.ensures.after shut;
+      counted = omega arith;
+      pushed = c.in_ok-push.ensures.pushed;
+      number_is = ap length c.deliver.ensures
+          ∙ length_changed (with_status delivered) self.log.bag n;
+      travelling = c.send_all.ensures.travelling;
+      written = subst (λ all. OnOk c.send_all.result (c.send_all.new.self.journal
+          ≡ c.push-2.new.self ++ sent_from (length c.deliver.new.self + 1) all)) are
+          c.send_all.ensures.written;
+      part = subst (λ all. OnErr c.send_all.result (IsPart c.push-2.new.self
+          (sent_from (length c.deliver.new.self + 1) all) c.send_all.new.self.journal)) are
+          c.send_all.ensures.part;
+      posted = subst (λ all. OnOk c.send_all.result
+          (c.send_all.new.self.bag ≡ with_delivered self.log.bag n ++ map posted all)) are
+          (subst (λ bag. OnOk c.send_all.result
+          (c.send_all.new.self.bag ≡ bag ++ map posted c.items.result.now)) c.deliver.ensures
+          c.send_all.ensures.posted);
+      tied = on_ok_weaker c.send_all.result (λ done. shut_tied (control_in self)
+          (setting_in self) before self.switches.items self.log.travelling self.packets row n s
+          message own c.hear.new.self near ready.tied ready.may there c.in-Switch.is within.0
+          c.index_mut.ensures.value usable c.in_ok-heard.ensures.after shut)
+          c.send_all.ensures.written;
+    })
+
+-- ---- it opens
+
+pub returns-in_err-push-in-Some-opened : goal.returns-in_err-push-in-Some-opened
+returns-in_err-push-in-Some-opened c = λ before row begins.
+    let self = c.args.self.now in
+    first_goes c.from_residual-in_err-push-in-Some-opened.result before row
+    (Deliver c.args.number) self _ (item.Delivered c.args.number) _ begins (search rules)
+    (first_piece (control_in self) (setting_in self) before self.switches.items
+    self.log.travelling self.packets row c.args.number c.in-Some.message begins.ready.tied
+    (sym c.in_ok-get.ensures ∙ c.in-Some.is))
+    c.from_residual-in_err-push-in-Some-opened.ensures.0
+    (c.in_err-push-in-Some-opened.ensures.unchanged ∙ c.in_ok-push.ensures.pushed)
+
+pub change_links-requires-clause-many : goal.change_links-requires-clause-many
+change_links-requires-clause-many c =
+    let self = c.args.self.now in
+    omega (
+      arith,
+      length-set self.switches.items c.in-Switch.switch c.hear.new.self,
+      few_switches (control_in self) (setting_in self) c.requires.before self.switches.items
+          self.log.travelling self.packets c.requires.begins.ready.tied,
+    )
+
+pub change_links-requires-clause-next : goal.change_links-requires-clause-next
+change_links-requires-clause-next c =
+    let self = c.args.self.now in
+    let ready = c.requires.begins.ready in
+    let there = sym c.in_ok-get.ensures ∙ c.in-Some.is in
+    let within = hear_ready (control_in self) (setting_in self) c.requires.before
+    self.switches.items self.log.travelling self.packets c.args.number c.in-Switch.switch
+    c.in-Some.message ready.tied there c.in-Switch.is in
+    opening_next (control_in self) (setting_in self) c.requires.before self.switches.items
+    self.log.travelling self.packets c.requires.row c.args.number c.in-Switch.switch
+    c.in-Some-opened.version c.in-Some.message c.index_mut.result.now c.hear.new.self ready.tied
+    ready.may there c.in-Switch.is within.0 c.index_mut.ensures.value c.in_ok-heard.ensures.after
+    (sym c.in_ok-heard.ensures.opened ∙ c.in-Some-opened.is) ready.room
+
+pub change_links-requires-clause-few : goal.change_links-requires-clause-few
+change_links-requires-clause-few c =
+    let self = c.args.self.now in
+    let ready = c.requires.begins.ready in
+    let there = sym c.in_ok-get.ensures ∙ c.in-Some.is in
+    let within = hear_ready (control_in self) (setting_in self) c.requires.before
+    self.switches.items self.log.travelling self.packets c.args.number c.in-Switch.switch
+    c.in-Some.message ready.tied there c.in-Switch.is in
+    let others = set self.switches.items c.in-Switch.switch c.hear.new.self in
+    subst (λ bag. length bag + length (all_told self.near (near_all self.links others) others)
+    < 2 ^ 32) (sym c.deliver.ensures)
+    (opening_few (control_in self) (setting_in self) c.requires.before self.switches.items
+    self.log.travelling self.packets c.requires.row c.args.number c.in-Switch.switch
+    c.in-Some-opened.version c.in-Some.message c.index_mut.result.now c.hear.new.self ready.tied
+    ready.may there c.in-Switch.is within.0 c.index_mut.ensures.value c.in_ok-heard.ensures.after
+    (sym c.in_ok-heard.ensures.opened ∙ c.in-Some-opened.is) ready.room)
 
 pub returns : goal.returns
 returns c = λ before row begins.
     let self = c.args.self.now in
-    goes_one c.push-2.result before row (Deliver c.args.number) self _ begins (search rules)
-    (item.Delivered c.args.number) (with_delivered self.log.bag c.args.number) c.deliver.ensures
-    (omega arith)
-    (delivered_tied (control_in self) (setting_in self) before self.switches.items
-    self.log.travelling self.packets row c.args.number c.in-Switch.switch c.in-Some.message
-    c.index_mut.result.now c.hear.new.self begins.ready.tied begins.ready.may
-    (sym c.in_ok-get.ensures ∙ c.in-Some.is) c.in-Switch.is c.index_mut.ensures.value
-    c.in_ok-hear.ensures.after)
-    c.push-2.ensures.pushed c.push-2.ensures.unchanged
+    let new = c.change_links.new.self in
+    let n = c.args.number in
+    let s = c.in-Switch.switch in
+    let stamp = c.in-Some-opened.version in
+    let message = c.in-Some.message in
+    let ready = begins.ready in
+    let there = sym c.in_ok-get.ensures ∙ c.in-Some.is in
+    let own = c.index_mut.result.now in
+    let within = hear_ready (control_in self) (setting_in self) before self.switches.items
+    self.log.travelling self.packets n s message ready.tied there c.in-Switch.is in
+    let opens = sym c.in_ok-heard.ensures.opened ∙ c.in-Some-opened.is in
+    let others = set self.switches.items s c.hear.new.self in
+    let messages : List Message = all_told self.near (near_all self.links others) others in
+    let rest = c.change_links.ensures.rest in
+    let behind = c.push-in-Some-opened.new.self in
+    let sends = sent_from (length c.deliver.new.self + 1) messages in
+    goes_told c.change_links.result before row (Deliver n) self new (item.Delivered n)
+    (λ k. item.Opened s stamp ∷ sent_from k messages) c.push-2.new.self
+    (length c.deliver.new.self) (with_delivered self.log.bag n) (map posted messages) begins
+    (record { same_files = rest.files; same_ports = rest.ports }) (record {
+      piece_is = opening_piece (control_in self) (setting_in self) before self.switches.items
+          self.log.travelling self.packets row n s stamp message own c.hear.new.self ready.tied
+          ready.may there c.in-Switch.is within.0 c.index_mut.ensures.value
+          c.in_ok-heard.ensures.after opens;
+      counted = omega (arith, rest.packets);
+      pushed = c.in_ok-push.ensures.pushed;
+      number_is = ap length c.deliver.ensures
+          ∙ length_changed (with_status delivered) self.log.bag n;
+      travelling = rest.travelling;
+      written = step_written c.change_links.result c.push-2.new.self behind new.log.journal sends
+          (item.Opened s stamp ∷ sends) (item.Opened s stamp) refl
+          c.in_ok-push-in-Some-opened.ensures.pushed c.change_links.ensures.written;
+      part = step_part c.change_links.result c.push-2.new.self behind new.log.journal sends
+          (item.Opened s stamp ∷ sends) (item.Opened s stamp) refl
+          c.in_ok-push-in-Some-opened.ensures.pushed c.change_links.ensures.part;
+      posted = subst (λ bag. OnOk c.change_links.result
+          (new.log.bag ≡ bag ++ map posted messages)) c.deliver.ensures
+          c.change_links.ensures.posted;
+      tied = both_ok c.change_links.result (λ near_is are.
+          let all : List Item = before ++ item.Row row (Deliver n) ∷ item.Delivered n
+          ∷ item.Opened s stamp ∷ sent_from (length self.log.bag + 1) messages in
+          let posts = with_delivered self.log.bag n ++ map posted messages in
+          subst (λ count. AreTied (setting_in self) all new.switches.items self.log.travelling
+          count (record (control_in new) { posts = posts })) (sym rest.packets)
+          (subst (λ control. AreTied (setting_in self) all new.switches.items self.log.travelling
+          self.packets control) (same_control (control_in self) new posts
+          (near_all self.links others) rest.controller rest.links near_is)
+          (opening_tied (control_in self) (setting_in self) before self.switches.items
+          self.log.travelling self.packets row n s stamp message own c.hear.new.self ready.tied
+          ready.may there c.in-Switch.is within.0 c.index_mut.ensures.value
+          c.in_ok-heard.ensures.after opens new.switches.items are)))
+          c.change_links.ensures.near c.change_links.ensures.switches;
+    })

@@ -18,7 +18,7 @@ pub returns-in-None : goal.returns-in-None
 returns-in-None c = λ before row begins.
     let self = c.args.self.now in
     goes_one c.push.result before row (Expire c.args.switch c.args.place) self _ begins
-    (search rules) item.Nothing self.log.bag refl (omega arith)
+    (search rules) item.Nothing self.log.bag (search rules) refl (omega arith)
     (expired_tied (control_in self) (setting_in self) before self.switches.items
     self.log.travelling self.packets row c.args.switch c.args.place c.index_mut.result.now
     c.expire.new.self None begins.ready.tied begins.ready.may c.index_mut.ensures.value
@@ -29,7 +29,7 @@ pub returns-in-Some : goal.returns-in-Some
 returns-in-Some c = λ before row begins.
     let self = c.args.self.now in
     goes_one c.push-in-Some.result before row (Expire c.args.switch c.args.place) self _ begins
-    (search rules) (item.Expired c.args.switch c.args.place c.in-Some.message) self.log.bag refl
+    (search rules) (item.Expired c.args.switch c.args.place c.in-Some.message) self.log.bag (search rules) refl
     (omega arith)
     (expired_tied (control_in self) (setting_in self) before self.switches.items
     self.log.travelling self.packets row c.args.switch c.args.place c.index_mut.result.now

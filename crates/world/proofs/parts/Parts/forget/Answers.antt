@@ -11,7 +11,7 @@ pub returns-then-not-may_be_delivered : goal.returns-then-not-may_be_delivered
 returns-then-not-may_be_delivered c = λ before row begins.
     let self = c.args.self.now in
     goes_one c.push.result before row (Forget c.args.number) self _ begins (search rules)
-    item.Nothing self.log.bag refl (omega arith)
+    item.Nothing self.log.bag (search rules) refl (omega arith)
     (unforgotten (control_in self) (setting_in self) before self.switches.items
     self.log.travelling self.packets row c.args.number begins.ready.tied begins.ready.may
     (sym c.may_be_delivered.ensures ∙ c.if-not-may_be_delivered.true))
@@ -21,7 +21,7 @@ pub returns : goal.returns
 returns c = λ before row begins.
     let self = c.args.self.now in
     goes_one c.push-2.result before row (Forget c.args.number) self _ begins (search rules)
-    (item.Forgotten c.args.number) (with_forgotten self.log.bag c.args.number) c.forget.ensures
+    (item.Forgotten c.args.number) (with_forgotten self.log.bag c.args.number) (search rules) c.forget.ensures
     (omega arith)
     (forgotten_tied (control_in self) (setting_in self) before self.switches.items
     self.log.travelling self.packets row c.args.number begins.ready.tied begins.ready.may

@@ -7,7 +7,7 @@ use Rattle.steps.specs.declared.step.Step.TheVariants.{Hop}
 use Rattle.world.specs.Parts.{control_in, setting_in}
 use Rattle.world.specs.Travelling.{traveller}
 use Rattle.world.proofs.Asking.{can_ask, within_here}
-use Rattle.world.proofs.Frame.{goes, goes_one}
+use Rattle.world.proofs.Frame.{goes_one, goes_quiet}
 use Rattle.world.proofs.HopTie.{hop_left}
 use Rattle.world.proofs.OnWay.{number_of_packet}
 use Rattle.world.proofs.OverParts.{hop_is, hop_ties}
@@ -19,7 +19,7 @@ pub returns-in-None : goal.returns-in-None
 returns-in-None c = λ before row begins.
     let self = c.args.self.now in
     goes_one c.push.result before row (Hop c.args.packet) self _ begins (search rules)
-    item.Nothing self.log.bag refl (omega arith)
+    item.Nothing self.log.bag (search rules) refl (omega arith)
     (hop_left (control_in self) (setting_in self) before self.switches.items self.log.travelling
     self.packets row c.args.packet begins.ready.tied begins.ready.may
     (ap is_some (sym c.get.ensures ∙ c.in-None.is)))
@@ -47,11 +47,10 @@ hop-requires c =
       known = ap (traveller self.log.travelling) (number_of_packet (control_in self)
           (setting_in self) c.requires.before self.switches.items self.log.travelling self.packets
           c.args.packet c.in-Some.traveller c.requires.begins.ready.tied its) ∙ its;
-      usable = can.usable;
       serving = can.serving;
       stamped = can.stamped;
       authority = can.authority;
-      few = c.requires.begins.ready.room;
+      few = omega (arith, c.requires.begins.ready.room);
     }
 
 -- ---- what it writes
@@ -60,7 +59,8 @@ pub returns : goal.returns
 returns c = λ before row begins.
     let self = c.args.self.now in
     let its = sym c.get.ensures ∙ c.in-Some.is in
-    goes c.hop.result before row (Hop c.args.packet) self _ begins (search rules) _
+    goes_quiet c.hop.result before row (Hop c.args.packet) self _ begins (search rules) _
+    (search rules)
     (hop_is self before row c.args.packet c.in-Some.traveller c.here-here.result
     c.index_mut.result.now begins.ready its c.here-here.ensures.here c.index_mut.ensures.value)
     (on_ok_weaker c.hop.result (λ done. omega arith) c.hop.ensures.written)

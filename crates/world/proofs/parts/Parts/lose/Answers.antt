@@ -10,7 +10,7 @@ pub returns-then-not-remove : goal.returns-then-not-remove
 returns-then-not-remove c = λ before row begins.
     let self = c.args.self.now in
     goes_one c.push.result before row (Lose c.args.packet) self _ begins (search rules) item.Nothing
-    self.log.bag refl (omega arith)
+    self.log.bag (search rules) refl (omega arith)
     (not_lost (control_in self) (setting_in self) before self.switches.items self.log.travelling
     c.remove.new.self self.packets row c.args.packet begins.ready.tied begins.ready.may
     (sym c.remove.ensures.was ∙ c.if-not-remove.true) c.remove.ensures.after)
@@ -20,7 +20,7 @@ pub returns : goal.returns
 returns c = λ before row begins.
     let self = c.args.self.now in
     goes_one c.push-2.result before row (Lose c.args.packet) self _ begins (search rules)
-    (item.Lost c.args.packet) self.log.bag refl (omega arith)
+    (item.Lost c.args.packet) self.log.bag (search rules) refl (omega arith)
     (lost (control_in self) (setting_in self) before self.switches.items self.log.travelling
     c.remove.new.self self.packets row c.args.packet begins.ready.tied begins.ready.may
     (sym c.remove.ensures.was ∙ c.if-not-remove.false) c.remove.ensures.after)

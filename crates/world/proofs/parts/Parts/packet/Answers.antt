@@ -2,8 +2,9 @@ use Rattle.std.proofs.Common.{refl, arith, rules}
 use Rattle.std.proofs.lemmas.Result.{on_ok_weaker}
 use Rattle.steps.specs.declared.step.Step.TheVariants.{Packet as PacketStep}
 use Rattle.world.specs.Parts.{control_in, setting_in}
-use Rattle.world.proofs.Frame.{goes}
-use Rattle.world.proofs.Incoming.{come_asked, come_fits, come_ready}
+use Rattle.world.proofs.Frame.{goes_quiet}
+use Rattle.world.proofs.Asking.{can_look_up}
+use Rattle.world.proofs.Incoming.{come_fits, come_ready}
 use Rattle.world.proofs.OverParts.{come_is, come_ties}
 use Rattle.world.proofs.parts.Parts.packet.Goals as goal
 
@@ -26,18 +27,18 @@ pub enter-requires : goal.enter-requires
 enter-requires c =
     let self = c.args.self.now in
     record {
-      stamped = come_asked (control_in self) (setting_in self) c.requires.before
-          self.switches.items self.log.travelling self.packets c.args.switch c.args.header.now
-          c.index_mut.result.now c.requires.begins.ready.tied c.requires.begins.ready.may
+      stamped = can_look_up (control_in self) (setting_in self) c.requires.before
+          self.switches.items self.log.travelling self.packets c.args.switch
+          c.index_mut.result.now c.requires.begins.ready.tied c.requires.begins.ready.may.own.0
           c.index_mut.ensures.value;
-      few = c.requires.begins.ready.room;
+      few = omega (arith, c.requires.begins.ready.room);
     }
 
 pub returns : goal.returns
 returns c = λ before row begins.
     let self = c.args.self.now in
-    goes c.enter.result before row (PacketStep c.args.switch c.args.header.now) self _ begins
-    (search rules) _
+    goes_quiet c.enter.result before row (PacketStep c.args.switch c.args.header.now) self _ begins
+    (search rules) _ (search rules)
     (come_is self before row c.args.switch c.args.header.now c.index_mut.result.now begins.ready
     c.index_mut.ensures.value)
     (on_ok_weaker c.enter.result (λ done. refl) c.enter.ensures.written)

@@ -17,13 +17,15 @@ invariant_of-result c =
     record {
       sound = search rules;
       tied = λ able. rw (
+        c.in_ok-files.ensures.net,
+        c.in_ok-files.ensures.policies,
         c.in_ok-clone.ensures.cases,
-        c.new.ensures,
         c.new-2.ensures,
         c.new-3.ensures,
+        c.new-4.ensures,
       ) (begun_tied net policies c.in_ok-plan.plan c.in_ok-switches.switches.items
-          c.in_ok-controller.controller c.requires.net c.requires.some c.requires.sound
+          c.in_ok-controller.controller c.near_masks-near.result c.requires.net c.requires.some c.requires.sound
           c.requires.ports (c.in_ok-plan.ensures.policy ∙ first) planned
           (c.in_ok-switches.ensures c.in_ok-plan.plan c.in_ok-controller.ensures.first)
-          c.in_ok-controller.ensures.first);
+          c.in_ok-controller.ensures.first c.near_masks-near.ensures);
     }

@@ -1,3 +1,0 @@
-pub mod Hops
-pub mod Drains
-pub mod Flushes

@@ -1,4 +1,0 @@
-pub mod Calm
-pub mod Words
-pub mod OnWay
-pub mod PacketCauses

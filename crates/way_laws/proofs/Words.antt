@@ -1,0 +1,119 @@
+-- What each item makes of the words of a packet.
+use Rattle.std.proofs.Common.{ℕ, ◌≡◌, ◌≢◌, ◌==◌, Bool, true, false, if◌then◌else◌, None, List, [], ◌∷◌, ◌++◌, refl, ap, ◌∙◌, arith}
+use Rattle.std.specs.Prelude.{unwrap_or}
+use Rattle.std.specs.Option.{option_or}
+use Rattle.std.proofs.lemmas.Bool.Decides.{nat_tests}
+use Rattle.failover.specs.DownSet.{no_links}
+use Rattle.journal.specs.declared.item.Item.{Item}
+use Rattle.journal.specs.declared.item.Item.TheVariants as item
+use Rattle.update_machine.specs.Folds.{last_told}
+use Rattle.update_machine.specs.Marks.{retired_mark}
+use Rattle.update_machine.specs.Packets.{changes_found, changes_hops, changes_leg, decision_of, found_down, header_in, ingress_of, leg_of, route_in, route_place, standing, tells_decision, tells_header, tells_ingress, tells_place, tells_route, tells_travelling, travels}
+use Rattle.update_machine.proofs.CallerLemmas.{folded_append, last_told_append}
+use Rattle.way_laws.specs.Words.{changes_mark, entry_mark, names, told_by, words_of}
+
+-- the words behind one more item, each by its own fold
+words_more : (before : List Item) (i : ℕ) (item : Item) → words_of (before ++ item ∷ []) i
+    ≡ record {
+      header = option_or (tells_header i item) (header_in before i);
+      ingress = option_or (tells_ingress i item) (ingress_of before i);
+      place = option_or (tells_place i item) (standing before i);
+      travels = unwrap_or (option_or (tells_travelling i item)
+          (last_told (tells_travelling i) before))
+          false;
+      decision = option_or (tells_decision i item) (decision_of before i);
+      leg = changes_leg i before (leg_of before i) item;
+      route = unwrap_or (option_or (tells_route i item) (last_told (tells_route i) before)) [];
+      hops = changes_hops i before (route_place before i) item;
+      found = changes_found i before (found_down before i) item;
+      mark = changes_mark i before (entry_mark before i) item;
+    }
+unfolding words_of header_in ingress_of standing travels decision_of leg_of route_in route_place
+    found_down entry_mark
+words_more before i item =
+    rw (
+      last_told_append (tells_header i) before (item ∷ []),
+      last_told_append (tells_ingress i) before (item ∷ []),
+      last_told_append (tells_place i) before (item ∷ []),
+      last_told_append (tells_travelling i) before (item ∷ []),
+      last_told_append (tells_decision i) before (item ∷ []),
+      folded_append (changes_leg i) None before (item ∷ []),
+      last_told_append (tells_route i) before (item ∷ []),
+      folded_append (changes_hops i) 0 before (item ∷ []),
+      folded_append (changes_found i) no_links before (item ∷ []),
+      folded_append (changes_mark i) 0 before (item ∷ []),
+    ) refl
+
+by_name : (before : List Item) (i : ℕ) (item : Item) (b : Bool) → names i item ≡ b →
+    words_of (before ++ item ∷ []) i
+    ≡ (if b then told_by (retired_mark before) item (words_of before i) else words_of before i)
+unfolding words_of header_in ingress_of standing travels decision_of leg_of route_in route_place
+    found_down entry_mark
+by_name before i (item.Entered packet switch header) true e = words_more before i
+    (item.Entered packet switch header) ∙ rw e refl
+by_name before i (item.Entered packet switch header) false e = words_more before i
+    (item.Entered packet switch header) ∙ rw e refl
+by_name before i (item.Seeking packet version partition route) true e = words_more before i
+    (item.Seeking packet version partition route) ∙ rw e refl
+by_name before i (item.Seeking packet version partition route) false e = words_more before i
+    (item.Seeking packet version partition route) ∙ rw e refl
+by_name before i (item.Exiting packet route) true e = words_more before i
+    (item.Exiting packet route) ∙ rw e refl
+by_name before i (item.Exiting packet route) false e = words_more before i
+    (item.Exiting packet route) ∙ rw e refl
+by_name before i (item.Rerouted packet route) true e = words_more before i
+    (item.Rerouted packet route) ∙ rw e refl
+by_name before i (item.Rerouted packet route) false e = words_more before i
+    (item.Rerouted packet route) ∙ rw e refl
+by_name before i (item.Hopped packet switch) true e = words_more before i
+    (item.Hopped packet switch) ∙ rw e refl
+by_name before i (item.Hopped packet switch) false e = words_more before i
+    (item.Hopped packet switch) ∙ rw e refl
+by_name before i (item.FoundDown packet one two) true e = words_more before i
+    (item.FoundDown packet one two) ∙ rw e refl
+by_name before i (item.FoundDown packet one two) false e = words_more before i
+    (item.FoundDown packet one two) ∙ rw e refl
+by_name before i (item.Decided packet version rule action how) true e = words_more before i
+    (item.Decided packet version rule action how) ∙ rw e refl
+by_name before i (item.Decided packet version rule action how) false e = words_more before i
+    (item.Decided packet version rule action how) ∙ rw e refl
+by_name before i (item.Left packet port leaving) true e = words_more before i
+    (item.Left packet port leaving) ∙ rw e refl
+by_name before i (item.Left packet port leaving) false e = words_more before i
+    (item.Left packet port leaving) ∙ rw e refl
+by_name before i (item.Dropped packet) true e = words_more before i (item.Dropped packet)
+    ∙ rw e refl
+by_name before i (item.Dropped packet) false e = words_more before i (item.Dropped packet)
+    ∙ rw e refl
+by_name before i (item.Lost packet) true e = words_more before i (item.Lost packet) ∙ rw e refl
+by_name before i (item.Lost packet) false e = words_more before i (item.Lost packet) ∙ rw e refl
+by_name before i (item.Stuck packet switch cause leg down) true e = words_more before i
+    (item.Stuck packet switch cause leg down) ∙ rw e refl
+by_name before i (item.Stuck packet switch cause leg down) false e = words_more before i
+    (item.Stuck packet switch cause leg down) ∙ rw e refl
+by_name before i other true e = absurd cc
+by_name before i other false e = words_more before i other
+
+pub words_grow : (i : ℕ) (before : List Item) (item : Item) →
+    words_of (before ++ item ∷ []) i
+    ≡ (if names i item then told_by (retired_mark before) item (words_of before i) else words_of
+    before i)
+words_grow i before item = by_name before i item (names i item) refl
+
+pub words_named : (i : ℕ) (before : List Item) (item : Item) → names i item ≡ true
+    → words_of (before ++ item ∷ []) i ≡ told_by (retired_mark before) item (words_of before i)
+words_named i before item named = words_grow i before item
+    ∙ ap (λ b. if b then told_by (retired_mark before) item (words_of before i) else words_of before
+    i) named
+
+pub words_other : (i : ℕ) (before : List Item) (item : Item) → names i item ≡ false
+    → words_of (before ++ item ∷ []) i ≡ words_of before i
+words_other i before item other = words_grow i before item
+    ∙ ap (λ b. if b then told_by (retired_mark before) item (words_of before i) else words_of before
+    i) other
+
+pub own_number : (i : ℕ) → (i == i) ≡ true
+own_number i = grind (arith, nat_tests)
+
+pub other_number : (i j : ℕ) → j ≢ i → (i == j) ≡ false
+other_number i j apart = grind (arith, nat_tests)

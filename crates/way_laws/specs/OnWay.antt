@@ -1,0 +1,111 @@
+-- A packet on its way: it stands at a place of a route that ends at a target of its leg.
+use Rattle.std.specs.Prelude.{ℕ, ◌≡◌, ◌+◌, ◌-◌, ◌<◌, ◌≤◌, false, nat_eq, Some, None, find, List, [], ◌∷◌, length, slice_get, IsTrue}
+use Rattle.std.specs.List.{list_any}
+use Rattle.failover.specs.DownSet.{no_links}
+use Rattle.masks.specs.Masks.{has}
+use Rattle.failover.specs.RouteList.{IsRouteList}
+use Rattle.five_tuple.specs.Header.{IsHeader}
+use Rattle.five_tuple.specs.declared.header.Header.{Header}
+use Rattle.net_file.specs.Net.{links_of, owner_of}
+use Rattle.policy_rules.specs.Partitions.{is_in}
+use Rattle.policy_rules.specs.declared.packet.Leg.{Leg}
+use Rattle.policy_rules.specs.declared.packet.Leg.TheVariants.{Seek, Exit}
+use Rattle.policy_rules.specs.declared.policy.Action.TheVariants.{Out}
+use Rattle.switch_table.specs.Tables.{Placed, part_of}
+use Rattle.journal.specs.declared.item.Item.{Item}
+use Rattle.update_machine.specs.Marks.{current_mark, retired_mark}
+use Rattle.update_machine.specs.Packets.{Decision}
+use Rattle.update_machine.specs.Setting.{Setting}
+use Rattle.update_machine.specs.Versions.{plan_at}
+use Rattle.way_laws.specs.Words.{PacketWords}
+
+-- ---- routes
+
+-- each switch of the route is joined to the next by a link of the network
+abbrev pub FollowsLinks : Setting → List ℕ → Type 0
+FollowsLinks setting route = (k one two : ℕ) → slice_get route k ≡ Some one →
+    slice_get route (k + 1) ≡ Some two → IsTrue (has (links_of setting.net.links one) two)
+
+-- its last switch is one of the targets
+pub record EndsAtTarget (route targets : List ℕ) : Type 0 where
+  pub target : ℕ
+  pub last : slice_get route (length route - 1) ≡ Some target
+  pub own : IsTrue (list_any (nat_eq target) targets)
+
+-- one to 64 distinct switches, each joined to the next, of which the last is one of the targets
+pub record LeadsTo (setting : Setting) (targets route : List ℕ) : Type 0 where
+  pub list : IsRouteList route
+  pub joined : FollowsLinks setting route
+  pub ends : EndsAtTarget route targets
+
+-- the route begins at this switch
+abbrev pub IsFirst : ℕ → List ℕ → Type 0
+IsFirst switch route = slice_get route 0 ≡ Some switch
+
+-- ---- legs
+
+-- a partition of a version's plan, by its place there, which is its number, whose region holds the
+-- header
+pub record IsPartitionOf (setting : Setting) (journal : List Item) (header : Header)
+    (version partition : ℕ) (placed : Placed) : Type 0 where
+  pub found : slice_get (plan_at setting journal version) partition ≡ Some placed
+  pub number : placed.0.number ≡ partition
+  pub first : find (λ other. is_in header (part_of other)) (plan_at setting journal version)
+      ≡ Some placed
+  pub holds : IsTrue (is_in header (part_of placed))
+
+-- on its way to an authority switch a packet is undecided, its version wasn't retired as it came in
+-- and is at most the current one, and it seeks the partition whose region holds its header
+pub record IsSeeking (setting : Setting) (journal : List Item) (words : PacketWords)
+    (header : Header) (version partition : ℕ) : Type 0 where
+  pub undecided : words.decision ≡ None
+  pub not_retired : words.mark < version
+  pub current : version ≤ current_mark journal
+  pub placed : Placed
+  pub own : IsPartitionOf setting journal header version partition placed
+  pub leads : LeadsTo setting placed.1 words.route
+
+-- on its way out it was decided, by its port, whose switch its route leads to
+pub record IsExiting (setting : Setting) (words : PacketWords) (port : ℕ) : Type 0 where
+  pub decision : Decision
+  pub decided : words.decision ≡ Some decision
+  pub action : decision.action ≡ Out port
+  pub owner : ℕ
+  pub has_port : owner_of setting.net.switches port ≡ Some owner
+  pub leads : LeadsTo setting (owner ∷ []) words.route
+
+abbrev pub IsOnLeg : Setting → List Item → PacketWords → Header → Leg → Type 0
+IsOnLeg setting journal words header (Seek version partition) =
+    IsSeeking setting journal words header version partition
+IsOnLeg setting journal words header (Exit port) = IsExiting setting words port
+
+-- ---- travelling packets
+
+-- a travelling packet has a header, came in at a switch, and stands at one
+pub record IsUnderWay (setting : Setting) (journal : List Item) (words : PacketWords) : Type 0 where
+  pub header : Header
+  pub ingress : ℕ
+  pub place : ℕ
+  pub entered : words.header ≡ Some header
+  pub sound : IsHeader header
+  pub came : words.ingress ≡ Some ingress
+  pub at_first : ingress < length setting.net.switches
+  pub stands : words.place ≡ Some place
+  pub now : place < length setting.net.switches
+  pub mark : words.mark ≤ retired_mark journal
+
+-- and, once its switch is done with it, it stands at its place of the route of its leg
+pub record IsOnWay (setting : Setting) (journal : List Item) (words : PacketWords) : Type 0 where
+  pub under_way : IsUnderWay setting journal words
+  pub leg : Leg
+  pub takes : words.leg ≡ Some leg
+  pub on_leg : IsOnLeg setting journal words under_way.header leg
+  pub stands : slice_get words.route words.hops ≡ Some under_way.place
+
+-- a packet that didn't come in has no words
+pub record IsUnknown (words : PacketWords) : Type 0 where
+  pub header : words.header ≡ None
+  pub travels : words.travels ≡ false
+  pub decision : words.decision ≡ None
+  pub leg : words.leg ≡ None
+  pub found : words.found ≡ no_links

@@ -1,0 +1,103 @@
+-- All that a journal says of one packet, as one value, and what each item makes of it.
+use Rattle.std.specs.Prelude.{ℕ, ◌+◌, Bool, true, false, ◌==◌, if◌then◌else◌, Option, Some, option_and_then, unwrap_or, List}
+use Rattle.failover.specs.DownSet.{with_link}
+use Rattle.five_tuple.specs.declared.header.Header.{Header}
+use Rattle.policy_rules.specs.declared.packet.Leg.{Leg}
+use Rattle.policy_rules.specs.declared.packet.Leg.TheVariants.{Seek, Exit}
+use Rattle.journal.specs.declared.item.Item.{Item}
+use Rattle.journal.specs.declared.item.Item.TheVariants as item
+use Rattle.update_machine.specs.Folds.{folded}
+use Rattle.update_machine.specs.Marks.{retired_mark}
+use Rattle.update_machine.specs.Packets.{Decision, decision_of, found_down, header_in, ingress_of, leg_of, port_in, route_in, route_place, standing, travels}
+
+-- ---- one more word of a packet
+
+abbrev pub changes_mark : ℕ → List Item → ℕ → Item → ℕ
+changes_mark i before mark (item.Entered packet switch header) =
+    if packet == i then retired_mark before else mark
+changes_mark i before mark _ = mark
+
+-- the mark up to which versions were retired as the packet came in
+unfoldable pub entry_mark : List Item → ℕ → ℕ
+entry_mark journal i = folded (changes_mark i) 0 journal
+
+-- ---- all its words
+
+pub record PacketWords : Type 0 where
+  pub header : Option Header
+  pub ingress : Option ℕ
+  pub place : Option ℕ
+  pub travels : Bool
+  pub decision : Option Decision
+  pub leg : Option Leg
+  pub route : List ℕ
+  pub hops : ℕ
+  pub found : List ℕ
+  pub mark : ℕ
+
+unfoldable pub words_of : List Item → ℕ → PacketWords
+words_of journal i = record {
+  header = header_in journal i;
+  ingress = ingress_of journal i;
+  place = standing journal i;
+  travels = travels journal i;
+  decision = decision_of journal i;
+  leg = leg_of journal i;
+  route = route_in journal i;
+  hops = route_place journal i;
+  found = found_down journal i;
+  mark = entry_mark journal i;
+}
+
+-- the port by which a packet of this decision is to leave; 0 where it has none
+abbrev pub port_of : Option Decision → ℕ
+port_of decision = unwrap_or (option_and_then (λ d. port_in d.action) decision) 0
+
+-- what an item of the packet makes of its words, where versions up to this mark are retired
+abbrev pub told_by : ℕ → Item → PacketWords → PacketWords
+told_by mark (item.Entered packet switch header) words = record words {
+  header = Some header;
+  ingress = Some switch;
+  place = Some switch;
+  travels = true;
+  mark = mark;
+}
+told_by mark (item.Seeking packet version partition route) words = record words {
+  leg = Some (Seek version partition);
+  route = route;
+  hops = 0;
+}
+told_by mark (item.Exiting packet route) words = record words {
+  leg = Some (Exit (port_of words.decision));
+  route = route;
+  hops = 0;
+}
+told_by mark (item.Rerouted packet route) words =
+    record words { route = route; hops = 0 }
+told_by mark (item.Hopped packet switch) words =
+    record words { place = Some switch; hops = words.hops + 1 }
+told_by mark (item.FoundDown packet one two) words =
+    record words { found = with_link words.found one two }
+told_by mark (item.Decided packet version rule action how) words = record words {
+  decision = Some (record { version = version; rule = rule; action = action });
+}
+told_by mark (item.Left packet port leaving) words = record words { travels = false }
+told_by mark (item.Dropped packet) words = record words { travels = false }
+told_by mark (item.Lost packet) words = record words { travels = false }
+told_by mark (item.Stuck packet switch cause leg down) words = record words { travels = false }
+told_by mark _ words = words
+
+-- the item names the packet
+abbrev pub names : ℕ → Item → Bool
+names i (item.Entered packet switch header) = packet == i
+names i (item.Seeking packet version partition route) = packet == i
+names i (item.Exiting packet route) = packet == i
+names i (item.Rerouted packet route) = packet == i
+names i (item.Hopped packet switch) = packet == i
+names i (item.FoundDown packet one two) = packet == i
+names i (item.Decided packet version rule action how) = packet == i
+names i (item.Left packet port leaving) = packet == i
+names i (item.Dropped packet) = packet == i
+names i (item.Lost packet) = packet == i
+names i (item.Stuck packet switch cause leg down) = packet == i
+names i _ = false

@@ -1,0 +1,121 @@
+-- What acts write: what these items concern, and what they send.
+use Rattle.std.proofs.Common.{ℕ, ◌≡◌, ◌+◌, cond, Bool, List, [], ◌∷◌, ◌++◌, refl, ap, ◌∙◌, length, map, arith}
+use Rattle.std.specs.Prelude.{IsFalse}
+use Rattle.std.proofs.lemmas.List.Sums.{sum_by-cons}
+use Rattle.bag.specs.Posts.{posted}
+use Rattle.controller.specs.declared.sends.Act.{Act}
+use Rattle.controller.specs.declared.sends.Act.TheVariants as act
+use Rattle.control_ties.specs.Written.{written}
+use Rattle.ctrl_msg.specs.declared.message.Message.{Message}
+use Rattle.journal.specs.declared.item.Item.{Item}
+use Rattle.journal.specs.declared.item.Item.TheVariants as item
+use Rattle.update_machine.specs.Concerns.{NoneConcern}
+use Rattle.update_machine.specs.Folds.{count_of}
+use Rattle.update_machine.specs.Messages.{is_sending, next_message, sent_from}
+use Rattle.update_machine.proofs.CallerLemmas.{messages_keep}
+use Rattle.world.specs.Sending.{act_items, act_posts}
+use Rattle.world.proofs.Others.{NoneName}
+use Rattle.world.proofs.Posting.{SendFrom, posts_in, sending_one}
+
+-- what marks and messages concern not
+pub record SparesActs (concerns : List Item → Item → Bool) : Type 0 where
+  pub current : (before : List Item) (v : ℕ) → IsFalse (concerns before (item.Current v))
+  pub retired : (before : List Item) (v : ℕ) → IsFalse (concerns before (item.Retired v))
+  pub sent : (before : List Item) (n : ℕ) (message : Message)
+      → IsFalse (concerns before (item.Sent n message))
+
+pub acts_apart : (concerns : List Item → Item → Bool) → SparesActs concerns
+    → (before : List Item) (number : ℕ) (acts : List Act)
+    → NoneConcern concerns before (act_items number acts)
+unfolding act_items
+acts_apart concerns spares before number [] = tt
+acts_apart concerns spares before number (act.Current v ∷ acts) = (
+  spares.current before v,
+  acts_apart concerns spares (before ++ item.Current v ∷ []) number acts,
+)
+acts_apart concerns spares before number (act.Retired v ∷ acts) = (
+  spares.retired before v,
+  acts_apart concerns spares (before ++ item.Retired v ∷ []) number acts,
+)
+acts_apart concerns spares before number (act.Post message ∷ acts) = (
+  spares.sent before number message,
+  acts_apart concerns spares (before ++ item.Sent number message ∷ []) (number + 1) acts,
+)
+
+-- ---- messages
+
+pub acts_send : (number : ℕ) (acts : List Act) → SendFrom number (act_items number acts)
+unfolding act_items
+acts_send number [] = tt
+acts_send number (act.Current v ∷ acts) = acts_send number acts
+acts_send number (act.Retired v ∷ acts) = acts_send number acts
+acts_send number (act.Post message ∷ acts) = (refl, acts_send (number + 1) acts)
+
+pub acts_posted : (number : ℕ) (acts : List Act)
+    → posts_in (act_items number acts) ≡ act_posts acts
+unfolding act_items act_posts
+acts_posted number [] = refl
+acts_posted number (act.Current v ∷ acts) = acts_posted number acts
+acts_posted number (act.Retired v ∷ acts) = acts_posted number acts
+acts_posted number (act.Post message ∷ acts) =
+    ap (λ posts. posted message ∷ posts) (acts_posted (number + 1) acts)
+
+-- how many messages these items send
+pub acts_counted : (number : ℕ) (acts : List Act)
+    → count_of is_sending (act_items number acts) ≡ length (act_posts acts)
+unfolding act_items act_posts
+acts_counted number [] = refl
+acts_counted number (act.Current v ∷ acts) =
+    let sum = sum_by-cons (λ x. cond (is_sending x) 1 0) (item.Current v)
+    (act_items number acts) in
+    omega (arith, sum, acts_counted number acts)
+acts_counted number (act.Retired v ∷ acts) =
+    let sum = sum_by-cons (λ x. cond (is_sending x) 1 0) (item.Retired v)
+    (act_items number acts) in
+    omega (arith, sum, acts_counted number acts)
+acts_counted number (act.Post message ∷ acts) =
+    let sum = sum_by-cons (λ x. cond (is_sending x) 1 0) (item.Sent number message)
+    (act_items (number + 1) acts) in
+    omega (arith, sum, acts_counted (number + 1) acts)
+
+-- ---- acts as the journal's definitions have them
+
+pub written_is : (journal : List Item) (acts : List Act)
+    → written journal acts ≡ act_items (next_message journal) acts
+unfolding act_items
+written_is journal [] = refl
+written_is journal (act.Current v ∷ acts) =
+    ap (λ items. item.Current v ∷ items)
+    (written_is (journal ++ item.Current v ∷ []) acts
+    ∙ ap (λ n. act_items n acts) (messages_keep journal (item.Current v ∷ []) (refl, tt)).next)
+written_is journal (act.Retired v ∷ acts) =
+    ap (λ items. item.Retired v ∷ items)
+    (written_is (journal ++ item.Retired v ∷ []) acts
+    ∙ ap (λ n. act_items n acts) (messages_keep journal (item.Retired v ∷ []) (refl, tt)).next)
+written_is journal (act.Post message ∷ acts) =
+    let n : ℕ = next_message journal in
+    ap (λ items. item.Sent n message ∷ items)
+    (written_is (journal ++ item.Sent n message ∷ []) acts
+    ∙ ap (λ k. act_items k acts) (sending_one journal n message))
+
+-- messages alone
+pub sent_as_acts : (number : ℕ) (messages : List Message)
+    → act_items number (map act.Post messages) ≡ sent_from number messages
+unfolding act_items sent_from
+sent_as_acts number [] = refl
+sent_as_acts number (message ∷ messages) =
+    ap (λ items. item.Sent number message ∷ items) (sent_as_acts (number + 1) messages)
+
+pub posts_as_acts : (messages : List Message)
+    → act_posts (map act.Post messages) ≡ map posted messages
+unfolding act_posts
+posts_as_acts [] = refl
+posts_as_acts (message ∷ messages) = ap (λ posts. posted message ∷ posts) (posts_as_acts messages)
+
+-- none of it names a packet
+pub acts_unnamed : (i number : ℕ) (acts : List Act) → NoneName i (act_items number acts)
+unfolding act_items
+acts_unnamed i number [] = tt
+acts_unnamed i number (act.Current v ∷ acts) = (refl, acts_unnamed i number acts)
+acts_unnamed i number (act.Retired v ∷ acts) = (refl, acts_unnamed i number acts)
+acts_unnamed i number (act.Post message ∷ acts) = (refl, acts_unnamed i (number + 1) acts)

@@ -1,0 +1,92 @@
+-- What a step owes to the frame that writes one item, and then what is sent and done upon it.
+use Rattle.std.proofs.Common.{ℕ, ◌≡◌, ◌+◌, List, [], ◌∷◌, ◌++◌, refl, ap, sym, subst, ◌∙◌, append_assoc, length}
+use Rattle.std.specs.Prelude.{IsErr, OnErr, OnOk, Result}
+use Rattle.std.proofs.lemmas.Result.{on_ok_weaker}
+use Rattle.bag.specs.Posts.{Post}
+use Rattle.controller.specs.Controller.{ControllerValue}
+use Rattle.journal.specs.declared.item.Item.{Item}
+use Rattle.journal.specs.declared.item.Item.TheVariants as item
+use Rattle.steps.specs.declared.step.Step.{Step}
+use Rattle.update_machine.specs.Pieces.{piece}
+use Rattle.world.specs.Parts.{Begins, Goes, KeepNet, control_in, setting_in}
+use Rattle.world.specs.State.{AreTied, Control, comes_in}
+use Rattle.world.specs.Travelling.{Travellers}
+use Rattle.world.specs.Writing.{IsPart}
+use Rattle.world.specs.declared.parts.Parts.{Parts}
+use Rattle.world.proofs.Frame.{by_error, goes, none_ok}
+use Rattle.world.proofs.Writing.{both_ok, step_part, step_written}
+
+-- the journal behind the first item, what is written then, under which number the messages are,
+-- and what they post behind these posts
+pub record Tells {T E : Type 0} (r : Result T E) (before : List Item) (row : ℕ) (step : Step)
+    (old new : Parts) (first : Item) (tail : ℕ → List Item) (begun : List Item) (number : ℕ)
+    (posts more : List Post) : Type 0 where
+  pub piece_is : piece (setting_in old) before row step
+      ≡ item.Row row step ∷ first ∷ tail (length old.log.bag + 1)
+  pub counted : new.packets ≡ old.packets + comes_in step
+  pub pushed : begun ≡ old.log.journal ++ first ∷ []
+  pub number_is : number ≡ length old.log.bag
+  pub travelling : new.log.travelling ≡ old.log.travelling
+  pub written : OnOk r (new.log.journal ≡ begun ++ tail (number + 1))
+  pub part : OnErr r (IsPart begun (tail (number + 1)) new.log.journal)
+  pub posted : OnOk r (new.log.bag ≡ posts ++ more)
+  pub tied : OnOk r (AreTied (setting_in old)
+      (before ++ item.Row row step ∷ first ∷ tail (length old.log.bag + 1)) new.switches.items
+      old.log.travelling new.packets
+      (record (control_in new) { posts = posts ++ more }))
+
+pub goes_told : {T E : Type 0} (r : Result T E) (before : List Item) (row : ℕ) (step : Step)
+    (old new : Parts) (first : Item) (tail : ℕ → List Item) (begun : List Item) (number : ℕ)
+    (posts more : List Post) → Begins before row step old → KeepNet old new
+    → Tells r before row step old new first tail begun number posts more
+    → Goes r before row step old new
+goes_told r before row step old new first tail begun number posts more begins keeps tells =
+    let items : List Item = tail (length old.log.bag + 1) in
+    goes r before row step old new begins keeps (first ∷ items) tells.piece_is
+    (on_ok_weaker r (λ grown. tells.counted) tells.written)
+    (step_written r old.log.journal begun new.log.journal items (first ∷ items) first refl
+    tells.pushed
+    (subst (λ k. OnOk r (new.log.journal ≡ begun ++ tail (k + 1))) tells.number_is tells.written))
+    (step_part r old.log.journal begun new.log.journal items (first ∷ items) first refl
+    tells.pushed
+    (subst (λ k. OnErr r (IsPart begun (tail (k + 1)) new.log.journal)) tells.number_is
+    tells.part))
+    (both_ok r (λ all tied. subst (λ bag. AreTied (setting_in old)
+    (before ++ item.Row row step ∷ first ∷ items) new.switches.items new.log.travelling
+    new.packets (record (control_in new) { posts = bag })) (sym all)
+    (subst (λ (travelling : Travellers). AreTied (setting_in old)
+    (before ++ item.Row row step ∷ first ∷ items) new.switches.items travelling
+    new.packets (record (control_in new) { posts = posts ++ more }))
+    (sym tells.travelling) tied)) tells.posted tells.tied)
+
+-- memory runs out behind the first item
+pub first_goes : {T E : Type 0} (r : Result T E) (before : List Item) (row : ℕ) (step : Step)
+    (old new : Parts) (first : Item) (rest : List Item) → Begins before row step old
+    → KeepNet old new
+    → piece (setting_in old) before row step ≡ item.Row row step ∷ first ∷ rest
+    → IsErr r → new.log.journal ≡ old.log.journal ++ first ∷ [] → Goes r before row step old new
+first_goes r before row step old new first rest begins keeps is failed pushed = record {
+  net = keeps;
+  counted = none_ok _ r failed;
+  written = none_ok _ r failed;
+  tied = none_ok _ r failed;
+  part = by_error r (record {
+    written = item.Row row step ∷ first ∷ [];
+    rest = rest;
+    split = is;
+    grown = pushed ∙ ap (λ js. js ++ first ∷ []) begins.rowed
+        ∙ append_assoc before (item.Row row step ∷ []) (first ∷ []);
+  });
+}
+
+-- what is known in the control plane where only messages and usable links changed
+pub same_control : (control : Control) (new : Parts) (posts : List Post) (near : List ℕ)
+    → new.controller ≡ control.controller → new.links ≡ control.links → new.near ≡ near
+    → record control { posts = posts; near = near } ≡ record (control_in new) { posts = posts }
+same_control control new posts near controller links is =
+    ap (λ (it : ControllerValue). record { controller = it; posts = posts; links = control.links; near = near })
+    (sym controller)
+    ∙ ap (λ it. record { controller = new.controller; posts = posts; links = it; near = near })
+    (sym links)
+    ∙ ap (λ it. record { controller = new.controller; posts = posts; links = new.links; near = it })
+    (sym is)

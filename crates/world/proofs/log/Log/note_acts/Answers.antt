@@ -1,0 +1,33 @@
+use Rattle.std.proofs.Common.{refl, subst, sym, length, ◌+◌, ◌∙◌, arith}
+use Rattle.world.specs.Sending.{act_items}
+use Rattle.world.specs.Writing.{IsPart}
+use Rattle.world.proofs.Sends.{done_begun, done_few, done_more, done_part}
+use Rattle.world.proofs.Frame.{by_error}
+use Rattle.world.proofs.log.Log.note_acts.Goals as goal
+
+pub loop-act-init : goal.loop-act-init
+loop-act-init c =
+    (done_begun c.args.self.now.journal c.args.self.now.bag c.args.acts.now, refl)
+
+pub note_act-requires : goal.note_act-requires
+note_act-requires c = omega (
+  arith,
+  done_few _ _ _ _ c.args.acts.now c.loop-act.act-index c.act-item.result
+      c.loop-act.invariant.0 c.loop-act-test.true c.act-item.is,
+  c.requires,
+)
+
+pub returns-in_err-note_act-clause-part : goal.returns-in_err-note_act-clause-part
+returns-in_err-note_act-clause-part c =
+    by_error c.from_residual.result (subst (λ journal. IsPart c.args.self.now.journal
+    (act_items (length c.args.self.now.bag + 1) c.args.acts.now) journal)
+    (sym c.in_err-note_act.ensures.unwritten)
+    (done_part _ _ _ _ c.args.acts.now c.loop-act.act-index c.loop-act.invariant.0))
+
+pub loop-act-preserved : goal.loop-act-preserved
+loop-act-preserved c = (
+  done_more _ _ _ _ _ _ c.args.acts.now c.loop-act.act-index c.act-item.result
+      c.loop-act-test.true c.act-item.is c.loop-act.invariant.0
+      c.in_ok-note_act.ensures.written c.in_ok-note_act.ensures.posted,
+  c.in_ok-note_act.ensures.travelling ∙ c.loop-act.invariant.1,
+)

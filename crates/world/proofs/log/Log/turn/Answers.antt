@@ -1,0 +1,13 @@
+use Rattle.std.proofs.Common.{subst, sym}
+use Rattle.std.specs.Prelude.{IsSomeAnd}
+use Rattle.world.specs.Travelling.{HasPlace, traveller}
+use Rattle.world.specs.declared.travelling.Traveller.{Traveller}
+use Rattle.world.proofs.Turning.{kept_place}
+use Rattle.world.proofs.log.Log.turn.Goals as goal
+
+pub move_to-requires : goal.move_to-requires
+move_to-requires c =
+    subst (λ (t : Traveller). IsSomeAnd (traveller c.args.self.now.travelling t.tunnel.packet)
+    (HasPlace t.tunnel.place)) (sym c.traveller.view_is)
+    (kept_place c.args.self.now.travelling c.args.traveller.now (c.requires.known c.in-None.is)
+    c.here-here.ensures.on_route.within)

@@ -1,0 +1,83 @@
+-- Which links can be used, and what switches tell when that changes.
+use Rattle.std.specs.Prelude.{ℕ, ◌≡◌, ◌<◌, ◌==◌, not, ◌&&◌, Bool, true, false, if◌then◌else◌, Option, Some, None, List, [], ◌∷◌, filter, length, map, slice_get, slice_index, slice_index_or}
+use Rattle.std.specs.List.{flat_map, range_with_len}
+use Rattle.std.specs.Option.{option_map_or}
+use Rattle.ctrl_msg.specs.declared.message.Message.{Message}
+use Rattle.failover.specs.declared.advert.Advert.{Advert}
+use Rattle.masks.specs.Masks.{has, mask_of}
+use Rattle.switch_core.specs.Life.{near_changed, next_advert}
+use Rattle.switch_core.specs.State.{SwitchValue, serves}
+use Rattle.switch_ties.specs.Links.{all_held}
+use Rattle.update_machine.specs.Deliveries.{advert_to}
+
+-- ---- usable links
+
+-- the switch of this number is there, and serves
+abbrev pub serves_at : List SwitchValue → ℕ → Bool
+serves_at switches s = option_map_or serves (slice_get switches s) false
+
+-- those of these links that can be used, where a switch itself serves, and these others
+abbrev pub near_where : ℕ → Bool → (ℕ → Bool) → ℕ
+near_where links own others = mask_of (λ k. has links k && own && others k)
+
+-- the switches to which a switch has a usable link, where it has links that are up to these: both
+-- ends serve
+unfoldable pub near_by : List ℕ → List SwitchValue → ℕ → ℕ
+near_by links switches s =
+    near_where (slice_index links s) (serves_at switches s) (serves_at switches)
+
+-- of all 64 numbers
+unfoldable pub near_all : List ℕ → List SwitchValue → List ℕ
+near_all links switches = map (near_by links switches) (range_with_len 0 64)
+
+-- ---- what switches tell
+
+-- what the switch tells a neighbour, where it had a usable link to it before, or hadn't
+abbrev pub told_to : SwitchValue → Advert → Bool → ℕ → List Message
+told_to switch own had neighbour = elim had [
+  | true ↦ advert_to neighbour own ∷ []
+  | false ↦ map (advert_to neighbour) (all_held switch)
+]
+
+-- if it has a usable link to that
+abbrev pub told_near : SwitchValue → Advert → ℕ → ℕ → ℕ → List Message
+told_near switch own had near other =
+    if has near other then told_to switch own (has had other) other else []
+
+-- one advert, if there is one
+abbrev pub told_if : ℕ → Option Advert → List Message
+told_if other None = []
+told_if other (Some advert) = advert_to other advert ∷ []
+
+-- it is up, and its usable links changed
+abbrev pub changes : ℕ → ℕ → SwitchValue → Bool
+changes had near switch = switch.is_up && not (had == near)
+
+-- it makes its next advert then
+abbrev pub relinked_as : ℕ → ℕ → SwitchValue → SwitchValue
+relinked_as had near switch = if changes had near switch then near_changed switch near else switch
+
+-- and tells its neighbours among so many switches
+abbrev pub told_as : ℕ → ℕ → ℕ → SwitchValue → List Message
+told_as count had near switch = if changes had near switch
+    then flat_map (λ other. told_to (near_changed switch near) (next_advert switch near)
+    (has had other) other) (filter (has near) (range_with_len 0 count))
+    else []
+
+abbrev pub told_at : ℕ → List ℕ → List ℕ → List SwitchValue → ℕ → List Message
+told_at count had near switches s = elim (slice_get switches s) [
+  | None ↦ []
+  | Some switch ↦ told_as count (slice_index had s) (slice_index near s) switch
+]
+
+-- all that is told, by ascending number of the switch that tells it
+unfoldable pub all_told : List ℕ → List ℕ → List SwitchValue → List Message
+all_told had near switches =
+    flat_map (told_at (length switches) had near switches)
+    (range_with_len 0 (length switches))
+
+-- each of these switches made its next advert if its links changed
+pub record AreRelinked (had near : List ℕ) (old new : List SwitchValue) : Type 0 where
+  pub as_many : length new ≡ length old
+  pub each : (s : ℕ) (d : SwitchValue) → s < length old → slice_index_or new s d
+      ≡ relinked_as (slice_index had s) (slice_index near s) (slice_index_or old s d)

@@ -1,0 +1,32 @@
+-- Messages that are sent one after another, and what a controller does, as items of the journal.
+use Rattle.std.specs.Prelude.{ℕ, ◌+◌, List, [], ◌∷◌, ◌++◌}
+use Rattle.bag.specs.Posts.{Post, posted}
+use Rattle.controller.specs.declared.sends.Act.{Act}
+use Rattle.controller.specs.declared.sends.Act.TheVariants as act
+use Rattle.journal.specs.declared.item.Item.{Item}
+use Rattle.journal.specs.declared.item.Item.TheVariants as item
+
+-- where the next message has this number
+abbrev pub act_item : ℕ → Act → Item
+act_item number (act.Current version) = item.Current version
+act_item number (act.Retired version) = item.Retired version
+act_item number (act.Post message) = item.Sent number message
+
+-- the next message's number once this was done
+abbrev pub number_after : ℕ → Act → ℕ
+number_after number (act.Post message) = number + 1
+number_after number _ = number
+
+unfoldable pub act_items : ℕ → List Act → List Item
+act_items number [] = []
+act_items number (first ∷ acts) =
+    act_item number first ∷ act_items (number_after number first) acts
+
+-- what one act posts
+abbrev pub act_post : Act → List Post
+act_post (act.Post message) = posted message ∷ []
+act_post _ = []
+
+unfoldable pub act_posts : List Act → List Post
+act_posts [] = []
+act_posts (first ∷ acts) = act_post first ++ act_posts acts

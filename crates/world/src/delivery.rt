@@ -1,0 +1,112 @@
+//! Messages that are delivered: who hears them, and what is sent upon them.
+ghost use Rattle.std.specs.Prelude.{ℕ, ◌≡◌, ◌+◌, ◌-◌, ◌^◌, ◌<◌, ◌≤◌, ◌++◌, ◌∷◌, [], All, OnOk, OnErr, length, map};
+ghost use Rattle.bag.specs.Posts.{posted};
+ghost use Rattle.controller.specs.Controller.{ControllerValue, SettlesWith};
+ghost use Rattle.controller.specs.Sends.{NamesThere, after_hearing, hearing};
+ghost use Rattle.steps.specs.declared.step.Step.TheVariants.{Deliver as DeliverStep};
+ghost use Rattle.update_machine.specs.Messages.{sent_from};
+ghost use Rattle.world.specs.Linking.{AreRelinked, all_told, near_all};
+ghost use Rattle.world.specs.Parts.{HasBegun, KeepRest, Plays};
+ghost use Rattle.world.specs.Sending.{act_items, act_posts};
+ghost use Rattle.world.specs.Writing.{IsPart};
+
+use crate::links::{relink, usable};
+use crate::log::Log;
+use crate::parts::Parts;
+use controller::Controller;
+use journal::{Body, Item, Receiver};
+use std::alloc::{AllocError, Global};
+
+impl Parts {
+    /// A message is delivered: its switch or the controller hears it, and sends what it has to say
+    /// upon it. A switch that opens changes which links can be used.
+    ///
+    /// # Errors
+    /// Want of memory alone; a part of the items is written then.
+    pub fn deliver(&mut self, alloc: Global, number: u32) -> Result<(), AllocError>
+        requires { HasBegun (DeliverStep number) self.old }
+        ensures { Plays (DeliverStep number) result self.old self.new }
+    {
+        let message = match self.log.bag.get(number)? {
+            None => return self.log.journal.push(Item::Nothing),
+            Some(message) => message,
+        };
+        self.log.bag.deliver(number);
+        self.log.journal.push(Item::Delivered { number })?;
+        let switch = match message.to {
+            Receiver::Switch(switch) => switch,
+            Receiver::Controller => {
+                return tell_controller(alloc, &mut self.log, &mut self.controller, &message.body);
+            }
+        };
+        let near = self.near[switch as usize];
+        let heard = self.switches[switch as usize].hear(alloc, number, &message.body, near)?;
+        match heard.opened {
+            None => self.log.send_all(alloc, heard.replies.items()),
+            Some(version) => {
+                self.log.journal.push(Item::Opened { switch, version })?;
+                self.change_links(alloc)
+            }
+        }
+    }
+
+    /// Links came back or failed, or switches began or ceased to serve: those whose usable links
+    /// changed tell their neighbours.
+    ///
+    /// # Errors
+    /// Want of memory alone; a part of the items is written then.
+    pub fn change_links(&mut self, alloc: Global) -> Result<(), AllocError>
+        requires many { length self.old.switches.items ≤ 64 }
+        requires next { All (λ switch. switch.seq < 2 ^ 32 - 1) self.old.switches.items }
+        requires few { length self.old.log.bag + length (all_told self.old.near
+            (near_all self.old.links self.old.switches.items) self.old.switches.items) < 2 ^ 32 }
+        ensures near { OnOk result
+            (self.new.near ≡ near_all self.old.links self.old.switches.items) }
+        ensures switches { OnOk result (AreRelinked self.old.near
+            (near_all self.old.links self.old.switches.items)
+            self.old.switches.items self.new.switches.items) }
+        ensures written { OnOk result (self.new.log.journal ≡ self.old.log.journal
+            ++ sent_from (length self.old.log.bag + 1) (all_told self.old.near
+            (near_all self.old.links self.old.switches.items) self.old.switches.items)) }
+        ensures posted { OnOk result (self.new.log.bag ≡ self.old.log.bag
+            ++ map posted (all_told self.old.near
+            (near_all self.old.links self.old.switches.items) self.old.switches.items)) }
+        ensures part { OnErr result (IsPart self.old.log.journal
+            (sent_from (length self.old.log.bag + 1) (all_told self.old.near
+            (near_all self.old.links self.old.switches.items) self.old.switches.items))
+            self.new.log.journal) }
+        ensures rest { KeepRest self.old self.new }
+    {
+        let now = usable(&self.links, &self.switches);
+        let messages = relink(alloc, &mut self.switches, &self.near, &now)?;
+        self.near = now;
+        self.log.send_all(alloc, &messages)
+    }
+}
+
+// The controller hears the message.
+fn tell_controller(
+    alloc: Global,
+    log: &mut Log,
+    controller: &mut Controller,
+    body: &Body,
+) -> Result<(), AllocError>
+    requires there { NamesThere body.now controller.old.marks }
+    requires few { (new : ControllerValue)
+        → SettlesWith (after_hearing body.now controller.old.marks) controller.old.plans new
+        → length log.old.bag + length (act_posts (hearing body.now controller.old.marks new))
+        < 2 ^ 32 }
+    ensures after { SettlesWith
+        (after_hearing body.now controller.old.marks) controller.old.plans controller.new }
+    ensures written { OnOk result (log.new.journal ≡ log.old.journal
+        ++ act_items (length log.old.bag + 1)
+        (hearing body.now controller.old.marks controller.new)) }
+    ensures posted { OnOk result (log.new.bag ≡ log.old.bag
+        ++ act_posts (hearing body.now controller.old.marks controller.new)) }
+    ensures part { OnErr result (IsPart log.old.journal (act_items (length log.old.bag + 1)
+        (hearing body.now controller.old.marks controller.new)) log.new.journal) }
+    ensures travelling { log.new.travelling ≡ log.old.travelling }
+{
+    let sends = controller.hear(alloc, body)?;
+    log.note_acts(alloc, sends.acts())
+}

@@ -1,0 +1,68 @@
+//! Messages that are sent one after another, and what the controller does, written into the log.
+ghost use Rattle.std.specs.Prelude.{◌≡◌, ◌+◌, ◌^◌, ◌<◌, ◌++◌, ◌∷◌, [], OnOk, OnErr, length, map};
+ghost use Rattle.bag.specs.Posts.{posted};
+ghost use Rattle.update_machine.specs.Messages.{sent_from};
+ghost use Rattle.world.specs.Sending.{act_item, act_items, act_post, act_posts};
+ghost use Rattle.world.specs.Writing.{IsPart};
+
+use crate::log::Log;
+use controller::Act;
+use journal::{Item, Message};
+use std::alloc::{AllocError, Global};
+
+impl Log {
+    /// The messages are sent, each under the next number.
+    ///
+    /// # Errors
+    /// Want of memory alone; a part of the items is written then.
+    pub fn send_all(&mut self, alloc: Global, messages: &[Message]) -> Result<(), AllocError>
+        requires few { length self.old.bag + length messages.now < 2 ^ 32 }
+        ensures written { OnOk result (self.new.journal
+            ≡ self.old.journal ++ sent_from (length self.old.bag + 1) messages.now) }
+        ensures posted { OnOk result (self.new.bag
+            ≡ self.old.bag ++ map posted messages.now) }
+        ensures part { OnErr result (IsPart self.old.journal
+            (sent_from (length self.old.bag + 1) messages.now) self.new.journal) }
+        ensures travelling { self.new.travelling ≡ self.old.travelling }
+    {
+        for message in messages {
+            self.send(alloc, message.clone()?)?;
+        }
+        Ok(())
+    }
+
+    /// The controller does this, one after another.
+    ///
+    /// # Errors
+    /// Want of memory alone; a part of the items is written then.
+    pub fn note_acts(&mut self, alloc: Global, acts: &[Act]) -> Result<(), AllocError>
+        requires few { length self.old.bag + length (act_posts acts.now) < 2 ^ 32 }
+        ensures written { OnOk result (self.new.journal
+            ≡ self.old.journal ++ act_items (length self.old.bag + 1) acts.now) }
+        ensures posted { OnOk result (self.new.bag ≡ self.old.bag ++ act_posts acts.now) }
+        ensures part { OnErr result (IsPart self.old.journal
+            (act_items (length self.old.bag + 1) acts.now) self.new.journal) }
+        ensures travelling { self.new.travelling ≡ self.old.travelling }
+    {
+        for act in acts {
+            self.note_act(alloc, act)?;
+        }
+        Ok(())
+    }
+
+    // One mark rises, or one message is sent.
+    fn note_act(&mut self, alloc: Global, act: &Act) -> Result<(), AllocError>
+        requires few { length self.old.bag + length (act_post act.now) < 2 ^ 32 }
+        ensures written { OnOk result (self.new.journal
+            ≡ self.old.journal ++ act_item (length self.old.bag + 1) act.now ∷ []) }
+        ensures posted { OnOk result (self.new.bag ≡ self.old.bag ++ act_post act.now) }
+        ensures unwritten { OnErr result (self.new.journal ≡ self.old.journal) }
+        ensures travelling { self.new.travelling ≡ self.old.travelling }
+    {
+        match act {
+            Act::Current(version) => self.journal.push(Item::Current { version: *version }),
+            Act::Retired(version) => self.journal.push(Item::Retired { version: *version }),
+            Act::Post(message) => self.send(alloc, message.clone()?),
+        }
+    }
+}
