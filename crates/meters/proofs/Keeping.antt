@@ -1,0 +1,236 @@
+-- The meters that stay, meter by meter and leaving by leaving.
+use Rattle.std.proofs.Common.{◌≡◌, ◌≢◌, ℕ, zero, suc, ◌+◌, ◌<◌, ◌≤◌, Bool, true, false, cond, not, ◌||◌, ◌==◌, List, [], ◌∷◌, ◌++◌, length, map, filter, take, drop, set, get_or, refl, sym, ◌∙◌, ap, add-one, arith}
+use Rattle.std.specs.List.{list_any, range_with_len, remove}
+use Rattle.std.proofs.Math.Bool.{or_assoc}
+use Rattle.std.proofs.Math.ListN.{drop_of_length-le}
+use Rattle.std.proofs.Math.Seq.{drop-cons, take-append_seam, drop-append_seam}
+use Rattle.std.proofs.lemmas.List.{append-nil, append_assoc, length-take-le, map-append, take_all, take-set, take_more_set, drop-set-lt}
+use Rattle.std.proofs.lemmas.Bool.Decides.{nat_tests}
+use Rattle.std.proofs.lemmas.List.Elements.{filter-append}
+use Rattle.policy_rules.specs.declared.packet.Leaving.{Leaving}
+use Rattle.meters.specs.Meters.{Seen, PortLeavings, holding, is_over, is_over_within, leavings_of, kept, IsNoted}
+use Rattle.meters.specs.declared.meter.Stay.TheVariants as stay
+
+-- ---- the moments of one meter
+
+list_any-shift : (f h : ℕ → Bool) → ((k : ℕ) → f (k + 1) ≡ h k) → (from count : ℕ)
+    → list_any f (range_with_len (from + 1) count) ≡ list_any h (range_with_len from count)
+list_any-shift f h same from zero = refl
+list_any-shift f h same from (suc count) =
+    ap (λ now. now || list_any f (range_with_len (from + 1 + 1) count)) (same from)
+    ∙ ap (λ rest. h from || rest) (list_any-shift f h same (from + 1) count)
+
+holding-append : (left more : List Leaving) (meter : Seen)
+    → holding (left ++ more) meter ≡ holding more (holding left meter)
+holding-append left more meter =
+    ap (λ held. record meter { held = held }) (sym (append_assoc meter.held left more))
+
+is_over_within-cons : (one : Leaving) (more : List Leaving) (meter : Seen)
+    → is_over_within (one ∷ more) meter
+    ≡ (is_over (holding (one ∷ []) meter) || is_over_within more (holding (one ∷ []) meter))
+is_over_within-cons one more meter =
+    ap (λ rest. is_over (holding (one ∷ []) meter) || rest) (list_any-shift
+    (λ k. is_over (holding (take k (one ∷ more)) meter))
+    (λ k. is_over (holding (take k more) (holding (one ∷ []) meter)))
+    (λ k. rw add-one (ap is_over (holding-append (one ∷ []) (take k more) meter)))
+    1 (length more))
+
+is_over_within-append : (left more : List Leaving) (meter : Seen)
+    → is_over_within (left ++ more) meter
+    ≡ (is_over_within left meter || is_over_within more (holding left meter))
+is_over_within-append [] more meter =
+    ap (λ held. is_over_within more (record meter { held = held })) (sym (append-nil meter.held))
+is_over_within-append (one ∷ left) more meter =
+    let now = holding (one ∷ []) meter in
+    let then : Bool = is_over_within more (holding left now) in
+    let same : holding (one ∷ left) meter ≡ holding left now =
+    holding-append (one ∷ []) left meter in
+    is_over_within-cons one (left ++ more) meter
+    ∙ ap (λ rest. is_over now || rest) (is_over_within-append left more now)
+    ∙ sym (or_assoc (is_over now) (is_over_within left now) then)
+    ∙ ap (λ before. before || then) (sym (is_over_within-cons one left meter))
+    ∙ ap (λ held. is_over_within (one ∷ left) meter || is_over_within more held) (sym same)
+
+leavings_of-append : (port : ℕ) (left more : PortLeavings)
+    → leavings_of port (left ++ more) ≡ leavings_of port left ++ leavings_of port more
+leavings_of-append port left more = rw (filter-append, map-append)
+
+-- ---- lists of meters
+
+pub kept-append : (left : PortLeavings) (some others : List Seen)
+    → kept left (some ++ others) ≡ kept left some ++ kept left others
+unfolding kept
+kept-append left some others = rw (filter-append, map-append)
+
+pub kept-nothing : (meters : List Seen) → kept [] meters ≡ meters
+unfolding kept
+kept-nothing [] = refl
+kept-nothing (meter ∷ meters) =
+    let now : holding [] meter ≡ meter =
+    ap (λ held. record meter { held = held }) (append-nil meter.held) in
+    ap (λ first. first ∷ kept [] meters) now ∙ ap (λ rest. meter ∷ rest) (kept-nothing meters)
+
+map-cond : (f : Seen → Seen) (meter : Seen) (over : Bool)
+    → map f (cond (not over) (meter ∷ []) []) ≡ cond over [] (f meter ∷ [])
+map-cond f meter true = refl
+map-cond f meter false = refl
+
+pub kept-one : (left : PortLeavings) (meter : Seen)
+    → kept left (meter ∷ []) ≡ cond (is_over_within (leavings_of meter.port left) meter) []
+    (holding (leavings_of meter.port left) meter ∷ [])
+unfolding kept
+kept-one left meter =
+    map-cond (λ m. holding (leavings_of m.port left) m) meter
+    (is_over_within (leavings_of meter.port left) meter)
+
+map-chosen : {M : Type 0} (seen : M → Seen) (first : M) (chosen : Bool) (some : List M)
+    → (others : List Seen) → map seen some ≡ others
+    → map seen (cond chosen (first ∷ some) some) ≡ cond chosen (seen first ∷ others) others
+map-chosen seen first true some others same = ap (λ rest. seen first ∷ rest) same
+map-chosen seen first false some others same = same
+
+pub map-filter : {M : Type 0} (seen : M → Seen) (test : Seen → Bool) (meters : List M)
+    → map seen (filter (λ m. test (seen m)) meters) ≡ filter test (map seen meters)
+map-filter seen test [] = refl
+map-filter seen test (meter ∷ meters) =
+    map-chosen seen meter (test (seen meter)) _ _ (map-filter seen test meters)
+
+-- ---- one more leaving
+
+same : (port other : ℕ) → other ≡ port → (port == other) ≡ true
+same port other equal = grind (arith, nat_tests)
+
+different : (port other : ℕ) → other ≢ port → (port == other) ≡ false
+different port other apart = grind (arith, nat_tests)
+
+leavings_here : (port : ℕ) (leaving : Leaving) (meter : Seen) → meter.port ≡ port
+    → leavings_of meter.port ((port, leaving) ∷ []) ≡ leaving ∷ []
+leavings_here port leaving meter here =
+    ap (λ test. map (λ (one : ℕ × Leaving). one.1) (cond test ((port, leaving) ∷ []) []))
+    (same port meter.port here)
+
+leavings_elsewhere : (port : ℕ) (leaving : Leaving) (meter : Seen) → meter.port ≢ port
+    → leavings_of meter.port ((port, leaving) ∷ []) ≡ []
+leavings_elsewhere port leaving meter apart =
+    ap (λ test. map (λ (one : ℕ × Leaving). one.1) (cond test ((port, leaving) ∷ []) []))
+    (different port meter.port apart)
+
+over_after_one : (leaving : Leaving) (old new : Seen) (over : Bool)
+    → new ≡ holding (leaving ∷ []) old → is_over new ≡ over
+    → is_over_within (leaving ∷ []) old ≡ (over || false)
+over_after_one leaving old new over is_new is_over_now =
+    ap (λ now. now || false) (ap is_over (sym is_new) ∙ is_over_now)
+
+pub kept-stay : (port : ℕ) (leaving : Leaving) (old new : Seen) → old.port ≡ port
+    → IsNoted leaving old new stay.Stay → kept ((port, leaving) ∷ []) (old ∷ []) ≡ new ∷ []
+kept-stay port leaving old new here noted =
+    rw (
+      kept-one ((port, leaving) ∷ []) old,
+      leavings_here port leaving old here,
+      over_after_one leaving old new false noted.0 noted.1,
+    ) (ap (λ m. m ∷ []) (sym noted.0))
+
+pub kept-leave : (port : ℕ) (leaving : Leaving) (old new : Seen) → old.port ≡ port
+    → IsNoted leaving old new stay.Leave → kept ((port, leaving) ∷ []) (old ∷ []) ≡ []
+kept-leave port leaving old new here noted =
+    rw (
+      kept-one ((port, leaving) ∷ []) old,
+      leavings_here port leaving old here,
+      over_after_one leaving old new true noted.0 noted.1,
+    ) refl
+
+pub kept_elsewhere : (port : ℕ) (leaving : Leaving) (meter : Seen) → meter.port ≢ port
+    → kept ((port, leaving) ∷ []) (meter ∷ []) ≡ meter ∷ []
+kept_elsewhere port leaving meter apart =
+    rw (kept-one ((port, leaving) ∷ []) meter, leavings_elsewhere port leaving meter apart)
+    (ap (λ held. record meter { held = held } ∷ []) (append-nil meter.held))
+
+-- ---- a step over a list whose meters before a place noted the leavings already
+
+pub after_stay : {M : Type 0} (seen : M → Seen) (left : PortLeavings) (meters : List M) (at : ℕ)
+    → (old new : M) → at < length meters → get_or meters at old ≡ old
+    → kept left (seen old ∷ []) ≡ seen new ∷ []
+    → map seen (take at meters) ++ kept left (map seen (drop at meters))
+    ≡ map seen (take (at + 1) (set meters at new))
+    ++ kept left (map seen (drop (at + 1) (set meters at new)))
+after_stay seen left meters at old new within is_old stays =
+    let first = map seen (take at meters) in
+    let rest = map seen (drop (at + 1) meters) in
+    let split : drop at meters ≡ old ∷ drop (at + 1) meters =
+    rw add-one (drop-cons meters at old within ∙ ap (λ m. m ∷ drop (suc at) meters) is_old) in
+    rw (
+      split,
+      take_more_set meters at new within,
+      drop-set-lt (at + 1) meters at new (omega arith),
+      map-append,
+      append_assoc,
+    )
+    (ap (λ more. first ++ more) (kept-append left (seen old ∷ []) rest
+    ∙ ap (λ one. one ++ kept left rest) stays))
+
+seam : {M : Type 0} (front back : List M) (at : ℕ) → length front ≡ at
+    → (take at (front ++ back) ≡ front) × (drop at (front ++ back) ≡ back)
+seam front back at long =
+    (rw (← long) (take-append_seam front back), rw (← long) (drop-append_seam front back))
+
+removed : {M : Type 0} (meters : List M) (at : ℕ) (new : M) → at < length meters
+    → remove (set meters at new) at ≡ take at meters ++ drop (at + 1) meters
+removed meters at new within =
+    rw (take-set, add-one) (ap (λ rest. take at meters ++ rest)
+    (drop-set-lt (suc at) meters at new (omega arith)))
+
+pub after_leave : {M : Type 0} (seen : M → Seen) (left : PortLeavings) (meters : List M) (at : ℕ)
+    → (old new : M) (after : List M) → at < length meters → get_or meters at old ≡ old
+    → kept left (seen old ∷ []) ≡ [] → after ≡ remove (set meters at new) at
+    → map seen (take at meters) ++ kept left (map seen (drop at meters))
+    ≡ map seen (take at after) ++ kept left (map seen (drop at after))
+after_leave seen left meters at old new after within is_old leaves is_after =
+    let rest = map seen (drop (at + 1) meters) in
+    let split : drop at meters ≡ old ∷ drop (at + 1) meters =
+    rw add-one (drop-cons meters at old within ∙ ap (λ m. m ∷ drop (suc at) meters) is_old) in
+    let parts = seam (take at meters) (drop (at + 1) meters) at
+    (length-take-le at meters (omega arith)) in
+    rw (is_after, removed meters at new within, parts.0, parts.1, split)
+    (ap (λ more. map seen (take at meters) ++ more) (kept-append left (seen old ∷ []) rest
+    ∙ ap (λ one. one ++ kept left rest) leaves))
+
+pub after_all : {M : Type 0} (seen : M → Seen) (left : PortLeavings) (meters : List M) (at : ℕ)
+    → length meters ≤ at
+    → map seen (take at meters) ++ kept left (map seen (drop at meters)) ≡ map seen meters
+unfolding kept
+after_all seen left meters at past =
+    rw (take_all at meters past, drop_of_length-le meters past, append-nil) refl
+
+kept-cond : (more : PortLeavings) (meter : Seen) (over : Bool)
+    → cond (over || is_over_within (leavings_of meter.port more) meter) []
+    (holding (leavings_of meter.port more) meter ∷ []) ≡ kept more (cond over [] (meter ∷ []))
+unfolding kept
+kept-cond more meter true = refl
+kept-cond more meter false = sym (kept-one more meter)
+
+kept_on_one : (left more : PortLeavings) (meter : Seen)
+    → kept (left ++ more) (meter ∷ []) ≡ kept more (kept left (meter ∷ []))
+kept_on_one left more meter =
+    let before = leavings_of meter.port left in
+    let after = leavings_of meter.port more in
+    rw (
+      kept-one left meter,
+      kept-one (left ++ more) meter,
+      leavings_of-append meter.port left more,
+      is_over_within-append before after meter,
+      holding-append before after meter,
+    )
+    (kept-cond more (holding before meter) (is_over_within before meter))
+
+-- who stays through all leavings stays through the earlier ones, and from there through the others
+pub kept_on : (left more : PortLeavings) (meters : List Seen)
+    → kept (left ++ more) meters ≡ kept more (kept left meters)
+unfolding kept
+kept_on left more [] = refl
+kept_on left more (meter ∷ meters) =
+    let both = left ++ more in
+    kept-append both (meter ∷ []) meters
+    ∙ ap (λ first. first ++ kept both meters) (kept_on_one left more meter)
+    ∙ ap (λ rest. kept more (kept left (meter ∷ [])) ++ rest) (kept_on left more meters)
+    ∙ sym (kept-append more (kept left (meter ∷ [])) (kept left meters))
+    ∙ ap (kept more) (sym (kept-append left (meter ∷ []) meters))

@@ -1,0 +1,9 @@
+use Rattle.std.proofs.Common.{◌≡◌, ◌∙◌, sym, nat_lt, false, arith}
+use Rattle.std.proofs.lemmas.Bool.Decides.{nat_tests}
+use Rattle.masks.proofs.CallerLemmas.{has_above}
+use Rattle.meters.proofs.board.has_port.Goals as goal
+
+pub returns-else-port-lt64 : goal.returns-else-port-lt64
+returns-else-port-lt64 c =
+    let past : nat_lt c.args.port 64 ≡ false = grind (arith, nat_tests) in
+    past ∙ sym (has_above c.args.ports c.args.port c.ranges.ports.fits c.if-port-lt64.false)

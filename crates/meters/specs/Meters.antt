@@ -1,0 +1,68 @@
+-- Meters: what contracts know of one, and which meters stay.
+use Rattle.std.specs.Prelude.{◌≡◌, ◌==◌, ℕ, Bool, true, false, not, List, [], ◌∷◌, ◌++◌, length, map, filter, take}
+use Rattle.std.specs.List.{list_any, range_with_len}
+use Rattle.masks.specs.Masks.{has}
+use Rattle.policy_rules.specs.declared.packet.Leaving.{Leaving}
+use Rattle.meters.specs.declared.meter.Stay.{Stay}
+use Rattle.meters.specs.declared.meter.Stay.TheVariants as stay
+
+-- A meter as contracts know it: its port, the leavings that it holds, and what its kind says of
+-- every list of leavings: whether a meter that holds it is to leave.
+pub record Seen : Type 0 where
+  pub port : ℕ
+  pub held : List Leaving
+  pub is_ended : List Leaving → Bool
+
+-- a port, and leavings that were noted there
+pub record Recorded : Type 0 where
+  pub port : ℕ
+  pub held : List Leaving
+
+-- a recorder that leaves when it holds so many leavings
+pub record Limited : Type 0 where
+  pub recorder : Recorded
+  pub most : ℕ
+
+-- the meter holds these leavings too
+abbrev pub holding : List Leaving → Seen → Seen
+holding more meter = record meter { held = meter.held ++ more }
+
+-- its list is ended
+abbrev pub is_over : Seen → Bool
+is_over meter = meter.is_ended meter.held
+
+-- what a note of a leaving makes of a meter, by its answer
+abbrev pub IsNoted : Leaving → Seen → Seen → Stay → Type 0
+IsNoted leaving old new stay.Stay = (new ≡ holding (leaving ∷ []) old) × (is_over new ≡ false)
+IsNoted leaving old new stay.Leave = (new ≡ holding (leaving ∷ []) old) × (is_over new ≡ true)
+IsNoted leaving old new stay.NoMemory = new ≡ old
+
+-- leavings of all ports, in order, each with its port
+abbrev pub PortLeavings : Type 0
+PortLeavings = List (ℕ × Leaving)
+
+-- the leavings of one port, in order
+abbrev pub leavings_of : ℕ → PortLeavings → List Leaving
+leavings_of port left = map (λ one. one.1) (filter (λ one. one.0 == port) left)
+
+-- its list, followed by the first k of these leavings, is ended for some k from 1
+abbrev pub is_over_within : List Leaving → Seen → Bool
+is_over_within more meter =
+    list_any (λ k. is_over (holding (take k more) meter)) (range_with_len 1 (length more))
+
+-- the meters that stay while packets leave, in order, each with all leavings of its port
+unfoldable pub kept : PortLeavings → List Seen → List Seen
+kept left meters =
+    map (λ meter. holding (leavings_of meter.port left) meter)
+    (filter (λ meter. not (is_over_within (leavings_of meter.port left) meter)) meters)
+
+-- the meters that stay in a network with these ports
+abbrev pub kept_meters : ℕ → PortLeavings → List Seen → List Seen
+kept_meters ports left meters = kept left (filter (λ meter. has ports meter.port) meters)
+
+-- where the old meters are those that stayed until now, the new ones are those that stay with one
+-- more leaving
+abbrev pub GoesOnKept : ℕ × Leaving → List Seen → List Seen → Type 0
+GoesOnKept one old new =
+    (ports : ℕ) (left : PortLeavings) (meters : List Seen) → old ≡ kept_meters ports left meters
+    → new ≡ kept_meters ports (left ++ one ∷ []) meters

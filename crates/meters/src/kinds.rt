@@ -1,0 +1,105 @@
+//! Two kinds of meters.
+ghost use Rattle.std.specs.Prelude.{◌≡◌, ◌<◌, [], length, false, nat_le};
+
+use crate::meter::{Meter, Stay};
+use policy_rules::Leaving;
+use std::alloc::Global;
+use std::marker::Model;
+
+/// A meter that stays for good.
+#[derive(Drop)]
+pub struct Recorder {
+    port: u32,
+    held: Vec<Leaving>,
+}
+
+impl Model for Recorder {
+    ghost use Rattle.meters.specs.Meters.{Recorded};
+
+    ghost Value = { Recorded };
+
+    ghost view = { λ m. record { port = m.port; held = m.held.items } };
+}
+
+impl Recorder {
+    /// A meter of this port that holds nothing. Takes no memory.
+    pub fn new(alloc: Global, port: u32) -> Self
+        ensures { result ≡ record { port = port; held = [] } }
+    {
+        Recorder {
+            port,
+            held: Vec::new(alloc),
+        }
+    }
+}
+
+impl Meter for Recorder {
+    ghost seen = { λ m. record { port = m.port; held = m.held; is_ended = λ _. false } };
+
+    fn port(&self) -> u32 {
+        self.port
+    }
+
+    fn note(&mut self, leaving: &Leaving) -> Stay {
+        match self.held.push(*leaving) {
+            Ok(()) => Stay::Stay,
+            Err(_) => Stay::NoMemory,
+        }
+    }
+
+    fn notes(&self) -> u64 {
+        self.held.len() as u64
+    }
+}
+
+/// A meter that leaves when it holds `most` leavings.
+#[derive(Drop)]
+pub struct FirstN {
+    recorder: Recorder,
+    most: u64,
+}
+
+impl Model for FirstN {
+    ghost use Rattle.meters.specs.Meters.{Limited};
+
+    ghost Value = { Limited };
+
+    ghost view = { λ m. record { recorder = m.recorder; most = m.most } };
+}
+
+impl FirstN {
+    /// A meter of this port that holds nothing, and leaves with its `n`-th leaving. Takes no
+    /// memory.
+    pub fn new(alloc: Global, port: u32, n: u64) -> Self
+        requires { 0 < n }
+        ensures { result ≡ record { recorder = record { port = port; held = [] }; most = n } }
+    {
+        FirstN {
+            recorder: Recorder::new(alloc, port),
+            most: n,
+        }
+    }
+}
+
+impl Meter for FirstN {
+    ghost seen = { λ m. record {
+      port = m.recorder.port;
+      held = m.recorder.held;
+      is_ended = λ held. nat_le m.most (length held);
+    } };
+
+    fn port(&self) -> u32 {
+        self.recorder.port()
+    }
+
+    fn note(&mut self, leaving: &Leaving) -> Stay {
+        match self.recorder.note(leaving) {
+            Stay::Stay if self.most <= self.recorder.notes() => Stay::Leave,
+            answer => answer,
+        }
+    }
+
+    fn notes(&self) -> u64 {
+        self.recorder.notes()
+    }
+}
