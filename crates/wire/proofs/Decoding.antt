@@ -1,0 +1,56 @@
+-- The bytes that a message spells are its one spelling.
+use Rattle.std.proofs.Common.{◌≡◌, ℕ, Bool, true, false, cond, eqb, List, [], ◌++◌, length, Option, Some, None, Result, Ok, Err, refl, sym, ap, subst, ◌∙◌}
+use Rattle.std.specs.Prelude.{IfOk, IsErrOf}
+use Rattle.std.proofs.lemmas.Bool.{eqb-true}
+use Rattle.std.proofs.lemmas.List.{append-nil, nil_from_length}
+use Rattle.ctrl_msg.specs.declared.message.Message.{Message}
+use Rattle.wire.specs.declared.error.WireError.{WireError}
+use Rattle.wire.specs.declared.error.WireError.TheVariants.{Malformed, NoMemory}
+use Rattle.wire.specs.Format.{then_read}
+use Rattle.wire.specs.Messages.{message, whole, IsSpelling}
+use Rattle.wire.specs.Reading.{Gives}
+use Rattle.wire.proofs.Laws.{AreBytes, then_some, passed, some_is}
+use Rattle.wire.proofs.Lawful.{message_lawful}
+
+pub whole_takes : (bytes : List ℕ) (m : Message) (rest : List ℕ) → AreBytes bytes → whole bytes ≡ Some (m, rest) → IsSpelling m bytes
+whole_takes bytes m rest are e =
+    let b = then_some (message.read bytes) (λ x. cond (eqb (length x.1) 0) (Some x) None) (m, rest) e in
+    let t = message_lawful.takes bytes b.0.0 b.0.1 are b.1 in
+    let g = passed (eqb (length b.0.1) 0) b.0 (m, rest) b.2 in
+    let none : b.0.1 ≡ [] = nil_from_length b.0.1 (eqb-true _ _ g.0) in
+    let all : IsSpelling b.0.0 bytes = record {
+      fits = t.fits;
+      spelled = t.parts ∙ ap (λ u. message.spell b.0.0 ++ u) none ∙ append-nil (message.spell b.0.0);
+    } in
+    subst (λ (p : Message × List ℕ). IsSpelling p.0 bytes) g.1 all
+
+pub whole_again : (bytes : List ℕ) (m : Message) → IsSpelling m bytes → whole bytes ≡ Some (m, [])
+whole_again bytes m h =
+    let read : message.read bytes ≡ Some (m, []) =
+    ap message.read (h.spelled ∙ sym (append-nil (message.spell m))) ∙ message_lawful.again m [] h.fits in
+    rw read refl
+
+pub none_is_not : {A : Type 0} (x : A) → None ≡ Some x → ⊥
+none_is_not x e = absurd cc
+
+-- no two messages have one spelling
+pub one_message : (bytes : List ℕ) (a b : Message) → IsSpelling a bytes → IsSpelling b bytes → a ≡ b
+one_message bytes a b ha hb =
+    ap (λ (p : Message × List ℕ). p.0)
+    (some_is (a, []) (b, []) (sym (whole_again bytes a ha) ∙ whole_again bytes b hb))
+
+pub found : (r : Result Message WireError) (bytes rest : List ℕ) → AreBytes bytes → Gives (λ m. m) (whole bytes) r rest → IfOk r (λ m. IsSpelling m bytes)
+found (Ok m) bytes rest are h = whole_takes bytes m rest are h
+found (Err error) bytes rest are h = tt
+
+pub only : (r : Result Message WireError) (bytes rest : List ℕ) → AreBytes bytes → Gives (λ m. m) (whole bytes) r rest
+    → IfOk r (λ m. (other : Message) → IsSpelling other bytes → other ≡ m)
+only (Ok m) bytes rest are h = λ other spelled. one_message bytes other m spelled (whole_takes bytes m rest are h)
+only (Err error) bytes rest are h = tt
+
+pub malformed : (r : Result Message WireError) (bytes rest : List ℕ) → Gives (λ m. m) (whole bytes) r rest
+    → IsErrOf r Malformed → (m : Message) → IsSpelling m bytes → ⊥
+malformed (Ok m) bytes rest h is_malformed = λ other spelled. absurd (cc is_malformed)
+malformed (Err Malformed) bytes rest h is_malformed = λ other spelled.
+    none_is_not (other, []) (sym h ∙ whole_again bytes other spelled)
+malformed (Err NoMemory) bytes rest h is_malformed = absurd (cc is_malformed)

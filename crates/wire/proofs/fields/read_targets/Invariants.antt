@@ -1,0 +1,14 @@
+use Rattle.std.proofs.Common.{◌≡◌, ◌-◌, ◌≤◌, length, take}
+use Rattle.wire.specs.Fields.{switch}
+use Rattle.wire.specs.Format.{read_items}
+use Rattle.wire.proofs.Items.{with_front}
+use Rattle.wire.proofs.fields.read_targets.Given as goal
+
+abbrev pub invariant-loop-place : goal.invariant-loop-place
+invariant-loop-place l =
+    record {
+      few : l.count ≤ 4;
+      long : length l.switches ≡ 4;
+      so_far : with_front (take l.place l.switches) (read_items switch (l.count - l.place) l.reader)
+          ≡ read_items switch l.count l.initial.reader;
+    }

@@ -1,0 +1,105 @@
+-- What an assembler of frames holds, and what it refuses.
+use Rattle.std.specs.Prelude.{◌≡◌, ◌≢◌, ℕ, ◌+◌, ◌<◌, ◌≤◌, nat_lt, ◌==◌, Bool, true, false, List, [], ◌∷◌, ◌++◌, length, filter, Option, Some, None, IsSome, IfSome, find, Result, Ok, Err, IsErrOf, IfOk, OnOk, OnErr, ◌↔◌}
+use Rattle.std.specs.List.{insert}
+use Rattle.ctrl_msg.specs.declared.message.Message.{Message}
+use Rattle.wire.specs.declared.assembler.Spot.{Spot}
+use Rattle.wire.specs.declared.assembler.Spot.TheVariants.{Refused, Held, New}
+use Rattle.wire.specs.declared.error.WireError.{WireError}
+use Rattle.wire.specs.declared.error.WireError.TheVariants.{Malformed, NoMemory}
+use Rattle.wire.specs.Frames.{AreFrames, place_of, count_of, piece_of, frame}
+
+-- the frame that is held at a place
+abbrev pub held_at : List (List ℕ) → ℕ → Option (List ℕ)
+held_at held place = find (λ f. place_of f == place) held
+
+-- a frame is held too: behind those of lower places, and before those of higher ones
+abbrev pub with_frame : List (List ℕ) → List ℕ → List (List ℕ)
+with_frame held f =
+    filter (λ g. nat_lt (place_of g) (place_of f)) held
+    ++ f ∷ filter (λ g. nat_lt (place_of f) (place_of g)) held
+
+-- at each place there is a frame
+abbrev pub AreAllHeld : List (List ℕ) → ℕ → Type 0
+AreAllHeld held count = (place : ℕ) → place < count → IsSome (held_at held place)
+
+-- why a frame is refused
+pub data IsRefused (held : List (List ℕ)) (f : List ℕ) : Type 0 where
+  too_short : length f < 9 → IsRefused held f
+  too_long : 16384 < length f → IsRefused held f
+  past_the_count : count_of f ≤ place_of f → IsRefused held f
+  another_count : (place : ℕ) (g : List ℕ) → held_at held place ≡ Some g
+      → count_of g ≢ count_of f → IsRefused held f
+  another_frame : (g : List ℕ) → held_at held (place_of f) ≡ Some g → g ≢ f → IsRefused held f
+  no_message : AreAllHeld (with_frame held f) (count_of f)
+      → ((m : Message) → AreFrames m (with_frame held f) → ⊥) → IsRefused held f
+
+-- ---- what holds of the held frames
+
+-- a frame of this count, whose place is below it
+pub record IsOfCount (count : ℕ) (f : List ℕ) : Type 0 where
+  pub below : place_of f < count
+  pub whole : f ≡ frame (place_of f) count (piece_of f)
+  pub count_is : count_of f ≡ count
+
+-- frames of one count, at rising places from this one on
+abbrev pub AreRising : ℕ → ℕ → List (List ℕ) → Type 0
+AreRising from count [] = Unit {0}
+AreRising from count (f ∷ fs) =
+    (from ≤ place_of f) × IsOfCount count f × AreRising (place_of f + 1) count fs
+
+-- the held frames are of one count, each of a place of its own
+abbrev pub AreTogether : List (List ℕ) → Type 0
+AreTogether [] = Unit {0}
+AreTogether (f ∷ fs) = AreRising 0 (count_of f) (f ∷ fs)
+
+-- ---- what an assembler answers
+
+-- why frames answer an error: as many as their count are those of no message, or memory is out
+abbrev pub AreNone : List (List ℕ) → ℕ → WireError → Type 0
+AreNone fs count Malformed = (length fs ≡ count) × ((m : Message) → AreFrames m fs → ⊥)
+AreNone fs count NoMemory = Unit {0}
+
+-- what frames answer that are all there
+abbrev pub IsWhole : List (List ℕ) → Result Message WireError → Type 0
+IsWhole fs (Ok m) = AreFrames m fs
+IsWhole fs (Err error) = AreNone fs (length fs) error
+
+-- what the frames of a count answer
+abbrev pub IsAnswer : List (List ℕ) → ℕ → Result (Option Message) WireError → Type 0
+IsAnswer fs count (Ok None) = length fs ≢ count
+IsAnswer fs count (Ok (Some m)) = (length fs ≡ count) × AreFrames m fs
+IsAnswer fs count (Err error) = AreNone fs count error
+
+-- the held frames are of this count, or one of them isn't
+abbrev pub Agree : List (List ℕ) → ℕ → Bool → Type 0
+Agree held count true = AreRising 0 count held
+Agree held count false =
+    (place : ℕ) × (g : List ℕ) × (held_at held place ≡ Some g) × (count_of g ≢ count)
+
+-- a frame that can be held beside those that are
+pub record Joins (held : List (List ℕ)) (f : List ℕ) : Type 0 where
+  pub long : 9 ≤ length f
+  pub short : length f ≤ 16384
+  pub below : place_of f < count_of f
+  pub rising : AreRising 0 (count_of f) held
+  pub same : (g : List ℕ) → held_at held (place_of f) ≡ Some g → g ≡ f
+
+-- where a frame belongs among those that are held: nowhere, where it is already, or before the
+-- frame of this index
+abbrev pub IsSpot : List (List ℕ) → List ℕ → Spot → Type 0
+IsSpot held f Refused = IsRefused held f
+IsSpot held f Held = Joins held f × (with_frame held f ≡ held)
+IsSpot held f (New index) =
+    Joins held f × (index ≤ length held) × (with_frame held f ≡ insert held index f)
+    × AreRising 0 (count_of f) (insert held index f)
+
+-- what taking in a frame answers, and leaves
+pub record IsFed (held : List (List ℕ)) (f : List ℕ) (after : List (List ℕ))
+    (result : Result (Option Message) WireError) : Type 0 where
+  pub together : AreTogether after
+  pub refused : IsErrOf result Malformed → IsRefused held f
+  pub taken : OnOk result (IsRefused held f → ⊥)
+  pub is_held : OnOk result (after ≡ with_frame held f)
+  pub some : IfOk result (λ answer. IsSome answer ↔ AreAllHeld after (count_of f))
+  pub message : IfOk result (λ answer. IfSome answer (λ m. AreFrames m after))
+  pub unchanged : OnErr result (after ≡ held)

@@ -1,0 +1,92 @@
+-- The formats of the fields of messages.
+use Rattle.std.specs.Prelude.{ℕ, ◌+◌, ◌*◌, ◌/◌, ◌%◌, ◌^◌, Bool, ◌&&◌, ◌==◌, nat_lt, nat_le, bit_and, Option, Some, None, List, length}
+use Rattle.std.specs.Int.{w8, w32, w64}
+use Rattle.policy_rules.specs.declared.policy.Action.{Action}
+use Rattle.policy_rules.specs.declared.policy.Action.TheVariants.{Drop, Out}
+use Rattle.policy_rules.specs.declared.rules.Rule.{Rule}
+use Rattle.policy_rules.specs.declared.rules.Partition.{Partition}
+use Rattle.switch_table.specs.declared.tables.PartRow.{PartRow}
+use Rattle.switch_table.specs.declared.tables.Tables.{Tables}
+use Rattle.ternary.specs.Word.{WordValue}
+use Rattle.wire.specs.Format.{Format, number, ◌⊗◌, as_type, such_that, optional, list_of}
+
+-- ---- numbers of 1, 4, 8 and 16 bytes
+
+unfoldable pub n1 : Format ℕ
+n1 = number w8 (2 ^ 8)
+
+unfoldable pub n4 : Format ℕ
+n4 = number w32 (2 ^ 32)
+
+unfoldable pub n8 : Format ℕ
+n8 = number w64 (2 ^ 64)
+
+-- the greater half first
+unfoldable pub n16 : Format ℕ
+n16 =
+    as_type (λ (halves : ℕ × ℕ). halves.0 * 2 ^ 64 + halves.1) (λ n. (n / 2 ^ 64, n % 2 ^ 64))
+    (n8 ⊗ n8)
+
+-- ---- switches, words, rules
+
+-- the number of a switch is below 64
+unfoldable pub switch : Format ℕ
+switch = such_that (λ n. nat_lt n 64) n1
+
+-- no bit of the value is outside the mask, and the mask has 104 bits
+abbrev pub is_word : ℕ × ℕ → Bool
+is_word pair = (bit_and pair.0 pair.1 == pair.0) && nat_lt pair.1 (2 ^ 104)
+
+-- the value and the mask
+unfoldable pub word : Format WordValue
+word =
+    as_type (λ pair. record { value = pair.0; mask = pair.1 }) (λ w. (w.value, w.mask))
+    (such_that is_word (n16 ⊗ n16))
+
+-- a row's priority, or nothing for the default
+unfoldable pub rule_name : Format (Option ℕ)
+rule_name = optional n1 n4
+
+-- the port, or nothing for a drop
+abbrev pub action_of : Option ℕ → Action
+action_of None = Drop
+action_of (Some port) = Out port
+
+abbrev pub port_of : Action → Option ℕ
+port_of Drop = None
+port_of (Out port) = Some port
+
+unfoldable pub action : Format Action
+action = as_type action_of port_of (optional n1 n4)
+
+unfoldable pub rule : Format Rule
+rule =
+    as_type (λ p. record { word = p.0; rank = p.1.0; rule = p.1.1.0; action = p.1.1.1 })
+    (λ r. (r.word, (r.rank, (r.rule, r.action))))
+    (word ⊗ n4 ⊗ rule_name ⊗ action)
+
+-- ---- tables
+
+-- one to four switches
+unfoldable pub target_count : Format ℕ
+target_count = such_that (λ n. nat_le 1 n && nat_le n 4) n1
+
+unfoldable pub targets : Format (List ℕ)
+targets = list_of target_count switch
+
+unfoldable pub region : Format PartRow
+region =
+    as_type (λ p. record { region = p.0; targets = p.1 }) (λ row. (row.region, row.targets))
+    (word ⊗ targets)
+
+unfoldable pub partition : Format Partition
+partition =
+    as_type (λ p. record { number = p.0; region = p.1.0; rules = p.1.1 })
+    (λ part. (part.number, (part.region, part.rules)))
+    (n4 ⊗ word ⊗ list_of n4 rule)
+
+unfoldable pub tables : Format Tables
+tables =
+    as_type (λ p. record { version = p.0; parts = p.1.0; auth = p.1.1 })
+    (λ t. (t.version, (t.parts, t.auth)))
+    (n4 ⊗ list_of n4 region ⊗ list_of n4 partition)

@@ -1,0 +1,101 @@
+-- Formats: how the values of a type are spelled as bytes. A format is a spelling, a test of which
+-- values it is for, and a reader of one value from the front of bytes; larger formats are made of
+-- smaller ones.
+use Rattle.std.specs.Prelude.{◌≡◌, ℕ, zero, suc, ◌<◌, nat_lt, Bool, true, false, ◌&&◌, if◌then◌else◌, List, [], ◌∷◌, ◌++◌, length, take, drop, Option, Some, None}
+use Rattle.std.specs.Int.{Width, byte_len, to_be_bytes, from_be_bytes}
+use Rattle.std.specs.List.{flat_map, list_all}
+
+pub record Format (A : Type 0) : Type 0 where
+  pub spell : A → List ℕ
+  pub fits : A → Bool
+  pub read : List ℕ → Option (A × List ℕ)
+
+-- what follows where something was read
+abbrev pub then_read : {A B : Type 0} → Option A → (A → Option B) → Option B
+then_read None f = None
+then_read (Some x) f = f x
+
+-- ---- numbers
+
+-- a number in as many bytes as the width has, the greatest first
+unfoldable pub spelled_number : Width → ℕ → List ℕ
+spelled_number w n = to_be_bytes w n
+
+unfoldable pub read_number : Width → List ℕ → Option (ℕ × List ℕ)
+read_number w bytes =
+    if nat_lt (length bytes) (byte_len w)
+    then None
+    else Some (from_be_bytes w (take (byte_len w) bytes), drop (byte_len w) bytes)
+
+abbrev pub number : Width → ℕ → Format ℕ
+number w limit =
+    record { spell = spelled_number w; fits = λ n. nat_lt n limit; read = read_number w }
+
+-- ---- formats of formats
+
+-- one value after the other
+infixr 20 ◌⊗◌
+abbrev pub ◌⊗◌ : {A B : Type 0} → Format A → Format B → Format (A × B)
+f ⊗ g =
+    record {
+      spell = λ pair. f.spell pair.0 ++ g.spell pair.1;
+      fits = λ pair. f.fits pair.0 && g.fits pair.1;
+      read = λ bytes. then_read (f.read bytes) (λ x.
+          then_read (g.read x.1) (λ y. Some ((x.0, y.0), y.1)));
+    }
+
+-- the values of another type, as those that stand for them
+abbrev pub as_type : {A B : Type 0} → (A → B) → (B → A) → Format A → Format B
+as_type to from f =
+    record {
+      spell = λ y. f.spell (from y);
+      fits = λ y. f.fits (from y);
+      read = λ bytes. then_read (f.read bytes) (λ x. Some (to x.0, x.1));
+    }
+
+-- only the values that pass a test
+abbrev pub such_that : {A : Type 0} → (A → Bool) → Format A → Format A
+such_that test f =
+    record {
+      spell = f.spell;
+      fits = λ x. f.fits x && test x;
+      read = λ bytes. then_read (f.read bytes) (λ x. if test x.0 then Some x else None);
+    }
+
+-- the flag 0 for nothing, or the flag 1 and the value
+abbrev pub spelled_optional : {A : Type 0} → Format ℕ → Format A → Option A → List ℕ
+spelled_optional flag f None = flag.spell 0
+spelled_optional flag f (Some x) = flag.spell 1 ++ f.spell x
+
+abbrev pub optional_fits : {A : Type 0} → Format A → Option A → Bool
+optional_fits f None = true
+optional_fits f (Some x) = f.fits x
+
+abbrev pub read_flagged : {A : Type 0} → Format A → ℕ → List ℕ → Option (Option A × List ℕ)
+read_flagged f zero bytes = Some (None, bytes)
+read_flagged f (suc zero) bytes = then_read (f.read bytes) (λ x. Some (Some x.0, x.1))
+read_flagged f (suc (suc other)) bytes = None
+
+abbrev pub optional : {A : Type 0} → Format ℕ → Format A → Format (Option A)
+optional flag f =
+    record {
+      spell = spelled_optional flag f;
+      fits = optional_fits f;
+      read = λ bytes. then_read (flag.read bytes) (λ x. read_flagged f x.0 x.1);
+    }
+
+-- so many values
+unfoldable pub read_items : {A : Type 0} → Format A → ℕ → List ℕ → Option (List A × List ℕ)
+read_items f zero bytes = Some ([], bytes)
+read_items f (suc count) bytes =
+    then_read (f.read bytes) (λ x.
+    then_read (read_items f count x.1) (λ xs. Some (x.0 ∷ xs.0, xs.1)))
+
+-- how many values there are, and then each
+abbrev pub list_of : {A : Type 0} → Format ℕ → Format A → Format (List A)
+list_of count f =
+    record {
+      spell = λ xs. count.spell (length xs) ++ flat_map f.spell xs;
+      fits = λ xs. count.fits (length xs) && list_all f.fits xs;
+      read = λ bytes. then_read (count.read bytes) (λ n. read_items f n.0 n.1);
+    }

@@ -1,0 +1,64 @@
+-- How the spelling of a message is cut into frames.
+use Rattle.std.specs.Prelude.{◌≡◌, ℕ, zero, suc, ◌+◌, ◌-◌, true, List, [], ◌∷◌, ◌++◌, length, take, drop}
+use Rattle.std.specs.Int.{w32, from_be_bytes, div_ceil}
+use Rattle.ctrl_msg.specs.declared.message.Body.{Body}
+use Rattle.ctrl_msg.specs.declared.message.Body.TheVariants.{Install}
+use Rattle.ctrl_msg.specs.declared.message.Message.{Message}
+use Rattle.wire.specs.Fields.{n4}
+use Rattle.wire.specs.Messages.{message}
+
+-- the most bytes of a piece: a frame has 16,384 at most, and 8 of them say where its piece belongs
+abbrev pub most_of_piece : ℕ
+most_of_piece = 16376
+
+-- so many slices, of n bytes each as long as there are so many
+abbrev pub slices : ℕ → ℕ → List ℕ → List (List ℕ)
+slices zero n bytes = []
+slices (suc count) n bytes = take n bytes ∷ slices count n (drop n bytes)
+
+-- a head of so many bytes, and the rest in as few pieces as can be
+abbrev pub cut : ℕ → List ℕ → List (List ℕ)
+cut head bytes =
+    take head bytes
+    ∷ slices (div_ceil (length bytes - head) most_of_piece) most_of_piece (drop head bytes)
+
+-- of an installation the receiver, the kind and the boot, so that its other pieces say the tables
+-- alone; of any other message everything
+abbrev pub head_len : Body → List ℕ → ℕ
+head_len (Install _ _) bytes = 6
+head_len _ bytes = length bytes
+
+abbrev pub pieces : Message → List (List ℕ)
+pieces m = let bytes = message.spell m in cut (head_len m.body bytes) bytes
+
+-- the place of a piece, how many there are, and the piece
+unfoldable pub frame : ℕ → ℕ → List ℕ → List ℕ
+frame place count piece = n4.spell place ++ n4.spell count ++ piece
+
+-- the frames of pieces at the places from this one on
+abbrev pub frames_from : ℕ → ℕ → List (List ℕ) → List (List ℕ)
+frames_from place count [] = []
+frames_from place count (piece ∷ others) =
+    frame place count piece ∷ frames_from (place + 1) count others
+
+abbrev pub frames_of : List (List ℕ) → List (List ℕ)
+frames_of parts = frames_from 0 (length parts) parts
+
+abbrev pub frames : Message → List (List ℕ)
+frames m = frames_of (pieces m)
+
+-- the message has a spelling, and these are its frames
+pub record AreFrames (m : Message) (fs : List (List ℕ)) : Type 0 where
+  pub fits : message.fits m ≡ true
+  pub frames_are : fs ≡ frames m
+
+-- ---- the parts of a frame
+
+unfoldable pub place_of : List ℕ → ℕ
+place_of bytes = from_be_bytes w32 (take 4 bytes)
+
+unfoldable pub count_of : List ℕ → ℕ
+count_of bytes = from_be_bytes w32 (take 4 (drop 4 bytes))
+
+abbrev pub piece_of : List ℕ → List ℕ
+piece_of bytes = drop 8 bytes

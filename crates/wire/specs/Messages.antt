@@ -1,0 +1,182 @@
+-- The format of messages: the receiver, the kind, and the fields of that kind.
+use Rattle.std.specs.Prelude.{◌≡◌, ℕ, ◌^◌, ◌<◌, nat_lt, Bool, true, false, not, ◌==◌, if◌then◌else◌, List, ◌++◌, length, All, Option, Some, None}
+use Rattle.ctrl_msg.specs.Bodies.{is_for_controller}
+use Rattle.ctrl_msg.specs.declared.message.Receiver.{Receiver}
+use Rattle.ctrl_msg.specs.declared.message.Receiver.TheVariants.{Switch, Controller}
+use Rattle.ctrl_msg.specs.declared.message.Body.{Body}
+use Rattle.ctrl_msg.specs.declared.message.Body.TheVariants.{Install, OpenAt, Stamp, Collect, CacheRule, Advertise, Hello, Installed, Stamped}
+use Rattle.ctrl_msg.specs.declared.message.Message.{Message}
+use Rattle.failover.specs.declared.advert.Advert.{Advert}
+use Rattle.policy_rules.specs.declared.policy.Action.{Action}
+use Rattle.policy_rules.specs.declared.rules.Partition.{Partition}
+use Rattle.switch_table.specs.declared.tables.PartRow.{PartRow}
+use Rattle.switch_table.specs.declared.tables.Tables.{Tables}
+use Rattle.ternary.specs.Word.{WordValue}
+use Rattle.wire.specs.Format.{Format, then_read, ◌⊗◌, as_type, such_that}
+use Rattle.wire.specs.Fields as form
+
+-- ---- the receiver: a switch, or 255 for the controller
+
+abbrev pub spelled_receiver : Receiver → List ℕ
+spelled_receiver (Switch s) = form.switch.spell s
+spelled_receiver Controller = form.n1.spell 255
+
+abbrev pub receiver_fits : Receiver → Bool
+receiver_fits (Switch s) = form.switch.fits s
+receiver_fits Controller = true
+
+abbrev pub receiver_of : ℕ → Option Receiver
+receiver_of n =
+    if n == 255 then Some Controller else (if nat_lt n 64 then Some (Switch n) else None)
+
+unfoldable pub receiver : Format Receiver
+receiver =
+    record {
+      spell = spelled_receiver;
+      fits = receiver_fits;
+      read = λ bytes. then_read (form.n1.read bytes) (λ x.
+          then_read (receiver_of x.0) (λ to. Some (to, x.1)));
+    }
+
+-- ---- the fields of each kind
+
+unfoldable pub install : Format (ℕ × Tables)
+install = form.n4 ⊗ form.tables
+
+unfoldable pub of_version : Format (ℕ × ℕ)
+of_version = form.n4 ⊗ form.n4
+
+unfoldable pub cache_rule : Format (ℕ × (WordValue × (Option ℕ × Action)))
+cache_rule = form.n4 ⊗ form.word ⊗ form.rule_name ⊗ form.action
+
+unfoldable pub advert : Format Advert
+advert =
+    as_type (λ p. record { origin = p.0; boot = p.1.0; seq = p.1.1.0; up = p.1.1.1 })
+    (λ a. (a.origin, (a.boot, (a.seq, a.up))))
+    (form.switch ⊗ form.n4 ⊗ form.n4 ⊗ form.n8)
+
+unfoldable pub hello : Format (ℕ × ℕ)
+hello = form.switch ⊗ form.n4
+
+unfoldable pub acknowledged : Format (ℕ × (ℕ × ℕ))
+acknowledged = form.switch ⊗ form.n4 ⊗ form.n4
+
+-- ---- the body: the kind, and its fields
+
+abbrev pub kind_of : Body → ℕ
+kind_of (Install _ _) = 1
+kind_of (OpenAt _ _) = 2
+kind_of (Stamp _ _) = 3
+kind_of (Collect _ _) = 4
+kind_of (CacheRule _ _ _ _) = 5
+kind_of (Advertise _) = 6
+kind_of (Hello _ _) = 7
+kind_of (Installed _ _ _) = 8
+kind_of (Stamped _ _ _) = 9
+
+abbrev pub spelled_fields : Body → List ℕ
+spelled_fields (Install boot tables) = install.spell (boot, tables)
+spelled_fields (OpenAt boot version) = of_version.spell (boot, version)
+spelled_fields (Stamp boot version) = of_version.spell (boot, version)
+spelled_fields (Collect boot version) = of_version.spell (boot, version)
+spelled_fields (CacheRule version word rule action) =
+    cache_rule.spell (version, (word, (rule, action)))
+spelled_fields (Advertise told) = advert.spell told
+spelled_fields (Hello switch boot) = hello.spell (switch, boot)
+spelled_fields (Installed switch boot version) = acknowledged.spell (switch, (boot, version))
+spelled_fields (Stamped switch boot version) = acknowledged.spell (switch, (boot, version))
+
+abbrev pub fields_fit : Body → Bool
+fields_fit (Install boot tables) = install.fits (boot, tables)
+fields_fit (OpenAt boot version) = of_version.fits (boot, version)
+fields_fit (Stamp boot version) = of_version.fits (boot, version)
+fields_fit (Collect boot version) = of_version.fits (boot, version)
+fields_fit (CacheRule version word rule action) =
+    cache_rule.fits (version, (word, (rule, action)))
+fields_fit (Advertise told) = advert.fits told
+fields_fit (Hello switch boot) = hello.fits (switch, boot)
+fields_fit (Installed switch boot version) = acknowledged.fits (switch, (boot, version))
+fields_fit (Stamped switch boot version) = acknowledged.fits (switch, (boot, version))
+
+-- the body that the fields make
+abbrev pub made : {A : Type 0} → (A → Body) → Option (A × List ℕ) → Option (Body × List ℕ)
+made make read = then_read read (λ x. Some (make x.0, x.1))
+
+abbrev pub cache_rule_of : ℕ × (WordValue × (Option ℕ × Action)) → Body
+cache_rule_of p = CacheRule p.0 p.1.0 p.1.1.0 p.1.1.1
+
+abbrev pub read_fields : ℕ → List ℕ → Option (Body × List ℕ)
+read_fields kind bytes =
+    if kind == 1 then made (λ p. Install p.0 p.1) (install.read bytes)
+    else (if kind == 2 then made (λ p. OpenAt p.0 p.1) (of_version.read bytes)
+    else (if kind == 3 then made (λ p. Stamp p.0 p.1) (of_version.read bytes)
+    else (if kind == 4 then made (λ p. Collect p.0 p.1) (of_version.read bytes)
+    else (if kind == 5 then made cache_rule_of (cache_rule.read bytes)
+    else (if kind == 6 then made Advertise (advert.read bytes)
+    else (if kind == 7 then made (λ p. Hello p.0 p.1) (hello.read bytes)
+    else (if kind == 8 then made (λ p. Installed p.0 p.1.0 p.1.1) (acknowledged.read bytes)
+    else (if kind == 9 then made (λ p. Stamped p.0 p.1.0 p.1.1) (acknowledged.read bytes)
+    else None))))))))
+
+unfoldable pub body : Format Body
+body =
+    record {
+      spell = λ b. form.n1.spell (kind_of b) ++ spelled_fields b;
+      fits = fields_fit;
+      read = λ bytes. then_read (form.n1.read bytes) (λ kind. read_fields kind.0 kind.1);
+    }
+
+-- ---- messages
+
+-- a message to the controller has a body for it, and one to a switch has one for a switch
+abbrev pub suits : Receiver → Body → Bool
+suits (Switch s) body = not (is_for_controller body)
+suits Controller body = is_for_controller body
+
+unfoldable pub message : Format Message
+message =
+    as_type (λ p. record { to = p.0; body = p.1 }) (λ m. (m.to, m.body))
+    (such_that (λ p. suits p.0 p.1) (receiver ⊗ body))
+
+-- the message that all of the bytes spell
+abbrev pub whole : List ℕ → Option (Message × List ℕ)
+whole bytes =
+    then_read (message.read bytes) (λ m. if length m.1 == 0 then Some m else None)
+
+-- the bytes are the one spelling of the message, of which each number is within its bytes, each
+-- switch below 64, each list shorter than 2^32, and the receiver one for its body
+pub record IsSpelling (m : Message) (bytes : List ℕ) : Type 0 where
+  pub fits : message.fits m ≡ true
+  pub spelled : bytes ≡ message.spell m
+
+-- ---- what makes a message of the program's types one that has a spelling
+
+abbrev pub AreSwitches : PartRow → Type 0
+AreSwitches row = All (λ s. s < 64) row.targets
+
+abbrev pub HasFewRules : Partition → Type 0
+HasFewRules part = length part.rules < 2 ^ 32
+
+pub record AreShort (t : Tables) : Type 0 where
+  pub regions : length t.parts < 2 ^ 32
+  pub targets : All AreSwitches t.parts
+  pub partitions : length t.auth < 2 ^ 32
+  pub rules : All HasFewRules t.auth
+
+abbrev pub FieldsSuit : Body → Type 0
+FieldsSuit (Install boot tables) = AreShort tables
+FieldsSuit (Advertise told) = told.origin < 64
+FieldsSuit (Hello switch boot) = switch < 64
+FieldsSuit (Installed switch boot version) = switch < 64
+FieldsSuit (Stamped switch boot version) = switch < 64
+FieldsSuit _ = Unit {0}
+
+abbrev pub IsSwitch : Receiver → Type 0
+IsSwitch (Switch s) = s < 64
+IsSwitch Controller = Unit {0}
+
+-- switches below 64, lists shorter than 2^32, and a receiver for the body
+pub record HasSpelling (m : Message) : Type 0 where
+  pub switch : IsSwitch m.to
+  pub suits : suits m.to m.body ≡ true
+  pub fields : FieldsSuit m.body

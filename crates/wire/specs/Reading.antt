@@ -1,0 +1,32 @@
+-- What reading from bytes gives, and what writing leaves.
+use Rattle.std.specs.Prelude.{◌≡◌, ℕ, Bool, true, List, ◌++◌, Option, Some, None, Result, Ok, Err}
+use Rattle.wire.specs.declared.error.WireError.{WireError}
+use Rattle.wire.specs.declared.error.WireError.TheVariants.{Malformed, NoMemory}
+use Rattle.ctrl_msg.specs.declared.message.Body.{Body}
+use Rattle.wire.specs.Format.{Format}
+use Rattle.wire.specs.Messages.{fields_fit, spelled_fields}
+
+-- without memory it may be anything
+abbrev pub Refuses : {A : Type 0} → WireError → Option A → Type 0
+Refuses Malformed read = read ≡ None
+Refuses NoMemory read = Unit {0}
+
+-- the answer, seen by view, and the bytes that are left are what was read
+abbrev pub Gives : {X A : Type 0} → (X → A) → Option (A × List ℕ) → Result X WireError → List ℕ
+    → Type 0
+Gives view read (Ok x) rest = read ≡ Some (view x, rest)
+Gives view read (Err error) rest = Refuses error read
+
+-- the answer and the bytes that are left are what the format reads
+abbrev pub Reads : {A : Type 0} → Format A → List ℕ → Result A WireError → List ℕ → Type 0
+Reads f bytes result rest = Gives (λ x. x) (f.read bytes) result rest
+
+-- the value has a spelling, which stands at the end of the new bytes
+pub record Appends {A : Type 0} (f : Format A) (x : A) (before after : List ℕ) : Type 0 where
+  pub fits : f.fits x ≡ true
+  pub bytes : after ≡ before ++ f.spell x
+
+-- the same of a body's fields
+pub record AppendsFields (b : Body) (before after : List ℕ) : Type 0 where
+  pub fits : fields_fit b ≡ true
+  pub bytes : after ≡ before ++ spelled_fields b

@@ -1,0 +1,184 @@
+ghost use Rattle.std.specs.Prelude.{◌≡◌, ◌<◌, ◌≤◌, ◌↔◌, [], length, IsSome, IfOk, IfSome, OnOk, OnErr, IsErrOf, nat_le};
+ghost use Rattle.std.specs.Option.{option_copied};
+ghost use Rattle.std.specs.List.{insert, position, position_or_len};
+ghost use Rattle.wire.specs.declared.error.WireError.TheVariants.{Malformed};
+ghost use Rattle.wire.specs.Frames.{AreFrames, count_of, place_of};
+ghost use Rattle.wire.specs.Assembly.{Agree, AreAllHeld, AreRising, AreTogether, IsAnswer, IsFed, IsRefused, IsSpot, held_at, with_frame};
+
+use crate::assembly::{are_same, message_of};
+use crate::error::WireError;
+use crate::frame::{Frame, HEADER_LEN, count_of, place_of};
+use crate::frames::MOST_OF_FRAME;
+use ctrl_msg::Message;
+use std::alloc::Global;
+use std::marker::Model;
+
+/// The frames of one message that came so far. Contracts see the list of their bytes, in the order
+/// of their places.
+#[derive(Debug, Drop)]
+pub struct Assembler {
+    frames: Vec<Frame>,
+}
+
+impl Model for Assembler {
+    ghost use Rattle.std.specs.Prelude.{List, ℕ};
+    ghost use Rattle.wire.specs.Assembly.{AreTogether};
+
+    ghost Value = { List (List ℕ) };
+
+    ghost view = { λ a. a.frames.items };
+
+    ghost invariant = { λ a. AreTogether a.frames.items };
+}
+
+impl Assembler {
+    /// Of no frame; it takes no memory yet.
+    pub fn new(alloc: Global) -> Assembler
+        ensures { result ≡ [] }
+    {
+        Assembler {
+            frames: Vec::new(alloc),
+        }
+    }
+
+    /// Takes in a frame, and answers the message once all of its frames are held; a frame may come
+    /// again, and in any order.
+    ///
+    /// # Errors
+    /// `Malformed` where the frame isn't of 9 to 16,384 bytes, its place isn't below its count, a
+    /// held frame has another count, another frame is held at its place, or all frames are there
+    /// and are those of no message. An error changes nothing.
+    pub fn feed(&mut self, alloc: Global, frame: &[u8]) -> Result<Option<Message>, WireError>
+        ensures refused { IsErrOf result Malformed → IsRefused self.old frame.now }
+        ensures taken { OnOk result (IsRefused self.old frame.now → ⊥) }
+        ensures held { OnOk result (self.new ≡ with_frame self.old frame.now) }
+        ensures some { IfOk result (λ answer.
+            IsSome answer ↔ AreAllHeld self.new (count_of frame.now)) }
+        ensures message { IfOk result (λ answer. IfSome answer (λ m. AreFrames m self.new)) }
+        ensures unchanged { OnErr result (self.new ≡ self.old) }
+    {
+        feed(&mut self.frames, alloc, frame)
+    }
+}
+
+fn feed(frames: &mut Vec<Frame>, alloc: Global, frame: &[u8]) -> Result<Option<Message>, WireError>
+    requires { AreTogether frames.old.items }
+    ensures { IsFed frames.old.items frame.now frames.new.items result }
+{
+    match spot_of(frames, frame) {
+        Spot::Refused => Err(WireError::Malformed),
+        Spot::Held => message_of(alloc, count_of(frame), frames),
+        Spot::New(index) => hold(frames, alloc, index, frame),
+    }
+}
+
+// Holds one more frame before that of this index, but where an error comes.
+fn hold(
+    frames: &mut Vec<Frame>,
+    alloc: Global,
+    index: usize,
+    frame: &[u8],
+) -> Result<Option<Message>, WireError>
+    requires index { index ≤ length frames.old.items }
+    requires long { 8 ≤ length frame.now }
+    requires rising { AreRising 0 (count_of frame.now) (insert frames.old.items index frame.now) }
+    ensures answer { let held = insert frames.old.items index frame.now in
+        IsAnswer held (count_of frame.now) result }
+    ensures ok { OnOk result (frames.new.items ≡ insert frames.old.items index frame.now) }
+    ensures unchanged { OnErr result (frames.new.items ≡ frames.old.items) }
+{
+    let copy = Frame::copied(alloc, frame)?;
+    frames.insert(index, copy)?;
+    match message_of(alloc, count_of(frame), frames) {
+        Ok(answer) => Ok(answer),
+        Err(error) => {
+            let _ = frames.remove(index);
+            Err(error)
+        }
+    }
+}
+
+/// Where a frame belongs.
+enum Spot {
+    /// It can't be held.
+    Refused,
+    /// It is held already.
+    Held,
+    /// Before the frame of this index.
+    New(usize),
+}
+
+fn spot_of(frames: &[Frame], frame: &[u8]) -> Spot
+    requires { AreTogether frames.now }
+    ensures { IsSpot frames.now frame.now result }
+{
+    if frame.len() <= HEADER_LEN {
+        return Spot::Refused;
+    }
+    if frame.len() > MOST_OF_FRAME {
+        return Spot::Refused;
+    }
+    if count_of(frame) <= place_of(frame) {
+        return Spot::Refused;
+    }
+    if !agree(frames, count_of(frame)) {
+        return Spot::Refused;
+    }
+    spot_among(frames, frame)
+}
+
+// Whether the held frames have this count.
+fn agree(frames: &[Frame], count: u32) -> bool
+    requires { AreTogether frames.now }
+    ensures { Agree frames.now count result }
+{
+    match frames.first() {
+        Some(first) => first.count() == count,
+        None => true,
+    }
+}
+
+// Where a frame belongs among those of its count.
+fn spot_among(frames: &[Frame], frame: &[u8]) -> Spot
+    requires long { 9 ≤ length frame.now }
+    requires short { length frame.now ≤ 16384 }
+    requires below { place_of frame.now < count_of frame.now }
+    requires rising { AreRising 0 (count_of frame.now) frames.now }
+    ensures { IsSpot frames.now frame.now result }
+{
+    let place = place_of(frame);
+    match find_at(frames, place) {
+        Some(held) => {
+            if are_same(held.bytes(), frame) {
+                Spot::Held
+            } else {
+                Spot::Refused
+            }
+        }
+        None => Spot::New(index_of(frames, place)),
+    }
+}
+
+// The frame of this place.
+fn find_at(frames: &[Frame], place: u32) -> Option<&Frame>
+    ensures { option_copied result ≡ held_at frames.now place }
+{
+    frames.iter().find(|frame| frame.place() == place)
+}
+
+// The index of the first frame of this place or a higher one.
+fn first_behind(frames: &[Frame], place: u32) -> Option<usize>
+    ensures { result ≡ position (λ f. nat_le place (place_of f)) frames.now }
+{
+    frames.iter().position(|frame| place <= frame.place())
+}
+
+// How many frames stand before the first of this place or a higher one.
+fn index_of(frames: &[Frame], place: u32) -> usize
+    ensures { result ≡ position_or_len (λ f. nat_le place (place_of f)) frames.now }
+{
+    match first_behind(frames, place) {
+        Some(index) => index,
+        None => frames.len(),
+    }
+}

@@ -1,0 +1,89 @@
+ghost use Rattle.std.specs.Prelude.{◌≡◌, ◌↔◌, length, map, IsTrue, IfOk};
+ghost use Rattle.std.specs.List.{flat_map};
+ghost use Rattle.wire.specs.Frames.{piece_of};
+ghost use Rattle.wire.specs.Assembly.{AreRising, IsAnswer, IsWhole};
+
+use crate::codec::decode;
+use crate::error::WireError;
+use crate::frame::Frame;
+use crate::frames::{cut, head_len};
+use ctrl_msg::Message;
+use std::alloc::{AllocError, Global};
+
+// Whether two lists of bytes are the same.
+pub(crate) fn are_same(a: &[u8], b: &[u8]) -> bool
+    ensures { IsTrue result ↔ (a.now ≡ b.now) }
+{
+    a == b
+}
+
+// The pieces, one after the other.
+fn joined(alloc: Global, frames: &[Frame]) -> Result<Vec<u8>, AllocError>
+    ensures { IfOk result (λ bytes. bytes.items ≡ flat_map piece_of frames.now) }
+{
+    let mut bytes = Vec::new(alloc);
+    for frame in frames {
+        bytes.extend_from_slice(frame.piece())?;
+    }
+    Ok(bytes)
+}
+
+// Whether these are the pieces of the frames.
+fn are_pieces(frames: &[Frame], parts: &[&[u8]]) -> bool
+    ensures { IsTrue result ↔ (map piece_of frames.now ≡ map (λ p. p.now) parts.now) }
+{
+    if frames.len() != parts.len() {
+        return false;
+    }
+    for place in 0..frames.len() {
+        if !are_same(frames[place].piece(), parts[place]) {
+            return false;
+        }
+    }
+    true
+}
+
+// The message of these frames, whose pieces make these bytes.
+fn decoded(alloc: Global, frames: &[Frame], bytes: &[u8]) -> Result<Message, WireError>
+    requires rising { AreRising 0 (length frames.now) frames.now }
+    requires bytes { bytes.now ≡ flat_map piece_of frames.now }
+    ensures { IsWhole frames.now result }
+{
+    let message = decode(alloc, bytes)?;
+    let parts = cut(alloc, head_len(&message.body, bytes), bytes)?;
+    if are_pieces(frames, &parts) {
+        Ok(message)
+    } else {
+        Err(WireError::Malformed)
+    }
+}
+
+// The message of all of its frames.
+fn complete(alloc: Global, frames: &[Frame]) -> Result<Message, WireError>
+    requires { AreRising 0 (length frames.now) frames.now }
+    ensures { IsWhole frames.now result }
+{
+    let bytes = joined(alloc, frames)?;
+    decoded(alloc, frames, &bytes)
+}
+
+/// The message of these frames, if there are as many as each says: they have places that rise.
+///
+/// # Errors
+/// `Malformed` exactly where there are as many, and they are the frames of no message.
+pub(crate) fn message_of(
+    alloc: Global,
+    count: u32,
+    frames: &[Frame],
+) -> Result<Option<Message>, WireError>
+    requires { AreRising 0 count frames.now }
+    ensures { IsAnswer frames.now count result }
+{
+    if frames.len() != count as usize {
+        return Ok(None);
+    }
+    match complete(alloc, frames) {
+        Ok(message) => Ok(Some(message)),
+        Err(error) => Err(error),
+    }
+}

@@ -1,0 +1,353 @@
+ghost use Rattle.std.specs.Prelude.{◌≡◌, ◌<◌, OnOk, IfOk, IsErrOf};
+ghost use Rattle.ctrl_msg.specs.declared.message.Message.{Message};
+ghost use Rattle.wire.specs.declared.error.WireError.TheVariants.{Malformed};
+ghost use Rattle.wire.specs.Fields as form;
+ghost use Rattle.wire.specs.Messages as kinds;
+ghost use Rattle.wire.specs.Messages.{AreShort, FieldsSuit, HasSpelling, IsSpelling, IsSwitch, cache_rule_of, kind_of, made, read_fields, whole};
+ghost use Rattle.wire.specs.Reading.{Appends, AppendsFields, Gives, Reads};
+
+use crate::error::WireError;
+use crate::fields::{
+    put_action, put_rule_name, put_switch, put_word, read_action, read_rule_name, read_switch,
+    read_word,
+};
+use crate::parts::{put_tables, read_tables};
+use crate::reader::Reader;
+use crate::writer::{put_n1, put_n4, put_n8};
+use ctrl_msg::{Body, Message, Receiver, SharedTables};
+use failover::Advert;
+use policy_rules::Hit;
+use std::alloc::{AllocError, Global};
+use ternary::Word;
+
+#[tactic(auto, unfolding(crate::specs::Messages::receiver))]
+fn read_receiver(reader: &mut Reader) -> Result<Receiver, WireError>
+    ensures { Reads kinds.receiver reader.old result reader.new }
+{
+    match reader.n1()? {
+        255 => Ok(Receiver::Controller),
+        switch if switch < 64 => Ok(Receiver::Switch(u32::from(switch))),
+        _ => Err(WireError::Malformed),
+    }
+}
+
+#[tactic(auto, unfolding(crate::specs::Messages::receiver))]
+fn put_receiver(out: &mut Vec<u8>, to: Receiver) -> Result<(), AllocError>
+    requires { IsSwitch to }
+    ensures { OnOk result (Appends kinds.receiver to out.old.items out.new.items) }
+{
+    match to {
+        Receiver::Controller => put_n1(out, 255),
+        Receiver::Switch(switch) => put_switch(out, switch),
+    }
+}
+
+#[tactic(auto, unfolding(crate::specs::Messages::install))]
+fn read_install(reader: &mut Reader) -> Result<(u32, SharedTables), WireError>
+    ensures { Reads kinds.install reader.old result reader.new }
+{
+    let boot = reader.n4()?;
+    let tables = read_tables(reader)?;
+    let tables = SharedTables::new(reader.alloc(), tables)?;
+    Ok((boot, tables))
+}
+
+#[tactic(auto, unfolding(crate::specs::Messages::of_version))]
+fn read_of_version(reader: &mut Reader) -> Result<(u32, u32), WireError>
+    ensures { Reads kinds.of_version reader.old result reader.new }
+{
+    let boot = reader.n4()?;
+    let version = reader.n4()?;
+    Ok((boot, version))
+}
+
+#[tactic(auto, unfolding(crate::specs::Messages::advert))]
+fn read_advert(reader: &mut Reader) -> Result<Advert, WireError>
+    ensures { Reads kinds.advert reader.old result reader.new }
+{
+    Ok(Advert {
+        origin: read_switch(reader)?,
+        boot: reader.n4()?,
+        seq: reader.n4()?,
+        up: reader.n8()?,
+    })
+}
+
+#[tactic(auto, unfolding(crate::specs::Messages::cache_rule))]
+fn read_cache_rule(reader: &mut Reader) -> Result<Body, WireError>
+    ensures { let read = made cache_rule_of (kinds.cache_rule.read reader.old) in
+        Gives (λ body. body) read result reader.new }
+{
+    Ok(Body::CacheRule {
+        version: reader.n4()?,
+        word: read_word(reader)?,
+        rule: read_rule_name(reader)?,
+        action: read_action(reader)?,
+    })
+}
+
+#[tactic(auto, unfolding(crate::specs::Messages::hello))]
+fn read_hello(reader: &mut Reader) -> Result<(u32, u32), WireError>
+    ensures { Reads kinds.hello reader.old result reader.new }
+{
+    let switch = read_switch(reader)?;
+    let boot = reader.n4()?;
+    Ok((switch, boot))
+}
+
+#[tactic(auto, unfolding(crate::specs::Messages::acknowledged))]
+fn read_acknowledged(reader: &mut Reader) -> Result<(u32, u32, u32), WireError>
+    ensures { let read = kinds.acknowledged.read reader.old in
+        Gives (λ p. (p.0, (p.1, p.2))) read result reader.new }
+{
+    let switch = read_switch(reader)?;
+    let boot = reader.n4()?;
+    let version = reader.n4()?;
+    Ok((switch, boot, version))
+}
+
+fn read_fields(kind: u8, reader: &mut Reader) -> Result<Body, WireError>
+    ensures { Gives (λ body. body) (read_fields kind reader.old) result reader.new }
+{
+    match kind {
+        1 => {
+            let (boot, tables) = read_install(reader)?;
+            Ok(Body::Install { boot, tables })
+        }
+        2 => {
+            let (boot, version) = read_of_version(reader)?;
+            Ok(Body::OpenAt { boot, version })
+        }
+        3 => {
+            let (boot, version) = read_of_version(reader)?;
+            Ok(Body::Stamp { boot, version })
+        }
+        4 => {
+            let (boot, version) = read_of_version(reader)?;
+            Ok(Body::Collect { boot, version })
+        }
+        5 => read_cache_rule(reader),
+        6 => {
+            let advert = read_advert(reader)?;
+            Ok(Body::Advertise { advert })
+        }
+        7 => {
+            let (switch, boot) = read_hello(reader)?;
+            Ok(Body::Hello { switch, boot })
+        }
+        8 => {
+            let (switch, boot, version) = read_acknowledged(reader)?;
+            Ok(Body::Installed {
+                switch,
+                boot,
+                version,
+            })
+        }
+        9 => {
+            let (switch, boot, version) = read_acknowledged(reader)?;
+            Ok(Body::Stamped {
+                switch,
+                boot,
+                version,
+            })
+        }
+        _ => Err(WireError::Malformed),
+    }
+}
+
+#[tactic(auto, unfolding(crate::specs::Messages::body))]
+fn read_body(reader: &mut Reader) -> Result<Body, WireError>
+    ensures { Reads kinds.body reader.old result reader.new }
+{
+    let kind = reader.n1()?;
+    read_fields(kind, reader)
+}
+
+#[tactic(auto, unfolding(crate::specs::Messages::message))]
+fn read_message(reader: &mut Reader) -> Result<Message, WireError>
+    ensures { Reads kinds.message reader.old result reader.new }
+{
+    let to = read_receiver(reader)?;
+    let body = read_body(reader)?;
+    let for_controller = match to {
+        Receiver::Switch(_) => false,
+        Receiver::Controller => true,
+    };
+    if for_controller == body.is_for_controller() {
+        Ok(Message { to, body })
+    } else {
+        Err(WireError::Malformed)
+    }
+}
+
+fn whole(reader: &mut Reader) -> Result<Message, WireError>
+    ensures { Gives (λ message. message) (whole reader.old) result reader.new }
+{
+    let message = read_message(reader)?;
+    if reader.is_empty() {
+        Ok(message)
+    } else {
+        Err(WireError::Malformed)
+    }
+}
+
+#[tactic(auto, unfolding(crate::specs::Messages::install))]
+fn put_install(out: &mut Vec<u8>, boot: u32, tables: &SharedTables) -> Result<(), AllocError>
+    requires { AreShort tables.now }
+    ensures { OnOk result (Appends kinds.install (boot, tables.now) out.old.items out.new.items) }
+{
+    put_n4(out, boot)?;
+    put_tables(out, tables.tables())
+}
+
+#[tactic(auto, unfolding(crate::specs::Messages::of_version))]
+fn put_of_version(out: &mut Vec<u8>, boot: u32, version: u32) -> Result<(), AllocError>
+    ensures { OnOk result (Appends kinds.of_version (boot, version) out.old.items out.new.items) }
+{
+    put_n4(out, boot)?;
+    put_n4(out, version)
+}
+
+#[tactic(auto, unfolding(crate::specs::Messages::cache_rule))]
+fn put_cache_rule(out: &mut Vec<u8>, version: u32, word: &Word, hit: Hit) -> Result<(), AllocError>
+    ensures { OnOk result (Appends kinds.cache_rule (version, (word.now, (hit.rule, hit.action)))
+        out.old.items out.new.items) }
+{
+    put_n4(out, version)?;
+    put_word(out, word)?;
+    put_rule_name(out, hit.rule)?;
+    put_action(out, hit.action)
+}
+
+#[tactic(auto, unfolding(crate::specs::Messages::advert))]
+fn put_advert(out: &mut Vec<u8>, advert: &Advert) -> Result<(), AllocError>
+    requires { advert.now.origin < 64 }
+    ensures { OnOk result (Appends kinds.advert advert.now out.old.items out.new.items) }
+{
+    put_switch(out, advert.origin)?;
+    put_n4(out, advert.boot)?;
+    put_n4(out, advert.seq)?;
+    put_n8(out, advert.up)
+}
+
+#[tactic(auto, unfolding(crate::specs::Messages::hello))]
+fn put_hello(out: &mut Vec<u8>, switch: u32, boot: u32) -> Result<(), AllocError>
+    requires { switch < 64 }
+    ensures { OnOk result (Appends kinds.hello (switch, boot) out.old.items out.new.items) }
+{
+    put_switch(out, switch)?;
+    put_n4(out, boot)
+}
+
+#[tactic(auto, unfolding(crate::specs::Messages::acknowledged))]
+fn put_acknowledged(
+    out: &mut Vec<u8>,
+    switch: u32,
+    boot: u32,
+    version: u32,
+) -> Result<(), AllocError>
+    requires { switch < 64 }
+    ensures { OnOk result (Appends kinds.acknowledged (switch, (boot, version))
+        out.old.items out.new.items) }
+{
+    put_switch(out, switch)?;
+    put_n4(out, boot)?;
+    put_n4(out, version)
+}
+
+fn kind_of(body: &Body) -> u8
+    ensures { result ≡ kind_of body.now }
+{
+    match body {
+        Body::Install { .. } => 1,
+        Body::OpenAt { .. } => 2,
+        Body::Stamp { .. } => 3,
+        Body::Collect { .. } => 4,
+        Body::CacheRule { .. } => 5,
+        Body::Advertise { .. } => 6,
+        Body::Hello { .. } => 7,
+        Body::Installed { .. } => 8,
+        Body::Stamped { .. } => 9,
+    }
+}
+
+fn put_fields(out: &mut Vec<u8>, body: &Body) -> Result<(), AllocError>
+    requires { FieldsSuit body.now }
+    ensures { OnOk result (AppendsFields body.now out.old.items out.new.items) }
+{
+    match body {
+        Body::Install { boot, tables } => put_install(out, *boot, tables),
+        Body::OpenAt { boot, version }
+        | Body::Stamp { boot, version }
+        | Body::Collect { boot, version } => put_of_version(out, *boot, *version),
+        Body::CacheRule {
+            version,
+            word,
+            rule,
+            action,
+        } => {
+            let hit = Hit {
+                rule: *rule,
+                action: *action,
+            };
+            put_cache_rule(out, *version, word, hit)
+        }
+        Body::Advertise { advert } => put_advert(out, advert),
+        Body::Hello { switch, boot } => put_hello(out, *switch, *boot),
+        Body::Installed {
+            switch,
+            boot,
+            version,
+        }
+        | Body::Stamped {
+            switch,
+            boot,
+            version,
+        } => put_acknowledged(out, *switch, *boot, *version),
+    }
+}
+
+#[tactic(auto, unfolding(crate::specs::Messages::body))]
+fn put_body(out: &mut Vec<u8>, body: &Body) -> Result<(), AllocError>
+    requires { FieldsSuit body.now }
+    ensures { OnOk result (Appends kinds.body body.now out.old.items out.new.items) }
+{
+    put_n1(out, kind_of(body))?;
+    put_fields(out, body)
+}
+
+#[tactic(auto, unfolding(crate::specs::Messages::message))]
+fn put_message(out: &mut Vec<u8>, message: &Message) -> Result<(), AllocError>
+    requires { HasSpelling message.now }
+    ensures { OnOk result (Appends kinds.message message.now out.old.items out.new.items) }
+{
+    put_receiver(out, message.to)?;
+    put_body(out, &message.body)
+}
+
+/// The spelling of a message.
+///
+/// # Errors
+/// Want of memory alone.
+pub fn encode(alloc: Global, message: &Message) -> Result<Vec<u8>, AllocError>
+    requires { HasSpelling message.now }
+    ensures { IfOk result (λ bytes. IsSpelling message.now bytes.items) }
+{
+    let mut bytes = Vec::new(alloc);
+    put_message(&mut bytes, message)?;
+    Ok(bytes)
+}
+
+/// The message that the bytes spell.
+///
+/// # Errors
+/// `Malformed` exactly where they are the spelling of no message.
+pub fn decode(alloc: Global, bytes: &[u8]) -> Result<Message, WireError>
+    ensures found { IfOk result (λ message. IsSpelling message bytes.now) }
+    ensures only { IfOk result (λ message.
+        (other : Message) → IsSpelling other bytes.now → other ≡ message) }
+    ensures malformed { IsErrOf result Malformed →
+        (message : Message) → IsSpelling message bytes.now → ⊥ }
+{
+    whole(&mut Reader::new(alloc, bytes))
+}

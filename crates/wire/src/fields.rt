@@ -1,0 +1,140 @@
+ghost use Rattle.std.specs.Prelude.{◌<◌, ◌≤◌, All, IfOk, OnOk};
+ghost use Rattle.wire.specs.Fields as form;
+ghost use Rattle.wire.specs.Reading.{Appends, Reads};
+
+use crate::error::WireError;
+use crate::reader::Reader;
+use crate::writer::{put_n1, put_n4, put_n16};
+use policy_rules::{Action, Targets};
+use std::alloc::AllocError;
+use ternary::Word;
+
+#[tactic(auto, unfolding(crate::specs::Fields::switch))]
+pub(crate) fn read_switch(reader: &mut Reader) -> Result<u32, WireError>
+    ensures { Reads form.switch reader.old result reader.new }
+{
+    let number = reader.n1()?;
+    if number < 64 {
+        Ok(u32::from(number))
+    } else {
+        Err(WireError::Malformed)
+    }
+}
+
+#[tactic(auto, unfolding(crate::specs::Fields::switch))]
+pub(crate) fn put_switch(out: &mut Vec<u8>, number: u32) -> Result<(), AllocError>
+    requires { number < 64 }
+    ensures { OnOk result (Appends form.switch number out.old.items out.new.items) }
+{
+    put_n1(out, number as u8)
+}
+
+#[tactic(auto, unfolding(crate::specs::Fields::word))]
+pub(crate) fn read_word(reader: &mut Reader) -> Result<Word, WireError>
+    ensures { Reads form.word reader.old result reader.new }
+{
+    let value = reader.n16()?;
+    let mask = reader.n16()?;
+    match Word::new(value, mask) {
+        Some(word) => Ok(word),
+        None => Err(WireError::Malformed),
+    }
+}
+
+#[tactic(auto, unfolding(crate::specs::Fields::word))]
+pub(crate) fn put_word(out: &mut Vec<u8>, word: &Word) -> Result<(), AllocError>
+    ensures { OnOk result (Appends form.word word.now out.old.items out.new.items) }
+{
+    put_n16(out, word.value())?;
+    put_n16(out, word.mask())
+}
+
+#[tactic(auto, unfolding(crate::specs::Fields::rule_name))]
+pub(crate) fn read_rule_name(reader: &mut Reader) -> Result<Option<u32>, WireError>
+    ensures { Reads form.rule_name reader.old result reader.new }
+{
+    match reader.n1()? {
+        0 => Ok(None),
+        1 => Ok(Some(reader.n4()?)),
+        _ => Err(WireError::Malformed),
+    }
+}
+
+#[tactic(auto, unfolding(crate::specs::Fields::rule_name))]
+pub(crate) fn put_rule_name(out: &mut Vec<u8>, rule: Option<u32>) -> Result<(), AllocError>
+    ensures { OnOk result (Appends form.rule_name rule out.old.items out.new.items) }
+{
+    match rule {
+        None => put_n1(out, 0),
+        Some(priority) => {
+            put_n1(out, 1)?;
+            put_n4(out, priority)
+        }
+    }
+}
+
+#[tactic(auto, unfolding(crate::specs::Fields::action))]
+pub(crate) fn read_action(reader: &mut Reader) -> Result<Action, WireError>
+    ensures { Reads form.action reader.old result reader.new }
+{
+    match reader.n1()? {
+        0 => Ok(Action::Drop),
+        1 => Ok(Action::Out(reader.n4()?)),
+        _ => Err(WireError::Malformed),
+    }
+}
+
+#[tactic(auto, unfolding(crate::specs::Fields::action))]
+pub(crate) fn put_action(out: &mut Vec<u8>, action: Action) -> Result<(), AllocError>
+    ensures { OnOk result (Appends form.action action out.old.items out.new.items) }
+{
+    match action {
+        Action::Drop => put_n1(out, 0),
+        Action::Out(port) => {
+            put_n1(out, 1)?;
+            put_n4(out, port)
+        }
+    }
+}
+
+// How many targets there are: 1 to 4.
+#[tactic(auto, unfolding(crate::specs::Fields::target_count))]
+fn read_target_count(reader: &mut Reader) -> Result<usize, WireError>
+    ensures read { Reads form.target_count reader.old result reader.new }
+    ensures some { IfOk result (λ count. (1 ≤ count) × (count ≤ 4)) }
+{
+    let count = reader.n1()?;
+    if 1 <= count && count <= 4 {
+        Ok(usize::from(count))
+    } else {
+        Err(WireError::Malformed)
+    }
+}
+
+#[tactic(auto, unfolding(crate::specs::Fields::targets))]
+pub(crate) fn read_targets(reader: &mut Reader) -> Result<Targets, WireError>
+    ensures { Reads form.targets reader.old result reader.new }
+{
+    let count = read_target_count(reader)?;
+    let mut switches = [0; 4];
+    for place in 0..count {
+        switches[place] = read_switch(reader)?;
+    }
+    match Targets::new(&switches[..count]) {
+        Some(targets) => Ok(targets),
+        None => Err(WireError::Malformed),
+    }
+}
+
+#[tactic(auto, unfolding(crate::specs::Fields::targets, crate::specs::Fields::target_count))]
+pub(crate) fn put_targets(out: &mut Vec<u8>, targets: &Targets) -> Result<(), AllocError>
+    requires { All (λ s. s < 64) targets.now }
+    ensures { OnOk result (Appends form.targets targets.now out.old.items out.new.items) }
+{
+    let switches = targets.items();
+    put_n1(out, switches.len() as u8)?;
+    for switch in switches {
+        put_switch(out, *switch)?;
+    }
+    Ok(())
+}

@@ -1,0 +1,95 @@
+ghost use Rattle.std.specs.Prelude.{◌≡◌, ◌+◌, ◌<◌, ◌≤◌, ◌^◌, length, IfOk};
+ghost use Rattle.wire.specs.Frames.{frame, place_of, count_of, piece_of};
+
+use crate::writer::put_n4;
+use std::alloc::{AllocError, Global};
+use std::marker::Model;
+use std::rc::RcSlice;
+
+/// The bytes of a frame that say its place and the count of frames.
+pub(crate) const HEADER_LEN: usize = 8;
+
+/// A frame, which its clones share: its place, the count of frames, and a piece of a spelling.
+/// Contracts see the bytes.
+#[derive(Debug, Drop)]
+pub(crate) struct Frame {
+    bytes: RcSlice<u8>,
+}
+
+impl Model for Frame {
+    ghost use Rattle.std.specs.Prelude.{List, ℕ, ◌≤◌, length};
+    ghost use Rattle.std.specs.Rc.{rc_slice_items};
+
+    ghost Value = { List ℕ };
+
+    ghost view = { λ f. rc_slice_items f.bytes };
+
+    ghost invariant = { λ f. 8 ≤ length (rc_slice_items f.bytes) };
+}
+
+impl Frame {
+    /// The frame of a piece.
+    #[tactic(auto, unfolding(crate::specs::Frames::frame), using(crate::proofs::Framing::length_frame))]
+    pub fn new(alloc: Global, place: u32, count: u32, piece: &[u8]) -> Result<Frame, AllocError>
+        ensures { IfOk result (λ f. f ≡ frame place count piece.now) }
+    {
+        let mut bytes = Vec::with_capacity(alloc, piece.len().saturating_add(HEADER_LEN))?;
+        put_n4(&mut bytes, place)?;
+        put_n4(&mut bytes, count)?;
+        bytes.extend_from_slice(piece)?;
+        let bytes = RcSlice::from_vec(bytes)?;
+        Ok(Frame { bytes })
+    }
+
+    /// A copy of these bytes, which are a frame.
+    pub fn copied(alloc: Global, bytes: &[u8]) -> Result<Frame, AllocError>
+        requires { 8 ≤ length bytes.now }
+        ensures { IfOk result (λ f. f ≡ bytes.now) }
+    {
+        let bytes = RcSlice::from_slice(alloc, bytes)?;
+        Ok(Frame { bytes })
+    }
+
+    pub fn bytes(&self) -> &[u8]
+        ensures bytes { result.now ≡ self.now }
+        ensures long { 8 ≤ length result.now }
+    {
+        self.bytes.as_slice()
+    }
+
+    pub fn place(&self) -> u32
+        ensures { result ≡ place_of self.now }
+    {
+        place_of(self.bytes())
+    }
+
+    pub fn count(&self) -> u32
+        ensures { result ≡ count_of self.now }
+    {
+        count_of(self.bytes())
+    }
+
+    pub fn piece(&self) -> &[u8]
+        ensures { result.now ≡ piece_of self.now }
+    {
+        &self.bytes()[HEADER_LEN..]
+    }
+}
+
+/// The place of a frame.
+#[tactic(auto, unfolding(crate::specs::Frames::place_of))]
+pub(crate) fn place_of(frame: &[u8]) -> u32
+    requires { 8 ≤ length frame.now }
+    ensures { result ≡ place_of frame.now }
+{
+    u32::from_be_bytes([frame[0], frame[1], frame[2], frame[3]])
+}
+
+/// How many frames there are, as this one says.
+#[tactic(auto, unfolding(crate::specs::Frames::count_of))]
+pub(crate) fn count_of(frame: &[u8]) -> u32
+    requires { 8 ≤ length frame.now }
+    ensures { result ≡ count_of frame.now }
+{
+    u32::from_be_bytes([frame[4], frame[5], frame[6], frame[7]])
+}

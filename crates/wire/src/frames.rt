@@ -1,0 +1,112 @@
+ghost use Rattle.std.specs.Prelude.{◌≡◌, ◌<◌, ◌≤◌, ◌^◌, ◌↔◌, Some, length, map, take, drop, slice_get, IfOk, IfSome, IsNone};
+ghost use Rattle.wire.specs.Frames.{AreFrames, cut, head_len, frames_of};
+ghost use Rattle.wire.specs.Messages as kinds;
+ghost use Rattle.wire.specs.Messages.{HasSpelling};
+
+use crate::codec::encode;
+use crate::frame::{Frame, HEADER_LEN};
+use ctrl_msg::{Body, Message};
+use std::alloc::{AllocError, Global};
+use std::marker::Model;
+
+/// The most bytes of a frame.
+pub(crate) const MOST_OF_FRAME: usize = 16_384;
+
+/// The most bytes of a piece.
+const MOST_OF_PIECE: usize = MOST_OF_FRAME - HEADER_LEN;
+
+/// The frames of a message. Contracts see the list of their bytes.
+#[derive(Debug, Drop)]
+pub struct Frames {
+    frames: Vec<Frame>,
+}
+
+impl Model for Frames {
+    ghost use Rattle.std.specs.Prelude.{List, ℕ};
+
+    ghost Value = { List (List ℕ) };
+
+    ghost view = { λ f. f.frames.items };
+}
+
+impl Frames {
+    /// The frame at this place, from 0; `None` exactly at or past the end.
+    pub fn get(&self, place: u32) -> Option<&[u8]>
+        ensures frame { IfSome result (λ frame. slice_get self.now place ≡ Some frame.now) }
+        ensures none { IsNone result ↔ (length self.now ≤ place) }
+    {
+        match self.frames.get(place as usize) {
+            Some(frame) => Some(frame.bytes()),
+            None => None,
+        }
+    }
+}
+
+/// The frames of a message: of an installation its first six bytes are a piece, and the rest in
+/// slices of 16,376 bytes; of any other message all bytes are one piece.
+///
+/// # Errors
+/// Want of memory alone.
+pub fn split(alloc: Global, message: &Message) -> Result<Frames, AllocError>
+    requires spelling { HasSpelling message.now }
+    requires short { length (kinds.message.spell message.now) < 2 ^ 40 }
+    ensures { IfOk result (λ frames. AreFrames message.now frames) }
+{
+    let bytes = encode(alloc, message)?;
+    let parts = cut(alloc, head_len(&message.body, &bytes), &bytes)?;
+    let frames = framed(alloc, &parts)?;
+    Ok(Frames { frames })
+}
+
+// How many bytes the first piece has.
+pub(crate) fn head_len(body: &Body, bytes: &[u8]) -> usize
+    ensures { result ≡ head_len body.now bytes.now }
+{
+    match body {
+        Body::Install { .. } => 6,
+        _ => bytes.len(),
+    }
+}
+
+// The first bytes, as many as there are up to this length, and the others.
+fn split_front(bytes: &[u8], len: usize) -> (&[u8], &[u8])
+    ensures front { result.0.now ≡ take len bytes.now }
+    ensures back { result.1.now ≡ drop len bytes.now }
+{
+    if bytes.len() <= len {
+        (bytes, &[])
+    } else {
+        bytes.split_at(len)
+    }
+}
+
+// The pieces of a spelling, the first of which has so many bytes.
+pub(crate) fn cut(alloc: Global, head: usize, bytes: &[u8]) -> Result<Vec<&[u8]>, AllocError>
+    ensures { IfOk result (λ parts. map (λ p. p.now) parts.items ≡ cut head bytes.now) }
+{
+    let (first, rest) = split_front(bytes, head);
+    let mut parts = Vec::new(alloc);
+    parts.push(first)?;
+    let count = rest.len().div_ceil(MOST_OF_PIECE);
+    let mut left = rest;
+    for _ in 0..count {
+        let (piece, after) = split_front(left, MOST_OF_PIECE);
+        parts.push(piece)?;
+        left = after;
+    }
+    Ok(parts)
+}
+
+// The frames of these pieces.
+fn framed(alloc: Global, parts: &[&[u8]]) -> Result<Vec<Frame>, AllocError>
+    requires { length parts.now < 2 ^ 32 }
+    ensures { IfOk result (λ frames. frames.items ≡ frames_of (map (λ p. p.now) parts.now)) }
+{
+    let mut frames = Vec::new(alloc);
+    let count = parts.len() as u32;
+    for place in 0..count {
+        let frame = Frame::new(alloc, place, count, parts[place as usize])?;
+        frames.push(frame)?;
+    }
+    Ok(frames)
+}

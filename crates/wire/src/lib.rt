@@ -1,0 +1,35 @@
+//! Messages as bytes: a canonical spelling, and frames of it that may come in any order.
+//!
+//! `encode` promises the one spelling of a message, and `decode` the message of a spelling: it
+//! answers `Malformed` exactly where bytes are the spelling of no message, so no message has a
+//! second one. `split` promises the frames of a message. An `Assembler` holds frames by their
+//! places; it promises the message exactly where all of its frames are held, and refuses a frame
+//! exactly for a stated cause. Errors change nothing.
+//!
+//! ```text
+//! let frames = split(alloc, &message)?;
+//! let mut assembler = Assembler::new(alloc);
+//! while let Some(frame) = next_frame(&frames) {
+//!     if let Some(message) = assembler.feed(alloc, frame)? {
+//!         return Ok(message);
+//!     }
+//! }
+//! ```
+#![tactic(auto)]
+
+mod assembler;
+mod assembly;
+mod codec;
+mod error;
+mod fields;
+mod frame;
+mod frames;
+mod list;
+mod parts;
+mod reader;
+mod writer;
+
+pub use assembler::Assembler;
+pub use codec::{decode, encode};
+pub use error::WireError;
+pub use frames::{Frames, split};

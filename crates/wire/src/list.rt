@@ -1,0 +1,57 @@
+ghost use Rattle.std.specs.Prelude.{◌≡◌, ◌<◌, ◌^◌, ◌++◌, length, All, OnOk};
+ghost use Rattle.wire.specs.Format.{Format, list_of, read_items};
+ghost use Rattle.wire.specs.Reading.{Reads, Gives, Appends};
+ghost use Rattle.wire.specs.Fields.{n4};
+
+use crate::error::WireError;
+use crate::reader::Reader;
+use crate::writer::put_n4;
+use std::alloc::AllocError;
+
+/// A part of a message that has a format.
+pub(crate) trait Part: Sized + Drop {
+    /// How it is spelled.
+    ghost format: { Format Self };
+
+    /// What its writer sees to.
+    ghost needs: { Self → Type 0 };
+
+    /// Reads one from the front.
+    fn read(reader: &mut Reader) -> Result<Self, WireError>
+        ensures { Reads format reader.old result reader.new };
+
+    /// Writes it at the end.
+    fn put(&self, out: &mut Vec<u8>) -> Result<(), AllocError>
+        requires { needs self.now }
+        ensures { OnOk result (Appends format self.now out.old.items out.new.items) };
+}
+
+fn read_items<T: Part>(reader: &mut Reader, count: u32) -> Result<Vec<T>, WireError>
+    ensures { Gives (λ v. v.items) (read_items T.format count reader.old) result reader.new }
+{
+    let mut items = Vec::new(reader.alloc());
+    for _ in 0..count {
+        items.push(T::read(reader)?)?;
+    }
+    Ok(items)
+}
+
+#[tactic(auto, unfolding(crate::specs::Format::list_of))]
+pub(crate) fn read_list<T: Part>(reader: &mut Reader) -> Result<Vec<T>, WireError>
+    ensures { Gives (λ v. v.items) ((list_of n4 T.format).read reader.old) result reader.new }
+{
+    let count = reader.n4()?;
+    read_items(reader, count)
+}
+
+pub(crate) fn put_list<T: Part>(items: &[T], out: &mut Vec<u8>) -> Result<(), AllocError>
+    requires few { length items.now < 2 ^ 32 }
+    requires each { All T.needs items.now }
+    ensures { OnOk result (Appends (list_of n4 T.format) items.now out.old.items out.new.items) }
+{
+    put_n4(out, items.len() as u32)?;
+    for item in items {
+        item.put(out)?;
+    }
+    Ok(())
+}

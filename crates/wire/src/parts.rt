@@ -1,0 +1,114 @@
+ghost use Rattle.std.specs.Prelude.{OnOk};
+ghost use Rattle.wire.specs.Reading.{Appends, Reads};
+ghost use Rattle.wire.specs.Fields as form;
+ghost use Rattle.wire.specs.Messages.{AreShort};
+
+use crate::error::WireError;
+use crate::fields::{
+    put_action, put_rule_name, put_targets, put_word, read_action, read_rule_name, read_targets,
+    read_word,
+};
+use crate::list::{Part, put_list, read_list};
+use crate::reader::Reader;
+use crate::writer::put_n4;
+use policy_rules::{Partition, Rule, Rules};
+use std::alloc::AllocError;
+use switch_table::{PartRow, PartRows, Partitions, Tables};
+
+impl Part for Rule {
+    ghost use Rattle.wire.specs.Fields.{rule};
+
+    ghost format = { rule };
+
+    ghost needs = { λ _. Unit {0} };
+
+    #[tactic(auto, unfolding(crate::specs::Fields::rule))]
+    fn read(reader: &mut Reader) -> Result<Rule, WireError> {
+        Ok(Rule {
+            word: read_word(reader)?,
+            rank: reader.n4()?,
+            rule: read_rule_name(reader)?,
+            action: read_action(reader)?,
+        })
+    }
+
+    #[tactic(auto, unfolding(crate::specs::Fields::rule))]
+    fn put(&self, out: &mut Vec<u8>) -> Result<(), AllocError> {
+        put_word(out, &self.word)?;
+        put_n4(out, self.rank)?;
+        put_rule_name(out, self.rule)?;
+        put_action(out, self.action)
+    }
+}
+
+impl Part for PartRow {
+    ghost use Rattle.wire.specs.Fields.{region};
+    ghost use Rattle.wire.specs.Messages.{AreSwitches};
+
+    ghost format = { region };
+
+    ghost needs = { AreSwitches };
+
+    #[tactic(auto, unfolding(crate::specs::Fields::region))]
+    fn read(reader: &mut Reader) -> Result<PartRow, WireError> {
+        Ok(PartRow {
+            region: read_word(reader)?,
+            targets: read_targets(reader)?,
+        })
+    }
+
+    #[tactic(auto, unfolding(crate::specs::Fields::region))]
+    fn put(&self, out: &mut Vec<u8>) -> Result<(), AllocError> {
+        put_word(out, &self.region)?;
+        put_targets(out, &self.targets)
+    }
+}
+
+impl Part for Partition {
+    ghost use Rattle.wire.specs.Fields.{partition};
+    ghost use Rattle.wire.specs.Messages.{HasFewRules};
+
+    ghost format = { partition };
+
+    ghost needs = { HasFewRules };
+
+    #[tactic(auto, unfolding(crate::specs::Fields::partition))]
+    fn read(reader: &mut Reader) -> Result<Partition, WireError> {
+        Ok(Partition {
+            number: reader.n4()?,
+            region: read_word(reader)?,
+            rules: Rules::new(read_list(reader)?)?,
+        })
+    }
+
+    #[tactic(auto, unfolding(crate::specs::Fields::partition))]
+    fn put(&self, out: &mut Vec<u8>) -> Result<(), AllocError> {
+        put_n4(out, self.number)?;
+        put_word(out, &self.region)?;
+        put_list(self.rules.items(), out)
+    }
+}
+
+#[tactic(auto, unfolding(crate::specs::Fields::tables))]
+pub(crate) fn read_tables(reader: &mut Reader) -> Result<Tables, WireError>
+    ensures { Reads form.tables reader.old result reader.new }
+{
+    let version = reader.n4()?;
+    let parts = PartRows::new(read_list(reader)?)?;
+    let auth = Partitions::new(read_list(reader)?);
+    Ok(Tables {
+        version,
+        parts,
+        auth,
+    })
+}
+
+#[tactic(auto, unfolding(crate::specs::Fields::tables))]
+pub(crate) fn put_tables(out: &mut Vec<u8>, tables: &Tables) -> Result<(), AllocError>
+    requires { AreShort tables.now }
+    ensures { OnOk result (Appends form.tables tables.now out.old.items out.new.items) }
+{
+    put_n4(out, tables.version)?;
+    put_list(tables.parts.items(), out)?;
+    put_list(tables.auth.items(), out)
+}

@@ -1,0 +1,87 @@
+ghost use Rattle.std.specs.Prelude.{◌≡◌, ◌==◌, length};
+ghost use Rattle.wire.specs.Reading.{Reads};
+ghost use Rattle.wire.specs.Fields.{n1, n4, n8, n16};
+
+use crate::error::WireError;
+use std::alloc::Global;
+use std::marker::Model;
+
+/// The bytes that are still to be read. Contracts see them.
+#[derive(Drop)]
+pub(crate) struct Reader<'a> {
+    alloc: Global,
+    bytes: &'a [u8],
+}
+
+impl<'a> Model for Reader<'a> {
+    ghost use Rattle.std.specs.Prelude.{List, ℕ};
+
+    ghost Value = { List ℕ };
+
+    ghost view = { λ r. r.bytes.now };
+}
+
+impl<'a> Reader<'a> {
+    pub fn new(alloc: Global, bytes: &'a [u8]) -> Reader<'a>
+        ensures { result ≡ bytes.now }
+    {
+        Reader { alloc, bytes }
+    }
+
+    pub fn alloc(&self) -> Global {
+        self.alloc
+    }
+
+    pub fn is_empty(&self) -> bool
+        ensures { result ≡ (length self.now == 0) }
+    {
+        self.bytes.is_empty()
+    }
+
+    #[tactic(auto, unfolding(crate::specs::Fields::n1, crate::specs::Format::read_number))]
+    pub fn n1(&mut self) -> Result<u8, WireError>
+        ensures { Reads n1 self.old result self.new }
+    {
+        if self.bytes.is_empty() {
+            return Err(WireError::Malformed);
+        }
+        let (front, rest) = self.bytes.split_at(1);
+        self.bytes = rest;
+        Ok(front[0])
+    }
+
+    #[tactic(auto, unfolding(crate::specs::Fields::n4, crate::specs::Format::read_number))]
+    pub fn n4(&mut self) -> Result<u32, WireError>
+        ensures { Reads n4 self.old result self.new }
+    {
+        if self.bytes.len() < 4 {
+            return Err(WireError::Malformed);
+        }
+        let (front, rest) = self.bytes.split_at(4);
+        self.bytes = rest;
+        Ok(u32::from_be_bytes([front[0], front[1], front[2], front[3]]))
+    }
+
+    #[tactic(auto, unfolding(crate::specs::Fields::n8, crate::specs::Format::read_number))]
+    pub fn n8(&mut self) -> Result<u64, WireError>
+        ensures { Reads n8 self.old result self.new }
+    {
+        if self.bytes.len() < 8 {
+            return Err(WireError::Malformed);
+        }
+        let (front, rest) = self.bytes.split_at(8);
+        self.bytes = rest;
+        Ok(u64::from_be_bytes([
+            front[0], front[1], front[2], front[3], front[4], front[5], front[6], front[7],
+        ]))
+    }
+
+    #[tactic(auto, unfolding(crate::specs::Fields::n16))]
+    pub fn n16(&mut self) -> Result<u128, WireError>
+        ensures { Reads n16 self.old result self.new }
+    {
+        let high = self.n8()?;
+        let low = self.n8()?;
+        Ok(u128::from(high) << 64 | u128::from(low))
+    }
+}
