@@ -1,8 +1,7 @@
 -- A network on which a policy begins to be in force, and the events that may happen on it.
-use Rattle.std.proofs.Common.{ℕ, ◌≡◌, false, Option, Result, Ok, Err, List, [], ◌∷◌, length, refl, sym, ap, subst, ◌∙◌, All}
-use Rattle.std.specs.Prelude.{IsOk, IsTrue}
+use Rattle.std.proofs.Common.{ℕ, ◌≡◌, false, Option, Result, Ok, Err, List, [], length, refl, sym, ap, subst, ◌∙◌, All}
+use Rattle.std.specs.Prelude.{IsOk, IsTrue, slice_index_or}
 use Rattle.std.specs.Option.{ForSome}
-use Rattle.std.proofs.lemmas.List.Elements.{All-cons, All-nil}
 use Rattle.net_file.specs.Laws.{PortLaws}
 use Rattle.net_file.specs.Net.{IsNet, port_mask}
 use Rattle.net_file.specs.declared.net.Net.{Net}
@@ -19,13 +18,13 @@ use Rattle.steps.specs.declared.step.Event.TheVariants.{One, Flush, Drain}
 use Rattle.steps.specs.declared.step.Step.TheVariants as step
 use Rattle.update_machine.specs.Played.{IsSetting, MayHappen, NamesOwnPort}
 use Rattle.update_machine.specs.Setting.{Setting, setting_of}
+use Rattle.replay.proofs.Events.{first_planned}
 use Rattle.world.specs.State.{AreTied, IsTied, WorldValue, setting_at}
 use Rattle.shelf.specs.Shelf.{Files}
-use Rattle.difane_cli.specs.Inputs.{StopsContent, and_then, first_plan, inputs_of, plan_from, plan_on, read_net, read_policy, read_schedule}
+use Rattle.difane_cli.specs.Inputs.{and_then, first_plan, inputs_of, plan_from, read_net, read_policies, read_schedule}
 use Rattle.difane_cli.specs.Run.{IsNetOf, IsReplayOf}
 use Rattle.difane_cli.specs.Words.{ReplayCommand}
-use Rattle.difane_cli.specs.declared.status.Stop.{Stop}
-use Rattle.difane_cli.specs.declared.status.Stop.TheVariants as stop
+use Rattle.difane_cli.specs.declared.status.Refusal.{Refusal}
 
 -- ---- ports
 
@@ -34,104 +33,109 @@ own_port : PortLaws → (net : Net) (policies : List (List Row)) → IsNet net �
 own_port laws net policies sound action.Drop has = tt
 own_port laws net policies sound (action.Out port) has = sym (laws.mask net port sound) ∙ has
 
-pub own_ports : PortLaws → (net : Net) (rows : List Row) → IsNet net
-    → All (λ row. IsTrue (has_port (port_mask net.switches) row.action)) rows
-    → All (All (λ row. NamesOwnPort (setting_of net (rows ∷ [])) row.action)) (rows ∷ [])
-own_ports laws net rows sound has =
-    All-cons (All (λ row. NamesOwnPort (setting_of net (rows ∷ [])) row.action)) rows []
-    (λ k d within. own_port laws net (rows ∷ []) sound _ (has k d within))
-    (All-nil (All (λ row. NamesOwnPort (setting_of net (rows ∷ [])) row.action)))
+pub own_ports : PortLaws → (net : Net) (policies : List (List Row)) → IsNet net
+    → All (All (λ row. IsTrue (has_port (port_mask net.switches) row.action))) policies
+    → All (All (λ row. NamesOwnPort (setting_of net policies) row.action)) policies
+own_ports laws net policies sound has = λ i d within j e inside.
+    own_port laws net policies sound _ (has i d within j e inside)
 
 -- ---- the first plan
 
 -- a policy that is in force has a plan
-pub has_plan : (name : List ℕ) (net : Net) (rows : List Row) → IsOk (plan_of rows net)
-    → first_plan name net rows ≡ Ok rows
-has_plan name net rows is = by (plan_of rows net) is
+pub has_plan : (names : List (List ℕ)) (net : Net) (policies : List (List Row))
+    → IsOk (plan_of (slice_index_or policies 0 []) net) → IsOk (first_plan names net policies)
+has_plan names net policies is =
+    by (slice_index_or names 0 []) (plan_of (slice_index_or policies 0 []) net) is
   where
-    by : (plan : Result (List Placed) NoPlan) → IsOk plan
-        → and_then (plan_from name plan) (λ placed. Ok rows) ≡ Ok rows
-    by (Ok placed) is = refl
-    by (Err why) is = cc is
-
-pub stops_first : (name : List ℕ) (net : Net) (rows : List Row) (given : Stop)
-    → StopsContent (plan_on name net rows) given → StopsContent (first_plan name net rows) given
-stops_first name net rows (stop.Refused refusal) (is, low, high) =
-    (ap (λ plan. and_then plan (λ placed. Ok rows)) is, low, high)
-stops_first name net rows stop.NoMemory stops = tt
-stops_first name net rows stop.ReadFault stops = stops
+    by : (name : List ℕ) (plan : Result (List Placed) NoPlan) → IsOk plan → IsOk (plan_from name plan)
+    by name (Ok placed) is = refl
+    by name (Err why) is = cc is
 
 pub sound_by_tie : (world : WorldValue) → world.is_spent ≡ false
     → (world.is_spent ≡ false → IsTied world) → IsSetting (setting_at world)
 unfolding AreTied
 sound_by_tie world able tied = (tied able).sound
 
-pub planned_by : (net : Net) (rows : List Row) (setting : Setting)
-    → setting ≡ setting_of net (rows ∷ []) → IsSetting setting → IsOk (plan_of rows net)
-planned_by net rows setting same sound =
-    (subst IsSetting same sound).planned
+pub planned_by : (net : Net) (policies : List (List Row)) (setting : Setting)
+    → setting ≡ setting_of net policies → IsSetting setting
+    → IsOk (plan_of (slice_index_or policies 0 []) net)
+planned_by net policies setting same sound =
+    first_planned net policies (subst IsSetting same sound).planned
 
 -- ---- events
 
-may_happen : (net : Net) (rows : List Row) (event : Event) → IsEvent net 1 event
-    → IsBuiltEvent event → MayHappen (setting_of net (rows ∷ [])) event
-may_happen net rows (One (step.Packet switch header)) own built =
+may_happen : (net : Net) (policies : List (List Row)) (event : Event)
+    → IsEvent net (length policies) event → IsBuiltEvent event
+    → MayHappen (setting_of net policies) event
+may_happen net policies (One (step.Packet switch header)) own built =
     record { kind = tt; own = own }
-may_happen net rows (One (step.Hop packet)) own built = record { kind = tt; own = own }
-may_happen net rows (One (step.Lose packet)) own built = record { kind = tt; own = own }
-may_happen net rows (One (step.Deliver message)) own built =
+may_happen net policies (One (step.Hop packet)) own built = record { kind = tt; own = own }
+may_happen net policies (One (step.Lose packet)) own built = record { kind = tt; own = own }
+may_happen net policies (One (step.Deliver message)) own built = record { kind = tt; own = own }
+may_happen net policies (One (step.Forget message)) own built = record { kind = tt; own = own }
+may_happen net policies (One (step.Expire switch place)) own built =
     record { kind = tt; own = own }
-may_happen net rows (One (step.Forget message)) own built =
-    record { kind = tt; own = own }
-may_happen net rows (One (step.Expire switch place)) own built =
-    record { kind = tt; own = own }
-may_happen net rows Flush own built = tt
-may_happen net rows Drain own built = tt
-may_happen net rows _ own built = cc built
+may_happen net policies Flush own built = tt
+may_happen net policies Drain own built = tt
+may_happen net policies _ own built = cc built
 
-pub all_may_happen : (net : Net) (rows : List Row) (setting : Setting) (events : List Event)
-    → setting ≡ setting_of net (rows ∷ []) → AreSound net 1 events → All (MayHappen setting) events
-all_may_happen net rows setting events same sound =
+pub all_may_happen : (net : Net) (policies : List (List Row)) (count : ℕ) (setting : Setting)
+    (events : List Event) → setting ≡ setting_of net policies → length policies ≡ count
+    → AreSound net count events → All (MayHappen setting) events
+all_may_happen net policies count setting events same many sound =
+    let own = subst (λ n. AreSound net n events) (sym many) sound in
     subst (λ s. All (MayHappen s) events) (sym same)
-    (λ k d within. may_happen net rows _ (sound.steps k d within) (sound.built k d within))
+    (λ k d within. may_happen net policies _ (own.steps k d within) (own.built k d within))
 
 -- ---- the inputs of a replay
 
 -- they are as the command asks for them
-pub asked_for : (words : ReplayCommand) (net : Net) (rows : List Row) (events : List Event)
-    (setting : Setting) → IsNetOf words.net net → setting ≡ setting_of net (rows ∷ [])
-    → IsSetting setting → AreSound net 1 events
+pub asked_for : (words : ReplayCommand) (net : Net) (policies : List (List Row))
+    (events : List Event) (setting : Setting) → IsNetOf words.net net
+    → setting ≡ setting_of net policies → length policies ≡ length words.policies
+    → IsSetting setting → All (MayHappen setting) events
     → IsReplayOf words (record { setting = setting; events = events })
-asked_for words net rows events setting named own sound events_sound = record {
+asked_for words net policies events setting named own many sound may = record {
   net = subst (λ s. IsNetOf words.net s.net) (sym own) named;
-  one_policy = ap (λ s. length s.policies) own;
+  policies = ap (λ s. length s.policies) own ∙ many;
   setting = sound;
-  events = all_may_happen net rows setting events own events_sound;
+  events = may;
 }
 
-inputs_from : (files : Files) (words : ReplayCommand) (net : Net) (rows : List Row)
+-- what is planned goes on
+and_then_ok : {X Y : Type 0} (read : Result X Refusal) (result : Result Y Refusal) → IsOk read
+    → and_then read (λ x. result) ≡ result
+and_then_ok (Ok x) result is = refl
+and_then_ok (Err refusal) result is = cc is
+
+inputs_from : (files : Files) (words : ReplayCommand) (net : Net) (policies : List (List Row))
     (events : List Event) → read_net files words.net ≡ Ok net
-    → read_schedule net files words.schedule ≡ Ok events
-    → read_policy (port_mask net.switches) files words.policy ≡ Ok rows
-    → first_plan words.policy net rows ≡ Ok rows
-    → inputs_of files words ≡ Ok (record { setting = setting_of net (rows ∷ []); events = events })
-inputs_from files words net rows events net_is events_are rows_are planned =
-    rw (net_is, events_are, rows_are, planned) refl
+    → read_schedule net (length words.policies) files words.schedule ≡ Ok events
+    → read_policies (port_mask net.switches) files words.policies ≡ Ok policies
+    → IsOk (first_plan words.policies net policies)
+    → inputs_of files words ≡ Ok (record { setting = setting_of net policies; events = events })
+inputs_from files words net policies events net_is events_are policies_are planned =
+    rw (net_is, events_are, policies_are)
+    (and_then_ok (first_plan words.policies net policies) _ planned)
 
 -- and they are what the files state, where these are known
 pub inputs_are : (known middle later : Option Files) (words : ReplayCommand) (net : Net)
-    (rows : List Row) (events : List Event) (setting : Setting) (ports : ℕ)
-    → middle ≡ known → later ≡ known → ports ≡ port_mask net.switches
+    (policies : List (List Row)) (events : List Event) (setting : Setting) (count ports : ℕ)
+    → middle ≡ known → later ≡ known → count ≡ length words.policies
+    → ports ≡ port_mask net.switches
     → ForSome known (λ files. read_net files words.net ≡ Ok net)
-    → ForSome middle (λ files. read_schedule net files words.schedule ≡ Ok events)
-    → ForSome later (λ files. read_policy ports files words.policy ≡ Ok rows)
-    → first_plan words.policy net rows ≡ Ok rows → setting ≡ setting_of net (rows ∷ [])
+    → ForSome middle (λ files. read_schedule net count files words.schedule ≡ Ok events)
+    → ForSome later (λ files. read_policies ports files words.policies ≡ Ok policies)
+    → IsOk (first_plan words.policies net policies) → setting ≡ setting_of net policies
     → ForSome known (λ files. inputs_of files words
     ≡ Ok (record { setting = setting; events = events }))
-inputs_are known middle later words net rows events setting ports first second mask net_is
-    events_are rows_are planned own = λ files is.
-    let own_rows = subst (λ (p : ℕ). read_policy p files words.policy ≡ Ok rows) mask
-    (rows_are files (second ∙ is)) in
-    inputs_from files words net rows events (net_is files is) (events_are files (first ∙ is))
-    own_rows planned
+inputs_are known middle later words net policies events setting count ports first second many mask
+    net_is events_are policies_are planned own = λ files is.
+    let own_events =
+    subst (λ (n : ℕ). read_schedule net n files words.schedule ≡ Ok events) many
+    (events_are files (first ∙ is)) in
+    let own_policies =
+    subst (λ (p : ℕ). read_policies p files words.policies ≡ Ok policies) mask
+    (policies_are files (second ∙ is)) in
+    inputs_from files words net policies events (net_is files is) own_events own_policies planned
     ∙ ap (λ s. Ok (record { setting = s; events = events })) (sym own)

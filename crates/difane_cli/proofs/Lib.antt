@@ -2,6 +2,7 @@ mod Begun
 mod Gains
 mod OneSwitch
 mod Plays
+mod PolicyReads
 mod ShelfReads
 mod Tried
 mod Worked

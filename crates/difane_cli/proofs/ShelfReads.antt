@@ -1,11 +1,12 @@
 -- Reads of a shelf, one after another.
-use Rattle.std.proofs.Common.{ℕ, zero, suc, ◌≡◌, ◌+◌, ◌≤◌, Bool, true, false, Option, Some, None, Ok, List, ◌∷◌, [], refl, ap, ◌∙◌, arith}
+use Rattle.std.proofs.Common.{ℕ, zero, suc, ◌≡◌, ◌+◌, ◌≤◌, Bool, true, false, Option, Some, None, Ok, List, ◌∷◌, length, refl, ap, ◌∙◌, subst, arith}
 use Rattle.std.specs.Option.{ForSome}
+use Rattle.net_file.specs.Net.{port_mask}
 use Rattle.net_file.specs.declared.net.Net.{Net}
 use Rattle.steps.specs.declared.step.Event.{Event}
 use Rattle.shelf.specs.Faults.{counted, counted_up}
 use Rattle.shelf.specs.Shelf.{Files, ShelfState, IsAfterReads}
-use Rattle.difane_cli.specs.Inputs.{most_reads, net_reads, read_net, read_schedule, switch_on, up_to_refusal}
+use Rattle.difane_cli.specs.Inputs.{most_reads, net_reads, policy_reads, read_net, read_schedule, switch_on, up_to_refusal}
 use Rattle.difane_cli.specs.Words.{Print, PrintCommand, Replay, ReplayCommand}
 
 counted_up-counted_up : (n m x : ℕ) → counted_up n (counted_up m x) ≡ counted_up (n + m) x
@@ -37,40 +38,44 @@ pub schedule_read : (known : Option Files) (command : ReplayCommand) (net : Net)
 schedule_read None command net read = omega arith
 schedule_read (Some files) command net read = rw (read files refl) (more _ _)
   where
-    more : (a b : Bool) → net_reads command.net + 1
-        ≤ net_reads command.net + up_to_refusal (a ∷ b ∷ [])
-    more true true = omega arith
-    more true false = omega arith
-    more false b = omega arith
+    more : (accepted : Bool) (others : List Bool) → net_reads command.net + 1
+        ≤ net_reads command.net + up_to_refusal (accepted ∷ others)
+    more true others = omega arith
+    more false others = omega arith
 
--- and then its policy, where the schedule is accepted
-pub both_read : (known : Option Files) (command : ReplayCommand) (net : Net) (events : List Event)
-    → ForSome known (λ files. read_net files command.net ≡ Ok net)
-    → ForSome known (λ files. read_schedule net files command.schedule ≡ Ok events)
-    → net_reads command.net + 1 + 1 ≤ most_reads known (Some (Replay command))
-both_read None command net events read accepted = omega arith
-both_read (Some files) command net events read accepted =
-    rw (read files refl, accepted files refl) (more _)
-  where
-    more : (b : Bool) → net_reads command.net + 1 + 1
-        ≤ net_reads command.net + up_to_refusal (true ∷ b ∷ [])
-    more true = omega arith
-    more false = omega arith
+-- and then its policies, where the schedule is accepted
+pub policies_read : (known : Option Files) (command : ReplayCommand) (net : Net)
+    (events : List Event) → ForSome known (λ files. read_net files command.net ≡ Ok net)
+    → ForSome known (λ files.
+    read_schedule net (length command.policies) files command.schedule ≡ Ok events)
+    → net_reads command.net + 1 + policy_reads (port_mask net.switches) known command.policies
+    ≤ most_reads known (Some (Replay command))
+policies_read None command net events read accepted = omega arith
+policies_read (Some files) command net events read accepted =
+    rw (read files refl, accepted files refl) (omega arith)
 
--- the reads of a replay, of its network, its schedule and its policy
-pub three_reads : (command : ReplayCommand) (net : Net) (events : List Event)
-    (old one two new : ShelfState)
+-- the reads of a replay, of its network, its schedule and its policies
+pub all_reads : (command : ReplayCommand) (net : Net) (events : List Event) (count ports : ℕ)
+    (old one two new : ShelfState) → count ≡ length command.policies
+    → ports ≡ port_mask net.switches
     → ForSome old.files (λ files. read_net files command.net ≡ Ok net)
-    → ForSome one.files (λ files. read_schedule net files command.schedule ≡ Ok events)
+    → ForSome one.files (λ files. read_schedule net count files command.schedule ≡ Ok events)
     → IsAfterReads (net_reads command.net) old one → IsAfterReads 1 one two
-    → IsAfterReads 1 two new
+    → IsAfterReads (policy_reads ports two.files command.policies) two new
     → IsAfterReads (most_reads old.files (Some (Replay command))) old new
-three_reads command net events old one two new net_read events_read first second third =
+all_reads command net events count ports old one two new many mask net_read events_read first second
+    third =
     let most = net_reads command.net + 1 in
     let both = reads_then (net_reads command.net) 1 most old one two (omega arith) first second in
-    let all = both_read old.files command net events net_read
+    let accepted = subst (λ (n : ℕ). ForSome old.files (λ files.
+    read_schedule net n files command.schedule ≡ Ok events)) many
     (λ files is. events_read files (first.same_files ∙ is)) in
-    reads_then most 1 _ old two new all both third
+    let policies = subst (λ (p : ℕ). IsAfterReads (policy_reads p old.files command.policies) two
+    new) mask
+    (subst (λ (known : Option Files). IsAfterReads (policy_reads ports known command.policies) two
+    new) (second.same_files ∙ first.same_files) third) in
+    reads_then most _ _ old two new
+    (policies_read old.files command net events net_read accepted) both policies
 
 -- a printing command reads its policy too, where the network and the switch are accepted
 pub policy_read : (known : Option Files) (command : PrintCommand) (net : Net) (switch : Option ℕ)

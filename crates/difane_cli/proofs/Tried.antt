@@ -1,9 +1,9 @@
 -- The grammar of words, tried on literals by computing.
-use Rattle.std.proofs.Common.{◌≡◌, Some, None, [], ◌∷◌, codes, refl}
+use Rattle.std.proofs.Common.{◌≡◌, Some, None, [], ◌∷◌, codes, refl, replicate}
 use Rattle.difane_cli.specs.Words.{Print, Replay, command_of}
 
 two_names : command_of (codes "replay" ∷ codes "s.csv" ∷ codes "p.csv" ∷ []) ≡ Some
-    (Replay (record { schedule = codes "s.csv"; policy = codes "p.csv"; net = None }))
+    (Replay (record { schedule = codes "s.csv"; policies = codes "p.csv" ∷ []; net = None }))
 two_names = refl
 
 no_option : command_of (codes "replay" ∷ codes "s.csv" ∷ codes "--net" ∷ []) ≡ None
@@ -12,9 +12,23 @@ no_option = refl
 no_empty_name : command_of (codes "replay" ∷ [] ∷ codes "p.csv" ∷ []) ≡ None
 no_empty_name = refl
 
-no_third_name : command_of (codes "replay" ∷ codes "s.csv" ∷ codes "p.csv" ∷ codes "q.csv" ∷ [])
-    ≡ None
-no_third_name = refl
+two_policies : command_of (codes "replay" ∷ codes "s.csv" ∷ codes "p.csv" ∷ codes "q.csv" ∷ [])
+    ≡ Some (Replay (record {
+      schedule = codes "s.csv";
+      policies = codes "p.csv" ∷ codes "q.csv" ∷ [];
+      net = None;
+    }))
+two_policies = refl
+
+no_policy : command_of (codes "replay" ∷ codes "s.csv" ∷ []) ≡ None
+no_policy = refl
+
+no_65_policies : command_of (codes "replay" ∷ codes "s.csv" ∷ replicate 65 (codes "p.csv")) ≡ None
+no_65_policies = refl
+
+no_policy_behind : command_of
+    (codes "replay" ∷ codes "s.csv" ∷ codes "p.csv" ∷ codes "--net=n" ∷ codes "q.csv" ∷ []) ≡ None
+no_policy_behind = refl
 
 one_policy : command_of (codes "compile" ∷ codes "p.csv" ∷ []) ≡ Some
     (Print (record { policy = codes "p.csv"; switch = None; net = None }))
@@ -45,5 +59,9 @@ no_net_between = refl
 
 net_for_replay : command_of
     (codes "replay" ∷ codes "s.csv" ∷ codes "p.csv" ∷ codes "--net=n" ∷ []) ≡ Some
-    (Replay (record { schedule = codes "s.csv"; policy = codes "p.csv"; net = Some (codes "n") }))
+    (Replay (record {
+      schedule = codes "s.csv";
+      policies = codes "p.csv" ∷ [];
+      net = Some (codes "n");
+    }))
 net_for_replay = refl

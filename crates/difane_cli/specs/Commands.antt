@@ -1,5 +1,5 @@
 -- What the words and the files that a command read are to the definitions.
-use Rattle.std.specs.Prelude.{ℕ, ◌≡◌, ◌≤◌, Option, option_map, List, length, map, string_bytes, All}
+use Rattle.std.specs.Prelude.{⊤, ℕ, ◌≡◌, ◌≤◌, Option, option_map, List, length, map, string_bytes, All}
 use Rattle.std.specs.Borrow.{Bor}
 use Rattle.net_file.specs.Net.{IsNet}
 use Rattle.steps.specs.Steps.{max_events}
@@ -8,6 +8,7 @@ use Rattle.world.specs.State.{IsBegun, setting_at}
 use Rattle.difane_cli.specs.Run.{IsPrintingOf, IsReplayOf}
 use Rattle.difane_cli.specs.Inputs.{Inputs, Printing, Task, Play, Print}
 use Rattle.difane_cli.specs.Words as grammar
+use Rattle.difane_cli.specs.Words.{most_policies}
 use Rattle.difane_cli.specs.declared.inputs.ReplayInputs.{ReplayInputs}
 use Rattle.difane_cli.specs.declared.printing.PrintInputs.{PrintInputs}
 use Rattle.difane_cli.specs.declared.task.Task as declared_task
@@ -25,13 +26,22 @@ net_named name = option_map (λ n. n.now) name
 abbrev pub replay_named : ReplayWords → grammar.ReplayCommand
 replay_named words = record {
   schedule = words.schedule.now;
-  policy = words.policy.now;
+  policies = map string_bytes words.policies.now;
   net = net_named words.net;
 }
 
 abbrev pub print_named : PrintWords → grammar.PrintCommand
 print_named words =
     record { policy = words.policy.now; switch = net_named words.switch; net = net_named words.net }
+
+-- the words name one policy, or more, but not too many
+abbrev pub HasPolicies : ReplayWords → Type 0
+HasPolicies words =
+    (1 ≤ length words.policies.now) × (length words.policies.now ≤ most_policies)
+
+abbrev pub NamesPolicies : Command → Type 0
+NamesPolicies (given.Replay words) = HasPolicies words
+NamesPolicies (given.Print words) = ⊤
 
 -- the command that names these files
 abbrev pub command_named : Command → grammar.Command

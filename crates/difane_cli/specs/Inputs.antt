@@ -1,5 +1,5 @@
 -- The task of a command: what its files are read to, or the first refusal in the order of work.
-use Rattle.std.specs.Prelude.{⊤, ℕ, ◌≡◌, ◌+◌, ◌<◌, Bool, true, false, nat_le, if◌then◌else◌, Option, Some, None, Result, Ok, Err, is_ok, List, [], ◌∷◌, length}
+use Rattle.std.specs.Prelude.{⊤, ℕ, ◌≡◌, ◌+◌, ◌<◌, Bool, true, false, nat_le, if◌then◌else◌, Option, Some, None, Result, Ok, Err, is_ok, List, [], ◌∷◌, length, map, slice_index_or}
 use Rattle.std.specs.Option.{option_map_or}
 use Rattle.net_file.specs.Net.{port_mask, solo_net, switch_number}
 use Rattle.net_file.specs.Reading.{net_of}
@@ -49,9 +49,10 @@ schedule_from name (Ok events) = Ok events
 schedule_from name (Err refusal) =
     Err (record { file = name; code = refused_by.code_of refusal.refusal; row = refusal.row })
 
--- the events that the bytes of this file state for the network, where one policy is named
-abbrev pub schedule_in : Net → List ℕ → List ℕ → Result (List Event) Refusal
-schedule_in net name bytes = schedule_from name (schedule_text.schedule_of net 1 bytes)
+-- the events that the bytes of this file state for the network and so many policy files
+abbrev pub schedule_in : Net → ℕ → List ℕ → List ℕ → Result (List Event) Refusal
+schedule_in net policies name bytes =
+    schedule_from name (schedule_text.schedule_of net policies bytes)
 
 abbrev pub policy_from : List ℕ → Result (List Row) policy_text.Refusal → Result (List Row) Refusal
 policy_from name (Ok rows) = Ok rows
@@ -68,11 +69,20 @@ policy_in ports name bytes =
     and_then (policy_from name (policy_text.policy_of bytes)) (λ rows.
     with_ports name rows (first_without_port ports rows))
 
-abbrev pub read_schedule : Net → Files → List ℕ → Result (List Event) Refusal
-read_schedule net files name = and_then (content_of files name) (schedule_in net name)
+abbrev pub read_schedule : Net → ℕ → Files → List ℕ → Result (List Event) Refusal
+read_schedule net policies files name =
+    and_then (content_of files name) (schedule_in net policies name)
 
 abbrev pub read_policy : ℕ → Files → List ℕ → Result (List Row) Refusal
 read_policy ports files name = and_then (content_of files name) (policy_in ports name)
+
+-- the policies of these files in their order, or the first refusal
+abbrev pub read_policies : ℕ → Files → List (List ℕ) → Result (List (List Row)) Refusal
+read_policies ports files [] = Ok []
+read_policies ports files (name ∷ names) =
+    and_then (read_policy ports files name) (λ rows.
+    and_then (read_policies ports files names) (λ policies.
+    Ok (rows ∷ policies)))
 
 abbrev pub net_from : List ℕ → Result Net net_text.Refusal → Result Net Refusal
 net_from name (Ok net) = Ok net
@@ -101,9 +111,10 @@ plan_from name (Err (no_plan.NoRoom partition)) =
 abbrev pub plan_on : List ℕ → Net → List Row → Result (List Placed) Refusal
 plan_on name net rows = plan_from name (plan_of rows net)
 
--- the first policy, unless it has no plan on the network
-abbrev pub first_plan : List ℕ → Net → List Row → Result (List Row) Refusal
-first_plan name net rows = and_then (plan_on name net rows) (λ placed. Ok rows)
+-- the plan of the first of these policies, which stand in files of these names
+abbrev pub first_plan : List (List ℕ) → Net → List (List Row) → Result (List Placed) Refusal
+first_plan names net policies =
+    plan_on (slice_index_or names 0 []) net (slice_index_or policies 0 [])
 
 -- ---- all files of a replay
 
@@ -111,15 +122,15 @@ pub record Inputs : Type 0 where
   pub setting : Setting
   pub events : List Event
 
--- the network is read and checked, then the schedule, then the policy, and then the first policy is
--- planned
+-- the network is read and checked, then the schedule, then the policies in their order, and then
+-- the first policy is planned
 abbrev pub inputs_of : Files → ReplayCommand → Result Inputs Refusal
 inputs_of files command =
     and_then (read_net files command.net) (λ net.
-    and_then (read_schedule net files command.schedule) (λ events.
-    and_then (read_policy (port_mask net.switches) files command.policy) (λ rows.
-    and_then (first_plan command.policy net rows) (λ policy.
-    Ok (record { setting = setting_of net (policy ∷ []); events = events })))))
+    and_then (read_schedule net (length command.policies) files command.schedule) (λ events.
+    and_then (read_policies (port_mask net.switches) files command.policies) (λ policies.
+    and_then (first_plan command.policies net policies) (λ placed.
+    Ok (record { setting = setting_of net policies; events = events })))))
 
 -- ---- all files of a plan
 
@@ -186,17 +197,26 @@ abbrev pub net_reads : Option (List ℕ) → ℕ
 net_reads None = 0
 net_reads (Some name) = 1
 
+-- which of the policies of these files are accepted
+abbrev pub are_accepted : ℕ → Files → List (List ℕ) → List Bool
+are_accepted ports files names = map (λ name. is_ok (read_policy ports files name)) names
+
+-- how many reads they take at most
+abbrev pub policy_reads : ℕ → Option Files → List (List ℕ) → ℕ
+policy_reads ports None names = length names
+policy_reads ports (Some files) names = up_to_refusal (are_accepted ports files names)
+
 -- how many reads a replay makes at most behind that of its network
 abbrev pub replay_reads : Files → ReplayCommand → Result Net Refusal → ℕ
 replay_reads files words (Err refusal) = 0
 replay_reads files words (Ok net) =
-    up_to_refusal (is_ok (read_schedule net files words.schedule)
-    ∷ is_ok (read_policy (port_mask net.switches) files words.policy) ∷ [])
+    up_to_refusal (is_ok (read_schedule net (length words.policies) files words.schedule)
+    ∷ are_accepted (port_mask net.switches) files words.policies)
 
 -- how many reads a command makes at most
 abbrev pub most_reads : Option Files → Option Command → ℕ
 most_reads files None = 0
-most_reads None (Some (asked.Replay words)) = net_reads words.net + 2
+most_reads None (Some (asked.Replay words)) = net_reads words.net + 1 + length words.policies
 most_reads None (Some (asked.Print words)) = net_reads words.net + 1
 most_reads (Some files) (Some (asked.Replay words)) =
     net_reads words.net + replay_reads files words (read_net files words.net)

@@ -53,11 +53,12 @@ IsNetOf (Some name) net = IsNet net
 
 -- ---- replays
 
--- the inputs are on the network that the command names: the one policy has a plan on it and names
--- its ports alone, and the events name its switches alone
+-- the inputs are on the network that the command names, and have a policy for each that it names:
+-- the first one has a plan on the network, all name its ports alone, and the events name its
+-- switches and these policies alone
 pub record IsReplayOf (command : ReplayCommand) (inputs : Inputs) : Type 0 where
   pub net : IsNetOf command.net inputs.setting.net
-  pub one_policy : length inputs.setting.policies ≡ 1
+  pub policies : length inputs.setting.policies ≡ length command.policies
   pub setting : IsSetting inputs.setting
   pub events : All (MayHappen inputs.setting) inputs.events
 

@@ -1,13 +1,14 @@
 -- The grammar of the command line: a command, then options, then names, then options.
-use Rattle.std.specs.Prelude.{ℕ, Bool, not, ◌&&◌, ◌==◌, nat_lt, eqb, if◌then◌else◌, Option, Some, None, option_map, List, [], ◌∷◌, length, drop, map, slice_index, codes, bytes_eq, string_bytes, String, Vec}
+use Rattle.std.specs.Prelude.{ℕ, Bool, not, ◌&&◌, ◌==◌, nat_le, nat_lt, eqb, if◌then◌else◌, Option, Some, None, option_map, List, [], ◌∷◌, length, drop, take, map, slice_index, codes, bytes_eq, string_bytes, String, Vec}
 use Rattle.std.specs.Global.{Global}
-use Rattle.std.specs.List.{starts_with}
+use Rattle.std.specs.List.{prefix_len, starts_with}
 use Rattle.std.specs.Option.{option_map_or}
 
--- `replay SCHEDULE POLICY`, on the network of a file, or on that of one switch
+-- `replay SCHEDULE POLICY ..`, on the network of a file, or on that of one switch
 pub record ReplayCommand : Type 0 where
   pub schedule : List ℕ
-  pub policy : List ℕ
+  -- an update names one of them by its place, from 1
+  pub policies : List (List ℕ)
   pub net : Option (List ℕ)
 
 -- `compile POLICY`, or `show POLICY SWITCH`; on the network of a file, or on that of one switch
@@ -69,17 +70,26 @@ end_net None words = whole_cut (cut_net words)
 -- ---- the commands
 
 -- a replay of these names, where what stands behind them is a network's option or nothing
-abbrev pub play_of : List ℕ → List ℕ → Option (Option (List ℕ)) → Option Command
-play_of schedule policy end =
-    option_map (λ net. Replay (record { schedule = schedule; policy = policy; net = net })) end
+abbrev pub play_of : List ℕ → List (List ℕ) → Option (Option (List ℕ)) → Option Command
+play_of schedule policies end =
+    option_map (λ net. Replay (record { schedule = schedule; policies = policies; net = net })) end
 
--- the words behind `replay`, where this option stood in front of them or none
+-- a replay names at least one policy, and at most so many
+abbrev pub most_policies : ℕ
+most_policies = 64
+
+abbrev pub may_be_policies : ℕ → Bool
+may_be_policies count = nat_le 1 count && nat_le count most_policies
+
+-- the words behind `replay`, where this option stood in front of them or none: the policies are the
+-- names up to an option or the end
 abbrev pub replay_of : Option (List ℕ) → List (List ℕ) → Option Command
-replay_of net (schedule ∷ policy ∷ words) =
-    if is_name schedule && is_name policy
-    then play_of schedule policy (end_net net words)
+replay_of net [] = None
+replay_of net (schedule ∷ words) =
+    let count = prefix_len is_name words in
+    if is_name schedule && may_be_policies count
+    then play_of schedule (take count words) (end_net net (drop count words))
     else None
-replay_of net _ = None
 
 -- a plan or tables of these names, where what stands behind them is a network's option or nothing
 abbrev pub print_of : List ℕ → Option (List ℕ) → Option (Option (List ℕ)) → Option Command

@@ -1,5 +1,5 @@
 //! The files of a command, read and checked one after another.
-ghost use Rattle.std.specs.Prelude.{◌≡◌, All, IsTrue, IfOk, IfErr, Ok, Some};
+ghost use Rattle.std.specs.Prelude.{◌≡◌, All, IsTrue, IfOk, IfErr, Ok, Some, length, map, string_bytes};
 ghost use Rattle.std.specs.Option.{ForSome};
 ghost use Rattle.net_file.specs.Net.{IsNet};
 ghost use Rattle.policy_file.specs.Ports.{has_port};
@@ -7,10 +7,10 @@ ghost use Rattle.policy_rules.specs.Policy.{IsPolicy};
 ghost use Rattle.schedule.specs.Reading.{AreSound};
 ghost use Rattle.shelf.specs.Faults.{Rose};
 ghost use Rattle.shelf.specs.Shelf.{IsAfterReads};
-ghost use Rattle.difane_cli.specs.Inputs.{Refuses, Stops, StopsContent, content_of, inputs_of, most_reads, read_policy, read_schedule, schedule_in};
+ghost use Rattle.difane_cli.specs.Inputs.{Refuses, Stops, StopsContent, content_of, inputs_of, most_reads, policy_reads, read_policies, read_policy, read_schedule, schedule_in};
 ghost use Rattle.difane_cli.specs.Run.{IsReplayOf};
 ghost use Rattle.difane_cli.specs.Status.{NeedsReadFault, status_of};
-ghost use Rattle.difane_cli.specs.Commands.{IsReady, inputs_stated, replay_named};
+ghost use Rattle.difane_cli.specs.Commands.{HasPolicies, IsReady, inputs_stated, replay_named};
 ghost use Rattle.difane_cli.specs.Words.{Replay};
 
 use crate::networks::take_network;
@@ -63,15 +63,22 @@ pub fn read_bytes<F: Shelf>(alloc: Global, shelf: &mut F, name: &str) -> Result<
     }
 }
 
-/// The events that the bytes of this file state for the network.
-fn check_schedule(alloc: Global, name: &str, bytes: &[u8], net: &Net) -> Result<Vec<Event>, Stop>
+/// The events that the bytes of this file state for the network and so many policy files.
+fn check_schedule(
+    alloc: Global,
+    name: &str,
+    bytes: &[u8],
+    net: &Net,
+    policies: u32,
+) -> Result<Vec<Event>, Stop>
     requires { IsNet net.now }
     ensures value { IfOk result (λ events.
-        schedule_in net.now name.now bytes.now ≡ Ok events.items) }
-    ensures stopped { IfErr result (StopsContent (schedule_in net.now name.now bytes.now)) }
-    ensures sound { IfOk result (λ events. AreSound net.now 1 events.items) }
+        schedule_in net.now policies name.now bytes.now ≡ Ok events.items) }
+    ensures stopped { IfErr result
+        (StopsContent (schedule_in net.now policies name.now bytes.now)) }
+    ensures sound { IfOk result (λ events. AreSound net.now policies events.items) }
 {
-    match schedule::read_schedule(alloc, bytes, net, 1) {
+    match schedule::read_schedule(alloc, bytes, net, policies) {
         Ok(events) => Ok(events),
         Err(ScheduleError::Refused { refusal, row }) => {
             Err(refused(alloc, name, refusal.code(), row))
@@ -80,25 +87,26 @@ fn check_schedule(alloc: Global, name: &str, bytes: &[u8], net: &Net) -> Result<
     }
 }
 
-/// The events of the schedule of this name, on the network.
+/// The events of the schedule of this name, on the network and with so many policy files.
 fn read_schedule<F: Shelf>(
     alloc: Global,
     shelf: &mut F,
     name: &str,
     net: &Net,
+    policies: u32,
 ) -> Result<Vec<Event>, Stop>
     requires { IsNet net.now }
     ensures value { IfOk result (λ events. ForSome (F.state shelf.old).files (λ files.
-        read_schedule net.now files name.now ≡ Ok events.items)) }
+        read_schedule net.now policies files name.now ≡ Ok events.items)) }
     ensures stopped { IfErr result (λ stop. ForSome (F.state shelf.old).files (λ files.
-        Stops (read_schedule net.now files name.now) stop)) }
+        Stops (read_schedule net.now policies files name.now) stop)) }
     ensures faults { IfErr result (λ stop. NeedsReadFault (F.state shelf.old).files (status_of stop)
         → Rose (F.state shelf.old).faults (F.state shelf.new).faults) }
     ensures shelf { IsAfterReads 1 (F.state shelf.old) (F.state shelf.new) }
-    ensures sound { IfOk result (λ events. AreSound net.now 1 events.items) }
+    ensures sound { IfOk result (λ events. AreSound net.now policies events.items) }
 {
     let bytes = read_bytes(alloc, shelf, name)?;
-    check_schedule(alloc, name, &bytes, net)
+    check_schedule(alloc, name, &bytes, net, policies)
 }
 
 /// The policy of this name, which names only ports of the mask.
@@ -122,22 +130,52 @@ pub fn read_policy<F: Shelf>(
     check_policy(alloc, name, &bytes, ports)
 }
 
+/// The policies of these names, each of which is read and checked before the next one is read.
+fn read_policies<F: Shelf>(
+    alloc: Global,
+    shelf: &mut F,
+    names: &[String],
+    ports: u64,
+) -> Result<Vec<Policy>, Stop>
+    ensures value { IfOk result (λ policies. ForSome (F.state shelf.old).files (λ files.
+        read_policies ports files (map string_bytes names.now) ≡ Ok policies.items)) }
+    ensures stopped { IfErr result (λ stop. ForSome (F.state shelf.old).files (λ files.
+        Stops (read_policies ports files (map string_bytes names.now)) stop)) }
+    ensures faults { IfErr result (λ stop. NeedsReadFault (F.state shelf.old).files (status_of stop)
+        → Rose (F.state shelf.old).faults (F.state shelf.new).faults) }
+    ensures shelf { IsAfterReads
+        (policy_reads ports (F.state shelf.old).files (map string_bytes names.now))
+        (F.state shelf.old) (F.state shelf.new) }
+    ensures many { IfOk result (λ policies. length policies.items ≡ length names.now) }
+    ensures own_ports { IfOk result (λ policies.
+        All (All (λ row. IsTrue (has_port ports row.action))) policies.items) }
+    ensures sound { IfOk result (λ policies. All IsPolicy policies.items) }
+{
+    let mut policies = Vec::new(alloc);
+    for name in names {
+        let policy = read_policy(alloc, shelf, name, ports)?;
+        policies.push(policy)?;
+    }
+    Ok(policies)
+}
+
 /// What a replay plays.
 #[derive(Drop)]
 pub struct ReplayInputs {
     pub events: Vec<Event>,
     pub net: Net,
-    /// The network with the policy in force, on which nothing happened yet.
+    /// The network with the first policy in force, on which nothing happened yet.
     pub world: World,
 }
 
-/// The inputs of a replay: the network is read and checked, then the schedule, then the policy, and
-/// last the first policy is planned.
+/// The inputs of a replay: the network is read and checked, then the schedule, then the policies in
+/// their order, and last the first policy is planned.
 pub fn read_inputs<F: Shelf>(
     alloc: Global,
     shelf: &mut F,
     words: ReplayWords<'_>,
 ) -> Result<ReplayInputs, Stop>
+    requires { HasPolicies words }
     ensures value { IfOk result (λ inputs. ForSome (F.state shelf.old).files (λ files.
         inputs_of files (replay_named words.entry) ≡ Ok (inputs_stated inputs))) }
     ensures stopped { IfErr result (λ stop. ForSome (F.state shelf.old).files (λ files.
@@ -152,8 +190,9 @@ pub fn read_inputs<F: Shelf>(
         IsReplayOf (replay_named words.entry) (inputs_stated inputs)) }
 {
     let net = take_network(alloc, shelf, words.net)?;
-    let events = read_schedule(alloc, shelf, words.schedule, &net)?;
-    let policy = read_policy(alloc, shelf, words.policy, net.port_mask())?;
-    let world = begin_world(alloc, words.policy, policy, &net)?;
+    let count = words.policies.len() as u32;
+    let events = read_schedule(alloc, shelf, words.schedule, &net, count)?;
+    let policies = read_policies(alloc, shelf, words.policies, net.port_mask())?;
+    let world = begin_world(alloc, words.policies, policies, &net)?;
     Ok(ReplayInputs { events, net, world })
 }

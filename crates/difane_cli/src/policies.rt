@@ -1,5 +1,5 @@
 //! Policies as a command takes them: read from bytes, and checked against the network.
-ghost use Rattle.std.specs.Prelude.{◌≡◌, All, List, IfOk, IfErr, IsTrue, Ok, OnOk, [], ◌∷◌};
+ghost use Rattle.std.specs.Prelude.{◌≡◌, ◌≤◌, All, List, IfOk, IfErr, IsOk, IsTrue, Ok, OnOk, length, map, string_bytes};
 ghost use Rattle.policy_file.specs.Reading.{policy_of};
 ghost use Rattle.policy_file.specs.Ports.{has_port};
 ghost use Rattle.policy_rules.specs.Policy.{IsPolicy};
@@ -19,7 +19,7 @@ use controller::{Plan, PlanError, compile};
 use net_file::{Net, port_laws};
 use policy_file::{NoPort, PolicyError, check_ports, read_policy};
 use policy_rules::Policy;
-use std::alloc::{AllocError, Global};
+use std::alloc::Global;
 use world::World;
 
 /// The code of a row that names a port that the network lacks.
@@ -79,37 +79,35 @@ fn no_plan(alloc: Global, name: &str, error: PlanError) -> Stop
     }
 }
 
-/// The network with the policy of this file in force as its first version.
-pub fn begin_world(alloc: Global, name: &str, policy: Policy, net: &Net) -> Result<World, Stop>
+/// The network with the first of these policies in force as version 1; they stand in files of these
+/// names.
+pub fn begin_world(
+    alloc: Global,
+    names: &[String],
+    policies: Vec<Policy>,
+    net: &Net,
+) -> Result<World, Stop>
     requires net { IsNet net.now }
-    requires sound { IsPolicy policy }
-    requires ports { All (λ row. IsTrue (has_port (port_mask net.now.switches) row.action)) policy }
-    ensures value { OnOk result (first_plan name.now net.now policy ≡ Ok policy) }
-    ensures begun { IfOk result (IsBegun (setting_of net.now (policy ∷ []))) }
+    requires some { 1 ≤ length policies.items }
+    requires named { length policies.items ≡ length names.now }
+    requires sound { All IsPolicy policies.items }
+    requires ports { All (All (λ row. IsTrue (has_port (port_mask net.now.switches) row.action)))
+        policies.items }
+    ensures planned { OnOk result
+        (IsOk (first_plan (map string_bytes names.now) net.now policies.items)) }
+    ensures begun { IfOk result (IsBegun (setting_of net.now policies.items)) }
     ensures sound { IfOk result (λ world. IsSetting (setting_at world)) }
-    ensures stopped { IfErr result (StopsContent (first_plan name.now net.now policy)) }
+    ensures stopped { IfErr result
+        (StopsContent (first_plan (map string_bytes names.now) net.now policies.items)) }
 {
     port_laws();
-    let policies = match one_policy(alloc, policy) {
-        Ok(policies) => policies,
-        Err(_) => return Err(Stop::NoMemory),
-    };
     match World::begin(alloc, net, policies) {
         Ok(world) => {
             world.tied();
             Ok(world)
         }
-        Err(error) => Err(no_plan(alloc, name, error)),
+        Err(error) => Err(no_plan(alloc, names[0].as_str(), error)),
     }
-}
-
-/// The list of this policy.
-fn one_policy(alloc: Global, policy: Policy) -> Result<Vec<Policy>, AllocError>
-    ensures { IfOk result (λ policies. policies.items ≡ policy ∷ []) }
-{
-    let mut policies = Vec::new(alloc);
-    policies.push(policy)?;
-    Ok(policies)
 }
 
 /// The plan of the policy of this file on the network.

@@ -2,12 +2,13 @@
 ghost use Rattle.std.specs.Prelude.{◌≡◌, IfOk};
 ghost use Rattle.std.specs.List.{flat_map};
 ghost use Rattle.shelf.specs.Sink.{IsAfterWrite};
+ghost use Rattle.difane_cli.specs.declared.status.Stop.TheVariants.{NoMemory};
 ghost use Rattle.difane_cli.specs.Status.{TellsLine, full_line, input_line, status_after, status_line, status_number, status_of};
 
 use itoa::Buffer;
 use journal::Journal;
 use shelf::{Sink, SinkError, write_whole};
-use std::alloc::{AllocError, Global};
+use std::alloc::{AllocError, AllocFailed, Global};
 use std::marker::Model;
 
 /// The name of a file as the words had it. Contracts see its bytes.
@@ -60,6 +61,14 @@ pub enum Stop {
     ReadFault,
     /// Memory ran out.
     NoMemory,
+}
+
+impl<T: Drop> From<AllocFailed<T>> for Stop {
+    ghost from_gives = { λ _ stop. stop ≡ NoMemory };
+
+    fn from(_: AllocFailed<T>) -> Self {
+        Stop::NoMemory
+    }
 }
 
 /// How a command ended.

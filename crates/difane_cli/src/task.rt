@@ -3,7 +3,7 @@ ghost use Rattle.std.specs.Prelude.{◌≡◌, ◌≤◌, Ok, Some, IfOk, IfErr,
 ghost use Rattle.std.specs.Option.{ForSome};
 ghost use Rattle.shelf.specs.Faults.{Rose};
 ghost use Rattle.shelf.specs.Shelf.{IsAfterReads};
-ghost use Rattle.difane_cli.specs.Commands.{IsReadyTask, IsTaskOf, command_named, task_stated};
+ghost use Rattle.difane_cli.specs.Commands.{IsReadyTask, IsTaskOf, NamesPolicies, command_named, task_stated};
 ghost use Rattle.difane_cli.specs.Inputs.{known_task, most_reads};
 ghost use Rattle.difane_cli.specs.Inputs.{Task as Stated};
 ghost use Rattle.difane_cli.specs.declared.status.Refusal.{Refusal};
@@ -30,6 +30,7 @@ pub enum Task {
 
 /// The task of a command, whose files are read and checked one after another.
 pub fn read_task<F: Shelf>(alloc: Global, shelf: &mut F, command: Command<'_>) -> Result<Task, Stop>
+    requires { NamesPolicies command }
     ensures value { IfOk result (λ task. ForSome
         (known_task (F.state shelf.old).files (Some (command_named command.entry)))
         (λ read. read ≡ Ok (task_stated task))) }

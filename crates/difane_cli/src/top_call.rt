@@ -16,14 +16,16 @@ use journal::Journal;
 use shelf::{Shelf, Sink};
 use std::alloc::Global;
 
-/// Does what the words ask: `replay SCHEDULE POLICY` plays the schedule and writes the journal to
-/// `out`; `compile POLICY` writes the plan of the policy, and `show POLICY SWITCH` the tables that
-/// it gives to the switch, each on the network of `--net NET` or on one switch.
+/// Does what the words ask: `replay SCHEDULE POLICY ..` plays the schedule, whose updates name the
+/// policies by their places, and writes the journal to `out`; `compile POLICY` writes the plan of
+/// the policy, and `show POLICY SWITCH` the tables that it gives to the switch, each on the network
+/// of `--net NET` or on one switch.
 ///
 /// A status other than `Ok` writes its line to `errs`. The words are those of the command line
 /// without the program's name. The first refusal in the order of work ends the call: the words, the
-/// network and the switch on it, the schedule, the policy, the plan of the policy, the play, the
-/// writing; each file is read and checked before the next one is read.
+/// network and the switch on it, the schedule, the policies in the order of the words, the plan of
+/// the first policy, the play, the writing; each file is read and checked before the next one is
+/// read.
 pub fn run<F: Shelf, K: Sink, E: Sink>(
     alloc: Global,
     words: &Vec<String>,

@@ -1,7 +1,8 @@
 //! The words of the command line.
-ghost use Rattle.std.specs.Prelude.{◌≡◌, Some, map, string_bytes};
+ghost use Rattle.std.specs.Prelude.{◌≡◌, ◌≤◌, IfSome, Some, length, map, string_bytes};
+ghost use Rattle.std.specs.List.{prefix_len};
 ghost use Rattle.std.specs.Option.{option_map};
-ghost use Rattle.difane_cli.specs.Commands.{command_named, cut_seen, net_named};
+ghost use Rattle.difane_cli.specs.Commands.{NamesPolicies, command_named, cut_seen, net_named};
 ghost use Rattle.difane_cli.specs.Words.{command_of, compile_of, cut_net, cut_pair, end_net, is_name, joined_net, replay_of, show_of};
 
 /// The files of a replay.
@@ -9,8 +10,8 @@ ghost use Rattle.difane_cli.specs.Words.{command_of, compile_of, cut_net, cut_pa
 pub struct ReplayWords<'a> {
     /// The name of the schedule's file.
     pub schedule: &'a str,
-    /// The name of the policy's file.
-    pub policy: &'a str,
+    /// The names of the policies' files; an update names one of them by its place, from 1.
+    pub policies: &'a [String],
     /// The name of the network's file; without it the network is that of one switch.
     pub net: Option<&'a str>,
 }
@@ -25,6 +26,9 @@ pub struct PrintWords<'a> {
     /// The name of the network's file; without it the network is that of one switch.
     pub net: Option<&'a str>,
 }
+
+/// A replay names at most so many policies.
+pub const MAX_POLICIES: usize = 64;
 
 /// What the words ask for.
 #[derive(Clone, Copy)]
@@ -42,7 +46,8 @@ pub struct Cut<'a> {
 
 /// The command that the words are, or `None` where they are off the grammar.
 pub fn read_words(words: &[String]) -> Option<Command<'_>>
-    ensures { option_map command_named result ≡ command_of (map string_bytes words.now) }
+    ensures value { option_map command_named result ≡ command_of (map string_bytes words.now) }
+    ensures named { IfSome result NamesPolicies }
 {
     let [command, words @ ..] = words else {
         return None;
@@ -60,30 +65,38 @@ pub fn read_words(words: &[String]) -> Option<Command<'_>>
 
 // The words behind `replay` and its options.
 fn read_replay(cut: Cut<'_>) -> Option<Command<'_>>
-    ensures { option_map command_named result
+    ensures value { option_map command_named result
         ≡ replay_of (net_named cut.entry.net) (map string_bytes cut.entry.words.now) }
+    ensures named { IfSome result NamesPolicies }
 {
     let [schedule, words @ ..] = cut.words else {
         return None;
     };
-    let [policy, words @ ..] = words else {
-        return None;
-    };
-    if !is_name(schedule) || !is_name(policy) {
+    let (policies, words) = words.split_at(name_count(words));
+    if !is_name(schedule) || policies.is_empty() || policies.len() > MAX_POLICIES {
         return None;
     }
     let net = end_net(cut.net, words)?;
     Some(Command::Replay(ReplayWords {
         schedule: schedule.as_str(),
-        policy: policy.as_str(),
+        policies,
         net,
     }))
 }
 
+// How many words in front may name a file, up to the first that may not.
+fn name_count(words: &[String]) -> usize
+    ensures value { result ≡ prefix_len is_name (map string_bytes words.now) }
+    ensures within { result ≤ length words.now }
+{
+    words.iter().take_while(|word| is_name(word)).count()
+}
+
 // The words behind `compile` and its options.
 fn read_compile(cut: Cut<'_>) -> Option<Command<'_>>
-    ensures { option_map command_named result
+    ensures value { option_map command_named result
         ≡ compile_of (net_named cut.entry.net) (map string_bytes cut.entry.words.now) }
+    ensures named { IfSome result NamesPolicies }
 {
     let [policy, words @ ..] = cut.words else {
         return None;
@@ -101,8 +114,9 @@ fn read_compile(cut: Cut<'_>) -> Option<Command<'_>>
 
 // The words behind `show` and its options.
 fn read_show(cut: Cut<'_>) -> Option<Command<'_>>
-    ensures { option_map command_named result
+    ensures value { option_map command_named result
         ≡ show_of (net_named cut.entry.net) (map string_bytes cut.entry.words.now) }
+    ensures named { IfSome result NamesPolicies }
 {
     let [policy, words @ ..] = cut.words else {
         return None;

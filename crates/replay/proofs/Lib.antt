@@ -1,5 +1,5 @@
 mod Asked
-mod Events
+pub mod Events
 mod Small
 mod Stepping
 mod Ties

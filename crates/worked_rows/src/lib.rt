@@ -6,4 +6,6 @@ mod networks;
 #[cfg(test)]
 mod plans;
 #[cfg(test)]
+mod policies;
+#[cfg(test)]
 mod tests;

@@ -1,27 +1,31 @@
-use Rattle.std.proofs.Common.{List, [], ◌∙◌, ap, slice_index_or, subst}
-use Rattle.controller.specs.Plan.{RefusesPlan}
-use Rattle.policy_rules.specs.declared.policy.Row.{Row}
-use Rattle.update_machine.specs.Setting.{setting_of}
-use Rattle.difane_cli.proofs.Begun.{has_plan, planned_by, sound_by_tie, stops_first}
+use Rattle.std.specs.Prelude.{string_bytes}
+use Rattle.std.proofs.Common.{ℕ, ◌≡◌, ◌∙◌, ◌<◌, List, [], ap, arith, get_or, length, map, subst, sym}
+use Rattle.std.proofs.lemmas.List.{get_or-map}
+use Rattle.difane_cli.specs.Inputs.{StopsContent, plan_on}
+use Rattle.difane_cli.proofs.Begun.{has_plan, planned_by, sound_by_tie}
 use Rattle.difane_cli.proofs.policies.begin_world.Goals as goal
 
-pub returns-in-Ok-begin-clause-value : goal.returns-in-Ok-begin-clause-value
-returns-in-Ok-begin-clause-value c =
+pub returns-in-Ok-clause-planned : goal.returns-in-Ok-clause-planned
+returns-in-Ok-clause-planned c =
     let net = c.args.net.now in
-    let begun = c.in-Ok-begin.ensures.begun in
-    let own = begun.own ∙ ap (setting_of net) c.in-Ok.ensures in
-    let sound = sound_by_tie c.in-Ok-begin.world begun.able c.tied.ensures in
-    has_plan c.args.name.now net c.args.policy (planned_by net c.args.policy _ own sound)
+    let policies = c.args.policies.items in
+    let begun = c.in-Ok.ensures.begun in
+    let sound = sound_by_tie c.in-Ok.world begun.able c.tied.ensures in
+    has_plan (map string_bytes c.args.names.now) net policies
+    (planned_by net policies _ begun.own sound)
 
-pub returns-in-Ok-begin-clause-sound : goal.returns-in-Ok-begin-clause-sound
-returns-in-Ok-begin-clause-sound c =
-    sound_by_tie c.in-Ok-begin.world c.in-Ok-begin.ensures.begun.able c.tied.ensures
+pub returns-in-Ok-clause-sound : goal.returns-in-Ok-clause-sound
+returns-in-Ok-clause-sound c =
+    sound_by_tie c.in-Ok.world c.in-Ok.ensures.begun.able c.tied.ensures
 
-pub returns-in-Err-begin-clause-stopped : goal.returns-in-Err-begin-clause-stopped
-returns-in-Err-begin-clause-stopped c =
+pub returns-in-Err-clause-stopped : goal.returns-in-Err-clause-stopped
+returns-in-Err-clause-stopped c =
+    let names = c.args.names.now in
     let net = c.args.net.now in
-    let refused = subst
-    (λ (policies : List (List Row)). RefusesPlan (slice_index_or policies 0 []) net
-    c.in-Err-begin.error) c.in-Ok.ensures c.in-Err-begin.ensures.refused in
-    stops_first c.args.name.now net c.args.policy c.no_plan.result
-    (c.no_plan.ensures c.args.policy net refused)
+    let rows = get_or c.args.policies.items 0 [] in
+    let some : 0 < length names = omega (arith, c.requires.some, c.requires.named) in
+    let first : c.as_str.result.now ≡ get_or (map string_bytes names) 0 [] =
+    c.as_str.ensures.value ∙ ap string_bytes c.index-names-0.is
+    ∙ sym (get_or-map string_bytes names 0 c.index-names-0.result [] some) in
+    subst (λ (name : List ℕ). StopsContent (plan_on name net rows) c.no_plan.result) first
+    (c.no_plan.ensures rows net c.in-Err.ensures.refused)

@@ -1,0 +1,65 @@
+use Rattle.std.specs.Prelude.{IsTrue, string_bytes}
+use Rattle.std.proofs.Common.{ℕ, ◌≡◌, ◌∙◌, ◌+◌, All, List, [], ◌∷◌, ◌++◌, ap, arith, drop, length, length-append, map, subst, sym}
+use Rattle.std.proofs.lemmas.List.Elements.{All-push}
+use Rattle.policy_file.specs.Ports.{has_port}
+use Rattle.policy_rules.specs.Policy.{IsPolicy}
+use Rattle.policy_rules.specs.declared.policy.Row.{Row}
+use Rattle.std.specs.Option.{ForSome}
+use Rattle.difane_cli.specs.Inputs.{Stops, read_policies}
+use Rattle.difane_cli.proofs.PolicyReads.{HasRead, at_next, handed_on, one_read, reads_at, stops_at}
+use Rattle.difane_cli.proofs.inputs.read_policies.Goals as goal
+
+pub returns-in_err-policy-clause-stopped : goal.returns-in_err-policy-clause-stopped
+returns-in_err-policy-clause-stopped g c =
+    let names = c.args.names.now in
+    let so_far = at_next c.args.ports names c.loop-name.name-index c.name-item.result
+    c.deref.result.now _ _ _ c.loop-name.invariant.read c.loop-name-test.true
+    (c.deref.ensures ∙ ap string_bytes c.name-item.is) in
+    handed_on c.from_residual.result c.in_err-policy.field-0.0
+    (λ stop. ForSome (g.F.Shelf.state c.args.shelf.now).files
+    (λ files. Stops (read_policies c.args.ports files (map string_bytes names)) stop))
+    c.from_residual.ensures.1
+    (stops_at _ _ _ _ _ _ _ c.in_err-policy.field-0.0 so_far c.in_err-policy.ensures.stopped)
+
+pub returns-in_err-policy-clause-shelf : goal.returns-in_err-policy-clause-shelf
+returns-in_err-policy-clause-shelf g c =
+    let so_far = at_next c.args.ports c.args.names.now c.loop-name.name-index c.name-item.result
+    c.deref.result.now _ _ _ c.loop-name.invariant.read c.loop-name-test.true
+    (c.deref.ensures ∙ ap string_bytes c.name-item.is) in
+    reads_at _ _ _ _ _ _ _ _ so_far c.in_err-policy.ensures.shelf
+
+pub returns-in_err-push-clause-shelf : goal.returns-in_err-push-clause-shelf
+returns-in_err-push-clause-shelf g c =
+    let so_far = at_next c.args.ports c.args.names.now c.loop-name.name-index c.name-item.result
+    c.deref.result.now _ _ _ c.loop-name.invariant.read c.loop-name-test.true
+    (c.deref.ensures ∙ ap string_bytes c.name-item.is) in
+    reads_at _ _ _ _ _ _ _ _ so_far c.in_ok-policy.ensures.shelf
+
+pub loop-name-preserved : goal.loop-name-preserved
+loop-name-preserved g c =
+    let names = c.args.names.now in
+    let so_far = at_next c.args.ports names c.loop-name.name-index c.name-item.result
+    c.deref.result.now _ _ _ c.loop-name.invariant.read c.loop-name-test.true
+    (c.deref.ensures ∙ ap string_bytes c.name-item.is) in
+    let before = c.loop-name.policies.items in
+    let rows = c.in_ok-policy.policy in
+    let pushed : c.push.new.self.items ≡ before ++ rows ∷ [] = c.in_ok-push.ensures.items in
+    let HasOwn : List Row → Type 0 = All (λ row. IsTrue (has_port c.args.ports row.action)) in
+    record {
+      read = subst (λ (policies : List (List Row)). HasRead c.args.ports (map string_bytes names)
+          (drop (c.loop-name.name-index + 1) (map string_bytes names)) policies
+          (g.F.Shelf.state c.args.shelf.now) (g.F.Shelf.state c.read_policy.new.shelf)) (sym pushed)
+          (one_read _ _ _ _ before rows _ _ _ so_far c.in_ok-policy.ensures.value
+          c.in_ok-policy.ensures.shelf);
+      many = omega (
+        arith,
+        ap length pushed,
+        length-append before (rows ∷ []),
+        c.loop-name.invariant.many,
+      );
+      own_ports = subst (All HasOwn) (sym pushed)
+          (All-push HasOwn before rows c.loop-name.invariant.own_ports
+          c.in_ok-policy.ensures.own_ports);
+      sound = subst (All IsPolicy) (sym pushed)
+          (All-push IsPolicy before rows c.loop-name.invariant.sound c.in_ok-policy.ensures.sound);
+    }
