@@ -1,0 +1,157 @@
+-- Masks as sets of bits.
+use Rattle.std.proofs.Common.{◌≡◌, ℕ, zero, suc, ◌+◌, ◌-◌, ◌^◌, ◌<◌, min, max, Bool, true, false, ◌&&◌, ◌||◌, bit_and, bit_or, length, take, get_or, Option, Some, None, List, refl, sym, ◌∙◌, ap, inl, inr, arith, ◌↔◌}
+use Rattle.std.specs.Bool.{◌==◌}
+use Rattle.std.specs.Option.{IfNone}
+use Rattle.std.specs.Int.{w128, bit_at, trailing_zeros}
+use Rattle.std.proofs.lemmas.Bool.{cases_eq, cases_lt, cases_Bool, both_ways, eq-eqb, eqb-true}
+use Rattle.std.proofs.lemmas.List.Folds.{list_all_more, list_any_more}
+use Rattle.std.proofs.lemmas.Nat.Bits.{bit_at-lt, bit_at-zero, bit_at_and, bit_at_or, bit_at_not, bit_at_ones, bit_at_ones_above, bit_at-trailing_zeros}
+use Rattle.ternary.specs.Word.{WordValue, is_fixed_of}
+use Rattle.cut_tree.specs.Cuts.{IsFreeBit}
+use Rattle.table_tree.specs.Cutting.{IsLowest, IsLeastFree, NoneFree}
+use Rattle.table_tree.specs.Regions.{all_fix, some_fix}
+use Rattle.table_tree.specs.declared.node.Spot.{Spot}
+
+-- ---- one bit of a mask
+
+min_digit : (a b : ℕ) → a < 2 → b < 2 → (min a b == 1) ≡ ((a == 1) && (b == 1))
+min_digit zero zero p q = refl
+min_digit zero (suc zero) p q = refl
+min_digit (suc zero) zero p q = refl
+min_digit (suc zero) (suc zero) p q = refl
+min_digit (suc (suc a)) b p q = absurd (omega arith)
+min_digit a (suc (suc b)) p q = absurd (omega arith)
+
+max_digit : (a b : ℕ) → a < 2 → b < 2 → (max a b == 1) ≡ ((a == 1) || (b == 1))
+max_digit zero zero p q = refl
+max_digit zero (suc zero) p q = refl
+max_digit (suc zero) zero p q = refl
+max_digit (suc zero) (suc zero) p q = refl
+max_digit (suc (suc a)) b p q = absurd (omega arith)
+max_digit a (suc (suc b)) p q = absurd (omega arith)
+
+and_bit : (a b k : ℕ) → (bit_at (bit_and a b) k == 1) ≡ ((bit_at a k == 1) && (bit_at b k == 1))
+and_bit a b k = ap (λ n. n == 1) (bit_at_and a b k)
+    ∙ min_digit (bit_at a k) (bit_at b k) (bit_at-lt a k) (bit_at-lt b k)
+
+or_bit : (a b k : ℕ) → (bit_at (bit_or a b) k == 1) ≡ ((bit_at a k == 1) || (bit_at b k == 1))
+or_bit a b k = ap (λ n. n == 1) (bit_at_or a b k)
+    ∙ max_digit (bit_at a k) (bit_at b k) (bit_at-lt a k) (bit_at-lt b k)
+
+-- ---- the bits that regions fix
+
+pub all_more : (spots : List Spot) (index : ℕ) (spot : Spot) (bits mask bit : ℕ)
+    → index < length spots → spot ≡ get_or spots index spot → mask ≡ spot.region.mask
+    → (bit_at bits bit == 1) ≡ all_fix (take index spots) bit
+    → (bit_at (bit_and bits mask) bit == 1) ≡ all_fix (take (index + 1) spots) bit
+unfolding is_fixed_of
+all_more spots index spot bits mask bit within is same so_far =
+    let fixes : (bit_at mask bit == 1) ≡ is_fixed_of (get_or spots index spot).region bit =
+    ap (λ m. bit_at m bit == 1) same
+    ∙ ap (λ (s : Spot). is_fixed_of s.region bit) is in
+    and_bit bits mask bit ∙ ap (λ t. t && (bit_at mask bit == 1)) so_far
+    ∙ ap (λ t. all_fix (take index spots) bit && t) fixes
+    ∙ sym (list_all_more (λ (s : Spot). is_fixed_of s.region bit) spots index spot within)
+
+pub some_more : (spots : List Spot) (index : ℕ) (spot : Spot) (bits mask bit : ℕ)
+    → index < length spots → spot ≡ get_or spots index spot → mask ≡ spot.region.mask
+    → (bit_at bits bit == 1) ≡ some_fix (take index spots) bit
+    → (bit_at (bit_or bits mask) bit == 1) ≡ some_fix (take (index + 1) spots) bit
+unfolding is_fixed_of
+some_more spots index spot bits mask bit within is same so_far =
+    let fixes : (bit_at mask bit == 1) ≡ is_fixed_of (get_or spots index spot).region bit =
+    ap (λ m. bit_at m bit == 1) same
+    ∙ ap (λ (s : Spot). is_fixed_of s.region bit) is in
+    or_bit bits mask bit ∙ ap (λ t. t || (bit_at mask bit == 1)) so_far
+    ∙ ap (λ t. some_fix (take index spots) bit || t) fixes
+    ∙ sym (list_any_more (λ (s : Spot). is_fixed_of s.region bit) spots index spot within)
+
+pub all_none : (bit : ℕ) → bit < 104 → (bit_at (2 ^ 104 - 1) bit == 1) ≡ true
+all_none bit within = ap (λ n. n == 1) (bit_at_ones 104 bit within)
+
+pub some_none : (bit : ℕ) → (bit_at 0 bit == 1) ≡ false
+some_none bit = ap (λ n. n == 1) (bit_at-zero bit)
+
+-- ---- the free bits of a region
+
+-- a bit of the complement of the mask, below 104
+pub free_mask : (region : WordValue) (mask bit : ℕ) → mask ≡ region.mask → mask < 2 ^ 104
+    → (bit_at (bit_and (2 ^ 104 - 1) (2 ^ 128 - 1 - mask)) bit ≡ 1) ↔ IsFreeBit region bit
+unfolding is_fixed_of
+free_mask region mask bit same small =
+    let fixed : (bit_at mask bit == 1) ≡ is_fixed_of region bit =
+    ap (λ m. bit_at m bit == 1) same in
+    let both = bit_at_and (2 ^ 104 - 1) (2 ^ 128 - 1 - mask) bit in
+    let apart : bit < 128 → bit_at (2 ^ 128 - 1 - mask) bit ≡ 1 - bit_at mask bit =
+    λ below. bit_at_not w128 mask bit (omega arith) below in (
+      λ set. elim (cases_lt bit 104) [
+        | inl below ↦
+            let unset : bit_at mask bit ≡ 0 =
+            omega (arith, both, apart (omega arith), bit_at_ones 104 bit below, set) in
+            record { bound = below; free = sym fixed ∙ ap (λ n. n == 1) unset }
+        | inr above ↦ absurd (omega (arith, set, both, bit_at_ones_above 104 bit above))
+      ],
+      λ free. elim (cases_eq (bit_at mask bit) 1) [
+        | inl set ↦ absurd (both_ways _ free.free (sym fixed ∙ eq-eqb _ _ set))
+        | inr unset ↦
+            let zero_bit : bit_at mask bit ≡ 0 = omega (arith, bit_at-lt mask bit, unset) in
+            let bound = free.bound in
+            omega (arith, both, apart (omega arith), bit_at_ones 104 bit bound, zero_bit)
+      ],
+    )
+
+-- ---- the least bit
+
+pub if_none_then : {T P Q : Type 0} (found : Option T) → IfNone found P → (P → Q)
+    → IfNone found Q
+if_none_then None p so = so p
+if_none_then (Some x) p so = tt
+
+pub lowest_of : (n : ℕ) → 0 < n → n < 2 ^ 128 → IsLowest n (trailing_zeros w128 n)
+lowest_of n some small =
+    let lowest = bit_at-trailing_zeros w128 n some small in
+    record { set = lowest.1; below = lowest.2 }
+
+both_set : (a b k : ℕ) → bit_at a k ≡ 1 → bit_at b k ≡ 1 → bit_at (bit_and a b) k ≡ 1
+both_set a b k p q = omega (arith, bit_at_and a b k, p, q)
+
+-- a mask of the bits that pass, and one of the bits that are free
+pub least_free : (region : WordValue) (passes : ℕ → Bool) (bits free bit : ℕ)
+    → ((k : ℕ) → k < 104 → (bit_at bits k == 1) ≡ passes k)
+    → ((k : ℕ) → (bit_at free k ≡ 1) ↔ IsFreeBit region k) → IsLowest (bit_and bits free) bit
+    → IsLeastFree region passes bit
+least_free region passes bits free bit tests frees low =
+    let left : bit_at bits bit ≡ 1 = omega
+    (arith, low.set, bit_at_and bits free bit, bit_at-lt bits bit, bit_at-lt free bit) in
+    let right : bit_at free bit ≡ 1 = omega
+    (arith, low.set, bit_at_and bits free bit, bit_at-lt bits bit, bit_at-lt free bit) in
+    let is_free = (frees bit).0 right in
+    record {
+      free = is_free;
+      passing = sym (tests bit is_free.bound) ∙ ap (λ n. n == 1) left;
+      least = λ other other_free passed. elim (cases_lt other bit) [
+        | inr after ↦ after
+        | inl before ↦
+            let set : bit_at bits other ≡ 1 = eqb-true _ _ (tests other other_free.bound ∙ passed)
+            in
+            absurd (omega (
+              arith,
+              low.below other before,
+              both_set bits free other set ((frees other).1 other_free),
+            ))
+      ];
+    }
+
+pub none_free : (region : WordValue) (passes : ℕ → Bool) (bits free : ℕ)
+    → ((k : ℕ) → k < 104 → (bit_at bits k == 1) ≡ passes k)
+    → ((k : ℕ) → (bit_at free k ≡ 1) ↔ IsFreeBit region k) → bit_and bits free ≡ 0
+    → NoneFree region passes
+none_free region passes bits free tests frees none = λ bit is_free.
+    elim (cases_Bool (passes bit)) [
+      | inr fails ↦ fails
+      | inl passing ↦
+          let set : bit_at bits bit ≡ 1 = eqb-true _ _ (tests bit is_free.bound ∙ passing) in
+          let zero_bit : bit_at (bit_and bits free) bit ≡ 0 = ap (λ n. bit_at n bit) none
+          ∙ bit_at-zero bit in
+          absurd (omega (arith, zero_bit, both_set bits free bit set ((frees bit).1 is_free)))
+    ]

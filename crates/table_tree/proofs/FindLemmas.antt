@@ -1,0 +1,310 @@
+-- Where a finder's tree leads.
+use Rattle.std.proofs.Common.{◌≡◌, ℕ, zero, suc, ◌+◌, ◌^◌, ◌<◌, Bool, true, false, cond, not, ◌&&◌, Option, Some, None, IsSome, List, [], ◌∷◌, length, find, position, unwrap_or, slice_get, get_or, map, count_by, All, refl, sym, ◌∙◌, ap, subst, inl, inr, arith}
+use Rattle.std.specs.Bool.{IsTrue, IsFalse, ◌==◌}
+use Rattle.std.specs.Int.{bit_at, from_bool}
+use Rattle.std.specs.List.{position_or_len}
+use Rattle.std.specs.Option.{option_and_then, option_map, option_map_or}
+use Rattle.std.proofs.lemmas.Bool.{cases_eq, both_ways, eqb-true, eq-eqb, lt-ltb}
+use Rattle.std.proofs.lemmas.List.Elements.{All-nil, All-cons, All-head, All-tail, All-contains, All-weaker}
+use Rattle.std.proofs.lemmas.Nat.Bits.{bit_at-lt}
+use Rattle.std.proofs.lemmas.Option.{none-some, same_Some, slice_get-map}
+use Rattle.five_tuple.specs.Header.{IsHeader, number_of}
+use Rattle.five_tuple.specs.declared.header.Header.{Header}
+use Rattle.ternary.specs.Word.{WordValue, any_word, fix_of, holds, is_fixed_of}
+use Rattle.ternary.proofs.CallerLemmas.{any_holds, fix_holds}
+use Rattle.policy_rules.specs.Partitions.{is_in}
+use Rattle.policy_rules.specs.declared.rules.Partition.{Partition}
+use Rattle.policy_rules.proofs.CallerLemmas.{find-position}
+use Rattle.switch_table.specs.Tables.{AreSoundTables, row_has}
+use Rattle.switch_table.specs.Lookup.{authority_of, redirect_of, table_lookup}
+use Rattle.switch_table.specs.declared.search.Found.TheVariants.{Redirect}
+use Rattle.switch_table.specs.declared.tables.PartRow.{PartRow}
+use Rattle.switch_table.specs.declared.tables.Tables.{Tables}
+use Rattle.switch_table.proofs.TableLemmas.{count_by-map, find-there, row_at}
+use Rattle.table_tree.specs.Regions.{IsCutBit, has, side_of, spots_from, spots_of}
+use Rattle.table_tree.specs.Finding.{Shape, Place, Sides, CutsHeaderBits, IsEnd, IsFinderTree, IsTreeOf, place_at}
+use Rattle.table_tree.specs.declared.node.Spot.{Spot}
+use Rattle.table_tree.proofs.NodeLemmas.{count-cons, cut_is_free, found_from_count, side_finds, spot_at, spots_count, weight}
+
+-- ---- the cut bit
+
+pub cuts_bits : (tree : Shape) (spots : List Spot) (region : WordValue) → IsTreeOf spots region tree
+    → CutsHeaderBits tree
+cuts_bits (Place place) spots region is = tt
+cuts_bits (Sides bit low high) spots region is = (
+  (cut_is_free spots region bit is.1).bound,
+  cuts_bits low _ _ is.2,
+  cuts_bits high _ _ is.3,
+)
+
+-- ---- how it is grown
+
+pub end_is : (spots : List Spot) (spot : Spot) (place : ℕ) → length spots ≡ 1
+    → spot ≡ get_or spots 0 spot → place ≡ spot.place → IsEnd spots place
+end_is [] spot place one is same = absurd (omega (arith, one))
+end_is (first ∷ []) spot place one is same = record {
+  one = one;
+  there = All-cons (λ (s : Spot). s.place ≡ place) first []
+      (sym (same ∙ ap (λ (s : Spot). s.place) is)) (All-nil (λ (s : Spot). s.place ≡ place));
+}
+end_is (first ∷ second ∷ rest) spot place one is same = absurd (omega (arith, one))
+
+pub sides_tree : (spots : List Spot) (region : WordValue) (bit : ℕ) (low high : List Spot)
+    (lower higher : WordValue) (a b : Shape) → 1 < length spots → IsCutBit spots region bit
+    → low ≡ side_of spots region bit false → lower ≡ fix_of region bit false
+    → high ≡ side_of spots region bit true → higher ≡ fix_of region bit true
+    → IsTreeOf low lower a → IsTreeOf high higher b → IsTreeOf spots region (Sides bit a b)
+sides_tree spots region bit low high lower higher a b several cut l lr h hr p q = (
+  several,
+  cut,
+  subst (λ r. IsTreeOf (side_of spots region bit false) r a) lr
+      (subst (λ rs. IsTreeOf rs lower a) l p),
+  subst (λ r. IsTreeOf (side_of spots region bit true) r b) hr
+      (subst (λ rs. IsTreeOf rs higher b) h q),
+)
+
+pub tree_of_root : (spots : List Spot) (region : WordValue) (items rows : List PartRow)
+    (tree : Shape) → spots ≡ spots_of items → region ≡ any_word → items ≡ rows
+    → IsTreeOf spots region tree → IsFinderTree rows tree
+tree_of_root spots region items rows tree is whole same p =
+    subst (λ (rs : List PartRow). IsTreeOf (spots_of rs) any_word tree) same
+    (subst (λ r. IsTreeOf (spots_of items) r tree) whole
+    (subst (λ xs. IsTreeOf xs region tree) is p))
+
+-- ---- down the tree
+
+-- a header with this bit is in the half that has it
+in_half : (region : WordValue) (bit number : ℕ) (one : Bool) → IsFalse (is_fixed_of region bit)
+    → IsTrue (holds region number) → bit_at number bit ≡ from_bool one
+    → IsTrue (holds (fix_of region bit one) number)
+in_half region bit number one free held is =
+    fix_holds region bit one free number
+    ∙ ap (λ t. t && (bit_at number bit == from_bool one)) held
+    ∙ eq-eqb (bit_at number bit) (from_bool one) is
+
+-- the bits of a header lead to the place of the region that has it
+pub leads : (tree : Shape) (spots : List Spot) (region : WordValue) (number : ℕ) (spot : Spot)
+    → IsTreeOf spots region tree → IsTrue (holds region number)
+    → find (has number) spots ≡ Some spot → place_at number tree ≡ spot.place
+leads (Place place) spots region number spot is held found =
+    sym (All-contains (λ (s : Spot). s.place ≡ place) spots spot is.there
+    (find-there (has number) spots spot found).0)
+leads (Sides bit low high) spots region number spot is held found =
+    by_case (bit_at number bit == 1) refl
+    (λ inside. leads high (side_of spots region bit true) (fix_of region bit true) number spot
+    is.3 inside (side_finds spots region bit number true inside ∙ found))
+    (λ inside. leads low (side_of spots region bit false) (fix_of region bit false) number spot
+    is.2 inside (side_finds spots region bit number false inside ∙ found))
+  where
+    by_case : (b : Bool) → (bit_at number bit == 1) ≡ b
+        → (IsTrue (holds (fix_of region bit true) number) → place_at number high ≡ spot.place)
+        → (IsTrue (holds (fix_of region bit false) number) → place_at number low ≡ spot.place)
+        → cond b (place_at number high) (place_at number low) ≡ spot.place
+    by_case true set upper lower =
+        let free = cut_is_free spots region bit is.1 in
+        upper (in_half region bit number true free.free held (eqb-true _ _ set))
+    by_case false unset upper lower =
+        let free = cut_is_free spots region bit is.1 in
+        let zero_bit : bit_at number bit ≡ 0 = elim (cases_eq (bit_at number bit) 1) [
+          | inl one ↦ absurd (both_ways _ unset (eq-eqb _ _ one))
+          | inr other ↦ omega (arith, bit_at-lt number bit, other)
+        ] in
+        lower (in_half region bit number false free.free held zero_bit)
+
+-- ---- the place in the rows
+
+-- the spot that is found has the place of the row
+spot_place : (place number : ℕ) (rows : List PartRow) (spot : Spot)
+    → find (has number) (spots_from place rows) ≡ Some spot
+    → (spot.place ≡ place + position_or_len (λ (row : PartRow). holds row.region number) rows)
+    × (position_or_len (λ (row : PartRow). holds row.region number) rows < length rows)
+spot_place place number [] spot found = absurd (none-some spot found)
+spot_place place number (row ∷ rows) spot found =
+    by_case (holds row.region number) refl found (spot_place (place + 1) number rows spot)
+  where
+    by_case : (b : Bool) → holds row.region number ≡ b
+        → cond b (Some (spot_at place row))
+        (find (has number) (spots_from (place + 1) rows)) ≡ Some spot
+        → (find (has number) (spots_from (place + 1) rows) ≡ Some spot
+        → (spot.place ≡ place + 1 + position_or_len (λ (r : PartRow). holds r.region number) rows)
+        × (position_or_len (λ (r : PartRow). holds r.region number) rows < length rows))
+        → (spot.place ≡ place + cond (not b) (1 + position_or_len (λ (r : PartRow). holds r.region number) rows) 0)
+        × (cond (not b) (1 + position_or_len (λ (r : PartRow). holds r.region number) rows) 0 < suc (length rows))
+    by_case true passes is rest =
+        let same : spot_at place row ≡ spot = same_Some (spot_at place row) spot is in
+        (omega (arith, ap (λ (s : Spot). s.place) same), omega arith)
+    by_case false fails is rest =
+        let later = rest is in
+        (omega (arith, later.0), omega (arith, later.1))
+
+-- the tree of the rows leads each header to the first row that holds it
+pub leads_to_row : (rows : List PartRow) (tree : Shape) (header : Header)
+    → IsTreeOf (spots_of rows) any_word tree → count_by (row_has header) rows ≡ 1
+    → position (row_has header) rows ≡ Some (place_at (number_of header) tree)
+leads_to_row rows tree header is one =
+    by_case (find (has (number_of header)) (spots_of rows)) refl
+    (found_from_count (has (number_of header)) (spots_of rows)
+    (omega (arith, spots_count 0 (number_of header) rows, one)))
+  where
+    by_case : (found : Option Spot) → find (has (number_of header)) (spots_of rows) ≡ found
+        → IsSome found
+        → position (row_has header) rows ≡ Some (place_at (number_of header) tree)
+    by_case None none some = absurd (both_ways false refl some)
+    by_case (Some spot) found some =
+        let at = spot_place 0 (number_of header) rows spot found in
+        let here : spot.place
+        ≡ position_or_len (λ (row : PartRow). holds row.region (number_of header)) rows =
+        omega (arith, at.0) in
+        let place : place_at (number_of header) tree ≡ position_or_len (row_has header) rows =
+        leads tree (spots_of rows) any_word (number_of header) spot is
+        (any_holds (number_of header)) found ∙ here in
+        ap (λ t. cond t (Some (position_or_len (row_has header) rows)) None)
+        (lt-ltb (position_or_len (row_has header) rows) (length rows) at.1)
+        ∙ ap Some (sym place)
+
+-- ---- the partition of a place
+
+none_pass : {X : Type 0} (test : X → Bool) (xs : List X) (k : ℕ) (x : X) → count_by test xs ≡ 0
+    → slice_get xs k ≡ Some x → test x ≡ true → ⊥
+none_pass test [] k x none is passes = none-some x is
+none_pass test (y ∷ ys) zero x none is passes =
+    let same : y ≡ x = same_Some y x is in
+    omega (arith, none, count-cons test y ys, ap weight (ap test same ∙ passes))
+none_pass test (y ∷ ys) (suc k) x none is passes =
+    none_pass test ys k x (omega (arith, none, count-cons test y ys)) is passes
+
+-- where one element alone passes, it has one place
+one_place : {X : Type 0} (test : X → Bool) (xs : List X) (j k : ℕ) (x y : X)
+    → count_by test xs ≡ 1 → slice_get xs j ≡ Some x → test x ≡ true → slice_get xs k ≡ Some y
+    → test y ≡ true → j ≡ k
+one_place test [] j k x y one at_j p at_k q = absurd (none-some x at_j)
+one_place test (z ∷ zs) zero zero x y one at_j p at_k q = refl
+one_place test (z ∷ zs) zero (suc k) x y one at_j p at_k q =
+    let same : z ≡ x = same_Some z x at_j in
+    absurd (none_pass test zs k y
+    (omega (arith, one, count-cons test z zs, ap weight (ap test same ∙ p))) at_k q)
+one_place test (z ∷ zs) (suc j) zero x y one at_j p at_k q =
+    let same : z ≡ y = same_Some z y at_k in
+    absurd (none_pass test zs j x
+    (omega (arith, one, count-cons test z zs, ap weight (ap test same ∙ q))) at_j p)
+one_place {X} test (z ∷ zs) (suc j) (suc k) x y one at_j p at_k q =
+    by_case (test z) refl (λ rest. one_place test zs j k x y rest at_j p at_k q)
+  where
+    by_case : (b : Bool) → test z ≡ b → (count_by test zs ≡ 1 → j ≡ k) → suc j ≡ suc k
+    by_case true passes later = absurd (none_pass test zs j x
+        (omega (arith, one, count-cons test z zs, ap weight passes)) at_j p)
+    by_case false fails later =
+        ap suc (later (omega (arith, one, count-cons test z zs, ap weight fails)))
+
+-- the row that holds a header
+row_found : (header : Header) (rows : List PartRow) → count_by (row_has header) rows ≡ 1
+    → (row : PartRow) × (find (row_has header) rows ≡ Some row)
+row_found header rows one =
+    by_case (find (row_has header) rows) refl
+    (found_from_count (row_has header) rows (omega (arith, one)))
+  where
+    by_case : (found : Option PartRow) → find (row_has header) rows ≡ found → IsSome found
+        → (row : PartRow) × (find (row_has header) rows ≡ Some row)
+    by_case None none some = absurd (both_ways false refl some)
+    by_case (Some row) is some = (row, is)
+
+find_agree : {X : Type 0} (p q : X → Bool) (xs : List X) → All (λ x. p x ≡ q x) xs
+    → find p xs ≡ find q xs
+find_agree p q [] agree = refl
+find_agree {X} p q (x ∷ xs) agree =
+    let rest = find_agree p q xs (All-tail (λ z. p z ≡ q z) x xs agree) in
+    ap (λ t. cond t (Some x) (find p xs)) (All-head (λ z. p z ≡ q z) x xs agree)
+    ∙ ap (cond (q x) (Some x)) rest
+
+same_test : (a b : Bool) → (a ≡ true → b ≡ true) → (b ≡ true → a ≡ true) → a ≡ b
+same_test true b there back = sym (there refl)
+same_test false true there back = back refl
+same_test false false there back = refl
+
+-- the region of the partition of this number holds the header where the number is the row's place
+in_numbered : (rows : List PartRow) (header : Header) (place : ℕ) (part : Partition)
+    → count_by (row_has header) rows ≡ 1 → position (row_has header) rows ≡ Some place
+    → slice_get (map (λ (row : PartRow). row.region) rows) part.number ≡ Some part.region
+    → is_in header part ≡ (part.number == place)
+in_numbered rows header place part one is numbered =
+    let holding : WordValue → Bool = λ region. holds region (number_of header) in
+    let regions : List WordValue = map (λ (row : PartRow). row.region) rows in
+    let found = row_found header rows one in
+    let row : PartRow = found.0 in
+    let one_region : count_by holding regions ≡ 1 =
+    count_by-map holding (λ (r : PartRow). r.region) rows ∙ one in
+    let at_row : slice_get rows place ≡ Some row =
+    sym (ap (option_and_then (slice_get rows)) is) ∙ find-position (row_has header) rows
+    ∙ found.1 in
+    let at_place : slice_get regions place ≡ Some row.region =
+    slice_get-map (λ (r : PartRow). r.region) rows place
+    ∙ ap (option_map (λ (r : PartRow). r.region)) at_row in
+    let has_it : holding row.region ≡ true =
+    (find-there (row_has header) rows row found.1).1 in
+    same_test _ _
+    (λ inside. eq-eqb _ _ (one_place holding regions part.number place part.region row.region
+    one_region numbered inside at_place has_it))
+    (λ same.
+    let there : Some part.region ≡ Some row.region =
+    sym numbered ∙ ap (slice_get regions) (eqb-true _ _ same) ∙ at_place in
+    ap holding (same_Some part.region row.region there) ∙ has_it)
+
+-- the partition that holds a header is the one of the place to which the tree leads
+pub own_numbered : (tables : Tables) (header : Header) (place : ℕ) → AreSoundTables tables
+    → IsHeader header → position (row_has header) tables.parts ≡ Some place
+    → find (is_in header) tables.auth ≡ find (λ part. part.number == place) tables.auth
+own_numbered tables header place sound is at =
+    find_agree (is_in header) (λ part. part.number == place) tables.auth
+    (All-weaker (λ (part : Partition).
+    slice_get (map (λ (row : PartRow). row.region) tables.parts) part.number ≡ Some part.region)
+    (λ (part : Partition). is_in header part ≡ (part.number == place))
+    (λ part numbered. in_numbered tables.parts header place part (sound.one header is) at numbered)
+    tables.auth sound.numbers)
+
+-- the partition of a number is one of them
+pub own_fits : (parts : List Partition) (number : ℕ) (part : Partition)
+    → Some part ≡ find (λ p. p.number == number) parts
+    → All (λ p. length p.rules < 2 ^ 32) parts → length part.rules < 2 ^ 32
+own_fits parts number part is few = All-contains (λ (p : Partition). length p.rules < 2 ^ 32)
+    parts part few (find-there (λ p. p.number == number) parts part (sym is)).0
+
+-- ---- what the tables say
+
+-- the authority partition of the place decides
+pub own_decides : (tables : Tables) (header : Header) (place : ℕ) (part : Partition)
+    → AreSoundTables tables → IsHeader header
+    → position (row_has header) tables.parts ≡ Some place
+    → Some part ≡ find (λ p. p.number == place) tables.auth
+    → authority_of header part ≡ table_lookup tables header
+own_decides tables header place part sound is at found =
+    sym (ap (λ own. option_map_or (authority_of header) own (redirect_of header tables.parts))
+    (own_numbered tables header place sound is at ∙ sym found))
+
+-- where there is none, its targets do
+pub row_decides : (tables : Tables) (header : Header) (place : ℕ) (d : PartRow)
+    → AreSoundTables tables → IsHeader header
+    → position (row_has header) tables.parts ≡ Some place
+    → None ≡ find (λ p. p.number == place) tables.auth
+    → Redirect place (get_or tables.parts place d).targets ≡ table_lookup tables header
+row_decides tables header place d sound is at none =
+    let rows = tables.parts in
+    let targets = option_map_or (λ (r : PartRow). r.targets) (find (row_has header) rows) [] in
+    sym (ap (λ own. option_map_or (authority_of header) own (redirect_of header rows))
+    (own_numbered tables header place sound is at ∙ sym none)
+    ∙ ap (λ p. Redirect (unwrap_or p 0) targets) at
+    ∙ ap (Redirect place) ((row_at header rows place d at).targets d))
+
+-- ---- as the lookup reads them
+
+pub place_is : (tables : Tables) (tree : Shape) (header : Header) (number place : ℕ)
+    → AreSoundTables tables → IsFinderTree tables.parts tree → IsHeader header
+    → number ≡ number_of header → place ≡ place_at number tree
+    → position (row_has header) tables.parts ≡ Some place
+place_is tables tree header number place sound is header_is same at =
+    leads_to_row tables.parts tree header is (sound.one header header_is)
+    ∙ ap (λ n. Some (place_at n tree)) (sym same) ∙ ap Some (sym at)
+
+pub place_within : (header : Header) (rows : List PartRow) (place : ℕ)
+    → position (row_has header) rows ≡ Some place → place < length rows
+place_within header rows place at =
+    (row_at header rows place (record { region = any_word; targets = [] }) at).within

@@ -1,0 +1,292 @@
+-- The regions at a node.
+use Rattle.std.proofs.Common.{◌≡◌, ℕ, ◌+◌, ◌^◌, ◌<◌, ◌≤◌, Bool, true, false, cond, ◌&&◌, ◌||◌, Option, Some, None, IsSome, List, [], ◌∷◌, ◌++◌, length, get_or, drop, append_assoc, filter, find, count_by, All, refl, sym, ◌∙◌, ap, subst, inl, inr, arith}
+use Rattle.std.specs.Bool.{IsTrue, IsFalse, ◌==◌}
+use Rattle.std.specs.Int.{bit_at}
+use Rattle.std.specs.Option.{is_some}
+use Rattle.std.proofs.lemmas.Bool.{cases_eq, cases_lt, cases_Bool, both_ways, eqb-true, and_parts}
+use Rattle.policy_rules.proofs.CallerLemmas.{at_item}
+use Rattle.std.proofs.lemmas.List.Elements.{All-nil, All-cons, All-head, All-tail, All-filter, filter_passes}
+use Rattle.std.proofs.lemmas.List.Sums.{sum_by-cons}
+use Rattle.std.proofs.lemmas.Nat.Bits.{bit_at_above}
+use Rattle.five_tuple.specs.Header.{IsHeader, header_numbered}
+use Rattle.five_tuple.specs.Laws.{HeaderLaws}
+use Rattle.five_tuple.specs.declared.header.Header.{Header}
+use Rattle.ternary.specs.Laws.{HoldsLaws, MeetLaws}
+use Rattle.ternary.specs.Word.{WordValue, IsWord, any_word, fix_of, holds, is_fixed_of, meets, meet_of}
+use Rattle.ternary.proofs.CallerLemmas.{any_covers, fix_holds, fix_word, free_bits_shorter, is_some-meet_of, meet_both, meet_disjoint, meet_word, meets_cover}
+use Rattle.switch_table.specs.Tables.{row_has}
+use Rattle.switch_table.specs.declared.tables.PartRow.{PartRow}
+use Rattle.cut_tree.specs.Cuts.{IsFreeBit}
+use Rattle.cut_tree.specs.DefinedTree.{free_count}
+use Rattle.table_tree.specs.Cutting.{NoneFree}
+use Rattle.table_tree.specs.Regions.{AreNodeSpots, IsCutBit, has, meets_region, side_of, some_fix, spots_from, spots_of}
+use Rattle.table_tree.specs.declared.node.Spot.{Spot}
+
+-- ---- lists
+
+-- what an element counts
+abbrev pub weight : Bool → ℕ
+weight t = cond t 1 0
+
+pub count-cons : {X : Type 0} (test : X → Bool) (x : X) (xs : List X)
+    → count_by test (x ∷ xs) ≡ cond (test x) 1 0 + count_by test xs
+count-cons test x xs = sum_by-cons (λ z. cond (test z) 1 0) x xs
+
+count-filter : {X : Type 0} (test kept : X → Bool) (xs : List X)
+    → count_by test (filter kept xs) ≤ count_by test xs
+count-filter test kept [] = omega arith
+count-filter {X} test kept (x ∷ xs) = by_case (kept x) (count-filter test kept xs)
+  where
+    by_case : (b : Bool) → count_by test (filter kept xs) ≤ count_by test xs
+        → count_by test (cond b (x ∷ filter kept xs) (filter kept xs)) ≤ count_by test (x ∷ xs)
+    by_case true rest = omega
+        (arith, count-cons test x (filter kept xs), count-cons test x xs, rest)
+    by_case false rest = omega (arith, count-cons test x xs, rest)
+
+-- the first that passes is kept by a filter that keeps what passes
+pub find_kept : {X : Type 0} (test kept : X → Bool) (xs : List X)
+    → ((x : X) → test x ≡ true → kept x ≡ true) → find test (filter kept xs) ≡ find test xs
+find_kept test kept [] keeps = refl
+find_kept {X} test kept (x ∷ xs) keeps =
+    by_case (test x) (kept x) refl (keeps x) (find_kept test kept xs keeps)
+  where
+    by_case : (t k : Bool) → test x ≡ t → (test x ≡ true → k ≡ true)
+        → find test (filter kept xs) ≡ find test xs
+        → find test (cond k (x ∷ filter kept xs) (filter kept xs)) ≡ find test (x ∷ xs)
+    by_case true true passes keep rest = rw passes refl
+    by_case true false passes keep rest = absurd (both_ways false refl (keep passes))
+    by_case false true fails keep rest = rw fails rest
+    by_case false false fails keep rest = rw fails rest
+
+pub found_from_count : {X : Type 0} (test : X → Bool) (xs : List X) → 1 ≤ count_by test xs
+    → IsSome (find test xs)
+found_from_count test [] one = absurd (omega arith)
+found_from_count {X} test (x ∷ xs) one = by_case (test x) refl (found_from_count test xs)
+  where
+    by_case : (b : Bool) → test x ≡ b → (1 ≤ count_by test xs → IsSome (find test xs))
+        → IsSome (cond b (Some x) (find test xs))
+    by_case true passes rest = refl
+    by_case false fails rest =
+        rest (omega (arith, one, count-cons test x xs, ap weight fails))
+
+-- ---- the root
+
+abbrev pub spot_at : ℕ → PartRow → Spot
+spot_at place row = record { place = place; region = row.region }
+
+pub spots_count : (place number : ℕ) (rows : List PartRow)
+    → count_by (has number) (spots_from place rows)
+    ≡ count_by (λ (row : PartRow). holds row.region number) rows
+spots_count place number [] = refl
+spots_count place number (row ∷ rows) =
+    omega (
+      arith,
+      count-cons (has number) (spot_at place row) (spots_from (place + 1) rows),
+      count-cons (λ (r : PartRow). holds r.region number) row rows,
+      spots_count (place + 1) number rows,
+    )
+
+spots_all : (P : WordValue → Type 0) (place : ℕ) (rows : List PartRow)
+    → All (λ (row : PartRow). P row.region) rows
+    → All (λ (spot : Spot). P spot.region) (spots_from place rows)
+spots_all P place [] all = All-nil (λ (spot : Spot). P spot.region)
+spots_all P place (row ∷ rows) all =
+    All-cons (λ (spot : Spot). P spot.region) (spot_at place row)
+    (spots_from (place + 1) rows) (All-head (λ (r : PartRow). P r.region) row rows all)
+    (spots_all P (place + 1) rows (All-tail (λ (r : PartRow). P r.region) row rows all))
+
+pub any_meets : (spots : List Spot) → All (λ spot. IsTrue (meets_region any_word spot)) spots
+any_meets [] = All-nil (λ (spot : Spot). IsTrue (meets_region any_word spot))
+any_meets (spot ∷ spots) =
+    All-cons (λ (s : Spot). IsTrue (meets_region any_word s)) spot spots
+    (meets_cover any_word spot.region (any_covers spot.region)) (any_meets spots)
+
+pub root_node : HeaderLaws → (rows : List PartRow)
+    → ((header : Header) → IsHeader header → count_by (row_has header) rows ≡ 1)
+    → All (λ (row : PartRow). IsWord row.region) rows → AreNodeSpots (spots_of rows) any_word
+root_node laws rows one words =
+    let count : (number : ℕ) → number < 2 ^ 104 → count_by (has number) (spots_of rows) ≡ 1 =
+    λ number small. spots_count 0 number rows
+    ∙ ap (λ n. count_by (λ (row : PartRow). holds row.region n) rows)
+    (sym (laws.numbered number small))
+    ∙ one (header_numbered number) (laws.header number small) in
+    record {
+      whole = record { within = refl; bounded = omega arith };
+      words = spots_all IsWord 0 rows words;
+      meet = any_meets (spots_of rows);
+      one = λ number small. omega (arith, count number small);
+      held = λ number small inside. found_from_count (has number) (spots_of rows)
+          (omega (arith, count number small));
+    }
+
+-- ---- a half
+
+none_from_not_some : {X : Type 0} (x : Option X) → is_some x ≡ false → x ≡ None
+none_from_not_some None is = refl
+none_from_not_some (Some x) is = absurd (both_ways true is refl)
+
+-- words that hold one header meet
+pub held_meets : (a b : WordValue) (number : ℕ) → IsTrue (holds a number) → IsTrue (holds b number)
+    → meets a b ≡ true
+held_meets a b number p q = elim (cases_Bool (meets a b)) [
+  | inl meet ↦ meet
+  | inr apart ↦
+      let none : meet_of a b ≡ None = none_from_not_some (meet_of a b)
+      (is_some-meet_of a b ∙ apart) in
+      let never : (holds a number && holds b number) ≡ false = meet_disjoint a b number none in
+      let both : (holds a number && holds b number) ≡ true = rw (p, q) refl in
+      absurd (both_ways _ never both)
+]
+
+-- a header of a half is one of the region, with the bit
+pub half_holds : (region : WordValue) (bit number : ℕ) (one : Bool) → IsFalse
+    (is_fixed_of region bit) → IsTrue (holds (fix_of region bit one) number)
+    → IsTrue (holds region number)
+half_holds region bit number one free held =
+    (and_parts _ _ (sym (fix_holds region bit one free number) ∙ held)).0
+
+-- on a side, the one that has a header of the half is that of the node
+pub side_finds : (spots : List Spot) (region : WordValue) (bit number : ℕ) (one : Bool)
+    → IsTrue (holds (fix_of region bit one) number)
+    → find (has number) (side_of spots region bit one) ≡ find (has number) spots
+side_finds spots region bit number one held =
+    find_kept (has number) (meets_region (fix_of region bit one)) spots
+    (λ spot has_it. held_meets spot.region (fix_of region bit one) number has_it held)
+
+pub half_node : (spots : List Spot) (region : WordValue) (bit : ℕ) (one : Bool)
+    → AreNodeSpots spots region → IsFreeBit region bit
+    → AreNodeSpots (side_of spots region bit one) (fix_of region bit one)
+half_node spots region bit one node free =
+    let half = fix_of region bit one in
+    record {
+      whole = fix_word region bit one node.whole free.bound;
+      words = All-filter (meets_region half) (λ (spot : Spot). IsWord spot.region) spots node.words;
+      meet = filter_passes (meets_region half) spots;
+      one = λ number small. omega (
+        arith,
+        node.one number small,
+        count-filter (has number) (meets_region half) spots,
+      );
+      held = λ number small inside. subst (λ found. IsSome found)
+          (sym (side_finds spots region bit number one inside))
+          (node.held number small (half_holds region bit number one free.free inside));
+    }
+
+-- ---- several regions
+
+-- of two regions of which neither fixes a free bit of a region that they meet, each meets the other
+pub unfixed_meet : MeetLaws → (region a b : WordValue) → IsWord a → meets a region ≡ true
+    → meets b region ≡ true → ((bit : ℕ) → IsFreeBit region bit → is_fixed_of a bit ≡ false)
+    → meets a b ≡ true
+unfolding is_fixed_of
+unfixed_meet laws region a b word meet_a meet_b unfixed = (laws.bitwise a b).1 agrees
+  where
+    agrees : (k : ℕ) → bit_at a.mask k ≡ 1 → bit_at b.mask k ≡ 1
+        → bit_at a.value k ≡ bit_at b.value k
+    agrees k in_a in_b = elim (cases_Bool (bit_at region.mask k == 1)) [
+      | inl fixed ↦
+          let in_region : bit_at region.mask k ≡ 1 = eqb-true _ _ fixed in
+          (laws.bitwise a region).0 meet_a k in_a in_region
+          ∙ sym ((laws.bitwise b region).0 meet_b k in_b in_region)
+      | inr free ↦ elim (cases_lt k 104) [
+        | inl below ↦ absurd (both_ways _
+            (unfixed k (record { bound = below; free = free })) (ap (λ n. n == 1) in_a))
+        | inr above ↦ absurd (omega (arith, in_a, bit_at_above a.mask 104 k word.bounded above))
+      ]
+    ]
+
+-- and then a header is in both
+pub meeting_shares : HoldsLaws → (a b : WordValue) → IsWord a → IsWord b → meets a b ≡ true
+    → (number : ℕ) × (number < 2 ^ 104) × IsTrue (holds a number) × IsTrue (holds b number)
+meeting_shares laws a b a_word b_word meet =
+    by_case (meet_of a b) refl
+  where
+    by_case : (m : Option WordValue) → meet_of a b ≡ m → (number : ℕ) × (number < 2 ^ 104)
+        × IsTrue (holds a number) × IsTrue (holds b number)
+    by_case None none = absurd (both_ways (meets a b)
+        (sym (is_some-meet_of a b) ∙ ap is_some none) meet)
+    by_case (Some m) is =
+        let both = and_parts _ _ (sym (meet_both a b m is m.value) ∙ laws.value m) in
+        (m.value, laws.bound m (meet_word a b m a_word b_word is), both.0, both.1)
+
+-- so the regions of a node, where they are not one, fix a free bit
+pub never_stuck : HoldsLaws → MeetLaws → (spots : List Spot) (region : WordValue)
+    → AreNodeSpots spots region → NoneFree region (some_fix spots) → length spots ≡ 1
+never_stuck holds_laws meet_laws [] region node none =
+    absurd (both_ways false refl (node.held region.value
+    (holds_laws.bound region node.whole) (holds_laws.value region)))
+never_stuck holds_laws meet_laws (a ∷ []) region node none = refl
+never_stuck holds_laws meet_laws (a ∷ b ∷ rest) region node none =
+    let P : Spot → Type 0 = λ s. IsWord s.region in
+    let Q : Spot → Type 0 = λ s. IsTrue (meets_region region s) in
+    let a_word = All-head P a (b ∷ rest) node.words in
+    let b_word = All-head P b rest (All-tail P a (b ∷ rest) node.words) in
+    let a_meets = All-head Q a (b ∷ rest) node.meet in
+    let b_meets = All-head Q b rest (All-tail Q a (b ∷ rest) node.meet) in
+    let shared = meeting_shares holds_laws a.region b.region a_word b_word
+    (unfixed_meet meet_laws region a.region b.region a_word a_meets b_meets
+    (λ bit free. first_unfixed (is_fixed_of a.region bit) _ (none bit free))) in
+    let number = shared.0 in
+    absurd (omega (
+      arith,
+      node.one number shared.1,
+      count-cons (has number) a (b ∷ rest),
+      count-cons (has number) b rest,
+      ap weight shared.2,
+      ap weight shared.3,
+    ))
+  where
+    first_unfixed : (a b : Bool) → (a || b) ≡ false → a ≡ false
+    first_unfixed true b e = e
+    first_unfixed false b e = refl
+
+some_spot : (spots : List Spot) (number : ℕ) → IsSome (find (has number) spots)
+    → 0 < length spots
+some_spot [] number found = absurd (both_ways false refl found)
+some_spot (spot ∷ spots) number found = omega arith
+
+-- where they are not one, they are several
+pub several_spots : HoldsLaws → (spots : List Spot) (region : WordValue)
+    → AreNodeSpots spots region → (length spots ≡ 1 → ⊥) → 1 < length spots
+several_spots laws spots region node not_one =
+    let some = some_spot spots region.value
+    (node.held region.value (laws.bound region node.whole) (laws.value region)) in
+    elim (cases_eq (length spots) 1) [
+      | inl one ↦ absurd (not_one one)
+      | inr other ↦ omega (arith, some, other)
+    ]
+
+pub cut_is_free : (spots : List Spot) (region : WordValue) (bit : ℕ) → IsCutBit spots region bit
+    → IsFreeBit region bit
+cut_is_free spots region bit (inl least) = least.free
+cut_is_free spots region bit (inr least) = least.1.free
+
+-- fewer bits are free in a half
+pub half_smaller : (region half : WordValue) (bit : ℕ) (one : Bool) → IsFreeBit region bit
+    → half ≡ fix_of region bit one → free_count half < free_count region
+half_smaller region half bit one free same =
+    rw same (omega (arith, free_bits_shorter region bit one free.bound free.free))
+
+-- ---- the loops
+
+pub kept_more : (test : Spot → Bool) (spots kept : List Spot) (index : ℕ) (spot : Spot)
+    → index < length spots → spot ≡ get_or spots index spot → test spot ≡ true
+    → filter test spots ≡ kept ++ filter test (drop index spots)
+    → filter test spots ≡ (kept ++ spot ∷ []) ++ filter test (drop (index + 1) spots)
+kept_more test spots kept index spot within is passes so_far =
+    let rest = filter test (drop (index + 1) spots) in
+    so_far ∙ ap (λ (xs : List Spot). kept ++ xs)
+    (at_item (filter test) spots index spot within is ∙ ap (λ t. cond t (spot ∷ rest) rest) passes)
+    ∙ sym (append_assoc kept (spot ∷ []) rest)
+
+pub kept_same : (test : Spot → Bool) (spots kept : List Spot) (index : ℕ) (spot : Spot)
+    → index < length spots → spot ≡ get_or spots index spot → test spot ≡ false
+    → filter test spots ≡ kept ++ filter test (drop index spots)
+    → filter test spots ≡ kept ++ filter test (drop (index + 1) spots)
+kept_same test spots kept index spot within is fails so_far =
+    let rest = filter test (drop (index + 1) spots) in
+    so_far ∙ ap (λ (xs : List Spot). kept ++ xs)
+    (at_item (filter test) spots index spot within is ∙ ap (λ t. cond t (spot ∷ rest) rest) fails)
+
+pub met_meets : (a b : WordValue) → is_some (meet_of a b) ≡ meets a b
+met_meets a b = is_some-meet_of a b

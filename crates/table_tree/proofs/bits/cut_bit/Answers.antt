@@ -1,0 +1,28 @@
+use Rattle.std.proofs.Common.{inl, inr}
+use Rattle.std.proofs.lemmas.Option.{IfSome_then, MatchOption-at_none, MatchOption-at_some}
+use Rattle.table_tree.specs.Regions.{all_fix, some_fix}
+use Rattle.table_tree.proofs.BitLemmas.{if_none_then, least_free, none_free}
+use Rattle.table_tree.proofs.bits.cut_bit.Goals as goal
+
+pub returns-in-Some-clause-some : goal.returns-in-Some-clause-some
+returns-in-Some-clause-some c =
+    inl (least_free c.args.region.now (all_fix c.args.spots.now) c.fixed_by_all.result
+    c.free_bits-free.result c.in-Some.bit c.fixed_by_all.ensures c.free_bits-free.ensures
+    (MatchOption-at_some _ _ c.in-Some.bit c.in-Some.is c.lowest.ensures.some))
+
+pub returns-in-None-clause-some : goal.returns-in-None-clause-some
+returns-in-None-clause-some c =
+    IfSome_then c.lowest-in-None.result c.lowest-in-None.ensures.some (λ bit low. inr (
+      none_free c.args.region.now (all_fix c.args.spots.now) c.fixed_by_all.result
+          c.free_bits-free.result c.fixed_by_all.ensures c.free_bits-free.ensures
+          (MatchOption-at_none _ _ c.in-None.is c.lowest.ensures.none),
+      least_free c.args.region.now (some_fix c.args.spots.now) c.fixed_by_some.result
+          c.free_bits-free.result bit (λ k within. c.fixed_by_some.ensures k)
+          c.free_bits-free.ensures low,
+    ))
+
+pub returns-in-None-clause-none : goal.returns-in-None-clause-none
+returns-in-None-clause-none c =
+    if_none_then c.lowest-in-None.result c.lowest-in-None.ensures.none
+    (none_free c.args.region.now (some_fix c.args.spots.now) c.fixed_by_some.result
+    c.free_bits-free.result (λ k within. c.fixed_by_some.ensures k) c.free_bits-free.ensures)

@@ -1,0 +1,16 @@
+use Rattle.std.proofs.Common.{◌∙◌, ap}
+use Rattle.switch_table.specs.declared.tables.Tables.{Tables}
+use Rattle.table_tree.proofs.FindLemmas.{tree_of_root}
+use Rattle.table_tree.proofs.finder.Finder.build.Goals as goal
+
+pub invariant_of-result : goal.invariant_of-result
+invariant_of-result c = record {
+  sound = c.requires;
+  tree = tree_of_root _ _ _ _ _ c.in_ok-root.ensures.spots c.in_ok-root.ensures.region
+      (c.items.ensures ∙ ap (λ (t : Tables). t.parts) c.deref.ensures) c.in_ok-tree.ensures;
+}
+
+pub returns-clause-tree : goal.returns-clause-tree
+returns-clause-tree c =
+    tree_of_root _ _ _ _ _ c.in_ok-root.ensures.spots c.in_ok-root.ensures.region
+    (c.items.ensures ∙ ap (λ (t : Tables). t.parts) c.deref.ensures) c.in_ok-tree.ensures

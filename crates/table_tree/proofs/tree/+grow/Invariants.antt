@@ -1,0 +1,5 @@
+use Rattle.cut_tree.specs.DefinedTree.{free_count}
+use Rattle.table_tree.proofs.tree.+grow.Given as goal
+
+abbrev pub decreases-grow : goal.decreases-grow
+decreases-grow l = free_count l.node.region

@@ -1,0 +1,20 @@
+-- Bits of masks, and the least free bit of a region that passes a test.
+use Rattle.std.specs.Prelude.{ℕ, ◌≡◌, ◌<◌, ◌≤◌, Bool, IsTrue, IsFalse}
+use Rattle.std.specs.Int.{bit_at}
+use Rattle.ternary.specs.Word.{WordValue}
+use Rattle.cut_tree.specs.Cuts.{IsFreeBit}
+
+-- of the bits of n, k is the lowest
+pub record IsLowest (n k : ℕ) : Type 0 where
+  pub set : bit_at n k ≡ 1
+  pub below : (j : ℕ) → j < k → bit_at n j ≡ 0
+
+-- of the region's free bits that pass, this is the least
+pub record IsLeastFree (region : WordValue) (passes : ℕ → Bool) (bit : ℕ) : Type 0 where
+  pub free : IsFreeBit region bit
+  pub passing : IsTrue (passes bit)
+  pub least : (other : ℕ) → IsFreeBit region other → IsTrue (passes other) → bit ≤ other
+
+-- none of the region's free bits passes
+abbrev pub NoneFree : WordValue → (ℕ → Bool) → Type 0
+NoneFree region passes = (bit : ℕ) → IsFreeBit region bit → IsFalse (passes bit)

@@ -1,0 +1,59 @@
+-- A decision tree that finds the partition rule of a header: the tree is that of Yu, Rexford,
+-- Freedman and Wang, "Scalable Flow-Based Networking with DIFANE", SIGCOMM 2010; the order of the
+-- bits is this project's own.
+use Rattle.std.specs.Prelude.{⊤, ℕ, ◌≡◌, ◌<◌, ◌==◌, if◌then◌else◌, true, false, List, All, length}
+use Rattle.std.specs.Int.{bit_at}
+use Rattle.ternary.specs.Word.{WordValue, any_word, fix_of}
+use Rattle.switch_table.specs.Tables.{AreSoundTables}
+use Rattle.switch_table.specs.declared.tables.PartRow.{PartRow}
+use Rattle.switch_table.specs.declared.tables.Tables.{Tables}
+use Rattle.table_tree.specs.Regions.{IsCutBit, side_of, spots_of}
+use Rattle.table_tree.specs.declared.node.Spot.{Spot}
+use Rattle.table_tree.specs.declared.tree.Tree.{Tree, At, Cut'}
+
+-- a tree apart from the memory that holds it: a place of the partition rules, or a cut of a bit with
+-- the side of its zeros and that of its ones
+pub data Shape : Type 0 where
+  Place : ℕ → Shape
+  Sides : ℕ → Shape → Shape → Shape
+
+abbrev pub shape_of : Tree → Shape
+shape_of (At place) = Place place
+shape_of (Cut' bit p low q high) = Sides bit (shape_of low) (shape_of high)
+
+-- where the bits of a header number lead
+abbrev pub place_at : ℕ → Shape → ℕ
+place_at number (Place place) = place
+place_at number (Sides bit low high) =
+    if bit_at number bit == 1 then place_at number high else place_at number low
+
+-- each cut is at a bit of a header number
+abbrev pub CutsHeaderBits : Shape → Type 0
+CutsHeaderBits (Place place) = ⊤
+CutsHeaderBits (Sides bit low high) = (bit < 104) × CutsHeaderBits low × CutsHeaderBits high
+
+-- one region is left, and this is its place
+pub record IsEnd (spots : List Spot) (place : ℕ) : Type 0 where
+  pub one : length spots ≡ 1
+  pub there : All (λ spot. spot.place ≡ place) spots
+
+-- the tree of these regions within a region: more than one are parted at their cut bit
+abbrev pub IsTreeOf : List Spot → WordValue → Shape → Type 0
+IsTreeOf spots region (Place place) = IsEnd spots place
+IsTreeOf spots region (Sides bit low high) =
+    (1 < length spots) × IsCutBit spots region bit
+    × IsTreeOf (side_of spots region bit false) (fix_of region bit false) low
+    × IsTreeOf (side_of spots region bit true) (fix_of region bit true) high
+
+-- the tree of the partition rules
+abbrev pub IsFinderTree : List PartRow → Shape → Type 0
+IsFinderTree rows tree = IsTreeOf (spots_of rows) any_word tree
+
+-- the tables of a finder, and its tree
+pub record FinderValue : Type 0 where
+  pub tables : Tables
+  pub tree : Tree
+
+pub record IsFinder (finder : FinderValue) : Type 0 where
+  pub sound : AreSoundTables finder.tables
+  pub tree : IsFinderTree finder.tables.parts (shape_of finder.tree)

@@ -1,0 +1,62 @@
+ghost use Rattle.std.specs.Prelude.{ℕ, ◌≡◌, ◌<◌, ◌==◌, ◌↔◌, IfNone, IfSome};
+ghost use Rattle.std.specs.Int.{bit_at};
+ghost use Rattle.cut_tree.specs.Cuts.{IsFreeBit};
+ghost use Rattle.table_tree.specs.Cutting.{IsLowest, NoneFree};
+ghost use Rattle.table_tree.specs.Regions.{IsCutBit, all_fix, some_fix};
+
+use crate::node::Spot;
+use ternary::Word;
+
+/// The mask of all 104 bits of a header number.
+const ALL_BITS: u128 = (1 << 104) - 1;
+
+/// The bit at which these regions, which meet a region, are parted: of its free bits the least one
+/// that all of them fix, else the least one that some one fixes. `None` where no one fixes any.
+pub fn cut_bit(spots: &[Spot], region: &Word) -> Option<u32>
+    ensures some { IfSome result (λ bit. IsCutBit spots.now region.now bit) }
+    ensures none { IfNone result (NoneFree region.now (some_fix spots.now)) }
+{
+    let free = free_bits(region);
+    match lowest(fixed_by_all(spots) & free) {
+        Some(bit) => Some(bit),
+        None => lowest(fixed_by_some(spots) & free),
+    }
+}
+
+fn free_bits(region: &Word) -> u128
+    ensures { (bit : ℕ) → (bit_at result bit ≡ 1) ↔ IsFreeBit region.now bit }
+{
+    ALL_BITS & !region.mask()
+}
+
+fn fixed_by_all(spots: &[Spot]) -> u128
+    ensures { (bit : ℕ) → bit < 104 → (bit_at result bit == 1) ≡ all_fix spots.now bit }
+{
+    let mut bits = ALL_BITS;
+    for spot in spots {
+        bits &= spot.region.mask();
+    }
+    bits
+}
+
+fn fixed_by_some(spots: &[Spot]) -> u128
+    ensures { (bit : ℕ) → (bit_at result bit == 1) ≡ some_fix spots.now bit }
+{
+    let mut bits = 0;
+    for spot in spots {
+        bits |= spot.region.mask();
+    }
+    bits
+}
+
+// The lowest bit of the number; `None` of 0.
+fn lowest(bits: u128) -> Option<u32>
+    ensures some { IfSome result (λ bit. IsLowest bits bit) }
+    ensures none { IfNone result (bits ≡ 0) }
+{
+    if bits == 0 {
+        None
+    } else {
+        Some(bits.trailing_zeros())
+    }
+}

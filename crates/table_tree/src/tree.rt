@@ -1,0 +1,69 @@
+ghost use Rattle.std.specs.Prelude.{◌≡◌, IfOk};
+ghost use Rattle.table_tree.specs.Finding.{CutsHeaderBits, IsTreeOf, place_at, shape_of};
+
+use crate::node::Node;
+use std::alloc::{AllocError, Global};
+
+/// A decision tree over the bits of a header number.
+#[derive(Drop)]
+pub enum Tree {
+    /// The place of the partition rule.
+    At {
+        place: u32,
+    },
+    /// The headers with a 0 at the bit are on the low side, those with a 1 on the high side.
+    Cut {
+        bit: u32,
+        low: Box<Tree>,
+        high: Box<Tree>,
+    },
+}
+
+impl Tree {
+    /// The place to which the bits of the number lead.
+    pub fn place(&self, number: u128) -> u32
+        requires { CutsHeaderBits (shape_of self.now) }
+        ensures { result ≡ place_at number (shape_of self.now) }
+    {
+        match self {
+            Tree::At { place } => *place,
+            Tree::Cut { bit, low, high } => {
+                if (number >> *bit) & 1 == 1 {
+                    high.place(number)
+                } else {
+                    low.place(number)
+                }
+            }
+        }
+    }
+}
+
+/// The tree of the regions of a node.
+#[tactic(auto, using(crate::proofs::NodeLemmas::half_smaller, crate::proofs::FindLemmas::end_is))]
+pub fn grow(alloc: Global, node: Node) -> Result<Tree, AllocError>
+    ensures { IfOk result (λ tree. IsTreeOf node.spots.items node.region (shape_of tree)) }
+{
+    if node.spots.len() == 1 {
+        let place = node.spots[0].place;
+        return Ok(Tree::At { place });
+    }
+    let bit = node.cut_bit();
+    let low = node.half(alloc, bit, false)?;
+    let high = node.half(alloc, bit, true)?;
+    // The way down keeps the lists of the halves alone.
+    drop(node);
+    let low = grow(alloc, low)?;
+    let high = grow(alloc, high)?;
+    Ok(Tree::Cut {
+        bit,
+        low: boxed(alloc, low)?,
+        high: boxed(alloc, high)?,
+    })
+}
+
+fn boxed(alloc: Global, tree: Tree) -> Result<Box<Tree>, AllocError>
+    ensures { IfOk result (λ boxed. boxed.value ≡ tree) }
+{
+    let boxed = Box::new(alloc, tree)?;
+    Ok(boxed)
+}
