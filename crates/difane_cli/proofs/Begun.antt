@@ -16,7 +16,8 @@ use Rattle.steps.specs.Steps.{IsEvent}
 use Rattle.steps.specs.declared.step.Event.{Event}
 use Rattle.steps.specs.declared.step.Event.TheVariants.{One, Flush, Drain}
 use Rattle.steps.specs.declared.step.Step.TheVariants as step
-use Rattle.update_machine.specs.Played.{IsSetting, MayHappen, NamesOwnPort}
+use Rattle.update_machine.specs.Sound.{IsSetting, NamesOwnPort}
+use Rattle.world.specs.Played.{MayHappen}
 use Rattle.update_machine.specs.Setting.{Setting, setting_of}
 use Rattle.replay.proofs.Events.{first_planned}
 use Rattle.world.specs.State.{AreTied, IsTied, WorldValue, setting_at}
@@ -75,6 +76,7 @@ may_happen net policies (One (step.Deliver message)) own built = record { kind =
 may_happen net policies (One (step.Forget message)) own built = record { kind = tt; own = own }
 may_happen net policies (One (step.Expire switch place)) own built =
     record { kind = tt; own = own }
+may_happen net policies (One (step.Update file)) own built = record { kind = tt; own = own }
 may_happen net policies Flush own built = tt
 may_happen net policies Drain own built = tt
 may_happen net policies _ own built = cc built

@@ -13,7 +13,8 @@ use Rattle.update_machine.specs.Answers.{BeginsAnswer}
 use Rattle.update_machine.specs.Causes.{EndsHaveCauses}
 use Rattle.update_machine.specs.Full.{IsPlay}
 use Rattle.update_machine.specs.Machine.{IsRun}
-use Rattle.update_machine.specs.Played.{IsSetting, MayHappen}
+use Rattle.update_machine.specs.Sound.{IsSetting}
+use Rattle.world.specs.Played.{MayHappen}
 use Rattle.update_machine.specs.Setting.{Setting}
 use Rattle.update_machine.proofs.CallerLemmas.{answers_so_far, begins_itself, stop_begins}
 use Rattle.difane_cli.specs.Inputs.{Inputs, Play, Print, Printing}

@@ -3,7 +3,7 @@ use Rattle.std.specs.Prelude.{⊤, ℕ, ◌≡◌, ◌≤◌, Option, option_map
 use Rattle.std.specs.Borrow.{Bor}
 use Rattle.net_file.specs.Net.{IsNet}
 use Rattle.steps.specs.Steps.{max_events}
-use Rattle.update_machine.specs.Played.{MayHappen}
+use Rattle.world.specs.Played.{MayHappen}
 use Rattle.world.specs.State.{IsBegun, setting_at}
 use Rattle.difane_cli.specs.Run.{IsPrintingOf, IsReplayOf}
 use Rattle.difane_cli.specs.Inputs.{Inputs, Printing, Task, Play, Print}

@@ -10,7 +10,7 @@ use Rattle.journal.specs.declared.item.Item.TheVariants as item
 use Rattle.update_machine.specs.Causes.{HaveCauses}
 use Rattle.update_machine.specs.Marks.{current_mark, most_versions, retired_mark}
 use Rattle.update_machine.specs.Packets.{Decision, decision_of, found_down, leg_of}
-use Rattle.update_machine.specs.Played.{IsSetting}
+use Rattle.update_machine.specs.Sound.{IsSetting}
 use Rattle.update_machine.specs.Setting.{Setting}
 use Rattle.update_machine.proofs.CallerLemmas.{last_told_append}
 use Rattle.boot_laws.specs.ItemCauses.{HasItemCause}

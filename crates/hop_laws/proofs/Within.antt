@@ -12,7 +12,7 @@ use Rattle.steps.specs.declared.step.Step.TheVariants.{Hop}
 use Rattle.update_machine.specs.Causes.{HaveCauses}
 use Rattle.update_machine.specs.Marks.{retired_mark}
 use Rattle.update_machine.specs.Packets.{travels}
-use Rattle.update_machine.specs.Played.{IsSetting}
+use Rattle.update_machine.specs.Sound.{IsSetting}
 use Rattle.update_machine.specs.Setting.{Setting}
 use Rattle.update_machine.proofs.CallerLemmas.{folded_append}
 use Rattle.boot_laws.proofs.Facts.{Behind, Both, fact_on, have_both, have_weaker}

@@ -10,7 +10,7 @@ ghost use Rattle.update_machine.specs.Marks.{current_mark, most_versions};
 ghost use Rattle.update_machine.specs.Messages.{next_waiting};
 ghost use Rattle.update_machine.specs.Packets.{next_packet, next_travelling};
 ghost use Rattle.update_machine.specs.Pieces.{piece};
-ghost use Rattle.update_machine.specs.Played.{IsSetting};
+ghost use Rattle.update_machine.specs.Sound.{IsSetting};
 ghost use Rattle.update_machine.specs.Setting.{Setting};
 ghost use Rattle.boot_laws.specs.Always.{HoldsReached};
 ghost use Rattle.hop_laws.specs.Drains.{drain_left};

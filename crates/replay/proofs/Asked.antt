@@ -13,7 +13,8 @@ use Rattle.update_machine.specs.Full.{HasRoom}
 use Rattle.update_machine.specs.Messages.{next_waiting}
 use Rattle.update_machine.specs.Packets.{next_packet, next_travelling}
 use Rattle.update_machine.specs.Pieces.{piece}
-use Rattle.update_machine.specs.Played.{IsSetting, MayHappen, MayPlay}
+use Rattle.update_machine.specs.Sound.{IsSetting}
+use Rattle.world.specs.Played.{MayHappen, MayPlay}
 use Rattle.update_machine.specs.Setting.{Setting}
 use Rattle.world.specs.State.{IsTied, WorldValue, comes_in, setting_at}
 use Rattle.replay.specs.Playing.{brought_in, next_step}

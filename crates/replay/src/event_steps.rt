@@ -1,6 +1,6 @@
 ghost use Rattle.std.specs.Prelude.{◌≡◌, ◌+◌, ◌≤◌, false, IsErrOf, OnErr, OnOk};
 ghost use Rattle.steps.specs.Steps.{max_events};
-ghost use Rattle.update_machine.specs.Played.{MayHappen};
+ghost use Rattle.world.specs.Played.{MayHappen};
 ghost use Rattle.world.specs.declared.error.StepError.TheVariants.{Full};
 ghost use Rattle.replay.specs.Playing.{Begins, Happens, StopsWithin, brought_in, next_step};
 ghost use Rattle.world.specs.State.{setting_at};

@@ -71,6 +71,7 @@ impl Kind {
         match self {
             Kind::Packet | Kind::Hop | Kind::Lose | Kind::Drain => true,
             Kind::Deliver | Kind::Forget | Kind::Expire | Kind::Flush => true,
+            Kind::Update => true,
             _ => false,
         }
     }

@@ -22,4 +22,4 @@ pub mod Quiet
 pub mod Numbers
 pub mod Concerns
 pub mod Laws
-pub mod Played
+pub mod Sound

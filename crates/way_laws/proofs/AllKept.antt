@@ -20,7 +20,7 @@ use Rattle.update_machine.specs.Marks.{retired_mark}
 use Rattle.update_machine.specs.Messages.{message_of}
 use Rattle.update_machine.specs.Moves.{AuthorityRule}
 use Rattle.update_machine.specs.Packets.{decision_of, found_down, header_in, leg_of, next_packet, travels}
-use Rattle.update_machine.specs.Played.{IsSetting}
+use Rattle.update_machine.specs.Sound.{IsSetting}
 use Rattle.update_machine.specs.Setting.{Setting}
 use Rattle.update_machine.specs.Steps.{present_step, tells_step}
 use Rattle.update_machine.specs.Versions.{plan_at, policy_at}

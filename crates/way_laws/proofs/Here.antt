@@ -13,7 +13,7 @@ use Rattle.update_machine.specs.Causes.{HaveCauses}
 use Rattle.update_machine.specs.Marks.{current_mark}
 use Rattle.update_machine.specs.Moves.{AuthorityRule, authority_rule, first_place, header_at}
 use Rattle.update_machine.specs.Packets.{Decision, decision_of, found_down, header_in, leg_of, next_switch, standing, travels}
-use Rattle.update_machine.specs.Played.{IsSetting}
+use Rattle.update_machine.specs.Sound.{IsSetting}
 use Rattle.update_machine.specs.Setting.{Setting}
 use Rattle.update_machine.specs.Versions.{plan_at, policy_at, stamp_of}
 use Rattle.boot_laws.specs.ItemCauses.{HasItemCause}

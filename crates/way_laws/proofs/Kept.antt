@@ -36,7 +36,7 @@ use Rattle.update_machine.specs.Marks.{current_mark, retired_mark}
 use Rattle.update_machine.specs.Moves.{AuthorityRule}
 use Rattle.update_machine.specs.Adverts.{route_from}
 use Rattle.update_machine.specs.Packets.{Decision, found_down, no_switch, owner, targets_of}
-use Rattle.update_machine.specs.Played.{IsSetting, NamesOwnPort}
+use Rattle.update_machine.specs.Sound.{IsSetting, NamesOwnPort}
 use Rattle.update_machine.specs.Setting.{Setting}
 use Rattle.update_machine.specs.Versions.{plan_at, policy_at, stamp_of, tables_at}
 use Rattle.boot_laws.specs.ItemCauses.{HasItemCause}

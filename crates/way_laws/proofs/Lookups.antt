@@ -19,7 +19,7 @@ use Rattle.update_machine.specs.Caches.{cache_of, lookup_at}
 use Rattle.update_machine.specs.Causes.{HaveCauses}
 use Rattle.update_machine.specs.Marks.{current_mark, retired_mark}
 use Rattle.update_machine.specs.Moves.{AuthorityRule, authority_rule}
-use Rattle.update_machine.specs.Played.{IsSetting}
+use Rattle.update_machine.specs.Sound.{IsSetting}
 use Rattle.update_machine.specs.Setting.{Setting}
 use Rattle.update_machine.specs.Versions.{plan_at, policy_at, stamp_of, tables_at}
 use Rattle.boot_laws.specs.ItemCauses.{HasItemCause}

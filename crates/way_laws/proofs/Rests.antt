@@ -16,7 +16,7 @@ use Rattle.update_machine.specs.Causes.{HaveCauses}
 use Rattle.update_machine.specs.Moves.{authority_rule, header_at}
 use Rattle.update_machine.specs.Packets.{header_in, next_packet, tells_header, travels}
 use Rattle.update_machine.specs.Pieces.{packet_items, piece, step_items}
-use Rattle.update_machine.specs.Played.{IsSetting}
+use Rattle.update_machine.specs.Sound.{IsSetting}
 use Rattle.update_machine.specs.Setting.{Setting}
 use Rattle.update_machine.specs.Versions.{stamp_of}
 use Rattle.update_machine.proofs.CallerLemmas.{have_append, last_told_append, packet_keeps}

@@ -19,7 +19,7 @@ use Rattle.update_machine.specs.Machine.{Dropped, End, Ends, IsRun, LeftBy, Lost
 use Rattle.update_machine.specs.Marks.{retired_mark, tells_retired}
 use Rattle.update_machine.specs.Numbers.{VersionsAreNumbered}
 use Rattle.update_machine.specs.Packets.{Decision, header_in, next_packet, travels}
-use Rattle.update_machine.specs.Played.{IsSetting}
+use Rattle.update_machine.specs.Sound.{IsSetting}
 use Rattle.update_machine.specs.Setting.{Setting, plan_of_file, policy_of_file}
 use Rattle.update_machine.specs.Laws.{PoliciesKeep}
 use Rattle.update_machine.specs.Versions.{file_of, is_submission, is_version, policy_at, version_count}

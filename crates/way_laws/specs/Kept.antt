@@ -13,7 +13,7 @@ use Rattle.update_machine.specs.Caches.{cache_of}
 use Rattle.update_machine.specs.Marks.{current_mark}
 use Rattle.update_machine.specs.Messages.{message_of}
 use Rattle.update_machine.specs.Packets.{Decision, next_packet}
-use Rattle.update_machine.specs.Played.{NamesOwnPort}
+use Rattle.update_machine.specs.Sound.{NamesOwnPort}
 use Rattle.update_machine.specs.Setting.{Setting}
 use Rattle.update_machine.specs.Versions.{policy_at}
 use Rattle.way_laws.specs.Rules.{IsRightEntry, IsRightRule}

@@ -12,7 +12,7 @@ use Rattle.switch_core.specs.State.{SwitchValue}
 use Rattle.update_machine.specs.Concerns.{concerns_calls}
 use Rattle.update_machine.specs.Messages.{is_deliverable, is_forgotten, message_of, was_delivered}
 use Rattle.update_machine.specs.Pieces.{forget_items, nothing, piece}
-use Rattle.update_machine.specs.Played.{MayPlay}
+use Rattle.world.specs.Played.{MayPlay}
 use Rattle.update_machine.specs.Setting.{Setting}
 use Rattle.update_machine.proofs.CallerLemmas.{message_keeps}
 use Rattle.world.specs.State.{AreTied, Control, IsBagOf, post_in}

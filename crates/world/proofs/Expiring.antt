@@ -14,7 +14,7 @@ use Rattle.switch_ties.specs.SwitchOf.{switch_of}
 use Rattle.switch_ties.proofs.Life.{expiry_is, life_ties}
 use Rattle.switch_ties.proofs.Links.{kept_is}
 use Rattle.update_machine.specs.Pieces.{piece}
-use Rattle.update_machine.specs.Played.{MayPlay}
+use Rattle.world.specs.Played.{MayPlay}
 use Rattle.update_machine.specs.Setting.{Setting}
 use Rattle.world.specs.State.{AreTied, Control, IsBagOf}
 use Rattle.world.specs.Travelling.{Travellers}

@@ -29,7 +29,7 @@ use Rattle.update_machine.specs.Deliveries.{delivery_items, to_controller}
 use Rattle.update_machine.specs.Links.{near}
 use Rattle.update_machine.specs.Messages.{is_deliverable, is_to_controller, is_to_switch, message_of, next_message, sent_from}
 use Rattle.update_machine.specs.Pieces.{deliver_items, nothing, piece}
-use Rattle.update_machine.specs.Played.{MayPlay}
+use Rattle.world.specs.Played.{MayPlay}
 use Rattle.update_machine.specs.Setting.{Setting}
 use Rattle.update_machine.specs.Settling.{to_switch}
 use Rattle.update_machine.proofs.CallerLemmas.{message_keeps}

@@ -27,7 +27,7 @@ use Rattle.update_machine.specs.Packets.{is_at, is_packet, targets_of, travels, 
 use Rattle.update_machine.specs.Packets.{standing as place_of}
 use Rattle.update_machine.specs.Pieces.{nothing, piece}
 use Rattle.update_machine.specs.Pieces.{hop_items as hop_items_of}
-use Rattle.update_machine.specs.Played.{MayPlay}
+use Rattle.world.specs.Played.{MayPlay}
 use Rattle.update_machine.specs.Setting.{Setting}
 use Rattle.way_laws.specs.Words.{PacketWords, words_of}
 use Rattle.way_laws.proofs.Words.{words_grow}

@@ -9,7 +9,7 @@ use Rattle.steps.specs.declared.step.Step.TheVariants.{Lose}
 use Rattle.switch_core.specs.State.{SwitchValue}
 use Rattle.update_machine.specs.Packets.{travels}
 use Rattle.update_machine.specs.Pieces.{lose_items, nothing, piece}
-use Rattle.update_machine.specs.Played.{MayPlay}
+use Rattle.world.specs.Played.{MayPlay}
 use Rattle.update_machine.specs.Setting.{Setting}
 use Rattle.way_laws.specs.Words.{words_of}
 use Rattle.way_laws.proofs.Words.{words_grow}

@@ -11,7 +11,7 @@ use Rattle.update_machine.specs.Concerns.{NoneConcern, concerns_controller, conc
 use Rattle.update_machine.specs.Folds.{count_of}
 use Rattle.update_machine.specs.Packets.{is_packet}
 use Rattle.update_machine.specs.Pieces.{piece}
-use Rattle.update_machine.specs.Played.{MayPlay}
+use Rattle.world.specs.Played.{MayPlay}
 use Rattle.update_machine.specs.Setting.{Setting}
 use Rattle.world.specs.State.{AreTied, Control, IsBagOf}
 use Rattle.world.specs.Travelling.{Travellers}

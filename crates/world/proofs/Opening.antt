@@ -42,7 +42,7 @@ use Rattle.update_machine.specs.Full.{HasRoom}
 use Rattle.update_machine.specs.Links.{is_link_up, near}
 use Rattle.update_machine.specs.Messages.{is_to_controller, is_to_switch, next_message, sent_from}
 use Rattle.update_machine.specs.Pieces.{piece}
-use Rattle.update_machine.specs.Played.{MayPlay}
+use Rattle.world.specs.Played.{MayPlay}
 use Rattle.update_machine.specs.Setting.{Setting, switches_of}
 use Rattle.update_machine.proofs.CallerLemmas.{last_told_append, messages_keep}
 use Rattle.world.specs.Linking.{AreRelinked, all_told, near_all}

@@ -18,7 +18,7 @@ use Rattle.steps.specs.Steps.{IsStep}
 use Rattle.switch_core.specs.State.{SwitchValue}
 use Rattle.switch_ties.specs.SwitchOf.{switch_of}
 use Rattle.update_machine.specs.Packets.{next_packet, travels}
-use Rattle.update_machine.specs.Played.{IsSetting, NamesOwnPort}
+use Rattle.update_machine.specs.Sound.{IsSetting, NamesOwnPort}
 use Rattle.update_machine.specs.Setting.{Setting, placed_in, plan_of_file, setting_of}
 use Rattle.update_machine.specs.Versions.{plan_at}
 use Rattle.update_machine.proofs.CallerLemmas.{of_its_file, start_laws}

@@ -20,7 +20,7 @@ use Rattle.switch_core.specs.State.{SwitchValue}
 use Rattle.switch_ties.proofs.Links.{kept_is}
 use Rattle.update_machine.specs.Moves.{put}
 use Rattle.update_machine.specs.Pieces.{marks_code, piece, plan_code, update_code, update_items}
-use Rattle.update_machine.specs.Played.{MayPlay}
+use Rattle.world.specs.Played.{MayPlay}
 use Rattle.update_machine.specs.Setting.{Setting, plan_of_file, policy_of_file, setting_of}
 use Rattle.update_machine.specs.Settling.{submitted_items}
 use Rattle.update_machine.specs.Versions.{version_count}

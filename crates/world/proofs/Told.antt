@@ -16,7 +16,7 @@ use Rattle.update_machine.specs.Concerns.{NoneConcern, concerns_calls, concerns_
 use Rattle.update_machine.specs.Folds.{count_of}
 use Rattle.update_machine.specs.Messages.{is_sending}
 use Rattle.update_machine.specs.Pieces.{piece}
-use Rattle.update_machine.specs.Played.{MayPlay}
+use Rattle.world.specs.Played.{MayPlay}
 use Rattle.update_machine.specs.Setting.{Setting}
 use Rattle.update_machine.proofs.CallerLemmas.{count_of_append, have_append, near_stays, packets_keep}
 use Rattle.world.specs.Sending.{act_items, act_posts}

@@ -19,7 +19,7 @@ use Rattle.update_machine.specs.Folds.{count_of}
 use Rattle.update_machine.specs.Messages.{next_message}
 use Rattle.update_machine.specs.Packets.{is_packet, next_packet}
 use Rattle.update_machine.specs.Pieces.{piece}
-use Rattle.update_machine.specs.Played.{MayPlay}
+use Rattle.world.specs.Played.{MayPlay}
 use Rattle.update_machine.specs.Setting.{Setting}
 use Rattle.update_machine.proofs.CallerLemmas.{count_of_append, links_keep, near_stays}
 use Rattle.world.specs.State.{AreTied, AreUp, AreUsable, Control, IsBagOf, is_up_link, traveller_in}

@@ -7,7 +7,7 @@ use Rattle.net_file.specs.Owners.{AreOwners}
 use Rattle.steps.specs.declared.step.Step.{Step}
 use Rattle.update_machine.specs.Packets.{next_packet}
 use Rattle.update_machine.specs.Pieces.{piece}
-use Rattle.update_machine.specs.Played.{MayPlay}
+use Rattle.world.specs.Played.{MayPlay}
 use Rattle.update_machine.specs.Setting.{Setting, setting_of}
 use Rattle.world.specs.State.{AreTied, Control, WorldValue, comes_in}
 use Rattle.world.specs.Writing.{IsPart}

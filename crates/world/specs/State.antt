@@ -26,7 +26,7 @@ use Rattle.update_machine.specs.Links.{is_link_up, near as near_of}
 use Rattle.update_machine.specs.Messages.{is_forgotten, message_of, next_message, was_delivered}
 use Rattle.update_machine.specs.Moves.{header_at}
 use Rattle.update_machine.specs.Packets.{decision_of, found_down, ingress_of, leg_of, next_packet, route_in, route_place, targets_of, travels}
-use Rattle.update_machine.specs.Played.{IsSetting}
+use Rattle.update_machine.specs.Sound.{IsSetting}
 use Rattle.update_machine.specs.Setting.{Setting, setting_of}
 use Rattle.world.specs.Travelling.{Travellers, traveller}
 use Rattle.world.specs.declared.travelling.Traveller.{Traveller}

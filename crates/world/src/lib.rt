@@ -28,6 +28,7 @@ mod packets;
 mod parts;
 mod sending;
 mod travelling;
+mod updating;
 mod world;
 
 pub use controller::PlanError;

@@ -47,6 +47,7 @@ impl Parts {
             Step::Deliver { message } => self.deliver(alloc, *message),
             Step::Forget { message } => self.forget(*message),
             Step::Expire { switch, place } => self.expire(*switch, *place),
+            Step::Update { file } => self.update(alloc, *file),
             _ => unreachable!(),
         }
     }

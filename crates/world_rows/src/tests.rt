@@ -1,7 +1,7 @@
 ghost use Rattle.std.specs.Prelude.{◌≡◌, ◌≤◌, All, IfOk, length};
 ghost use Rattle.five_tuple.specs.Header.{IsHeader};
 ghost use Rattle.net_file.specs.Net.{IsNet};
-ghost use Rattle.update_machine.specs.Played.{MayPlay};
+ghost use Rattle.world.specs.Played.{MayPlay};
 ghost use Rattle.world.specs.State.{setting_at};
 
 use five_tuple::{Fields, Header};

@@ -1,5 +1,5 @@
 -- Each kind of step behind its row.
-use Rattle.steps.specs.declared.step.Step.TheVariants.{Deliver, Expire, Forget, Hop, Lose, Packet}
+use Rattle.steps.specs.declared.step.Step.TheVariants.{Deliver, Expire, Forget, Hop, Lose, Packet, Update}
 use Rattle.world.proofs.Frame.{begun, played}
 use Rattle.world.proofs.parts.Parts.play.Goals as goal
 
@@ -62,3 +62,13 @@ pub returns-in-Expire : goal.returns-in-Expire
 returns-in-Expire c =
     played c.args.row c.args.step.now (Expire c.in-Expire.switch c.in-Expire.place) c.args.self.now c.push.new.self c.requires
     c.in_ok-push.ensures.pushed c.in-Expire.is c.expire.result _ c.expire.ensures
+
+pub update-requires : goal.update-requires
+update-requires c =
+    begun c.args.row c.args.step.now (Update c.in-Update.file) c.args.self.now c.push.new.self c.requires
+    c.in_ok-push.ensures.pushed c.in-Update.is
+
+pub returns-in-Update : goal.returns-in-Update
+returns-in-Update c =
+    played c.args.row c.args.step.now (Update c.in-Update.file) c.args.self.now c.push.new.self c.requires
+    c.in_ok-push.ensures.pushed c.in-Update.is c.update.result _ c.update.ensures

@@ -1,7 +1,7 @@
 use Rattle.std.proofs.Common.{◌≤◌, subst, sym, arith}
 use Rattle.update_machine.specs.Full.{HasRoom, IsFull}
 use Rattle.update_machine.specs.Packets.{next_packet}
-use Rattle.update_machine.specs.Played.{MayPlay}
+use Rattle.world.specs.Played.{MayPlay}
 use Rattle.world.specs.State.{WorldValue, setting_at}
 use Rattle.world.proofs.Filling.{has_room, is_full, not_full}
 use Rattle.world.proofs.world.World.step.Goals as goal

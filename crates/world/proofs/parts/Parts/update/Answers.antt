@@ -1,0 +1,188 @@
+use Rattle.std.proofs.Common.{◌≡◌, ◌≢◌, ◌+◌, ◌-◌, ◌^◌, ◌<◌, ◌++◌, ◌∷◌, [], List, Err, OnOk, OnErr, get_or, length, refl, ap, sym, subst, ◌∙◌, arith, rules}
+use Rattle.std.proofs.lemmas.Result.{on_ok_weaker}
+use Rattle.control_ties.specs.Controller.{IsPlanOfFile}
+use Rattle.controller.specs.Controller.{ControllerValue}
+use Rattle.controller.specs.Sends.{submitting}
+use Rattle.controller.specs.Submit.{IsLeft}
+use Rattle.controller.specs.declared.sends.Act.{Act}
+use Rattle.journal.specs.declared.item.Item.TheVariants as item
+use Rattle.steps.specs.declared.step.Step.TheVariants.{Update}
+use Rattle.world.specs.Files.{IsCompiled}
+use Rattle.world.specs.Parts.{control_in, setting_in}
+use Rattle.world.specs.Sending.{act_items, act_posts}
+use Rattle.world.specs.Writing.{IsPart}
+use Rattle.world.proofs.Frame.{goes_one, nothing_goes}
+use Rattle.world.proofs.GoesTold.{goes_told}
+use Rattle.world.proofs.Submitting.{live_piece, planned_file, refused_piece, refused_tied, submitted_few, submitted_piece, submitted_tied, unplanned_code, versions_piece}
+use Rattle.world.proofs.parts.Parts.update.Goals as goal
+
+-- ---- the policy has no plan
+
+pub returns-in_err-code : goal.returns-in_err-code
+returns-in_err-code c = λ before row begins.
+    nothing_goes c.from_residual.result before row (Update c.args.file) c.args.self.now _ begins
+    (record { same_files = c.in_err-code.ensures.same; same_ports = refl })
+    c.from_residual.ensures.0 refl
+
+pub returns-in-Refused : goal.returns-in-Refused
+returns-in-Refused c = λ before row begins.
+    let self = c.args.self.now in
+    let file = c.args.file in
+    let net = self.files.net in
+    let policies = self.files.policies in
+    let may = begins.ready.may in
+    let why = subst (IsCompiled net (get_or policies (file - 1) [])) c.in-Refused.is
+    c.in_ok-code.ensures.compiled in
+    let is = refused_piece (setting_in self) before row file c.in-Refused.code
+    (unplanned_code net policies (before ++ item.Row row (Update file) ∷ []) file
+    c.in-Refused.code why.0 may.own.0 may.own.1 why.1 why.2) in
+    goes_one c.push.result before row (Update file) self _ begins
+    (record { same_files = c.in_ok-code.ensures.same; same_ports = refl })
+    (item.Refused file c.in-Refused.code) self.log.bag (search rules) refl (omega arith) (
+      is,
+      refused_tied (control_in self) (setting_in self) before self.switches.items
+          self.log.travelling self.packets row file begins.ready.tied may c.in-Refused.code is,
+    ) c.push.ensures.pushed c.push.ensures.unchanged
+
+-- ---- it is submitted
+
+pub returns-in_err-push-in-Ok : goal.returns-in_err-push-in-Ok
+returns-in_err-push-in-Ok c = λ before row begins.
+    nothing_goes c.from_residual-in_err-push-in-Ok.result before row (Update c.args.file)
+    c.args.self.now _ begins
+    (record { same_files = c.in_ok-code.ensures.same; same_ports = refl })
+    c.from_residual-in_err-push-in-Ok.ensures.0 c.in_err-push-in-Ok.ensures.unchanged
+
+pub note_acts-requires : goal.note_acts-requires
+note_acts-requires c =
+    let self = c.args.self.now in
+    let file = c.args.file in
+    let net = self.files.net in
+    let policies = self.files.policies in
+    let ready = c.requires.begins.ready in
+    let planned = subst (IsCompiled net (get_or policies (file - 1) [])) c.in-Planned.is
+    c.in_ok-code.ensures.compiled in
+    let of_file : IsPlanOfFile (setting_in self) file c.in-Planned.plan =
+    planned_file net policies file c.in-Planned.plan ready.may.own.0 ready.may.own.1 planned.0
+    planned.1 in
+    record {
+      few = subst (λ (acts : List Act). length self.log.bag + length (act_posts acts) < 2 ^ 32)
+          (sym (c.acts.ensures ∙ c.in-Ok.ensures.sends))
+          (submitted_few (control_in self) (setting_in self) c.requires.before
+          self.switches.items self.log.travelling self.packets c.requires.row file ready.tied
+          ready.may c.in-Planned.plan c.submit.new.self of_file
+          (λ e. absurd (let no = c.in-Ok.ensures.live.1 e in cc))
+          (λ e. absurd (let no = c.in-Ok.ensures.versions.1 (
+            λ f. absurd
+                (let no = c.in-Ok.ensures.live.1 f in cc),
+            e,
+          ) in cc))
+          c.in-Ok.ensures.after ready.room);
+    }
+
+pub returns-in_ok-push-in-Ok : goal.returns-in_ok-push-in-Ok
+returns-in_ok-push-in-Ok c = λ before row begins.
+    let self = c.args.self.now in
+    let file = c.args.file in
+    let net = self.files.net in
+    let policies = self.files.policies in
+    let ready = begins.ready in
+    let planned = subst (IsCompiled net (get_or policies (file - 1) [])) c.in-Planned.is
+    c.in_ok-code.ensures.compiled in
+    let of_file : IsPlanOfFile (setting_in self) file c.in-Planned.plan =
+    planned_file net policies file c.in-Planned.plan ready.may.own.0 ready.may.own.1 planned.0
+    planned.1 in
+    let live : self.controller.marks.count - self.controller.marks.retired ≢ 8 =
+    λ e. absurd (let no = c.in-Ok.ensures.live.1 e in cc) in
+    let versions : self.controller.marks.count ≢ 64 =
+    λ e. absurd (let no = c.in-Ok.ensures.versions.1 (live, e) in cc) in
+    let new : ControllerValue = c.submit.new.self in
+    let acts : List Act = submitting self.controller.marks c.in-Planned.plan new.marks in
+    let are : c.acts.result.now ≡ acts = c.acts.ensures ∙ c.in-Ok.ensures.sends in
+    let one = item.Submitted file (self.controller.marks.count + 1) in
+    let begun = c.push-in-Ok.new.self in
+    goes_told c.note_acts.result before row (Update file) self _ one (λ k. act_items k acts) begun
+    (length self.log.bag) self.log.bag (act_posts acts) begins
+    (record { same_files = c.in_ok-code.ensures.same; same_ports = refl }) (record {
+      piece_is = submitted_piece (control_in self) (setting_in self) before self.switches.items
+          self.log.travelling self.packets row file ready.tied ready.may c.in-Planned.plan new
+          of_file live versions c.in-Ok.ensures.after;
+      counted = omega arith;
+      pushed = subst (λ v. begun ≡ self.log.journal ++ item.Submitted file (v + 1) ∷ [])
+          (c.count-version.ensures.count ∙ ap (λ marks. marks.count) c.marks.ensures)
+          c.in_ok-push-in-Ok.ensures.pushed;
+      number_is = refl;
+      travelling = c.note_acts.ensures.travelling;
+      written = subst (λ all. OnOk c.note_acts.result (c.note_acts.new.self.journal
+          ≡ begun ++ act_items (length self.log.bag + 1) all)) are c.note_acts.ensures.written;
+      part = subst (λ all. OnErr c.note_acts.result (IsPart begun
+          (act_items (length self.log.bag + 1) all) c.note_acts.new.self.journal)) are
+          c.note_acts.ensures.part;
+      posted = subst (λ all. OnOk c.note_acts.result
+          (c.note_acts.new.self.bag ≡ self.log.bag ++ act_posts all)) are
+          c.note_acts.ensures.posted;
+      tied = on_ok_weaker c.note_acts.result (λ done. submitted_tied (control_in self)
+          (setting_in self) before self.switches.items self.log.travelling self.packets row file
+          ready.tied ready.may c.in-Planned.plan new of_file live versions c.in-Ok.ensures.after)
+          c.note_acts.ensures.written;
+    })
+
+-- ---- the marks refuse it
+
+pub returns-in-Err-TooManyLive : goal.returns-in-Err-TooManyLive
+returns-in-Err-TooManyLive c = λ before row begins.
+    let self = c.args.self.now in
+    let file = c.args.file in
+    let net = self.files.net in
+    let policies = self.files.policies in
+    let ready = begins.ready in
+    let planned = subst (IsCompiled net (get_or policies (file - 1) [])) c.in-Planned.is
+    c.in_ok-code.ensures.compiled in
+    let of_file : IsPlanOfFile (setting_in self) file c.in-Planned.plan =
+    planned_file net policies file c.in-Planned.plan ready.may.own.0 ready.may.own.1 planned.0
+    planned.1 in
+    let is = live_piece (control_in self) (setting_in self) before self.switches.items
+    self.log.travelling self.packets row file c.in-Planned.plan ready.tied of_file
+    (c.in-Err-TooManyLive.ensures.live.0 (ap Err c.in-Err-TooManyLive.field-0-is)) in
+    let stays = subst (IsLeft self.controller c.in-Planned.plan c.submit.new.self)
+    c.in-Err-TooManyLive.field-0-is c.in-Err-TooManyLive.ensures.refused in
+    goes_one c.push-in-Err-TooManyLive.result before row (Update file) self _ begins
+    (record { same_files = c.in_ok-code.ensures.same; same_ports = refl })
+    (item.Refused file 16) self.log.bag
+    (record { same_controller = stays; same_links = refl; same_near = refl }) refl (omega arith) (
+      is,
+      refused_tied (control_in self) (setting_in self) before self.switches.items
+          self.log.travelling self.packets row file ready.tied ready.may 16 is,
+    ) c.push-in-Err-TooManyLive.ensures.pushed c.push-in-Err-TooManyLive.ensures.unchanged
+
+pub returns-in-Err-TooManyVersions : goal.returns-in-Err-TooManyVersions
+returns-in-Err-TooManyVersions c = λ before row begins.
+    let self = c.args.self.now in
+    let file = c.args.file in
+    let net = self.files.net in
+    let policies = self.files.policies in
+    let ready = begins.ready in
+    let planned = subst (IsCompiled net (get_or policies (file - 1) [])) c.in-Planned.is
+    c.in_ok-code.ensures.compiled in
+    let of_file : IsPlanOfFile (setting_in self) file c.in-Planned.plan =
+    planned_file net policies file c.in-Planned.plan ready.may.own.0 ready.may.own.1 planned.0
+    planned.1 in
+    let many = c.in-Err-TooManyVersions.ensures.versions.0
+    (ap Err c.in-Err-TooManyVersions.field-0-is) in
+    let is = versions_piece (control_in self) (setting_in self) before self.switches.items
+    self.log.travelling self.packets row file c.in-Planned.plan ready.tied of_file many.0 many.1 in
+    let stays = subst (IsLeft self.controller c.in-Planned.plan c.submit.new.self)
+    c.in-Err-TooManyVersions.field-0-is c.in-Err-TooManyVersions.ensures.refused in
+    goes_one c.push-in-Err-TooManyVersions.result before row (Update file) self _ begins
+    (record { same_files = c.in_ok-code.ensures.same; same_ports = refl })
+    (item.Refused file 17) self.log.bag
+    (record { same_controller = stays; same_links = refl; same_near = refl }) refl (omega arith) (
+      is,
+      refused_tied (control_in self) (setting_in self) before self.switches.items
+          self.log.travelling self.packets row file ready.tied ready.may 17 is,
+    ) c.push-in-Err-TooManyVersions.ensures.pushed c.push-in-Err-TooManyVersions.ensures.unchanged
+
+pub returns-in-Err-NoMemory : goal.returns-in-Err-NoMemory
+returns-in-Err-NoMemory c = λ before row begins.
+    nothing_goes (Err (record {})) before row (Update c.args.file) c.args.self.now _ begins
+    (record { same_files = c.in_ok-code.ensures.same; same_ports = refl }) (search rules) refl
