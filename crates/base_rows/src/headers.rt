@@ -190,7 +190,6 @@ fn writes_protocols(rt: HostRuntime) -> Result<(), Fail> {
 
 #[test]
 fn writes_packets(rt: HostRuntime) -> Result<(), Fail> {
-    let alloc = rt.alloc();
     let fields = Fields {
         src: 0x0a01_0101,
         dst: 0x0909_0909,
@@ -198,17 +197,22 @@ fn writes_packets(rt: HostRuntime) -> Result<(), Fail> {
         dport: 80,
         proto: 47,
     };
-    let printed = fields.to_string(alloc)?;
-    assert_eq!(rt; printed.as_str(), "10.1.1.1 9.9.9.9 5000 80 47");
-    let address = write_address(alloc, fields.src)?;
-    assert_eq!(rt; address.as_slice(), b"10.1.1.1".as_slice());
+    let printed = fields.to_string(rt.alloc())?;
+    assert!(rt; printed.as_str() == "10.1.1.1 9.9.9.9 5000 80 47");
     Ok(())
 }
 
-const COVERS: [(&str, u32, PortBlock); 3] = [
-    ("1024-65535", 6, (1024, 64512)),
-    ("1-65534", 30, (1, 65535)),
-    ("any", 1, (0, 0)),
+#[test]
+fn writes_addresses(rt: HostRuntime) -> Result<(), Fail> {
+    let address = write_address(rt.alloc(), 0x0a01_0101)?;
+    assert!(rt; address.as_slice() == b"10.1.1.1".as_slice());
+    Ok(())
+}
+
+const COVERS: [(&str, u32, u16, u16); 3] = [
+    ("1024-65535", 6, 1024, 64512),
+    ("1-65534", 30, 1, 65535),
+    ("any", 1, 0, 0),
 ];
 
 // Whether the range has so many blocks, and this first one.
@@ -224,8 +228,11 @@ fn is_covered(alloc: Global, text: &str, count: u32, first: PortBlock) -> Result
 
 #[test]
 fn covers_ranges(rt: HostRuntime) -> Result<(), Fail> {
-    for (text, count, first) in &COVERS {
-        assert!(rt; is_covered(rt.alloc(), text, *count, *first)?, "{text}");
+    for (text, count, value, mask) in &COVERS {
+        assert!(rt;
+            is_covered(rt.alloc(), text, *count, (*value, *mask))?,
+            "{text}"
+        );
     }
     Ok(())
 }

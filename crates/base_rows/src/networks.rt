@@ -164,38 +164,52 @@ fn three(alloc: Global) -> Result<Net, NetError>
     read_net(alloc, text.as_bytes())
 }
 
-#[test]
-fn answers_on_names(rt: HostRuntime) -> Result<(), Fail> {
-    let alloc = rt.alloc();
-    let net = three(alloc)?;
-    assert_eq!(rt; net.number(b"c"), Some(2));
-    assert_eq!(rt; net.number(b"d"), None);
+// The names of switches 2 and 0 and of one that isn't there.
+fn names(alloc: Global, net: &Net) -> Result<String, AllocError> {
     let mut names = String::new(alloc);
     net.push_names(&mut names, &[2, 0, 3])?;
-    assert_eq!(rt; names.as_str(), " c a ");
-    assert!(rt; is_name(b"edge0-1") && !is_name(b"controller") && !is_name(b"1a"));
-    Ok(())
+    Ok(names)
 }
 
 #[test]
-fn answers_on_ports_and_links(rt: HostRuntime) -> Result<(), Fail> {
+fn answers_on_names(rt: HostRuntime) -> Result<(), Fail> {
     let net = three(rt.alloc())?;
-    assert_eq!(rt; net.links_of(0), 4);
-    assert_eq!(rt; net.links_of(2), 3);
-    assert_eq!(rt; net.port_mask(), 9223372036854775810);
-    let ports = net.ports();
-    assert_eq!(rt; ports.owner(63), Some(1));
-    assert_eq!(rt; ports.owner(2), None);
+    assert!(rt; net.number(b"c") == Some(2) && net.number(b"d").is_none());
+    assert!(rt; names(rt.alloc(), &net)?.as_str() == " c a ");
     Ok(())
 }
 
 #[test]
-fn answers_on_copies_and_one_switch(rt: HostRuntime) -> Result<(), Fail> {
-    let alloc = rt.alloc();
-    let copy = three(alloc)?.clone()?;
-    assert_eq!(rt; copy.number(b"b"), Some(1));
-    let solo = solo(alloc)?;
-    assert_eq!(rt; solo.number(b"s0"), Some(0));
-    assert_eq!(rt; solo.port_mask(), u64::MAX);
+fn knows_names(rt: HostRuntime) {
+    assert!(rt; is_name(b"edge0-1") && !is_name(b"controller") && !is_name(b"1a"));
+}
+
+#[test]
+fn answers_on_links(rt: HostRuntime) -> Result<(), Fail> {
+    let net = three(rt.alloc())?;
+    assert!(rt; net.links_of(0) == 4 && net.links_of(2) == 3);
+    Ok(())
+}
+
+#[test]
+fn answers_on_ports(rt: HostRuntime) -> Result<(), Fail> {
+    let net = three(rt.alloc())?;
+    assert!(rt; net.port_mask() == 9223372036854775810);
+    let ports = net.ports();
+    assert!(rt; ports.owner(63) == Some(1) && ports.owner(2).is_none());
+    Ok(())
+}
+
+#[test]
+fn answers_on_copies(rt: HostRuntime) -> Result<(), Fail> {
+    let copy = three(rt.alloc())?.clone()?;
+    assert!(rt; copy.number(b"b") == Some(1));
+    Ok(())
+}
+
+#[test]
+fn answers_on_one_switch(rt: HostRuntime) -> Result<(), Fail> {
+    let solo = solo(rt.alloc())?;
+    assert!(rt; solo.number(b"s0") == Some(0) && solo.port_mask() == u64::MAX);
     Ok(())
 }

@@ -2,21 +2,31 @@
 use csv_records::{ByteRecord, Records, field, has_text};
 use std::test::Fail;
 
+const TEXT: &[u8] = b"\xef\xbb\xbfa,\"b\"\"c\"\r\n\r\n\n1,,3";
+
+// Reads the next record, if there is one.
+fn reads(records: &mut Records<'_>, record: &mut ByteRecord) -> Result<bool, Fail> {
+    Ok(records.read_next(record)?)
+}
+
+// Whether the record has this width, and these two fields first.
+fn begins(record: &ByteRecord, width: usize, first: &[u8], second: &[u8]) -> bool {
+    record.len() == width && record.get(0) == Some(first) && record.get(1) == Some(second)
+}
+
+fn ends(record: &ByteRecord) -> bool {
+    has_text(record, 2, "3") && !has_text(record, 2, "1") && field(record, 3).is_empty()
+}
+
 #[test]
 fn reads_quotes_line_ends_and_blank_lines(rt: HostRuntime) -> Result<(), Fail> {
-    let alloc = rt.alloc();
-    let mut records = Records::new(alloc, b"\xef\xbb\xbfa,\"b\"\"c\"\r\n\r\n\n1,,3");
-    let mut record = ByteRecord::new(alloc);
-    assert!(rt; records.read_next(&mut record)?);
-    assert_eq!(rt; record.len(), 2);
-    assert!(rt; record.get(0) == Some(b"a".as_slice()));
-    assert!(rt; record.get(1) == Some(b"b\"c".as_slice()));
-    assert!(rt; records.read_next(&mut record)?);
-    assert_eq!(rt; record.len(), 3);
-    assert!(rt; has_text(&record, 2, "3") && !has_text(&record, 2, "1"));
-    assert!(rt; record.get(1) == Some(b"".as_slice()));
-    assert!(rt; field(&record, 3).is_empty());
-    assert!(rt; !records.read_next(&mut record)?);
-    assert!(rt; !records.read_next(&mut record)?);
+    let mut records = Records::new(rt.alloc(), TEXT);
+    let mut record = ByteRecord::new(rt.alloc());
+    assert!(rt; reads(&mut records, &mut record)?);
+    assert!(rt; begins(&record, 2, b"a", b"b\"c"));
+    assert!(rt; reads(&mut records, &mut record)?);
+    assert!(rt; begins(&record, 3, b"1", b"") && ends(&record));
+    assert!(rt; !reads(&mut records, &mut record)?);
+    assert!(rt; !reads(&mut records, &mut record)?);
     Ok(())
 }

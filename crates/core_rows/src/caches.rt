@@ -16,6 +16,12 @@ fn entry(version: u32, address: u128, message: u32) -> Result<CacheEntry, Fail> 
     })
 }
 
+// Takes the entry in; nothing more is known of the cache.
+fn accept(cache: &mut Cache, stamp: u32, entry: CacheEntry) -> Result<(), Fail> {
+    cache.accept(stamp, entry)?;
+    Ok(())
+}
+
 // The message of the first entry.
 fn first_message(cache: &Cache) -> Option<u32> {
     let entry = cache.entries().next()?;
@@ -25,25 +31,30 @@ fn first_message(cache: &Cache) -> Option<u32> {
 #[test]
 fn the_first_entry_goes_from_a_full_cache(rt: HostRuntime) -> Result<(), Fail> {
     let mut cache = Cache::new(rt.alloc(), 1);
-    cache.accept(1, entry(1, 0x0a02_0000, 1)?)?;
-    cache.accept(1, entry(1, 0x0a04_0000, 2)?)?;
-    assert_eq!(rt; first_message(&cache), Some(2));
-    assert_eq!(rt; cache.expire(0), Some(2));
-    assert_eq!(rt; cache.expire(0), None);
+    accept(&mut cache, 1, entry(1, 0x0a02_0000, 1)?)?;
+    accept(&mut cache, 1, entry(1, 0x0a04_0000, 2)?)?;
+    assert!(rt; first_message(&cache) == Some(2));
+    assert!(rt; cache.expire(0) == Some(2));
+    assert!(rt; cache.expire(0).is_none());
     Ok(())
+}
+
+// A cache that was raised from version 1 to 2.
+fn raised(cache: &mut Cache) -> Result<(), Fail> {
+    accept(cache, 1, entry(1, 0x0a02_0000, 1)?)?;
+    accept(cache, 1, entry(2, 0x0a02_0000, 2)?)?;
+    accept(cache, 1, entry(1, 0x0a02_0000, 3)?)?;
+    cache.raise(2);
+    accept(cache, 2, entry(1, 0x0a02_0000, 4)?)
 }
 
 #[test]
 fn entries_of_old_versions_go(rt: HostRuntime) -> Result<(), Fail> {
     let mut cache = Cache::new(rt.alloc(), 4);
-    cache.accept(1, entry(1, 0x0a02_0000, 1)?)?;
-    cache.accept(1, entry(2, 0x0a02_0000, 2)?)?;
-    cache.accept(1, entry(1, 0x0a02_0000, 3)?)?;
-    cache.raise(2);
-    cache.accept(2, entry(1, 0x0a02_0000, 4)?)?;
-    assert_eq!(rt; first_message(&cache), Some(2));
+    raised(&mut cache)?;
+    assert!(rt; first_message(&cache) == Some(2));
     cache.clear();
-    assert_eq!(rt; first_message(&cache), None);
+    assert!(rt; first_message(&cache).is_none());
     Ok(())
 }
 

@@ -2,7 +2,7 @@
 ghost use Rattle.std.specs.Prelude.{IfOk};
 ghost use Rattle.net_file.specs.Net.{IsNet};
 
-use failover::{Advert, Database, DownSet};
+use failover::{Advert, Database, DownSet, Route};
 use five_tuple::{Fields, Header};
 use journal::{
     Action, Body, Cause, How, Item, Journal, Leaving, Leg, Message, Receiver, SharedLinks,
@@ -29,118 +29,146 @@ fn sent(alloc: Global, number: u32, to: Receiver, body: Body) -> Result<Item, Fa
     Ok(Item::Sent { number, message })
 }
 
-fn push_packet(journal: &mut Journal) -> Result<(), Fail> {
-    let header = Header::pack(&Fields {
+// Pushes the item; nothing more is known of the journal.
+fn push(journal: &mut Journal, item: Item) -> Result<(), Fail> {
+    journal.push(item)?;
+    Ok(())
+}
+
+fn header() -> Header {
+    Header::pack(&Fields {
         src: 0x0102_0304,
         dst: 0x0a02_0001,
         sport: 5000,
         dport: 80,
         proto: 6,
-    });
-    journal.push(Item::Row {
-        row: 1,
-        step: Step::Packet { switch: 0, header },
-    })?;
-    journal.push(Item::Entered {
+    })
+}
+
+fn packet_row() -> Item {
+    let step = Step::Packet {
+        switch: 0,
+        header: header(),
+    };
+    Item::Row { row: 1, step }
+}
+
+fn entered() -> Item {
+    Item::Entered {
         packet: 1,
         switch: 0,
-        header,
-    })?;
-    journal.push(Item::Decided {
+        header: header(),
+    }
+}
+
+fn decided() -> Item {
+    let how = How::Authority {
+        switch: 1,
+        partition: 0,
+    };
+    Item::Decided {
         packet: 1,
         version: 1,
         rule: None,
         action: Action::Out(2),
-        how: How::Authority {
-            switch: 1,
-            partition: 0,
-        },
-    })?;
-    journal.push(Item::Left {
-        packet: 1,
-        port: 2,
-        leaving: Leaving {
-            packet: 1,
-            header,
-            version: 1,
-            rule: None,
-        },
-    })?;
-    Ok(())
+        how,
+    }
 }
 
-fn push_messages(alloc: Global, journal: &mut Journal) -> Result<(), Fail> {
-    let rule = Body::CacheRule {
+fn left() -> Item {
+    let leaving = Leaving {
+        packet: 1,
+        header: header(),
+        version: 1,
+        rule: None,
+    };
+    Item::Left {
+        packet: 1,
+        port: 2,
+        leaving,
+    }
+}
+
+fn push_packet(journal: &mut Journal) -> Result<(), Fail> {
+    push(journal, packet_row())?;
+    push(journal, entered())?;
+    push(journal, decided())?;
+    push(journal, left())
+}
+
+fn rule() -> Body {
+    Body::CacheRule {
         version: 1,
         word: Word::any(),
         rule: Some(100),
         action: Action::Drop,
-    };
-    journal.push(sent(alloc, 1, Receiver::Switch(0), rule)?)?;
+    }
+}
+
+// An advert of b with these neighbours.
+fn advert(up: u64) -> Body {
     let advert = Advert {
         origin: 1,
         boot: 1,
         seq: 3,
-        up: 1,
+        up,
     };
-    journal.push(sent(alloc, 2, Receiver::Switch(0), Body::Advertise { advert })?)?;
-    let alone = Advert { up: 0, ..advert };
-    journal.push(sent(
-        alloc,
-        3,
-        Receiver::Switch(0),
-        Body::Advertise { advert: alone },
-    )?)?;
-    let hello = Body::Hello { switch: 0, boot: 2 };
-    journal.push(sent(alloc, 4, Receiver::Controller, hello)?)?;
-    Ok(())
+    Body::Advertise { advert }
 }
 
-// The route from a to b, and the links that a packet found down on its way.
-fn push_shared(alloc: Global, journal: &mut Journal) -> Result<(), Fail> {
+fn push_messages(alloc: Global, journal: &mut Journal) -> Result<(), Fail> {
+    let to = Receiver::Switch(0);
+    push(journal, sent(alloc, 1, to, rule())?)?;
+    push(journal, sent(alloc, 2, to, advert(1))?)?;
+    push(journal, sent(alloc, 3, to, advert(0))?)?;
+    let hello = Body::Hello { switch: 0, boot: 2 };
+    push(journal, sent(alloc, 4, Receiver::Controller, hello)?)
+}
+
+fn push_link(journal: &mut Journal) -> Result<(), Fail> {
+    let step = Step::LinkDown { one: 1, two: 0 };
+    push(journal, Item::Row { row: 2, step })?;
+    let link = Item::LinkIs {
+        one: 0,
+        two: 1,
+        up: false,
+    };
+    push(journal, link)
+}
+
+// The route from a to b.
+fn route() -> Option<Route> {
     let mut near = [0; 64];
     near[0] = 0b10;
     near[1] = 0b01;
     let base = Database::begin(&near, 2);
-    let to_b = Targets::new(&[1]).ok_or("b")?;
-    let mut down = DownSet::empty();
-    let route = base.route(0, &to_b, 0b10, &down).ok_or("a to b")?;
-    let route = SharedRoute::new(alloc, route)?;
-    journal.push(Item::Exiting {
+    let to_b = Targets::new(&[1])?;
+    base.route(0, &to_b, 0b10, &DownSet::empty())
+}
+
+fn exiting(alloc: Global) -> Result<Item, Fail> {
+    let route = SharedRoute::new(alloc, route().ok_or("a to b")?)?;
+    Ok(Item::Exiting {
         packet: 2,
         route: route.clone()?,
-    })?;
+    })
+}
+
+// Stuck at a, on its way to a port, where it found the link to b down.
+fn stuck(alloc: Global) -> Result<Item, Fail> {
+    let mut down = DownSet::empty();
     down.add(0, 1);
     let down = SharedLinks::new(alloc, down)?;
-    journal.push(Item::Stuck {
+    Ok(Item::Stuck {
         packet: 2,
         switch: 0,
         cause: Cause::NoAuthority,
         leg: Leg::Exit { port: 2 },
         down: down.clone()?,
-    })?;
-    Ok(())
+    })
 }
 
-#[test]
-fn a_journal_is_printed(rt: HostRuntime) -> Result<(), Fail> {
-    let alloc = rt.alloc();
-    let net = two_switches(alloc)?;
-    let mut journal = Journal::new(alloc);
-    push_packet(&mut journal)?;
-    push_messages(alloc, &mut journal)?;
-    journal.push(Item::Row {
-        row: 2,
-        step: Step::LinkDown { one: 1, two: 0 },
-    })?;
-    journal.push(Item::LinkIs {
-        one: 0,
-        two: 1,
-        up: false,
-    })?;
-    push_shared(alloc, &mut journal)?;
-    assert_eq!(rt; journal.items().len(), 12);
-    let lines = "row 1: packet a 1.2.3.4 10.2.0.1 5000 80 tcp
+const LINES: &str = "row 1: packet a 1.2.3.4 10.2.0.1 5000 80 tcp
   entered 1 a
   decided 1 v1 rule default out:2 authority b part 0
   out 1 port 2
@@ -153,6 +181,18 @@ row 2: linkdown a b
   exit 2 via a b
   stuck 2 a no-authority
 ";
-    assert!(rt; text(alloc, &journal, &net)?.as_slice() == lines.as_bytes());
+
+#[test]
+fn a_journal_is_printed(rt: HostRuntime) -> Result<(), Fail> {
+    let alloc = rt.alloc();
+    let mut journal = Journal::new(alloc);
+    push_packet(&mut journal)?;
+    push_messages(alloc, &mut journal)?;
+    push_link(&mut journal)?;
+    push(&mut journal, exiting(alloc)?)?;
+    push(&mut journal, stuck(alloc)?)?;
+    assert!(rt; journal.items().len() == 12);
+    let net = two_switches(alloc)?;
+    assert!(rt; text(alloc, &journal, &net)?.as_slice() == LINES.as_bytes());
     Ok(())
 }

@@ -27,26 +27,54 @@ fn told(bag: &Bag, number: u32) -> Result<Option<(Option<u32>, Option<u32>)>, Fa
     }
 }
 
-#[test]
-fn messages_wait_until_they_are_delivered_or_forgotten(rt: HostRuntime) -> Result<(), Fail> {
-    let alloc = rt.alloc();
+fn post(bag: &mut Bag, message: SharedMessage) -> Result<u32, Fail> {
+    if bag.sent() == u32::MAX {
+        return Err(Fail::from("full"));
+    }
+    Ok(bag.post(message)?)
+}
+
+// Delivers the message, if it may be.
+fn deliver(bag: &mut Bag, number: u32) -> bool {
+    if !bag.may_be_delivered(number) {
+        return false;
+    }
+    bag.deliver(number);
+    true
+}
+
+// Forgets the message, if it is there.
+fn forget(bag: &mut Bag, number: u32) -> bool {
+    if !bag.may_be_delivered(number) {
+        return false;
+    }
+    bag.forget(number);
+    true
+}
+
+// Messages 1, an install, and 2, of a switch that boots.
+fn posted(alloc: Global, bag: &mut Bag) -> Result<bool, Fail> {
     let hello = Message {
         to: Receiver::Controller,
         body: Body::Hello { switch: 7, boot: 4 },
     };
-    assert!(rt; hello.body.is_for_controller());
-    let mut bag = Bag::new(alloc);
-    let first = bag.post(SharedMessage::new(alloc, install(alloc)?.clone()?)?)?;
-    let second = bag.post(SharedMessage::new(alloc, hello)?)?;
-    assert_eq!(rt; [first, second, bag.sent()], [1, 2, 2]);
-    assert_eq!(rt; told(&bag, 0)?, None);
-    assert_eq!(rt; told(&bag, 1)?, Some((Some(2), Some(3))));
-    bag.deliver(2);
-    assert_eq!(rt; [bag.next_waiting(0), bag.next_waiting(2)], [Some(1), None]);
-    bag.deliver(2);
-    bag.forget(1);
-    assert_eq!(rt; told(&bag, 1)?, None);
-    assert_eq!(rt; told(&bag, 2)?, Some((Some(4), None)));
-    assert_eq!(rt; bag.next_waiting(1), None);
+    let is_for_controller = hello.body.is_for_controller();
+    let first = post(bag, SharedMessage::new(alloc, install(alloc)?.clone()?)?)?;
+    let second = post(bag, SharedMessage::new(alloc, hello)?)?;
+    Ok(is_for_controller && first == 1 && second == 2 && bag.sent() == 2)
+}
+
+#[test]
+fn messages_wait_until_they_are_delivered_or_forgotten(rt: HostRuntime) -> Result<(), Fail> {
+    let mut bag = Bag::new(rt.alloc());
+    assert!(rt; posted(rt.alloc(), &mut bag)?);
+    assert!(rt; told(&bag, 0)?.is_none());
+    assert!(rt; told(&bag, 1)? == Some((Some(2), Some(3))));
+    assert!(rt; deliver(&mut bag, 2));
+    assert!(rt; bag.next_waiting(0) == Some(1) && bag.next_waiting(2).is_none());
+    assert!(rt; deliver(&mut bag, 2) && forget(&mut bag, 1));
+    assert!(rt; told(&bag, 1)?.is_none());
+    assert!(rt; told(&bag, 2)? == Some((Some(4), None)));
+    assert!(rt; bag.next_waiting(1).is_none());
     Ok(())
 }

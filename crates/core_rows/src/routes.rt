@@ -14,24 +14,45 @@ const fn advert(origin: u32, boot: u32, seq: u32, up: u64) -> Advert {
     }
 }
 
+// Adverts that are heard in turn, by origin, boot, seq and neighbours, each with whether it is
+// news: the boot counts before the seq, of equal ones the first stays, and there are 64 switches.
+const HEARD: [(u32, u32, u32, u64, bool); 5] = [
+    (3, 1, 2, 0b1, true),
+    (3, 1, 2, 0b10, false),
+    (3, 1, 1, 0b10, false),
+    (3, 2, 1, 0, true),
+    (64, 1, 1, 0, false),
+];
+
+#[test]
+fn hears_newest_adverts(rt: HostRuntime) {
+    let mut held = Database::empty();
+    for (origin, boot, seq, up, is_news) in &HEARD {
+        assert!(rt; held.hear(&advert(*origin, *boot, *seq, *up)) == *is_news);
+    }
+}
+
+// The advert of origin 3 once these are heard.
+fn held(first: &Advert, second: &Advert) -> Option<Advert> {
+    let mut held = Database::empty();
+    held.hear(first);
+    held.hear(second);
+    held.get(3)
+}
+
 #[test]
 fn holds_newest_adverts(rt: HostRuntime) {
-    let mut held = Database::empty();
-    assert!(rt; held.get(3).is_none());
     let first = advert(3, 1, 2, 0b1);
-    assert!(rt; held.hear(&first));
-    assert!(rt;
-        !held.hear(&advert(3, 1, 2, 0b10)),
-        "of equal ones the first stays"
-    );
-    assert!(rt; !held.hear(&advert(3, 1, 1, 0b10)));
-    assert_eq!(rt; held.get(3), Some(first));
-    assert!(rt;
-        held.hear(&advert(3, 2, 1, 0)),
-        "the boot counts before the seq"
-    );
-    assert!(rt; !held.hear(&advert(64, 1, 1, 0)));
-    assert!(rt; held.get(64).is_none());
+    assert!(rt; held(&first, &advert(3, 1, 2, 0b10)) == Some(first));
+    assert!(rt; held(&first, &advert(3, 1, 1, 0b10)) == Some(first));
+    let other = advert(64, 1, 1, 0);
+    assert!(rt; held(&other, &other).is_none());
+    assert!(rt; Database::empty().get(64).is_none());
+}
+
+// Whether the link of 2 and 5 alone is in the set.
+fn has_one_link(down: &DownSet) -> bool {
+    down.has(5, 2) && down.has(2, 5) && !down.has(2, 4) && !down.has(2, 77)
 }
 
 #[test]
@@ -39,10 +60,7 @@ fn has_added_links(rt: HostRuntime) {
     let mut down = DownSet::empty();
     assert!(rt; !down.has(5, 2));
     down.add(5, 2);
-    assert!(rt; down.has(5, 2));
-    assert!(rt; down.has(2, 5));
-    assert!(rt; !down.has(2, 4));
-    assert!(rt; !down.has(2, 77));
+    assert!(rt; has_one_link(&down));
 }
 
 // Switches a to d, numbered 0 to 3, with the links a-b, a-c, b-d and c-d.
@@ -55,44 +73,58 @@ fn square() -> Database {
     Database::begin(&near, 4)
 }
 
-#[test]
-fn routes_round_links_that_are_down(rt: HostRuntime) -> Result<(), Fail> {
-    let mut base = square();
-    let to_d = Targets::new(&[3]).ok_or("d")?;
+fn no_links() -> DownSet {
+    DownSet::empty()
+}
+
+fn without_b_d() -> DownSet {
     let mut down = DownSet::empty();
-    let route = base.route(0, &to_d, 0b0110, &down).ok_or("a to d")?;
-    assert_eq!(rt; route.items(), [0, 1, 3].as_slice());
     down.add(1, 3);
-    let route = base.route(1, &to_d, 0b0001, &down).ok_or("b to d")?;
-    assert_eq!(rt; route.items(), [1, 0, 2, 3].as_slice());
+    down
+}
+
+// Whether the route from this switch, with these neighbours, to the first of these targets is so.
+fn is_route(
+    base: &Database,
+    (from, near): (u32, u64),
+    targets: &[u32],
+    down: &DownSet,
+    wanted: &[u32],
+) -> bool {
+    let Some(targets) = Targets::new(targets) else {
+        return false;
+    };
+    match base.route(from, &targets, near, down) {
+        Some(route) => route.items() == wanted,
+        None => wanted.is_empty(),
+    }
+}
+
+#[test]
+fn routes_round_links_that_are_down(rt: HostRuntime) {
+    let a = (0, 0b0110);
+    let down = without_b_d();
+    let mut base = square();
+    assert!(rt; is_route(&base, a, &[3], &no_links(), &[0, 1, 3]));
+    assert!(rt; is_route(&base, (1, 0b0001), &[3], &down, &[1, 0, 2, 3]));
     // Only a names c.
     assert!(rt; base.hear(&advert(2, 1, 2, 0b1000)));
-    assert!(rt; base.route(0, &to_d, 0b0110, &down).is_none());
+    assert!(rt; is_route(&base, a, &[3], &down, &[]));
     assert!(rt; !base.isolated(0, 3, 0b0110, &down));
-    Ok(())
 }
 
 #[test]
-fn asks_targets_in_order(rt: HostRuntime) -> Result<(), Fail> {
+fn asks_targets_in_order(rt: HostRuntime) {
     let base = square();
-    let none = DownSet::empty();
-    let later = Targets::new(&[9, 2, 0]).ok_or("targets")?;
-    let route = base.route(0, &later, 0b0110, &none).ok_or("a to c")?;
-    assert_eq!(rt; route.items(), [0, 2].as_slice());
-    let own = Targets::new(&[0, 2]).ok_or("targets")?;
-    let route = base.route(0, &own, 0b0110, &none).ok_or("a to a")?;
-    assert_eq!(rt; route.items(), [0].as_slice());
-    assert!(rt; base.isolated(0, 9, 0b0110, &none));
-    assert!(rt; !base.isolated(0, 0, 0, &none));
-    Ok(())
+    let a = (0, 0b0110);
+    assert!(rt; is_route(&base, a, &[9, 2, 0], &no_links(), &[0, 2]));
+    assert!(rt; is_route(&base, a, &[0, 2], &no_links(), &[0]));
+    assert!(rt; base.isolated(0, 9, 0b0110, &no_links()));
+    assert!(rt; !base.isolated(0, 0, 0, &no_links()));
 }
 
-#[test]
-fn goes_round_links_found_down(rt: HostRuntime) -> Result<(), Fail> {
-    let base = square();
-    let targets = Targets::new(&[3]).ok_or("d")?;
-    let down = DownSet::empty();
-    let route = base.route(0, &targets, 0b0110, &down).ok_or("a to d")?;
+// A packet at a, on its way to d by b.
+fn sets_out() -> Option<Tunnel> {
     let fields = Fields {
         src: 1,
         dst: 2,
@@ -104,21 +136,48 @@ fn goes_round_links_found_down(rt: HostRuntime) -> Result<(), Fail> {
         version: 1,
         partition: 0,
     };
+    let targets = Targets::new(&[3])?;
+    let route = square().route(0, &targets, 0b0110, &no_links())?;
     let header = Header::pack(&fields);
-    let mut packet = Tunnel::begin(1, header, 0, leg, targets, route, down);
-    assert_eq!(rt; packet.here(), 0);
-    let other = packet.next().ok_or("b")?;
-    assert_eq!(rt; other, 1);
+    Some(Tunnel::begin(1, header, 0, leg, targets, route, no_links()))
+}
+
+// Goes on to the next switch of the route.
+fn goes_on(packet: &mut Tunnel) -> Option<u32> {
+    let next = packet.next()?;
     packet.advance();
-    assert_eq!(rt; packet.here(), 1);
+    Some(next)
+}
+
+// Finds the link to the next switch down.
+fn finds_down(packet: &mut Tunnel) -> Option<u32> {
+    let next = packet.next()?;
+    packet.mark_down(next);
+    Some(next)
+}
+
+// Takes a new route from where it is.
+fn turns(packet: &mut Tunnel, near: u64) -> bool {
+    packet.reroute(&square(), near)
+}
+
+fn is_on(packet: &Tunnel, route: &[u32], place: u32) -> bool {
+    packet.route.items() == route && packet.place == place
+}
+
+#[test]
+fn goes_round_links_found_down(rt: HostRuntime) -> Result<(), Fail> {
+    let mut packet = sets_out().ok_or("a to d")?;
+    assert!(rt; packet.here() == 0);
+    assert!(rt; goes_on(&mut packet) == Some(1));
+    assert!(rt; packet.here() == 1);
     // At b the link to d is down.
-    packet.mark_down(3);
+    assert!(rt; finds_down(&mut packet) == Some(3));
     assert!(rt; packet.down.has(3, 1));
-    assert!(rt; packet.reroute(&base, 0b0001));
-    assert_eq!(rt; packet.place, 0);
-    assert_eq!(rt; packet.route.items(), [1, 0, 2, 3].as_slice());
+    assert!(rt; turns(&mut packet, 0b0001));
+    assert!(rt; is_on(&packet, &[1, 0, 2, 3], 0));
     // Without links there is no route, and the old one stays.
-    assert!(rt; !packet.reroute(&base, 0));
-    assert_eq!(rt; packet.route.items().len(), 4);
+    assert!(rt; !turns(&mut packet, 0));
+    assert!(rt; is_on(&packet, &[1, 0, 2, 3], 0));
     Ok(())
 }

@@ -45,25 +45,30 @@ fn net(alloc: Global, settings: &str, switches: &str) -> Result<Net, Fail>
     Ok(net)
 }
 
-#[test]
-fn a_switch_has_its_own_partitions(rt: HostRuntime) -> Result<(), Fail> {
-    let alloc = rt.alloc();
-    let policy = two_rows(alloc)?;
+// The tables of version 5 that the plan of two rows gives to a switch: their version, how many
+// partitions they name, and the numbers of those that are the switch's own.
+fn own_partitions(alloc: Global, s: u32) -> Result<(u32, usize, Vec<u32>), Fail> {
     let net = net(
         alloc,
         "leaf_rules = 1",
         "{name = \"a\", authority = 2}, {name = \"b\", authority = 2}",
     )?;
-    let plan = compile(alloc, &policy, &net)?;
-    let own = tables_of(alloc, &plan, 5, 0)?;
-    assert_eq!(rt; own.version, 5);
-    assert_eq!(rt; own.parts.items().len(), 3);
-    assert_eq!(rt; own.auth.items().len(), 2);
-    assert_eq!(rt; own.auth.items()[0].number, 0);
-    assert_eq!(rt; own.auth.items()[1].number, 2);
-    let other = tables_of(alloc, &plan, 5, 1)?;
-    assert_eq!(rt; other.auth.items().len(), 1);
-    assert_eq!(rt; other.auth.items()[0].number, 1);
+    let plan = compile(alloc, &two_rows(alloc)?, &net)?;
+    let tables = tables_of(alloc, &plan, 5, s)?;
+    let mut numbers = Vec::new(alloc);
+    for part in tables.auth.items() {
+        numbers.push(part.number)?;
+    }
+    Ok((tables.version, tables.parts.items().len(), numbers))
+}
+
+#[test]
+fn a_switch_has_its_own_partitions(rt: HostRuntime) -> Result<(), Fail> {
+    let (version, named, own) = own_partitions(rt.alloc(), 0)?;
+    assert!(rt; version == 5 && named == 3);
+    assert!(rt; own.as_slice() == [0, 2].as_slice());
+    let (_, _, other) = own_partitions(rt.alloc(), 1)?;
+    assert!(rt; other.as_slice() == [1].as_slice());
     Ok(())
 }
 
@@ -116,6 +121,11 @@ fn two_switches(alloc: Global) -> Result<(Controller, Plan), Fail> {
     let plan = compile(alloc, &policy, &net)?;
     let controller = Controller::begin(alloc, &net, plan.clone()?)?;
     Ok((controller, plan))
+}
+
+fn submitted(alloc: Global, controller: &mut Controller, plan: &Plan) -> Result<Vec<Seen>, Fail> {
+    let sends = controller.submit(alloc, plan.clone()?)?;
+    all_seen(alloc, &sends)
 }
 
 fn hello(
@@ -192,68 +202,90 @@ fn resent(
     all_seen(alloc, &sends)
 }
 
+// What a controller is told or asked: of a switch, then its boot, then a version.
+#[derive(Clone, Copy)]
+enum Call {
+    Submit,
+    Hello(u32, u32),
+    Installed(u32, u32, u32),
+    Stamped(u32, u32, u32),
+    Over(u32),
+    Resend(u32),
+}
+
+// What the controller sends at the call.
+fn sent(
+    rt: &impl Abort,
+    alloc: Global,
+    controller: &mut Controller,
+    plan: &Plan,
+    call: &Call,
+) -> Result<Vec<Seen>, Fail> {
+    match *call {
+        Call::Submit => submitted(alloc, controller, plan),
+        Call::Hello(s, boot) => hello(rt, alloc, controller, s, boot),
+        Call::Installed(s, boot, version) => installed(rt, alloc, controller, s, boot, version),
+        Call::Stamped(s, boot, version) => stamped(rt, alloc, controller, s, boot, version),
+        Call::Over(s) => over(rt, alloc, controller, s),
+        Call::Resend(s) => resent(rt, alloc, controller, s),
+    }
+}
+
+// Makes the calls in turn, and asks that just these acts follow each.
+fn follows(rt: &impl Abort, alloc: Global, calls: &[(Call, &[Seen])]) -> Result<(), Fail> {
+    let (mut controller, plan) = two_switches(alloc)?;
+    for (call, wanted) in calls {
+        let acts = sent(rt, alloc, &mut controller, &plan, call)?;
+        assert!(rt; acts.as_slice() == *wanted);
+    }
+    Ok(())
+}
+
 // Both switches get version 2, then both stamp with it, then both drop version 1.
+const UPDATE: [(Call, &[Seen]); 7] = [
+    (Call::Submit, &[('i', 0, 1, 2), ('i', 1, 1, 2)]),
+    (Call::Resend(0), &[('o', 0, 1, 1), ('i', 0, 1, 2)]),
+    (Call::Installed(0, 1, 2), &[]),
+    (
+        Call::Installed(1, 1, 2),
+        &[('=', 0, 0, 2), ('s', 0, 1, 2), ('s', 1, 1, 2)],
+    ),
+    (Call::Resend(0), &[('o', 0, 1, 1), ('s', 0, 1, 2)]),
+    (Call::Stamped(0, 1, 2), &[]),
+    (
+        Call::Stamped(1, 1, 2),
+        &[('-', 0, 0, 1), ('c', 0, 1, 1), ('c', 1, 1, 1)],
+    ),
+];
+
 #[test]
 fn two_switches_are_updated(rt: HostRuntime) -> Result<(), Fail> {
-    let alloc = rt.alloc();
-    let (mut controller, plan) = two_switches(alloc)?;
-    let sends = controller.submit(alloc, plan)?;
-    let sends = all_seen(alloc, &sends)?;
-    assert_eq!(rt;
-        sends.as_slice(),
-        [('i', 0, 1, 2), ('i', 1, 1, 2)].as_slice()
-    );
-    let sends = resent(&rt, alloc, &controller, 0)?;
-    assert_eq!(rt;
-        sends.as_slice(),
-        [('o', 0, 1, 1), ('i', 0, 1, 2)].as_slice()
-    );
-    assert!(rt; installed(&rt, alloc, &mut controller, 0, 1, 2)?.is_empty());
-    let sends = installed(&rt, alloc, &mut controller, 1, 1, 2)?;
-    let both = [('=', 0, 0, 2), ('s', 0, 1, 2), ('s', 1, 1, 2)];
-    assert_eq!(rt; sends.as_slice(), both.as_slice());
-    let sends = resent(&rt, alloc, &controller, 0)?;
-    assert_eq!(rt;
-        sends.as_slice(),
-        [('o', 0, 1, 1), ('s', 0, 1, 2)].as_slice()
-    );
-    assert!(rt; stamped(&rt, alloc, &mut controller, 0, 1, 2)?.is_empty());
-    let sends = stamped(&rt, alloc, &mut controller, 1, 1, 2)?;
-    let both = [('-', 0, 0, 1), ('c', 0, 1, 1), ('c', 1, 1, 1)];
-    assert_eq!(rt; sends.as_slice(), both.as_slice());
-    Ok(())
+    follows(&rt, rt.alloc(), &UPDATE)
 }
 
 // Switch 0 restarts while version 2 is put in place: it gets both versions, and opens at 1.
+const RESTART: [(Call, &[Seen]); 5] = [
+    (Call::Submit, &[('i', 0, 1, 2), ('i', 1, 1, 2)]),
+    (Call::Hello(0, 2), &[('i', 0, 2, 1), ('i', 0, 2, 2)]),
+    (Call::Hello(0, 2), &[]),
+    (Call::Installed(0, 2, 1), &[('o', 0, 2, 1)]),
+    (Call::Installed(0, 1, 2), &[]),
+];
+
 #[test]
 fn a_switch_restarts_in_an_update(rt: HostRuntime) -> Result<(), Fail> {
-    let alloc = rt.alloc();
-    let (mut controller, plan) = two_switches(alloc)?;
-    let _ = controller.submit(alloc, plan)?;
-    let sends = hello(&rt, alloc, &mut controller, 0, 2)?;
-    assert_eq!(rt;
-        sends.as_slice(),
-        [('i', 0, 2, 1), ('i', 0, 2, 2)].as_slice()
-    );
-    assert!(rt; hello(&rt, alloc, &mut controller, 0, 2)?.is_empty());
-    let sends = installed(&rt, alloc, &mut controller, 0, 2, 1)?;
-    assert_eq!(rt; sends.as_slice(), [('o', 0, 2, 1)].as_slice());
-    assert!(rt; installed(&rt, alloc, &mut controller, 0, 1, 2)?.is_empty());
-    Ok(())
+    follows(&rt, rt.alloc(), &RESTART)
 }
 
 // Switch 0 is confirmed as down: version 2 is current once switch 1 has it.
+const OVER: [(Call, &[Seen]); 4] = [
+    (Call::Submit, &[('i', 0, 1, 2), ('i', 1, 1, 2)]),
+    (Call::Over(0), &[]),
+    (Call::Installed(1, 1, 2), &[('=', 0, 0, 2), ('s', 1, 1, 2)]),
+    (Call::Resend(0), &[]),
+];
+
 #[test]
 fn a_switch_is_over(rt: HostRuntime) -> Result<(), Fail> {
-    let alloc = rt.alloc();
-    let (mut controller, plan) = two_switches(alloc)?;
-    let _ = controller.submit(alloc, plan)?;
-    assert!(rt; over(&rt, alloc, &mut controller, 0)?.is_empty());
-    let sends = installed(&rt, alloc, &mut controller, 1, 1, 2)?;
-    assert_eq!(rt;
-        sends.as_slice(),
-        [('=', 0, 0, 2), ('s', 1, 1, 2)].as_slice()
-    );
-    assert!(rt; resent(&rt, alloc, &controller, 0)?.is_empty());
-    Ok(())
+    follows(&rt, rt.alloc(), &OVER)
 }

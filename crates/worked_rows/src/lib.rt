@@ -7,5 +7,6 @@ mod networks;
 mod plans;
 #[cfg(test)]
 mod policies;
+mod runs;
 #[cfg(test)]
 mod tests;

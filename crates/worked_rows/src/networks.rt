@@ -1,6 +1,5 @@
 //! Worked runs of `replay` over several switches.
-use difane_cli::run;
-use shelf::{MemShelf, MemSink};
+use crate::runs::{Ran, ended, ran, shelf_of, sink};
 use std::alloc::{AllocError, Global};
 use std::test::Fail;
 
@@ -126,80 +125,67 @@ const NO_EXIT: &str = "row 1: packet a 1.2.3.4 10.2.0.1 5000 80 tcp\n\
     rule 100 out:2\n\
     \x20 stuck 1 b no-route\n";
 
-fn named(alloc: Global, name: &str, content: &str) -> Result<(String, Vec<u8>), AllocError> {
-    Ok((
-        String::from_str(alloc, name)?,
-        Vec::from_slice(alloc, content.as_bytes())?,
-    ))
+/// A run of `replay --net n.toml s.csv p.csv`.
+fn played(alloc: Global, schedule: &str, policy: &str, net: &str) -> Result<Ran, AllocError> {
+    let words = ["replay", "--net", "n.toml", "s.csv", "p.csv"];
+    let files = [("s.csv", schedule), ("p.csv", policy), ("n.toml", net)];
+    let shelf = shelf_of(alloc, &files)?;
+    ran(alloc, &words, shelf, sink(alloc), sink(alloc))
 }
 
-/// The status, the output and the line of errors of `replay --net n.toml s.csv p.csv`.
-fn played(
-    alloc: Global,
-    schedule: &str,
-    policy: &str,
-    net: &str,
-) -> Result<(u8, MemSink, MemSink), AllocError> {
-    let files = vec![in alloc;
-        named(alloc, "s.csv", schedule)?,
-        named(alloc, "p.csv", policy)?,
-        named(alloc, "n.toml", net)?,
-    ]?;
-    let mut words = Vec::new(alloc);
-    for word in ["replay", "--net", "n.toml", "s.csv", "p.csv"] {
-        words.push(String::from_str(alloc, word)?)?;
-    }
-    let mut shelf = MemShelf::new(alloc, files, Vec::new(alloc));
-    let mut out = MemSink::new(alloc, u64::MAX, Vec::new(alloc));
-    let mut errs = MemSink::new(alloc, u64::MAX, Vec::new(alloc));
-    let finished = run(alloc, &words, &mut shelf, &mut out, &mut errs);
-    Ok((finished.status.number(), out, errs))
-}
+/// Schedules, policies, networks and the journals of their runs.
+const REPLAYED: [(&str, &str, &str, &str); 5] = [
+    (CACHED, TWO_ROWS, PAIR, CACHED_JOURNAL),
+    (PUSHED_OUT, TWO_ROWS, SMALL_CACHES, PUSHED_OUT_JOURNAL),
+    (ONE_PACKET, ONE_ROW, UNLINKED, NO_AUTHORITY),
+    (ONE_PACKET, ONE_ROW, TWO_PAIRS, NO_ROUTE),
+    (PACKET_AND_DRAIN, ONE_ROW, PORT_APART, NO_EXIT),
+];
 
 #[test]
 fn replays_over_switches(rt: HostRuntime) -> Result<(), Fail> {
-    for (schedule, policy, net, text) in [
-        (CACHED, TWO_ROWS, PAIR, CACHED_JOURNAL),
-        (PUSHED_OUT, TWO_ROWS, SMALL_CACHES, PUSHED_OUT_JOURNAL),
-        (ONE_PACKET, ONE_ROW, UNLINKED, NO_AUTHORITY),
-        (ONE_PACKET, ONE_ROW, TWO_PAIRS, NO_ROUTE),
-        (PACKET_AND_DRAIN, ONE_ROW, PORT_APART, NO_EXIT),
-    ] {
-        let (status, written, told) = played(rt.alloc(), schedule, policy, net)?;
-        assert_eq!(rt; status, 0);
-        assert_eq!(rt; written.bytes(), text.as_bytes());
-        assert_eq!(rt; told.bytes(), b"".as_slice());
+    for (schedule, policy, net, text) in &REPLAYED {
+        let ran = played(rt.alloc(), schedule, policy, net)?;
+        assert!(rt; ended(&ran, 0, text, ""), "{text}");
     }
     Ok(())
 }
 
-// Each file is refused before the next one is looked at: the network, the schedule, the policy, its
-// ports and its plan.
+const CRASH: &str = "event,arguments\ncrash,a\n";
+
+const OTHER_PORT: &str = "priority,src,dst,sport,dport,proto,action\n7,any,any,any,any,any,out:3\n";
+
+const NO_ROOM: &str = "switch = [{ name = \"a\", ports = [1, 2] }]\n";
+
+/// Schedules, policies and networks, of which one file is refused before the next one is looked at:
+/// the network, the schedule, the policy's ports and its plan.
+const REFUSED: [(&str, &str, &str, &str); 4] = [
+    (CRASH, OTHER_PORT, "", "difane: input n.toml code 2 row 0\n"),
+    (
+        CRASH,
+        OTHER_PORT,
+        PAIR,
+        "difane: input s.csv code 10 row 1\n",
+    ),
+    (
+        ONE_PACKET,
+        OTHER_PORT,
+        PAIR,
+        "difane: input p.csv code 13 row 1\n",
+    ),
+    (
+        ONE_PACKET,
+        ONE_ROW,
+        NO_ROOM,
+        "difane: input p.csv code 15 row 0\n",
+    ),
+];
+
 #[test]
 fn refuses_in_order(rt: HostRuntime) -> Result<(), Fail> {
-    let crash = "event,arguments\ncrash,a\n";
-    let port = "priority,src,dst,sport,dport,proto,action\n7,any,any,any,any,any,out:3\n";
-    let no_room = "switch = [{ name = \"a\", ports = [1, 2] }]\n";
-    for (schedule, policy, net, line) in [
-        (crash, port, "", "difane: input n.toml code 2 row 0\n"),
-        (crash, port, PAIR, "difane: input s.csv code 10 row 1\n"),
-        (
-            ONE_PACKET,
-            port,
-            PAIR,
-            "difane: input p.csv code 13 row 1\n",
-        ),
-        (
-            ONE_PACKET,
-            ONE_ROW,
-            no_room,
-            "difane: input p.csv code 15 row 0\n",
-        ),
-    ] {
-        let (status, written, told) = played(rt.alloc(), schedule, policy, net)?;
-        assert_eq!(rt; status, 3);
-        assert_eq!(rt; written.bytes(), b"".as_slice());
-        assert_eq!(rt; told.bytes(), line.as_bytes());
+    for (schedule, policy, net, line) in &REFUSED {
+        let ran = played(rt.alloc(), schedule, policy, net)?;
+        assert!(rt; ended(&ran, 3, "", line), "{line}");
     }
     Ok(())
 }

@@ -1,9 +1,8 @@
 //! Worked runs of `compile` and `show`.
+use crate::runs::{Ran, ended, ran, shelf_of, sink};
 use cut_tree::{BuildError, build};
-use difane_cli::run;
 use policy_file::read_policy;
 use policy_rules::to_rules;
-use shelf::{MemShelf, MemSink};
 use std::alloc::{AllocError, Global};
 use std::fmt::Write;
 use std::test::Fail;
@@ -54,107 +53,89 @@ const ALONE: &str = "leaf_rules = 8\nbackups = 1\n\
 
 const TWICE: &str = "switch = [{ name = \"s0\" }, { name = \"s0\" }]\n";
 
-#[derive(Clone, Copy)]
-struct Run<'a> {
-    words: &'a [&'a str],
-    policy: &'a str,
-    net: &'a str,
+/// A run with these words over the files `p.csv` and `n.toml`.
+fn printed(alloc: Global, words: &[&str], policy: &str, net: &str) -> Result<Ran, AllocError> {
+    let shelf = shelf_of(alloc, &[("p.csv", policy), ("n.toml", net)])?;
+    ran(alloc, words, shelf, sink(alloc), sink(alloc))
 }
 
-/// The status, the output and the line of errors of a run over the files `p.csv` and `n.toml`.
-fn printed(alloc: Global, given: &Run<'_>) -> Result<(u8, MemSink, MemSink), AllocError> {
-    let mut files = Vec::new(alloc);
-    for (name, text) in [("p.csv", given.policy), ("n.toml", given.net)] {
-        let name = String::from_str(alloc, name)?;
-        files.push((name, Vec::from_slice(alloc, text.as_bytes())?))?;
-    }
-    let mut words = Vec::new(alloc);
-    for word in given.words {
-        words.push(String::from_str(alloc, word)?)?;
-    }
-    let mut shelf = MemShelf::new(alloc, files, Vec::new(alloc));
-    let mut out = MemSink::new(alloc, u64::MAX, Vec::new(alloc));
-    let mut errs = MemSink::new(alloc, u64::MAX, Vec::new(alloc));
-    let finished = run(alloc, &words, &mut shelf, &mut out, &mut errs);
-    Ok((finished.status.number(), out, errs))
-}
+const COMPILE: [&str; 4] = ["compile", "p.csv", "--net", "n.toml"];
+
+const SHOW: [&str; 5] = ["show", "p.csv", "s0", "--net", "n.toml"];
+
+const SHOW_OTHER: [&str; 5] = ["show", "p.csv", "s1", "--net", "n.toml"];
 
 #[test]
 fn prints_plans_and_tables(rt: HostRuntime) -> Result<(), Fail> {
-    let compile = ["compile", "p.csv", "--net", "n.toml"].as_slice();
-    let show = ["show", "p.csv", "s0", "--net", "n.toml"].as_slice();
-    for (words, policy, net, text) in [
-        (compile, HALVES, SMALL_LEAVES, HALVES_PLAN),
-        (show, HALVES, SMALL_LEAVES, HALVES_TABLES),
-    ] {
-        let given = Run { words, policy, net };
-        let (status, out, told) = printed(rt.alloc(), &given)?;
-        assert_eq!(rt; status, 0);
-        assert_eq!(rt; out.bytes(), text.as_bytes());
-        assert_eq!(rt; told.bytes(), b"".as_slice());
+    let plan = printed(rt.alloc(), &COMPILE, HALVES, SMALL_LEAVES)?;
+    assert!(rt; ended(&plan, 0, HALVES_PLAN, ""));
+    let tables = printed(rt.alloc(), &SHOW, HALVES, SMALL_LEAVES)?;
+    assert!(rt; ended(&tables, 0, HALVES_TABLES, ""));
+    Ok(())
+}
+
+const OTHER_PORT: &str = "priority,src,dst,sport,dport,proto,action\n7,any,any,any,any,any,out:4\n";
+
+/// Words, policies and networks, the status of each run, and its line of errors.
+const REFUSED: [(&[&str], &str, &str, u8, &str); 7] = [
+    (
+        &COMPILE,
+        TWO_ROWS,
+        ROOM_2,
+        3,
+        "difane: input p.csv code 15 row 0\n",
+    ),
+    (
+        &COMPILE,
+        TWO_ROWS,
+        ALONE,
+        3,
+        "difane: input p.csv code 15 row 0\n",
+    ),
+    (
+        &COMPILE,
+        TWO_ROWS,
+        TWICE,
+        3,
+        "difane: input n.toml code 6 row 2\n",
+    ),
+    (
+        &COMPILE,
+        OTHER_PORT,
+        ROOM_3,
+        3,
+        "difane: input p.csv code 13 row 1\n",
+    ),
+    (
+        &SHOW_OTHER,
+        "",
+        ROOM_3,
+        3,
+        "difane: input s1 code 21 row 0\n",
+    ),
+    (
+        &["compile", "p.csv", "--net="],
+        "",
+        "",
+        2,
+        "difane: words\n",
+    ),
+    (&["compile", "p.csv", "--net"], "", "", 2, "difane: words\n"),
+];
+
+#[test]
+fn refuses_plans_with_a_cause(rt: HostRuntime) -> Result<(), Fail> {
+    for (words, policy, net, status, line) in &REFUSED {
+        let ran = printed(rt.alloc(), words, policy, net)?;
+        assert!(rt; ended(&ran, *status, "", line), "{line}");
     }
     Ok(())
 }
 
 #[test]
-fn refuses_plans_with_a_cause(rt: HostRuntime) -> Result<(), Fail> {
-    let net = ["compile", "p.csv", "--net", "n.toml"].as_slice();
-    let port = "priority,src,dst,sport,dport,proto,action\n7,any,any,any,any,any,out:4\n";
-    for (words, policy, file, status, line) in [
-        (
-            net,
-            TWO_ROWS,
-            ROOM_2,
-            3,
-            "difane: input p.csv code 15 row 0\n",
-        ),
-        (
-            net,
-            TWO_ROWS,
-            ALONE,
-            3,
-            "difane: input p.csv code 15 row 0\n",
-        ),
-        (net, TWO_ROWS, ROOM_3, 0, ""),
-        (
-            net,
-            TWO_ROWS,
-            TWICE,
-            3,
-            "difane: input n.toml code 6 row 2\n",
-        ),
-        (net, port, ROOM_3, 3, "difane: input p.csv code 13 row 1\n"),
-        (
-            ["show", "p.csv", "s1", "--net", "n.toml"].as_slice(),
-            "",
-            ROOM_3,
-            3,
-            "difane: input s1 code 21 row 0\n",
-        ),
-        (
-            ["compile", "p.csv", "--net="].as_slice(),
-            "",
-            "",
-            2,
-            "difane: words\n",
-        ),
-        (
-            ["compile", "p.csv", "--net"].as_slice(),
-            "",
-            "",
-            2,
-            "difane: words\n",
-        ),
-    ] {
-        let given = Run {
-            words,
-            policy,
-            net: file,
-        };
-        let (answer, _, told) = printed(rt.alloc(), &given)?;
-        assert_eq!(rt; answer, status);
-        assert_eq!(rt; told.bytes(), line.as_bytes());
-    }
+fn plans_within_room(rt: HostRuntime) -> Result<(), Fail> {
+    let (status, _, told) = printed(rt.alloc(), &COMPILE, TWO_ROWS, ROOM_3)?;
+    assert!(rt; status == 0 && told.bytes().is_empty());
     Ok(())
 }
 
@@ -172,40 +153,32 @@ fn hosts(alloc: Global) -> Result<String, Fail> {
     Ok(text)
 }
 
+/// 3,600 words.
+const WIDE_ROWS: &str = "priority,src,dst,sport,dport,proto,action\n\
+    1,any,any,1-65534,1-65534,any,drop\n\
+    2,any,any,1-65534,1-65534,any,drop\n\
+    3,any,any,1-65534,1-65534,any,drop\n\
+    4,any,any,1-65534,1-65534,any,drop\n";
+
 #[test]
-fn plans_up_to_4096_words_and_512_leaves(rt: HostRuntime) -> Result<(), Fail> {
-    let alloc = rt.alloc();
-    let words = Run {
-        words: &["compile", "p.csv"],
-        policy: "priority,src,dst,sport,dport,proto,action\n\
-            1,any,any,1-65534,1-65534,any,drop\n\
-            2,any,any,1-65534,1-65534,any,drop\n\
-            3,any,any,1-65534,1-65534,any,drop\n\
-            4,any,any,1-65534,1-65534,any,drop\n",
-        net: "",
-    };
-    let (status, out, _) = printed(alloc, &words)?;
-    assert_eq!(rt; status, 0);
-    assert!(rt;
-        out.bytes().starts_with(b"words 3600\npartitions 1\n"),
-        "words"
-    );
-    let hosts = hosts(alloc)?;
-    let leaves = Run {
-        words: &["compile", "p.csv", "--net", "n.toml"],
-        policy: hosts.as_str(),
-        net: SMALL_LEAVES,
-    };
-    let (status, _, told) = printed(alloc, &leaves)?;
-    assert_eq!(rt; status, 3);
-    assert_eq!(rt;
-        told.bytes(),
-        b"difane: input p.csv code 14 row 0\n".as_slice()
-    );
-    let rules = to_rules(alloc, &read_policy(alloc, hosts.as_bytes())?)?;
-    assert!(rt;
-        matches!(build(alloc, &rules, 1), Err(BuildError::TooManyLeaves)),
-        "leaves"
-    );
+fn plans_up_to_4096_words(rt: HostRuntime) -> Result<(), Fail> {
+    let (status, out, _) = printed(rt.alloc(), &["compile", "p.csv"], WIDE_ROWS, "")?;
+    assert!(rt; status == 0);
+    assert!(rt; out.bytes().starts_with(b"words 3600\npartitions 1\n"));
+    Ok(())
+}
+
+/// Whether the rules of the policy have no tree of 512 leaves with a rule each.
+fn has_too_many_leaves(alloc: Global, policy: &str) -> Result<bool, Fail> {
+    let rules = to_rules(alloc, &read_policy(alloc, policy.as_bytes())?)?;
+    Ok(matches!(build(alloc, &rules, 1), Err(BuildError::TooManyLeaves)))
+}
+
+#[test]
+fn plans_up_to_512_leaves(rt: HostRuntime) -> Result<(), Fail> {
+    let hosts = hosts(rt.alloc())?;
+    let ran = printed(rt.alloc(), &COMPILE, hosts.as_str(), SMALL_LEAVES)?;
+    assert!(rt; ended(&ran, 3, "", "difane: input p.csv code 14 row 0\n"));
+    assert!(rt; has_too_many_leaves(rt.alloc(), hosts.as_str())?);
     Ok(())
 }

@@ -1,4 +1,5 @@
-use difane_cli::{Status, run, tell};
+use crate::runs::{Ran, ended, ran};
+use difane_cli::{Status, tell};
 use shelf::{MemShelf, MemSink};
 use std::alloc::{AllocError, Global};
 use std::test::Fail;
@@ -47,14 +48,6 @@ const PLAIN: Case<'static> = Case {
     failing_line: 0,
 };
 
-fn owned(alloc: Global, words: &[&str]) -> Result<Vec<String>, AllocError> {
-    let mut all = Vec::new(alloc);
-    for word in words {
-        all.push(String::from_str(alloc, word)?)?;
-    }
-    Ok(all)
-}
-
 fn calls(alloc: Global, number: u64) -> Result<Vec<u64>, AllocError> {
     let mut all = Vec::new(alloc);
     if number > 0 {
@@ -63,218 +56,155 @@ fn calls(alloc: Global, number: u64) -> Result<Vec<u64>, AllocError> {
     Ok(all)
 }
 
-/// The status, the output and the line of errors of a case.
-fn played(alloc: Global, case: &Case<'_>) -> Result<(u8, MemSink, MemSink), AllocError> {
-    let mut files = Vec::new(alloc);
-    files.push((
-        String::from_str(alloc, "s.csv")?,
-        Vec::from_slice(alloc, case.schedule.as_bytes())?,
-    ))?;
+fn files(alloc: Global, case: &Case<'_>) -> Result<Vec<(String, Vec<u8>)>, AllocError> {
     let mut policy = Vec::from_slice(alloc, case.policy.as_bytes())?;
     policy.resize(case.policy.len().saturating_add(case.padding), b'a')?;
+    let schedule = Vec::from_slice(alloc, case.schedule.as_bytes())?;
+    let mut files = Vec::new(alloc);
+    files.push((String::from_str(alloc, "s.csv")?, schedule))?;
     files.push((String::from_str(alloc, "p.csv")?, policy))?;
-    let words = owned(alloc, case.words)?;
-    let mut shelf = MemShelf::new(alloc, files, calls(alloc, case.failing_read)?);
-    let mut out = MemSink::new(alloc, case.most_written, calls(alloc, case.failing_write)?);
-    let mut errs = MemSink::new(alloc, u64::MAX, calls(alloc, case.failing_line)?);
-    let finished = run(alloc, &words, &mut shelf, &mut out, &mut errs);
-    Ok((finished.status.number(), out, errs))
+    Ok(files)
 }
+
+fn played(alloc: Global, case: &Case<'_>) -> Result<Ran, AllocError> {
+    let files = files(alloc, case)?;
+    let shelf = MemShelf::new(alloc, files, calls(alloc, case.failing_read)?);
+    let out = MemSink::new(alloc, case.most_written, calls(alloc, case.failing_write)?);
+    let errs = MemSink::new(alloc, u64::MAX, calls(alloc, case.failing_line)?);
+    ran(alloc, case.words, shelf, out, errs)
+}
+
+const DROPPED: &str = "row 1: packet s0 10.1.1.1 9.9.9.9 5000 80 tcp\n\
+    \x20 entered 1 s0\n\
+    \x20 decided 1 v1 rule default drop authority s0 part 0\n\
+    \x20 dropped 1\n";
+
+/// Schedules, policies and the journals of their runs.
+const REPLAYED: [(&str, &str, &str); 5] = [
+    (ONE_PACKET, TWO_ROWS, MATCHED),
+    (ONE_PACKET, HEADER, DROPPED),
+    (ONE_PACKET, QUOTED, MATCHED),
+    ("event,arguments\n", HEADER, ""),
+    ("event,arguments", HEADER, ""),
+];
 
 #[test]
 fn replays_on_one_switch(rt: HostRuntime) -> Result<(), Fail> {
-    let dropped = "row 1: packet s0 10.1.1.1 9.9.9.9 5000 80 tcp\n\
-        \x20 entered 1 s0\n\
-        \x20 decided 1 v1 rule default drop authority s0 part 0\n\
-        \x20 dropped 1\n";
-    for (schedule, policy, out) in [
-        (ONE_PACKET, TWO_ROWS, MATCHED),
-        (ONE_PACKET, HEADER, dropped),
-        (ONE_PACKET, QUOTED, MATCHED),
-        ("event,arguments\n", HEADER, ""),
-        ("event,arguments", HEADER, ""),
-    ] {
+    for (schedule, policy, out) in &REPLAYED {
         let case = Case {
             schedule,
             policy,
             ..PLAIN
         };
-        let (status, written, told) = played(rt.alloc(), &case)?;
-        assert_eq!(rt; status, 0);
-        assert_eq!(rt; written.bytes(), out.as_bytes());
-        assert_eq!(rt; told.bytes(), b"".as_slice());
+        let ran = played(rt.alloc(), &case)?;
+        assert!(rt; ended(&ran, 0, out, ""), "{schedule} {policy}");
     }
     Ok(())
 }
+
+const SAME_PRIORITY: &str = "priority,src,dst,sport,dport,proto,action\n\
+    7,any,any,any,any,any,drop\n7,any,any,any,any,any,drop\n";
+
+const NO_PORT: &str = "priority,src,dst,sport,dport,proto,action\n7,any,any,any,any,any,out:64\n";
+
+const WIDE: &str = "priority,src,dst,sport,dport,proto,action\n\
+    1,any,any,1-65534,1-65534,any,drop\n2,any,any,1-65534,1-65534,any,drop\n\
+    3,any,any,1-65534,1-65534,any,drop\n4,any,any,1-65534,1-65534,any,drop\n\
+    5,any,any,1-65534,1-65534,any,drop\n";
+
+/// Schedules and policies, the read that fails, and the line of errors. The schedule is checked
+/// before the policy is read, so that a read which fails there doesn't show.
+const REFUSED: [(&str, &str, u64, &str); 5] = [
+    ("flush\n", TWO_ROWS, 0, "difane: input s.csv code 1 row 0\n"),
+    ("flush\n", TWO_ROWS, 2, "difane: input s.csv code 1 row 0\n"),
+    (
+        ONE_PACKET,
+        SAME_PRIORITY,
+        0,
+        "difane: input p.csv code 10 row 2\n",
+    ),
+    (ONE_PACKET, NO_PORT, 0, "difane: input p.csv code 9 row 1\n"),
+    (ONE_PACKET, WIDE, 0, "difane: input p.csv code 12 row 0\n"),
+];
 
 #[test]
 fn refuses_with_a_cause(rt: HostRuntime) -> Result<(), Fail> {
-    let same = "priority,src,dst,sport,dport,proto,action\n\
-        7,any,any,any,any,any,drop\n7,any,any,any,any,any,drop\n";
-    let port = "priority,src,dst,sport,dport,proto,action\n7,any,any,any,any,any,out:64\n";
-    let wide = "priority,src,dst,sport,dport,proto,action\n\
-        1,any,any,1-65534,1-65534,any,drop\n2,any,any,1-65534,1-65534,any,drop\n\
-        3,any,any,1-65534,1-65534,any,drop\n4,any,any,1-65534,1-65534,any,drop\n\
-        5,any,any,1-65534,1-65534,any,drop\n";
-    for (case, status, line) in [
-        (
-            Case {
-                schedule: "flush\n",
-                ..PLAIN
-            },
-            3,
-            "difane: input s.csv code 1 row 0\n",
-        ),
-        // The schedule is checked before the policy is read, so that a read which fails there
-        // doesn't show.
-        (
-            Case {
-                schedule: "flush\n",
-                failing_read: 2,
-                ..PLAIN
-            },
-            3,
-            "difane: input s.csv code 1 row 0\n",
-        ),
-        (
-            Case {
-                policy: same,
-                ..PLAIN
-            },
-            3,
-            "difane: input p.csv code 10 row 2\n",
-        ),
-        (
-            Case {
-                policy: port,
-                ..PLAIN
-            },
-            3,
-            "difane: input p.csv code 9 row 1\n",
-        ),
-        (
-            Case {
-                policy: wide,
-                ..PLAIN
-            },
-            3,
-            "difane: input p.csv code 12 row 0\n",
-        ),
-    ] {
-        let (number, written, told) = played(rt.alloc(), &case)?;
-        assert_eq!(rt; number, status, "{line}");
-        assert_eq!(rt; written.bytes(), b"".as_slice(), "{line}");
-        assert_eq!(rt; told.bytes(), line.as_bytes());
+    for (schedule, policy, failing_read, line) in &REFUSED {
+        let case = Case {
+            schedule,
+            policy,
+            failing_read: *failing_read,
+            ..PLAIN
+        };
+        let ran = played(rt.alloc(), &case)?;
+        assert!(rt; ended(&ran, 3, "", line), "{line}");
     }
     Ok(())
 }
 
-// A sink that fails at its second call, a shelf whose first call fails, a policy too long by a
-// byte, a missing one, and words off the grammar; and then sinks and shelves that fail elsewhere,
-// and a sink that takes a byte a call.
+/// The read, the write and the write of the line of errors that fails, how many bytes a write takes
+/// at most, and how the run ends: its status, its output and its line of errors.
+const FAULTS: [(u64, u64, u64, u64, u8, &str, &str); 6] = [
+    (0, 2, 0, 10, 5, "row 1: pac", "difane: write fault\n"),
+    (1, 0, 0, u64::MAX, 4, "", "difane: read fault\n"),
+    (2, 0, 0, u64::MAX, 4, "", "difane: read fault\n"),
+    (0, 1, 0, u64::MAX, 5, "", "difane: write fault\n"),
+    (0, 0, 0, 1, 0, MATCHED, ""),
+    (1, 0, 1, u64::MAX, 4, "", ""),
+];
+
 #[test]
 fn answers_each_fault(rt: HostRuntime) -> Result<(), Fail> {
-    for (case, status, out, line) in [
-        (
-            Case {
-                most_written: 10,
-                failing_write: 2,
-                ..PLAIN
-            },
-            5,
-            "row 1: pac",
-            "difane: write fault\n",
-        ),
-        (
-            Case {
-                failing_read: 1,
-                ..PLAIN
-            },
-            4,
-            "",
-            "difane: read fault\n",
-        ),
-        (
-            Case {
-                policy: HEADER,
-                padding: 16_777_217 - HEADER.len(),
-                ..PLAIN
-            },
-            3,
-            "",
-            "difane: input p.csv code 20 row 0\n",
-        ),
-        (
-            Case {
-                words: &["replay", "s.csv", "none.csv"],
-                ..PLAIN
-            },
-            3,
-            "",
-            "difane: input none.csv code 0 row 0\n",
-        ),
-        (
-            Case {
-                words: &["replay"],
-                ..PLAIN
-            },
-            2,
-            "",
-            "difane: words\n",
-        ),
-        (
-            Case {
-                failing_read: 2,
-                ..PLAIN
-            },
-            4,
-            "",
-            "difane: read fault\n",
-        ),
-        (
-            Case {
-                failing_write: 1,
-                ..PLAIN
-            },
-            5,
-            "",
-            "difane: write fault\n",
-        ),
-        (
-            Case {
-                most_written: 1,
-                ..PLAIN
-            },
-            0,
-            MATCHED,
-            "",
-        ),
-        (
-            Case {
-                words: &["replay"],
-                failing_line: 1,
-                ..PLAIN
-            },
-            2,
-            "",
-            "",
-        ),
-        (
-            Case {
-                failing_read: 1,
-                failing_line: 1,
-                ..PLAIN
-            },
-            4,
-            "",
-            "",
-        ),
-    ] {
-        let (number, written, told) = played(rt.alloc(), &case)?;
-        assert_eq!(rt; number, status, "{line}");
-        assert_eq!(rt; written.bytes(), out.as_bytes(), "{line}");
-        assert_eq!(rt; told.bytes(), line.as_bytes());
+    for (failing_read, failing_write, failing_line, most_written, status, out, line) in &FAULTS {
+        let case = Case {
+            failing_read: *failing_read,
+            failing_write: *failing_write,
+            failing_line: *failing_line,
+            most_written: *most_written,
+            ..PLAIN
+        };
+        let ran = played(rt.alloc(), &case)?;
+        assert!(rt; ended(&ran, *status, out, line), "{status} {line}");
     }
+    Ok(())
+}
+
+/// A file that isn't there, words off the grammar, and these where the line of errors isn't taken.
+const WORDS: [(&[&str], u64, u8, &str); 3] = [
+    (
+        &["replay", "s.csv", "none.csv"],
+        0,
+        3,
+        "difane: input none.csv code 0 row 0\n",
+    ),
+    (&["replay"], 0, 2, "difane: words\n"),
+    (&["replay"], 1, 2, ""),
+];
+
+#[test]
+fn answers_wrong_words(rt: HostRuntime) -> Result<(), Fail> {
+    for (words, failing_line, status, line) in &WORDS {
+        let case = Case {
+            words,
+            failing_line: *failing_line,
+            ..PLAIN
+        };
+        let ran = played(rt.alloc(), &case)?;
+        assert!(rt; ended(&ran, *status, "", line), "{status} {line}");
+    }
+    Ok(())
+}
+
+// A policy too long by a byte.
+#[test]
+fn refuses_a_policy_too_long(rt: HostRuntime) -> Result<(), Fail> {
+    let case = Case {
+        policy: HEADER,
+        padding: 16_777_217 - HEADER.len(),
+        ..PLAIN
+    };
+    let ran = played(rt.alloc(), &case)?;
+    assert!(rt; ended(&ran, 3, "", "difane: input p.csv code 20 row 0\n"));
     Ok(())
 }
 
@@ -289,20 +219,21 @@ fn tells_a_full_play(rt: HostRuntime) -> Result<(), Fail> {
     Ok(())
 }
 
+// Whether the run ended for want of memory, with a part of what it would have written.
+fn stopped(ran: &Ran) -> bool {
+    let (status, written, told) = ran;
+    *status == 7
+        && MATCHED.as_bytes().starts_with(written.bytes())
+        && b"difane: no memory\n".starts_with(told.bytes())
+}
+
 // For runs in which an allocation fails (`rt try --test --fail-alloc N`); the other tests ask for
 // memory enough.
 #[test]
 fn ends_whole_or_for_want_of_memory(rt: HostRuntime) -> Result<(), Fail> {
-    let Ok((status, written, told)) = played(rt.alloc(), &PLAIN) else {
+    let Ok(ran) = played(rt.alloc(), &PLAIN) else {
         return Ok(());
     };
-    if status == 7 {
-        assert!(rt; MATCHED.as_bytes().starts_with(written.bytes()));
-        assert!(rt; b"difane: no memory\n".starts_with(told.bytes()));
-    } else {
-        assert_eq!(rt; status, 0);
-        assert_eq!(rt; written.bytes(), MATCHED.as_bytes());
-        assert_eq!(rt; told.bytes(), b"".as_slice());
-    }
+    assert!(rt; stopped(&ran) || ended(&ran, 0, MATCHED, ""));
     Ok(())
 }

@@ -1,0 +1,49 @@
+//! Runs of the program over files and outputs in memory.
+use difane_cli::run;
+use shelf::{MemShelf, MemSink};
+use std::alloc::{AllocError, Global};
+
+/// The status of a run, its output and its line of errors.
+pub type Ran = (u8, MemSink, MemSink);
+
+fn owned(alloc: Global, words: &[&str]) -> Result<Vec<String>, AllocError> {
+    let mut all = Vec::new(alloc);
+    for word in words {
+        all.push(String::from_str(alloc, word)?)?;
+    }
+    Ok(all)
+}
+
+/// A run with these words over this shelf and these sinks.
+pub fn ran(
+    alloc: Global,
+    words: &[&str],
+    mut shelf: MemShelf,
+    mut out: MemSink,
+    mut errs: MemSink,
+) -> Result<Ran, AllocError> {
+    let words = owned(alloc, words)?;
+    let finished = run(alloc, &words, &mut shelf, &mut out, &mut errs);
+    Ok((finished.status.number(), out, errs))
+}
+
+/// A shelf of files with these names and texts.
+pub fn shelf_of(alloc: Global, files: &[(&str, &str)]) -> Result<MemShelf, AllocError> {
+    let mut all = Vec::new(alloc);
+    for (name, text) in files {
+        let name = String::from_str(alloc, name)?;
+        all.push((name, Vec::from_slice(alloc, text.as_bytes())?))?;
+    }
+    Ok(MemShelf::new(alloc, all, Vec::new(alloc)))
+}
+
+/// A sink that takes all.
+pub fn sink(alloc: Global) -> MemSink {
+    MemSink::new(alloc, u64::MAX, Vec::new(alloc))
+}
+
+/// Whether the run ended so: with this status, this output and this line of errors.
+pub fn ended(ran: &Ran, status: u8, out: &str, line: &str) -> bool {
+    let (number, written, told) = ran;
+    *number == status && written.bytes() == out.as_bytes() && told.bytes() == line.as_bytes()
+}
