@@ -37,7 +37,7 @@ use Rattle.way_laws.proofs.Lookups.{current_planned}
 use Rattle.way_laws.proofs.Plans.{Finds, IsPlanned, in_plan}
 use Rattle.world.specs.Writing.{arrived_items, arrived_traveller}
 use Rattle.world.specs.declared.log.Standing.{Standing}
-use Rattle.world.specs.declared.travelling.Traveller.{Traveller}
+use Rattle.travelling.specs.declared.travelling.Traveller.{Traveller}
 use Rattle.world.proofs.Deciding.{header_is}
 use Rattle.world.proofs.Goings.{AreOfWords, IsComing, answer_goes, looked_goes, ruled_goes}
 use Rattle.world.proofs.Known.{Known}

@@ -21,9 +21,9 @@ use Rattle.version_laws.specs.Authorities.{EndsAt}
 use Rattle.way_laws.specs.Words.{words_of}
 use Rattle.world.specs.Parts.{IsReady, control_in, setting_in}
 use Rattle.world.specs.State.{AreTied, Control}
-use Rattle.world.specs.Travelling.{Travellers, traveller}
+use Rattle.travelling.specs.Travelling.{Travellers, traveller}
 use Rattle.world.specs.declared.parts.Parts.{Parts}
-use Rattle.world.specs.declared.travelling.Traveller.{Traveller}
+use Rattle.travelling.specs.declared.travelling.Traveller.{Traveller}
 use Rattle.world.proofs.Arrivals.{IsAtEnd}
 use Rattle.world.proofs.Known.{Known, reached_known}
 use Rattle.world.proofs.Moving.{Hops, arrives_at_end}

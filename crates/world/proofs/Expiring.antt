@@ -17,7 +17,7 @@ use Rattle.update_machine.specs.Pieces.{piece}
 use Rattle.world.specs.Played.{MayPlay}
 use Rattle.update_machine.specs.Setting.{Setting}
 use Rattle.world.specs.State.{AreTied, Control, IsBagOf}
-use Rattle.world.specs.Travelling.{Travellers}
+use Rattle.travelling.specs.Travelling.{Travellers}
 use Rattle.world.proofs.OneItem.{WritesOne, grown, tied_one}
 use Rattle.world.proofs.Posting.{bag_on}
 use Rattle.world.proofs.Tying.{one_changes}

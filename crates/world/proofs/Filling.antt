@@ -9,7 +9,7 @@ use Rattle.update_machine.specs.declared.full.TheConstants.{FULL_AT}
 use Rattle.world.specs.declared.error.StepError.{StepError}
 use Rattle.world.specs.declared.error.StepError.TheVariants.{Full, NoMemory}
 use Rattle.world.specs.State.{AreTied, Control}
-use Rattle.world.specs.Travelling.{Travellers}
+use Rattle.travelling.specs.Travelling.{Travellers}
 
 pub is_full : (control : Control) (setting : Setting) (journal : List Item)
     (switches : List SwitchValue) (before : Travellers) (count : ℕ)

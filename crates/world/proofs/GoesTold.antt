@@ -10,7 +10,7 @@ use Rattle.steps.specs.declared.step.Step.{Step}
 use Rattle.update_machine.specs.Pieces.{piece}
 use Rattle.world.specs.Parts.{Begins, Goes, KeepNet, control_in, setting_in}
 use Rattle.world.specs.State.{AreTied, Control, comes_in}
-use Rattle.world.specs.Travelling.{Travellers}
+use Rattle.travelling.specs.Travelling.{Travellers}
 use Rattle.world.specs.Writing.{IsPart}
 use Rattle.world.specs.declared.parts.Parts.{Parts}
 use Rattle.world.proofs.Frame.{by_error, goes, none_ok}

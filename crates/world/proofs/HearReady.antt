@@ -16,7 +16,7 @@ use Rattle.update_machine.specs.Messages.{message_of}
 use Rattle.update_machine.specs.Setting.{Setting}
 use Rattle.update_machine.specs.Settling.{to_switch}
 use Rattle.world.specs.State.{AreTied, Control}
-use Rattle.world.specs.Travelling.{Travellers}
+use Rattle.travelling.specs.Travelling.{Travellers}
 use Rattle.world.proofs.Delivering.{sent_as}
 use Rattle.world.proofs.Known.{Known, reached_known}
 

@@ -35,7 +35,7 @@ use Rattle.update_machine.specs.Settling.{to_switch}
 use Rattle.update_machine.proofs.CallerLemmas.{message_keeps}
 use Rattle.world.specs.Sending.{act_items, act_posts}
 use Rattle.world.specs.State.{AreTied, Control, IsBagOf}
-use Rattle.world.specs.Travelling.{Travellers}
+use Rattle.travelling.specs.Travelling.{Travellers}
 use Rattle.world.proofs.ActItems.{posts_as_acts, sent_as_acts, written_is}
 use Rattle.world.proofs.Delivering.{deliverable_as, nothing_tied, sent_as}
 use Rattle.world.proofs.HearReady.{sends_few}

@@ -29,7 +29,7 @@ use Rattle.way_laws.specs.OnWay.{IsUnknown}
 use Rattle.way_laws.specs.Words.{words_of}
 use Rattle.world.specs.Packets.{coming_in, entry}
 use Rattle.world.specs.State.{AreTied, Control, traveller_in}
-use Rattle.world.specs.Travelling.{Travellers, WithOne, traveller}
+use Rattle.travelling.specs.Travelling.{Travellers, WithOne, traveller}
 use Rattle.world.specs.Writing.{answer_items, entered_items, entered_posts, entered_traveller}
 use Rattle.world.specs.declared.log.Standing.{Standing}
 use Rattle.world.proofs.Asking.{known_of, seen}

@@ -8,7 +8,7 @@ use Rattle.update_machine.specs.Packets.{next_packet, next_travelling, travels}
 use Rattle.update_machine.specs.Setting.{Setting}
 use Rattle.way_laws.specs.Words.{words_of}
 use Rattle.world.specs.State.{AreTied, IsTied, WorldValue, setting_at, traveller_in, traveller_of}
-use Rattle.world.specs.Travelling.{IsNextFrom, Travellers, traveller}
+use Rattle.travelling.specs.Travelling.{IsNextFrom, Travellers, traveller}
 use Rattle.world.proofs.Known.{reached_known}
 
 -- the least number from here on that satisfies the test

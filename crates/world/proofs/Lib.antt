@@ -40,7 +40,6 @@ pub mod Frame
 pub mod GoesTold
 pub mod Delivering
 pub mod Expiring
-pub mod Tables
 pub mod Filling
 pub mod LeastHops
 pub mod LeastWaiting

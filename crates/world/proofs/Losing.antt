@@ -14,7 +14,7 @@ use Rattle.update_machine.specs.Setting.{Setting}
 use Rattle.way_laws.specs.Words.{words_of}
 use Rattle.way_laws.proofs.Words.{words_grow}
 use Rattle.world.specs.State.{AreTied, Control, traveller_in}
-use Rattle.world.specs.Travelling.{Travellers, WithOne, traveller}
+use Rattle.travelling.specs.Travelling.{Travellers, WithOne, traveller}
 use Rattle.world.proofs.Known.{Known, reached_known, traveller_stays}
 use Rattle.world.proofs.Tying.{switches_stay, tied_silent}
 use Rattle.world.proofs.Words.{traveller_along}

@@ -15,8 +15,8 @@ use Rattle.way_laws.specs.OnWay.{IsOnLeg, IsOnWay}
 use Rattle.way_laws.specs.Words.{PacketWords, words_of}
 use Rattle.way_laws.specs.Rest.{IsServed}
 use Rattle.world.specs.State.{AreTied, Control}
-use Rattle.world.specs.Travelling.{Travellers, traveller}
-use Rattle.world.specs.declared.travelling.Traveller.{Traveller}
+use Rattle.travelling.specs.Travelling.{Travellers, traveller}
+use Rattle.travelling.specs.declared.travelling.Traveller.{Traveller}
 use Rattle.world.proofs.Arrivals.{some_same}
 use Rattle.world.proofs.Known.{Known, Travels, reached_known, travels_known}
 use Rattle.world.proofs.Words.{Targets, traveller_by, traveller_now}

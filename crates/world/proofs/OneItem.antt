@@ -14,7 +14,7 @@ use Rattle.update_machine.specs.Pieces.{piece}
 use Rattle.world.specs.Played.{MayPlay}
 use Rattle.update_machine.specs.Setting.{Setting}
 use Rattle.world.specs.State.{AreTied, Control, IsBagOf}
-use Rattle.world.specs.Travelling.{Travellers}
+use Rattle.travelling.specs.Travelling.{Travellers}
 use Rattle.world.proofs.Known.{reached_known, traveller_stays}
 use Rattle.world.proofs.Others.{NoneName}
 use Rattle.world.proofs.Tying.{links_stay, tied_taken, up_stay}

@@ -48,7 +48,7 @@ use Rattle.update_machine.proofs.CallerLemmas.{last_told_append, messages_keep}
 use Rattle.world.specs.Linking.{AreRelinked, all_told, near_all}
 use Rattle.world.specs.Sending.{act_items}
 use Rattle.world.specs.State.{AreTied, Control, IsBagOf, is_up_link, up_links}
-use Rattle.world.specs.Travelling.{Travellers}
+use Rattle.travelling.specs.Travelling.{Travellers}
 use Rattle.world.proofs.ActItems.{posts_as_acts, sent_as_acts}
 use Rattle.world.proofs.HeardBy.{IsThere, as_sent, deliver_piece, is_there, row_keeps}
 use Rattle.world.proofs.OneItem.{grown}

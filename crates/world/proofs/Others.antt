@@ -20,7 +20,7 @@ use Rattle.update_machine.specs.Moves.{takes_route}
 use Rattle.way_laws.specs.Words.{PacketWords, names, told_by}
 use Rattle.world.specs.Writing.{answer_items, arrived_items, cache_message, end_of, entered_items, messages_in}
 use Rattle.world.specs.declared.log.Standing.{Standing}
-use Rattle.world.specs.declared.travelling.Traveller.{Traveller}
+use Rattle.travelling.specs.declared.travelling.Traveller.{Traveller}
 use Rattle.world.proofs.Words.{words_along}
 
 -- none of the items names the packet

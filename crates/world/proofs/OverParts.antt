@@ -12,10 +12,10 @@ use Rattle.update_machine.specs.Pieces.{piece}
 use Rattle.world.specs.Packets.{coming_in, entry, hop_items, hop_posts, hop_traveller, hopped_switch}
 use Rattle.world.specs.Parts.{IsReady, control_in, setting_in}
 use Rattle.world.specs.State.{AreTied}
-use Rattle.world.specs.Travelling.{Travellers, WithOne, traveller}
+use Rattle.travelling.specs.Travelling.{Travellers, WithOne, traveller}
 use Rattle.world.specs.Writing.{entered_items, entered_posts, entered_traveller}
 use Rattle.world.specs.declared.parts.Parts.{Parts}
-use Rattle.world.specs.declared.travelling.Traveller.{Traveller}
+use Rattle.travelling.specs.declared.travelling.Traveller.{Traveller}
 use Rattle.world.proofs.Asking.{CanAsk, can_ask, switch_is, within_here}
 use Rattle.world.proofs.HopTie.{hop_piece_of, hop_tied}
 use Rattle.world.proofs.Incoming.{come_piece, come_ready, come_tied}

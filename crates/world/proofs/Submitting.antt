@@ -26,7 +26,7 @@ use Rattle.update_machine.specs.Settling.{submitted_items}
 use Rattle.update_machine.specs.Versions.{version_count}
 use Rattle.world.specs.Sending.{act_items, act_posts}
 use Rattle.world.specs.State.{AreTied, Control, IsBagOf}
-use Rattle.world.specs.Travelling.{Travellers}
+use Rattle.travelling.specs.Travelling.{Travellers}
 use Rattle.world.proofs.ActItems.{written_is}
 use Rattle.world.proofs.HearReady.{sends_few}
 use Rattle.world.proofs.Known.{reached_known}

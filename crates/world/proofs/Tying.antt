@@ -23,7 +23,7 @@ use Rattle.world.specs.Played.{MayPlay}
 use Rattle.update_machine.specs.Setting.{Setting}
 use Rattle.update_machine.proofs.CallerLemmas.{count_of_append, links_keep, near_stays}
 use Rattle.world.specs.State.{AreTied, AreUp, AreUsable, Control, IsBagOf, is_up_link, traveller_in}
-use Rattle.world.specs.Travelling.{Travellers, traveller}
+use Rattle.travelling.specs.Travelling.{Travellers, traveller}
 use Rattle.world.proofs.Known.{reached_known, reached_more}
 use Rattle.world.proofs.Posting.{SendFrom, apart_links, bag_sends, posts_in}
 

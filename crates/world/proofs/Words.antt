@@ -13,7 +13,7 @@ use Rattle.update_machine.proofs.CallerLemmas.{policies_keep}
 use Rattle.way_laws.specs.Words.{PacketWords, names, told_by, words_of}
 use Rattle.way_laws.proofs.Words.{words_grow}
 use Rattle.world.specs.State.{traveller_in, traveller_of}
-use Rattle.world.specs.declared.travelling.Traveller.{Traveller}
+use Rattle.travelling.specs.declared.travelling.Traveller.{Traveller}
 
 -- the words of a packet behind these items
 abbrev pub words_along : ℕ → List Item → List Item → PacketWords → PacketWords

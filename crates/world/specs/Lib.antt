@@ -1,5 +1,4 @@
 pub mod Played
-pub mod Travelling
 pub mod State
 pub mod Writing
 pub mod Packets

@@ -14,10 +14,10 @@ use Rattle.switch_core.specs.declared.answers.Entered.{Entered}
 use Rattle.switch_core.specs.declared.answers.HopEnd.{HopEnd}
 use Rattle.switch_core.specs.declared.answers.HopEnd.TheVariants as hop
 use Rattle.tunnel.specs.Moves.{next}
-use Rattle.world.specs.Travelling.{OthersStay, Travellers, WithOne}
+use Rattle.travelling.specs.Travelling.{OthersStay, Travellers, WithOne}
 use Rattle.world.specs.Writing.{arrived_items, arrived_posts, arrived_traveller}
 use Rattle.world.specs.declared.log.Standing.{Standing}
-use Rattle.world.specs.declared.travelling.Traveller.{Traveller}
+use Rattle.travelling.specs.declared.travelling.Traveller.{Traveller}
 
 -- a packet that comes in at a switch
 abbrev pub coming_in : ℕ → Header → ℕ → Standing

@@ -28,8 +28,8 @@ use Rattle.update_machine.specs.Moves.{header_at}
 use Rattle.update_machine.specs.Packets.{decision_of, found_down, ingress_of, leg_of, next_packet, route_in, route_place, targets_of, travels}
 use Rattle.update_machine.specs.Sound.{IsSetting}
 use Rattle.update_machine.specs.Setting.{Setting, setting_of}
-use Rattle.world.specs.Travelling.{Travellers, traveller}
-use Rattle.world.specs.declared.travelling.Traveller.{Traveller}
+use Rattle.travelling.specs.Travelling.{Travellers, traveller}
+use Rattle.travelling.specs.declared.travelling.Traveller.{Traveller}
 
 pub record WorldValue : Type 0 where
   pub net : Net

@@ -21,13 +21,11 @@ mod beginning;
 mod delivery;
 mod error;
 mod files;
-mod kept;
 mod links;
 mod log;
 mod packets;
 mod parts;
 mod sending;
-mod travelling;
 mod updating;
 mod world;
 

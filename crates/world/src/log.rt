@@ -4,17 +4,16 @@ ghost use Rattle.journal.specs.declared.item.Item.TheVariants.{Rerouted, Sent as
 ghost use Rattle.update_machine.specs.Messages.{sent_from};
 ghost use Rattle.update_machine.specs.Moves.{takes_route};
 ghost use Rattle.world.specs.Packets.{IsTurned, turned_items};
-ghost use Rattle.world.specs.Travelling.{IsKeptOn, WithOne};
+ghost use Rattle.travelling.specs.Travelling.{IsKeptOn, WithOne};
 ghost use Rattle.world.specs.Writing.{IsPart, decided_items, decided_traveller, end_of, exit_leg, leaves, messages_in};
 
-use crate::kept::Kept;
-use crate::travelling::{Traveller, Travelling};
 use bag::Bag;
 use five_tuple::Header;
 use journal::{DownSet, Item, Journal, Leaving, Message, SharedLinks, SharedMessage, SharedRoute};
 use policy_rules::{Action, Cause, Leg};
 use std::alloc::{AllocError, Global};
 use switch_core::{Decision, Hop, HopEnd, Next};
+use travelling::{Kept, Traveller, Travelling};
 
 /// What happened so far, the packets that are on their way, and the messages that were sent.
 #[derive(Drop)]

@@ -12,7 +12,7 @@ ghost use Rattle.world.specs.Played.{MayPlay};
 ghost use Rattle.update_machine.specs.Setting.{setting_of};
 ghost use Rattle.world.specs.declared.error.StepError.TheVariants.{Full, NoMemory};
 ghost use Rattle.world.specs.State.{IsBegun, IsTied, comes_in, setting_at};
-ghost use Rattle.world.specs.Travelling.{IsNextFrom, traveller};
+ghost use Rattle.travelling.specs.Travelling.{IsNextFrom, traveller};
 ghost use Rattle.world.specs.Writing.{IsPart};
 
 use crate::beginning::{near_masks, switches_of};
@@ -20,7 +20,6 @@ use crate::error::StepError;
 use crate::files::Files;
 use crate::log::Log;
 use crate::parts::Parts;
-use crate::travelling::Travelling;
 use bag::Bag;
 use controller::{Controller, PlanError, compile};
 use journal::Journal;
@@ -30,6 +29,7 @@ use std::alloc::{AllocError, Global};
 use std::marker::Model;
 use steps::Step;
 use switch_core::Switch;
+use travelling::Travelling;
 use update_machine::FULL_AT;
 
 /// A network of switches with its controller, the packets on their way in it, and the journal of

@@ -1,7 +1,7 @@
 use Rattle.std.proofs.Common.{subst, sym}
 use Rattle.std.specs.Prelude.{IsSomeAnd}
-use Rattle.world.specs.Travelling.{HasPlace, traveller}
-use Rattle.world.specs.declared.travelling.Traveller.{Traveller}
+use Rattle.travelling.specs.Travelling.{HasPlace, traveller}
+use Rattle.travelling.specs.declared.travelling.Traveller.{Traveller}
 use Rattle.world.proofs.Turning.{kept_place}
 use Rattle.world.proofs.log.Log.turn.Goals as goal
 

@@ -5,7 +5,7 @@ use Rattle.std.proofs.lemmas.Result.{on_ok_weaker}
 use Rattle.journal.specs.declared.item.Item.TheVariants as item
 use Rattle.steps.specs.declared.step.Step.TheVariants.{Hop}
 use Rattle.world.specs.Parts.{control_in, setting_in}
-use Rattle.world.specs.Travelling.{traveller}
+use Rattle.travelling.specs.Travelling.{traveller}
 use Rattle.world.proofs.Asking.{can_ask, within_here}
 use Rattle.world.proofs.Frame.{goes_one, goes_quiet}
 use Rattle.world.proofs.HopTie.{hop_left}

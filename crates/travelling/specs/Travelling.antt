@@ -1,8 +1,8 @@
 -- The packets on their way, by their numbers.
 use Rattle.std.specs.Prelude.{ℕ, ◌≡◌, ◌<◌, ◌≤◌, ◌==◌, false, if◌then◌else◌, Option, None, List, IsSome, IsSomeAnd, MatchOption, length, slice_index_or, unwrap_or}
 use Rattle.failover.specs.DownSet.{no_links}
-use Rattle.world.specs.declared.kept.Kept.TheInside.{Inside}
-use Rattle.world.specs.declared.travelling.Traveller.{Traveller}
+use Rattle.travelling.specs.declared.kept.Kept.TheInside.{Inside}
+use Rattle.travelling.specs.declared.travelling.Traveller.{Traveller}
 
 -- of the packet of each number what is known of it, if it travels
 abbrev pub Travellers : Type 0

@@ -7,7 +7,7 @@
 //! No slot is given back before the end, as in a journal.
 ghost use Rattle.std.specs.Prelude.{◌≡◌, ◌+◌, ◌<◌, ◌≤◌, ℕ, max, [], Some, None, is_some, option_map, length, IsSome, OnOk};
 ghost use Rattle.std.specs.Option.{IsSomeAnd};
-ghost use Rattle.world.specs.Travelling.{HasPlace, IsNextFrom, WithOne, placed_at, traveller};
+ghost use Rattle.travelling.specs.Travelling.{HasPlace, IsNextFrom, WithOne, placed_at, traveller};
 
 use crate::kept::Kept;
 use std::alloc::{AllocError, Global};
@@ -34,7 +34,7 @@ pub struct Travelling {
 }
 
 impl Model for Travelling {
-    ghost use Rattle.world.specs.Travelling.{IsTable, Travellers};
+    ghost use Rattle.travelling.specs.Travelling.{IsTable, Travellers};
 
     ghost Value = { Travellers };
 

@@ -1,6 +1,6 @@
 -- The table of the packets on their way.
 use Rattle.std.proofs.Common.{ℕ, zero, suc, ◌≡◌, None, [], ◌∷◌, ◌++◌, refl}
-use Rattle.world.specs.Travelling.{Travellers, traveller}
+use Rattle.travelling.specs.Travelling.{Travellers, traveller}
 
 -- an empty slot behind the others says nothing
 pub pushed_same : (slots : Travellers) (i : ℕ)

@@ -1,6 +1,6 @@
 use Rattle.std.proofs.Common.{ℕ, ◌≡◌, ◌+◌, ◌-◌, ◌≤◌, length, max}
-use Rattle.world.specs.Travelling.{traveller}
-use Rattle.world.proofs.travelling.make_room.Given as goal
+use Rattle.travelling.specs.Travelling.{traveller}
+use Rattle.travelling.proofs.travelling.make_room.Given as goal
 
 abbrev pub invariant-loop-slots : goal.invariant-loop-slots
 invariant-loop-slots l = record {

@@ -1,6 +1,6 @@
 use Rattle.std.proofs.Common.{ℕ, ◌≡◌, ◌-◌, ◌<◌, ◌≤◌, None, length}
-use Rattle.world.specs.Travelling.{traveller}
-use Rattle.world.proofs.travelling.first_held.Given as goal
+use Rattle.travelling.specs.Travelling.{traveller}
+use Rattle.travelling.proofs.travelling.first_held.Given as goal
 
 abbrev pub invariant-loop-number : goal.invariant-loop-number
 invariant-loop-number l = record {

@@ -1,5 +1,5 @@
 ghost use Rattle.std.specs.Prelude.{◌≡◌, IfOk};
-ghost use Rattle.world.specs.Travelling.{HasPlace, placed_at};
+ghost use Rattle.travelling.specs.Travelling.{HasPlace, placed_at};
 
 use crate::travelling::Traveller;
 use five_tuple::Header;
@@ -29,8 +29,8 @@ const _: () = prove!(size_of::<Option<Kept>>() <= 128);
 
 impl Model for Kept {
     ghost use Rattle.tunnel.specs.Tunnel.{IsOnRoute};
-    ghost use Rattle.world.specs.Travelling.{traveller_kept};
-    ghost use Rattle.world.specs.declared.travelling.Traveller.{Traveller};
+    ghost use Rattle.travelling.specs.Travelling.{traveller_kept};
+    ghost use Rattle.travelling.specs.declared.travelling.Traveller.{Traveller};
 
     ghost Value = { Traveller };
 

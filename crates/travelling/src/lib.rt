@@ -1,0 +1,23 @@
+//! The packets that are on their way, by their numbers.
+//!
+//! `Travelling` keeps what is known of each packet that travels: its tunnel, and the version and
+//! the rule of its decision. It promises that each call changes the packet of its number alone, and
+//! that `next` finds the least number of one that travels. Only `Kept::new` and `put` take memory.
+//!
+//! ```text
+//! let mut travelling = Travelling::new(alloc);
+//! travelling.put(7, Kept::new(alloc, &traveller, route)?)?;
+//! travelling.move_to(7, 1);
+//! while let Some(packet) = travelling.next(1) {
+//!     travelling.remove(packet);
+//! }
+//! ```
+#![tactic(auto)]
+
+mod kept;
+mod travelling;
+
+pub use journal::SharedRoute;
+pub use kept::Kept;
+pub use travelling::{Traveller, Travelling};
+pub use tunnel::Tunnel;
