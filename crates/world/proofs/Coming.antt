@@ -24,8 +24,8 @@ use Rattle.update_machine.proofs.CallerLemmas.{have_append, messages_keep, switc
 use Rattle.boot_laws.specs.ItemCauses.{HasItemCause}
 use Rattle.way_laws.specs.Words.{words_of}
 use Rattle.way_laws.proofs.Words.{words_grow}
-use Rattle.world.specs.Packets.{coming_in, entry}
-use Rattle.world.specs.Writing.{answer_items, entered_items}
+use Rattle.world_log.specs.Packets.{coming_in, entry}
+use Rattle.world_log.specs.Writing.{answer_items, entered_items}
 use Rattle.world.proofs.Deciding.{IsPacket}
 use Rattle.world.proofs.Goings.{GoesIn, looked_goes}
 use Rattle.world.proofs.Known.{Known}

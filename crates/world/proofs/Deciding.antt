@@ -22,7 +22,7 @@ use Rattle.update_machine.specs.Setting.{Setting}
 use Rattle.update_machine.proofs.CallerLemmas.{count_of_append}
 use Rattle.way_laws.specs.Words.{words_of}
 use Rattle.way_laws.proofs.Words.{words_grow}
-use Rattle.world.specs.Writing.{cache_message, decided_items, messages_in}
+use Rattle.world_log.specs.Writing.{cache_message, decided_items, messages_in}
 use Rattle.world.proofs.Ends.{IsDecided, end_law}
 use Rattle.world.proofs.Legs.{at_switch}
 use Rattle.world.proofs.Others.{sends_unnamed, unnamed}

@@ -21,8 +21,8 @@ use Rattle.update_machine.specs.Moves.{end_items, leaves as left, leg_items}
 use Rattle.update_machine.specs.Packets.{decision_of, found_down, header_in, no_switch, owner}
 use Rattle.update_machine.specs.Setting.{Setting}
 use Rattle.update_machine.proofs.CallerLemmas.{known_link_laws}
-use Rattle.world.specs.Writing.{end_of, leaves}
-use Rattle.world.specs.declared.log.Standing.{Standing}
+use Rattle.world_log.specs.Writing.{end_of, leaves}
+use Rattle.world_log.specs.declared.log.Standing.{Standing}
 use Rattle.world.proofs.Legs.{at_switch, leg_law, set_item}
 use Rattle.world.proofs.Seeing.{Sees}
 

@@ -13,10 +13,10 @@ use Rattle.update_machine.specs.Setting.{Setting, setting_of}
 use Rattle.world.specs.Files.{FilesValue}
 use Rattle.world.specs.Parts.{AreTiedIn, Begins, Goes, HasBegun, IsReady, KeepNet, Plays, control_in, setting_in}
 use Rattle.world.specs.State.{AreTied, Control, comes_in}
-use Rattle.world.specs.Writing.{IsPart}
+use Rattle.world_log.specs.Writing.{IsPart}
 use Rattle.world.specs.declared.parts.Parts.{Parts}
 use Rattle.world.proofs.OneItem.{grown}
-use Rattle.world.proofs.Writing.{both_ok, grown_more, part_none, step_part, step_written}
+use Rattle.world_log.proofs.Writing.{both_ok, by_error, grown_more, part_none, step_part, step_written}
 
 -- these parts are as this journal says, by the setting from before the step
 abbrev pub AreTiedTo : Parts → List Item → Parts → Control → Type 0
@@ -66,10 +66,6 @@ by_posts old new journal keeps tied =
 pub none_ok : {T E : Type 0} (P : Type 0) (r : Result T E) → IsErr r → OnOk r P
 none_ok P (Ok x) failed = absurd cc
 none_ok P (Err e) failed = tt
-
-pub by_error : {T E P : Type 0} (r : Result T E) → P → OnErr r P
-by_error (Ok x) p = tt
-by_error (Err e) p = p
 
 piece_split : (setting : Setting) (before : List Item) (row : ℕ) (step : Step)
     → piece setting before row step

@@ -11,10 +11,10 @@ use Rattle.update_machine.specs.Pieces.{piece}
 use Rattle.world.specs.Parts.{Begins, Goes, KeepNet, control_in, setting_in}
 use Rattle.world.specs.State.{AreTied, Control, comes_in}
 use Rattle.travelling.specs.Travelling.{Travellers}
-use Rattle.world.specs.Writing.{IsPart}
+use Rattle.world_log.specs.Writing.{IsPart}
 use Rattle.world.specs.declared.parts.Parts.{Parts}
-use Rattle.world.proofs.Frame.{by_error, goes, none_ok}
-use Rattle.world.proofs.Writing.{both_ok, step_part, step_written}
+use Rattle.world.proofs.Frame.{goes, none_ok}
+use Rattle.world_log.proofs.Writing.{both_ok, by_error, step_part, step_written}
 
 -- the journal behind the first item, what is written then, under which number the messages are,
 -- and what they post behind these posts

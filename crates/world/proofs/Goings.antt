@@ -38,8 +38,8 @@ use Rattle.update_machine.specs.Versions.{stamp_of, tables_at}
 use Rattle.way_laws.specs.OnWay.{IsUnknown}
 use Rattle.way_laws.specs.Words.{PacketWords, told_by}
 use Rattle.way_laws.proofs.Lookups.{FindsTargets, IsStamped, redirect_told, stamped}
-use Rattle.world.specs.Writing.{answer_items, answer_traveller, cache_message, entered_items, entered_traveller, messages_in}
-use Rattle.world.specs.declared.log.Standing.{Standing}
+use Rattle.world_log.specs.Writing.{answer_items, answer_traveller, cache_message, entered_items, entered_traveller, messages_in}
+use Rattle.world_log.specs.declared.log.Standing.{Standing}
 use Rattle.world.proofs.Legs.{at_switch}
 use Rattle.world.proofs.Looking.{IsAsked, targets_are}
 use Rattle.world.proofs.Others.{sends_unnamed}

@@ -31,12 +31,12 @@ use Rattle.world.specs.Played.{MayPlay}
 use Rattle.update_machine.specs.Setting.{Setting}
 use Rattle.way_laws.specs.Words.{PacketWords, words_of}
 use Rattle.way_laws.proofs.Words.{words_grow}
-use Rattle.world.specs.Packets.{arrival_items, ended_items, ended_switch, hop_items, hop_posts, hop_traveller, hopped_switch, hopped_traveller, standing_at, turned_items}
+use Rattle.world_log.specs.Packets.{arrival_items, ended_items, ended_switch, hop_items, hop_posts, hop_traveller, hopped_switch, hopped_traveller, standing_at, turned_items}
 use Rattle.world.specs.State.{AreTied, Control, traveller_in}
 use Rattle.travelling.specs.Travelling.{Travellers, WithOne, traveller}
 use Rattle.travelling.specs.declared.travelling.Traveller.{Traveller}
 use Rattle.world.proofs.Asking.{CanAsk, known_of}
-use Rattle.world.proofs.Hopping.{hopped_same}
+use Rattle.world_log.proofs.Hopping.{hopped_same}
 use Rattle.world.proofs.Known.{Known, traveller_stays}
 use Rattle.world.proofs.Later.{arrived_later, hop_sends, later_packets}
 use Rattle.world.proofs.Losing.{travels_as}

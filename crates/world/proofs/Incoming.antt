@@ -27,11 +27,11 @@ use Rattle.world.specs.Played.{MayPlay}
 use Rattle.update_machine.specs.Setting.{Setting}
 use Rattle.way_laws.specs.OnWay.{IsUnknown}
 use Rattle.way_laws.specs.Words.{words_of}
-use Rattle.world.specs.Packets.{coming_in, entry}
+use Rattle.world_log.specs.Packets.{coming_in, entry}
 use Rattle.world.specs.State.{AreTied, Control, traveller_in}
 use Rattle.travelling.specs.Travelling.{Travellers, WithOne, traveller}
-use Rattle.world.specs.Writing.{answer_items, entered_items, entered_posts, entered_traveller}
-use Rattle.world.specs.declared.log.Standing.{Standing}
+use Rattle.world_log.specs.Writing.{answer_items, entered_items, entered_posts, entered_traveller}
+use Rattle.world_log.specs.declared.log.Standing.{Standing}
 use Rattle.world.proofs.Asking.{known_of, seen}
 use Rattle.world.proofs.Coming.{ComesTo, come_goes, come_law, looking}
 use Rattle.world.proofs.Goings.{GoesIn, entered_goes}

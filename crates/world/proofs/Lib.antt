@@ -3,8 +3,6 @@ pub mod Known
 pub mod Seeing
 pub mod Looking
 pub mod Moving
-pub mod Hopping
-pub mod Turning
 pub mod Losing
 pub mod Tying
 pub mod Legs
@@ -12,7 +10,6 @@ pub mod Ends
 pub mod Deciding
 pub mod Firsts
 pub mod Saying
-pub mod Sends
 pub mod ActItems
 pub mod Told
 pub mod HeardBy
@@ -21,7 +18,6 @@ pub mod Submitting
 pub mod Relinking
 pub mod Relinked
 pub mod Opening
-pub mod Writing
 pub mod Starting
 pub mod Coming
 pub mod Others

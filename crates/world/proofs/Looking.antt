@@ -38,8 +38,8 @@ use Rattle.update_machine.specs.Versions.{plan_at, policy_at, stamp_of, tables_a
 use Rattle.boot_laws.specs.ItemCauses.{HasItemCause}
 use Rattle.way_laws.proofs.Lookups.{FindsRule, FindsTargets, IsStamped, authority_told, deciding, redirect_told, rule_there, stamped}
 use Rattle.way_laws.proofs.Plans.{Finds, IsPlanned}
-use Rattle.world.specs.Writing.{answer_items}
-use Rattle.world.specs.declared.log.Standing.{Standing}
+use Rattle.world_log.specs.Writing.{answer_items}
+use Rattle.world_log.specs.declared.log.Standing.{Standing}
 use Rattle.world.proofs.Deciding.{IsPacket, authority_law, decided_words, found_of, header_is}
 use Rattle.world.proofs.Ends.{end_law}
 use Rattle.world.proofs.Legs.{at_switch, leg_law, set_item}

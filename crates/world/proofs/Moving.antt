@@ -45,9 +45,9 @@ use Rattle.way_laws.proofs.Ends.{last_here, one_target}
 use Rattle.way_laws.proofs.Here.{found_in, next_in}
 use Rattle.way_laws.proofs.Kept.{Knows}
 use Rattle.way_laws.proofs.Routes.{IsWay, route_way}
-use Rattle.world.specs.Packets.{arrival, arrival_items, ended_items, ended_traveller, hop_items, hop_traveller, standing_at, turned_items}
-use Rattle.world.specs.Writing.{arrived_items}
-use Rattle.world.specs.declared.log.Standing.{Standing}
+use Rattle.world_log.specs.Packets.{arrival, arrival_items, ended_items, ended_traveller, hop_items, hop_traveller, standing_at, turned_items}
+use Rattle.world_log.specs.Writing.{arrived_items}
+use Rattle.world_log.specs.declared.log.Standing.{Standing}
 use Rattle.travelling.specs.declared.travelling.Traveller.{Traveller}
 use Rattle.world.proofs.Arrivals.{IsAtEnd, arrival_goes, arrive_comes, arrive_law, at_end_on, end_of_route, ours_of}
 use Rattle.world.proofs.Goings.{AreOfWords}

@@ -18,8 +18,8 @@ use Rattle.update_machine.specs.Marks.{retired_mark}
 use Rattle.update_machine.specs.Messages.{sent_from}
 use Rattle.update_machine.specs.Moves.{takes_route}
 use Rattle.way_laws.specs.Words.{PacketWords, names, told_by}
-use Rattle.world.specs.Writing.{answer_items, arrived_items, cache_message, end_of, entered_items, messages_in}
-use Rattle.world.specs.declared.log.Standing.{Standing}
+use Rattle.world_log.specs.Writing.{answer_items, arrived_items, cache_message, end_of, entered_items, messages_in}
+use Rattle.world_log.specs.declared.log.Standing.{Standing}
 use Rattle.travelling.specs.declared.travelling.Traveller.{Traveller}
 use Rattle.world.proofs.Words.{words_along}
 

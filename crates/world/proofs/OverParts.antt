@@ -9,18 +9,18 @@ use Rattle.steps.specs.declared.step.Step.TheVariants.{Hop, Packet as PacketStep
 use Rattle.switch_core.specs.State.{SwitchValue, counted}
 use Rattle.tunnel.specs.Moves.{here}
 use Rattle.update_machine.specs.Pieces.{piece}
-use Rattle.world.specs.Packets.{coming_in, entry, hop_items, hop_posts, hop_traveller, hopped_switch}
+use Rattle.world_log.specs.Packets.{coming_in, entry, hop_items, hop_posts, hop_traveller, hopped_switch}
 use Rattle.world.specs.Parts.{IsReady, control_in, setting_in}
 use Rattle.world.specs.State.{AreTied}
 use Rattle.travelling.specs.Travelling.{Travellers, WithOne, traveller}
-use Rattle.world.specs.Writing.{entered_items, entered_posts, entered_traveller}
+use Rattle.world_log.specs.Writing.{entered_items, entered_posts, entered_traveller}
 use Rattle.world.specs.declared.parts.Parts.{Parts}
 use Rattle.travelling.specs.declared.travelling.Traveller.{Traveller}
 use Rattle.world.proofs.Asking.{CanAsk, can_ask, switch_is, within_here}
 use Rattle.world.proofs.HopTie.{hop_piece_of, hop_tied}
 use Rattle.world.proofs.Incoming.{come_piece, come_ready, come_tied}
 use Rattle.world.proofs.OnWay.{number_of_packet}
-use Rattle.world.proofs.Writing.{both_ok, three_ok}
+use Rattle.world_log.proofs.Writing.{both_ok, three_ok}
 
 -- ---- a packet that comes in
 

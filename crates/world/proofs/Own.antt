@@ -11,8 +11,8 @@ use Rattle.switch_core.specs.declared.answers.Next.TheVariants as next
 use Rattle.tunnel.specs.Moves.{begun}
 use Rattle.tunnel.specs.Tunnel.{TunnelValue}
 use Rattle.way_laws.specs.Words.{PacketWords}
-use Rattle.world.specs.Writing.{decided_items, decided_traveller, end_of}
-use Rattle.world.specs.declared.log.Standing.{Standing}
+use Rattle.world_log.specs.Writing.{decided_items, decided_traveller, end_of}
+use Rattle.world_log.specs.declared.log.Standing.{Standing}
 use Rattle.world.proofs.Others.{NoneName, unnamed_first}
 use Rattle.world.proofs.Words.{Targets, traveller_by, words_along}
 

@@ -24,7 +24,7 @@ use Rattle.world.specs.Played.{MayPlay}
 use Rattle.update_machine.specs.Setting.{Setting, plan_of_file, policy_of_file, setting_of}
 use Rattle.update_machine.specs.Settling.{submitted_items}
 use Rattle.update_machine.specs.Versions.{version_count}
-use Rattle.world.specs.Sending.{act_items, act_posts}
+use Rattle.world_log.specs.Sending.{act_items, act_posts}
 use Rattle.world.specs.State.{AreTied, Control, IsBagOf}
 use Rattle.travelling.specs.Travelling.{Travellers}
 use Rattle.world.proofs.ActItems.{written_is}

@@ -19,7 +19,7 @@ use Rattle.update_machine.specs.Pieces.{piece}
 use Rattle.world.specs.Played.{MayPlay}
 use Rattle.update_machine.specs.Setting.{Setting}
 use Rattle.update_machine.proofs.CallerLemmas.{count_of_append, have_append, near_stays, packets_keep}
-use Rattle.world.specs.Sending.{act_items, act_posts}
+use Rattle.world_log.specs.Sending.{act_items, act_posts}
 use Rattle.world.specs.State.{AreTied, AreUp, AreUsable, Control, IsBagOf}
 use Rattle.travelling.specs.Travelling.{Travellers}
 use Rattle.world.proofs.ActItems.{SparesActs, acts_apart, acts_counted, acts_posted, acts_send, acts_unnamed}

@@ -1,8 +1,5 @@
 pub mod Played
 pub mod State
-pub mod Writing
-pub mod Packets
 pub mod Parts
-pub mod Sending
 pub mod Linking
 pub mod Files

@@ -10,7 +10,7 @@ use Rattle.update_machine.specs.Pieces.{piece}
 use Rattle.world.specs.Played.{MayPlay}
 use Rattle.update_machine.specs.Setting.{Setting, setting_of}
 use Rattle.world.specs.State.{AreTied, Control, WorldValue, comes_in}
-use Rattle.world.specs.Writing.{IsPart}
+use Rattle.world_log.specs.Writing.{IsPart}
 use Rattle.world.specs.declared.parts.Parts.{Parts}
 
 abbrev pub setting_in : Parts → Setting

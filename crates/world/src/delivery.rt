@@ -7,15 +7,15 @@ ghost use Rattle.steps.specs.declared.step.Step.TheVariants.{Deliver as DeliverS
 ghost use Rattle.update_machine.specs.Messages.{sent_from};
 ghost use Rattle.world.specs.Linking.{AreRelinked, all_told, near_all};
 ghost use Rattle.world.specs.Parts.{HasBegun, KeepRest, Plays};
-ghost use Rattle.world.specs.Sending.{act_items, act_posts};
-ghost use Rattle.world.specs.Writing.{IsPart};
+ghost use Rattle.world_log.specs.Sending.{act_items, act_posts};
+ghost use Rattle.world_log.specs.Writing.{IsPart};
 
 use crate::links::{relink, usable};
-use crate::log::Log;
 use crate::parts::Parts;
 use controller::Controller;
 use journal::{Body, Item, Receiver};
 use std::alloc::{AllocError, Global};
+use world_log::Log;
 
 impl Parts {
     /// A message is delivered: its switch or the controller hears it, and sends what it has to say

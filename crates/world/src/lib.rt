@@ -22,10 +22,7 @@ mod delivery;
 mod error;
 mod files;
 mod links;
-mod log;
-mod packets;
 mod parts;
-mod sending;
 mod updating;
 mod world;
 

@@ -3,8 +3,6 @@ ghost use Rattle.steps.specs.declared.step.Step.TheVariants.{Deliver as DeliverS
 ghost use Rattle.world.specs.Parts.{Goes, HasBegun, IsReady, Plays};
 
 use crate::files::Files;
-use crate::log::Log;
-use crate::packets::{enter, hop};
 use controller::Controller;
 use five_tuple::Header;
 use journal::Item;
@@ -12,6 +10,7 @@ use net_file::Ports;
 use std::alloc::{AllocError, Global};
 use steps::Step;
 use switch_core::Switch;
+use world_log::{Log, enter, hop};
 
 /// What a world is made of.
 #[derive(Drop)]

@@ -13,12 +13,11 @@ ghost use Rattle.update_machine.specs.Setting.{setting_of};
 ghost use Rattle.world.specs.declared.error.StepError.TheVariants.{Full, NoMemory};
 ghost use Rattle.world.specs.State.{IsBegun, IsTied, comes_in, setting_at};
 ghost use Rattle.travelling.specs.Travelling.{IsNextFrom, traveller};
-ghost use Rattle.world.specs.Writing.{IsPart};
+ghost use Rattle.world_log.specs.Writing.{IsPart};
 
 use crate::beginning::{near_masks, switches_of};
 use crate::error::StepError;
 use crate::files::Files;
-use crate::log::Log;
 use crate::parts::Parts;
 use bag::Bag;
 use controller::{Controller, PlanError, compile};
@@ -31,6 +30,7 @@ use steps::Step;
 use switch_core::Switch;
 use travelling::Travelling;
 use update_machine::FULL_AT;
+use world_log::Log;
 
 /// A network of switches with its controller, the packets on their way in it, and the journal of
 /// what happened.

@@ -15,15 +15,15 @@ use Rattle.switch_core.specs.Hearing.{replies}
 use Rattle.update_machine.specs.Messages.{sent_from}
 use Rattle.world.specs.Parts.{control_in, setting_in}
 use Rattle.world.specs.Linking.{all_told, near_all}
-use Rattle.world.specs.Sending.{act_items, act_posts}
+use Rattle.world_log.specs.Sending.{act_items, act_posts}
 use Rattle.world.specs.State.{AreTied}
-use Rattle.world.specs.Writing.{IsPart}
+use Rattle.world_log.specs.Writing.{IsPart}
 use Rattle.world.proofs.GoesTold.{first_goes, goes_told, same_control}
 use Rattle.world.proofs.HeardBy.{control_few, control_piece, control_tied, first_piece, names_known, shut_few, shut_piece, shut_tied, undelivered}
 use Rattle.world.proofs.HearReady.{few_switches, hear_ready, usable_here}
 use Rattle.world.proofs.Opening.{opening_few, opening_next, opening_piece, opening_tied}
 use Rattle.world.proofs.Frame.{goes_one, nothing_goes}
-use Rattle.world.proofs.Writing.{both_ok, step_part, step_written}
+use Rattle.world_log.proofs.Writing.{both_ok, step_part, step_written}
 use Rattle.world.proofs.parts.Parts.deliver.Goals as goal
 
 -- ---- no such message

@@ -9,8 +9,8 @@ use Rattle.journal.specs.declared.item.Item.TheVariants as item
 use Rattle.steps.specs.declared.step.Step.TheVariants.{Update}
 use Rattle.world.specs.Files.{IsCompiled}
 use Rattle.world.specs.Parts.{control_in, setting_in}
-use Rattle.world.specs.Sending.{act_items, act_posts}
-use Rattle.world.specs.Writing.{IsPart}
+use Rattle.world_log.specs.Sending.{act_items, act_posts}
+use Rattle.world_log.specs.Writing.{IsPart}
 use Rattle.world.proofs.Frame.{goes_one, nothing_goes}
 use Rattle.world.proofs.GoesTold.{goes_told}
 use Rattle.world.proofs.Submitting.{live_piece, planned_file, refused_piece, refused_tied, submitted_few, submitted_piece, submitted_tied, unplanned_code, versions_piece}

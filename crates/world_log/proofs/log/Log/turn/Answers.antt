@@ -2,8 +2,8 @@ use Rattle.std.proofs.Common.{subst, sym}
 use Rattle.std.specs.Prelude.{IsSomeAnd}
 use Rattle.travelling.specs.Travelling.{HasPlace, traveller}
 use Rattle.travelling.specs.declared.travelling.Traveller.{Traveller}
-use Rattle.world.proofs.Turning.{kept_place}
-use Rattle.world.proofs.log.Log.turn.Goals as goal
+use Rattle.world_log.proofs.Turning.{kept_place}
+use Rattle.world_log.proofs.log.Log.turn.Goals as goal
 
 pub move_to-requires : goal.move_to-requires
 move_to-requires c =

@@ -3,8 +3,8 @@ use Rattle.std.proofs.Common.{◌≡◌, ◌+◌, ◌++◌, sym, subst, length, 
 use Rattle.std.specs.Prelude.{Option, OnOk}
 use Rattle.ctrl_msg.specs.declared.message.Message.{Message}
 use Rattle.update_machine.specs.Messages.{sent_from}
-use Rattle.world.specs.Writing.{messages_in}
-use Rattle.world.proofs.log.Log.send_if.Goals as goal
+use Rattle.world_log.specs.Writing.{messages_in}
+use Rattle.world_log.proofs.log.Log.send_if.Goals as goal
 
 pub returns-in-Some-clause-written : goal.returns-in-Some-clause-written
 unfolding sent_from

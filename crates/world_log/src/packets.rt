@@ -3,9 +3,9 @@ ghost use Rattle.switch_core.specs.Answering.{CanLookUp, IsAtAuthority};
 ghost use Rattle.switch_core.specs.Moving.{hopped};
 ghost use Rattle.switch_core.specs.State.{counted, serves};
 ghost use Rattle.switch_core.specs.declared.answers.HopEnd.TheVariants.{Arrive};
-ghost use Rattle.world.specs.Packets.{IsEnded, arrival, arrival_items, arrival_posts, coming_in, ended_items, ended_posts, ended_switch, entry, hop_items, hop_posts, hop_traveller, hopped_switch, standing_at};
+ghost use Rattle.world_log.specs.Packets.{IsEnded, arrival, arrival_items, arrival_posts, coming_in, ended_items, ended_posts, ended_switch, entry, hop_items, hop_posts, hop_traveller, hopped_switch, standing_at};
 ghost use Rattle.travelling.specs.Travelling.{WithOne, traveller as traveller_of};
-ghost use Rattle.world.specs.Writing.{IsPart, answer_items, answer_posts, answer_traveller, arrived_items, arrived_posts, arrived_traveller, cache_message, entered_items, entered_posts, entered_traveller};
+ghost use Rattle.world_log.specs.Writing.{IsPart, answer_items, answer_posts, answer_traveller, arrived_items, arrived_posts, arrived_traveller, cache_message, entered_items, entered_posts, entered_traveller};
 
 use crate::log::{Log, Standing};
 use five_tuple::Header;

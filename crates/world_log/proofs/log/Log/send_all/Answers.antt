@@ -1,9 +1,9 @@
 use Rattle.std.proofs.Common.{refl, subst, sym, length, ◌+◌, ◌∙◌, arith}
 use Rattle.update_machine.specs.Messages.{sent_from}
-use Rattle.world.specs.Writing.{IsPart}
-use Rattle.world.proofs.Sends.{sent_begun, sent_few, sent_more, sent_part}
-use Rattle.world.proofs.Frame.{by_error}
-use Rattle.world.proofs.log.Log.send_all.Goals as goal
+use Rattle.world_log.specs.Writing.{IsPart}
+use Rattle.world_log.proofs.Sends.{sent_begun, sent_few, sent_more, sent_part}
+use Rattle.world_log.proofs.Writing.{by_error}
+use Rattle.world_log.proofs.log.Log.send_all.Goals as goal
 
 pub loop-message-init : goal.loop-message-init
 loop-message-init c =

@@ -10,11 +10,11 @@ use Rattle.switch_core.specs.declared.answers.HopEnd.{HopEnd}
 use Rattle.switch_core.specs.declared.answers.HopEnd.TheVariants as hop
 use Rattle.tunnel.specs.Moves.{next}
 use Rattle.tunnel.specs.Tunnel.{TunnelValue}
-use Rattle.world.specs.Packets.{IsEnded, IsTurned, ended_items, ended_traveller, hop_items, hop_traveller, hopped_traveller, turned_items}
+use Rattle.world_log.specs.Packets.{IsEnded, IsTurned, ended_items, ended_traveller, hop_items, hop_traveller, hopped_traveller, turned_items}
 use Rattle.travelling.specs.Travelling.{HasPlace, IsKeptOn, OthersStay, Travellers, WithOne, placed_at, traveller}
-use Rattle.world.specs.Writing.{IsPart}
+use Rattle.world_log.specs.Writing.{IsPart}
 use Rattle.travelling.specs.declared.travelling.Traveller.{Traveller}
-use Rattle.world.proofs.Hopping.{SamePacket, authority_counted, hopped_same, none_found}
+use Rattle.world_log.proofs.Hopping.{SamePacket, authority_counted, hopped_same, none_found}
 
 -- ---- one slot
 

@@ -3,12 +3,16 @@ use Rattle.std.proofs.Common.{◌≡◌, List, [], ◌∷◌, ◌++◌, refl, ap
 use Rattle.std.specs.Prelude.{OnErr, OnOk, Result, Ok, Err}
 use Rattle.std.proofs.lemmas.Result.{on_ok_weaker}
 use Rattle.journal.specs.declared.item.Item.{Item}
-use Rattle.world.specs.Writing.{IsPart}
+use Rattle.world_log.specs.Writing.{IsPart}
 
 -- nothing was written
 pub part_none : (old items new : List Item) → new ≡ old → IsPart old items new
 part_none old items new is =
     record { written = []; rest = items; split = refl; grown = is ∙ sym (append-nil old) }
+
+pub by_error : {T E P : Type 0} (r : Result T E) → P → OnErr r P
+by_error (Ok x) p = tt
+by_error (Err e) p = p
 
 -- ---- the row, and then the rest
 

@@ -1,9 +1,9 @@
 use Rattle.std.proofs.Common.{refl, subst, sym, length, ◌+◌, ◌∙◌, arith}
-use Rattle.world.specs.Sending.{act_items}
-use Rattle.world.specs.Writing.{IsPart}
-use Rattle.world.proofs.Sends.{done_begun, done_few, done_more, done_part}
-use Rattle.world.proofs.Frame.{by_error}
-use Rattle.world.proofs.log.Log.note_acts.Goals as goal
+use Rattle.world_log.specs.Sending.{act_items}
+use Rattle.world_log.specs.Writing.{IsPart}
+use Rattle.world_log.proofs.Sends.{done_begun, done_few, done_more, done_part}
+use Rattle.world_log.proofs.Writing.{by_error}
+use Rattle.world_log.proofs.log.Log.note_acts.Goals as goal
 
 pub loop-act-init : goal.loop-act-init
 loop-act-init c =

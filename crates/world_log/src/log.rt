@@ -3,9 +3,9 @@ ghost use Rattle.bag.specs.Posts.{posted};
 ghost use Rattle.journal.specs.declared.item.Item.TheVariants.{Rerouted, Sent as SentItem, Stuck as StuckItem};
 ghost use Rattle.update_machine.specs.Messages.{sent_from};
 ghost use Rattle.update_machine.specs.Moves.{takes_route};
-ghost use Rattle.world.specs.Packets.{IsTurned, turned_items};
+ghost use Rattle.world_log.specs.Packets.{IsTurned, turned_items};
 ghost use Rattle.travelling.specs.Travelling.{IsKeptOn, WithOne};
-ghost use Rattle.world.specs.Writing.{IsPart, decided_items, decided_traveller, end_of, exit_leg, leaves, messages_in};
+ghost use Rattle.world_log.specs.Writing.{IsPart, decided_items, decided_traveller, end_of, exit_leg, leaves, messages_in};
 
 use bag::Bag;
 use five_tuple::Header;

@@ -1,6 +1,6 @@
 use Rattle.std.proofs.Common.{◌≡◌, take}
-use Rattle.world.proofs.Sends.{AreDone}
-use Rattle.world.proofs.log.Log.note_acts.Given as goal
+use Rattle.world_log.proofs.Sends.{AreDone}
+use Rattle.world_log.proofs.log.Log.note_acts.Given as goal
 
 -- the acts so far
 abbrev pub invariant-loop-act : goal.invariant-loop-act

@@ -3,12 +3,12 @@ use Rattle.std.proofs.Common.{◌+◌, ◌++◌, List, ap, sym, subst, ◌∙◌
 use Rattle.std.proofs.lemmas.Result.{on_err_weaker, on_ok_weaker}
 use Rattle.bag.specs.Posts.{Post}
 use Rattle.switch_core.specs.State.{SwitchValue}
-use Rattle.world.specs.Packets.{hop_items}
+use Rattle.world_log.specs.Packets.{hop_items}
 use Rattle.travelling.specs.Travelling.{WithOne}
-use Rattle.world.specs.Writing.{IsPart}
-use Rattle.world.proofs.Turning.{IsAnswered, both_written, ended, hop_authority, hop_items_are, hop_kept, hop_traveller_is, part_back, part_front, same_packet}
-use Rattle.world.proofs.Frame.{by_error}
-use Rattle.world.proofs.packets.hop.Goals as goal
+use Rattle.world_log.specs.Writing.{IsPart}
+use Rattle.world_log.proofs.Turning.{IsAnswered, both_written, ended, hop_authority, hop_items_are, hop_kept, hop_traveller_is, part_back, part_front, same_packet}
+use Rattle.world_log.proofs.Writing.{by_error}
+use Rattle.world_log.proofs.packets.hop.Goals as goal
 
 pub turn-requires : goal.turn-requires
 turn-requires c =

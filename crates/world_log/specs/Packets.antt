@@ -15,8 +15,8 @@ use Rattle.switch_core.specs.declared.answers.HopEnd.{HopEnd}
 use Rattle.switch_core.specs.declared.answers.HopEnd.TheVariants as hop
 use Rattle.tunnel.specs.Moves.{next}
 use Rattle.travelling.specs.Travelling.{OthersStay, Travellers, WithOne}
-use Rattle.world.specs.Writing.{arrived_items, arrived_posts, arrived_traveller}
-use Rattle.world.specs.declared.log.Standing.{Standing}
+use Rattle.world_log.specs.Writing.{arrived_items, arrived_posts, arrived_traveller}
+use Rattle.world_log.specs.declared.log.Standing.{Standing}
 use Rattle.travelling.specs.declared.travelling.Traveller.{Traveller}
 
 -- a packet that comes in at a switch

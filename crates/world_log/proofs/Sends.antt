@@ -8,8 +8,8 @@ use Rattle.ctrl_msg.specs.declared.message.Message.{Message}
 use Rattle.journal.specs.declared.item.Item.{Item}
 use Rattle.journal.specs.declared.item.Item.TheVariants as item
 use Rattle.update_machine.specs.Messages.{sent_from}
-use Rattle.world.specs.Sending.{act_item, act_items, act_post, act_posts, number_after}
-use Rattle.world.specs.Writing.{IsPart}
+use Rattle.world_log.specs.Sending.{act_item, act_items, act_post, act_posts, number_after}
+use Rattle.world_log.specs.Writing.{IsPart}
 
 pub sent_append : (number : ℕ) (first later : List Message)
     → sent_from number (first ++ later)

@@ -1,6 +1,6 @@
 use Rattle.std.proofs.Common.{◌≡◌, take}
-use Rattle.world.proofs.Sends.{AreSent}
-use Rattle.world.proofs.log.Log.send_all.Given as goal
+use Rattle.world_log.proofs.Sends.{AreSent}
+use Rattle.world_log.proofs.log.Log.send_all.Given as goal
 
 -- the messages so far
 abbrev pub invariant-loop-message : goal.invariant-loop-message

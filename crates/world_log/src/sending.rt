@@ -2,8 +2,8 @@
 ghost use Rattle.std.specs.Prelude.{◌≡◌, ◌+◌, ◌^◌, ◌<◌, ◌++◌, ◌∷◌, [], OnOk, OnErr, length, map};
 ghost use Rattle.bag.specs.Posts.{posted};
 ghost use Rattle.update_machine.specs.Messages.{sent_from};
-ghost use Rattle.world.specs.Sending.{act_item, act_items, act_post, act_posts};
-ghost use Rattle.world.specs.Writing.{IsPart};
+ghost use Rattle.world_log.specs.Sending.{act_item, act_items, act_post, act_posts};
+ghost use Rattle.world_log.specs.Writing.{IsPart};
 
 use crate::log::Log;
 use controller::Act;

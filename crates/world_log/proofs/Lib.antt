@@ -1,0 +1,4 @@
+pub mod Writing
+pub mod Sends
+pub mod Hopping
+pub mod Turning
