@@ -10,7 +10,7 @@ use Rattle.journal.specs.declared.item.Item.TheVariants as item
 use Rattle.steps.specs.declared.step.Step.{Step}
 use Rattle.update_machine.specs.Pieces.{piece, step_items}
 use Rattle.update_machine.specs.Setting.{Setting, setting_of}
-use Rattle.world.specs.Files.{FilesValue}
+use Rattle.policy_store.specs.Files.{FilesValue}
 use Rattle.world.specs.Parts.{AreTiedIn, Begins, Goes, HasBegun, IsReady, KeepNet, Plays, control_in, setting_in}
 use Rattle.world.specs.State.{AreTied, Control, comes_in}
 use Rattle.world_log.specs.Writing.{IsPart}

@@ -15,7 +15,6 @@ pub mod Told
 pub mod HeardBy
 pub mod HearReady
 pub mod Submitting
-pub mod Relinking
 pub mod Relinked
 pub mod Opening
 pub mod Starting

@@ -45,7 +45,7 @@ use Rattle.update_machine.specs.Pieces.{piece}
 use Rattle.world.specs.Played.{MayPlay}
 use Rattle.update_machine.specs.Setting.{Setting, switches_of}
 use Rattle.update_machine.proofs.CallerLemmas.{last_told_append, messages_keep}
-use Rattle.world.specs.Linking.{AreRelinked, all_told, near_all}
+use Rattle.usable_links.specs.Linking.{AreRelinked, all_told, near_all}
 use Rattle.world_log.specs.Sending.{act_items}
 use Rattle.world.specs.State.{AreTied, Control, IsBagOf, is_up_link, up_links}
 use Rattle.travelling.specs.Travelling.{Travellers}

@@ -26,8 +26,8 @@ use Rattle.update_machine.specs.Deliveries.{has_changed, told_by}
 use Rattle.update_machine.specs.Links.{is_usable, near, usable_links}
 use Rattle.update_machine.specs.Setting.{Setting, switches_of}
 use Rattle.world.specs.State.{is_up_link, up_links}
-use Rattle.world.specs.Linking.{AreRelinked, all_told, changes, near_all, near_by, serves_at, told_as, told_at, told_to}
-use Rattle.world.proofs.Relinking.{told_nothing}
+use Rattle.usable_links.specs.Linking.{AreRelinked, all_told, changes, near_all, near_by, serves_at, told_as, told_at, told_to}
+use Rattle.usable_links.proofs.Relinking.{told_nothing}
 
 -- ---- masks
 

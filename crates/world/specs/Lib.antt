@@ -1,5 +1,3 @@
 pub mod Played
 pub mod State
 pub mod Parts
-pub mod Linking
-pub mod Files

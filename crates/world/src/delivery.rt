@@ -5,16 +5,16 @@ ghost use Rattle.controller.specs.Controller.{ControllerValue, SettlesWith};
 ghost use Rattle.controller.specs.Sends.{NamesThere, after_hearing, hearing};
 ghost use Rattle.steps.specs.declared.step.Step.TheVariants.{Deliver as DeliverStep};
 ghost use Rattle.update_machine.specs.Messages.{sent_from};
-ghost use Rattle.world.specs.Linking.{AreRelinked, all_told, near_all};
+ghost use Rattle.usable_links.specs.Linking.{AreRelinked, all_told, near_all};
 ghost use Rattle.world.specs.Parts.{HasBegun, KeepRest, Plays};
 ghost use Rattle.world_log.specs.Sending.{act_items, act_posts};
 ghost use Rattle.world_log.specs.Writing.{IsPart};
 
-use crate::links::{relink, usable};
 use crate::parts::Parts;
 use controller::Controller;
 use journal::{Body, Item, Receiver};
 use std::alloc::{AllocError, Global};
+use usable_links::{relink, usable};
 use world_log::Log;
 
 impl Parts {

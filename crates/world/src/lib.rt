@@ -20,8 +20,6 @@
 mod beginning;
 mod delivery;
 mod error;
-mod files;
-mod links;
 mod parts;
 mod updating;
 mod world;

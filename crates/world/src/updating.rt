@@ -2,10 +2,10 @@
 ghost use Rattle.steps.specs.declared.step.Step.TheVariants.{Update as UpdateStep};
 ghost use Rattle.world.specs.Parts.{HasBegun, Plays};
 
-use crate::files::Compiled;
 use crate::parts::Parts;
 use controller::SubmitError;
 use journal::Item;
+use policy_store::Compiled;
 use std::alloc::{AllocError, Global};
 
 impl Parts {

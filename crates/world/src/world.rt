@@ -17,13 +17,13 @@ ghost use Rattle.world_log.specs.Writing.{IsPart};
 
 use crate::beginning::{near_masks, switches_of};
 use crate::error::StepError;
-use crate::files::Files;
 use crate::parts::Parts;
 use bag::Bag;
 use controller::{Controller, PlanError, compile};
 use journal::Journal;
 use net_file::Net;
 use policy_rules::Policy;
+use policy_store::Files;
 use std::alloc::{AllocError, Global};
 use std::marker::Model;
 use steps::Step;

@@ -14,7 +14,7 @@ use Rattle.steps.specs.declared.step.Step.TheVariants.{Deliver}
 use Rattle.switch_core.specs.Hearing.{replies}
 use Rattle.update_machine.specs.Messages.{sent_from}
 use Rattle.world.specs.Parts.{control_in, setting_in}
-use Rattle.world.specs.Linking.{all_told, near_all}
+use Rattle.usable_links.specs.Linking.{all_told, near_all}
 use Rattle.world_log.specs.Sending.{act_items, act_posts}
 use Rattle.world.specs.State.{AreTied}
 use Rattle.world_log.specs.Writing.{IsPart}

@@ -7,7 +7,7 @@ use Rattle.controller.specs.Submit.{IsLeft}
 use Rattle.controller.specs.declared.sends.Act.{Act}
 use Rattle.journal.specs.declared.item.Item.TheVariants as item
 use Rattle.steps.specs.declared.step.Step.TheVariants.{Update}
-use Rattle.world.specs.Files.{IsCompiled}
+use Rattle.policy_store.specs.Files.{IsCompiled}
 use Rattle.world.specs.Parts.{control_in, setting_in}
 use Rattle.world_log.specs.Sending.{act_items, act_posts}
 use Rattle.world_log.specs.Writing.{IsPart}

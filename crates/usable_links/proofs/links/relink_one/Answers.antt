@@ -1,0 +1,45 @@
+use Rattle.std.proofs.Common.{◌≡◌, ◌++◌, ap, sym, ◌∙◌, append_assoc, append-nil, arith, true, ◌==◌, ne_eqb}
+use Rattle.std.specs.Prelude.{not, ◌&&◌}
+use Rattle.switch_core.specs.Life.{near_changed, next_advert}
+use Rattle.usable_links.proofs.Relinking.{told_all, told_below, told_none, told_step}
+use Rattle.usable_links.specs.Linking.{changes, told_near}
+use Rattle.usable_links.proofs.links.relink_one.Goals as goal
+
+pub loop-other-init : goal.loop-other-init
+loop-other-init c = sym (append-nil c.args.messages.now.items)
+    ∙ ap (λ more. c.args.messages.now.items ++ more)
+    (sym (told_none c.near_changed-own.new.self c.near_changed-own.result c.args.had c.args.near))
+
+pub loop-other-preserved : goal.loop-other-preserved
+loop-other-preserved c =
+    let switch = c.near_changed-own.new.self in
+    let own = c.near_changed-own.result in
+    let had = c.args.had in
+    let near = c.args.near in
+    let other = c.loop-other.other in
+    c.in_ok-tell_near.ensures
+    ∙ ap (λ so. so ++ told_near switch own had near other) c.loop-other.invariant
+    ∙ append_assoc c.args.messages.now.items (told_below switch own had near other)
+    (told_near switch own had near other)
+    ∙ ap (λ more. c.args.messages.now.items ++ more) (sym (told_step switch own had near other))
+
+pub returns-clause-told : goal.returns-clause-told
+returns-clause-told c =
+    let old = c.args.switch.now in
+    let near = c.args.near in
+    let up : old.is_up ≡ true = sym c.if-not-is_up.ensures in
+    let changed : changes c.args.had near old ≡ true =
+    ap (λ b. b && not (c.args.had == near)) up
+    ∙ ap not (ne_eqb c.args.had near c.if-had-near.false) in
+    let all : c.loop-other.other ≡ c.args.count = omega arith in
+    c.loop-other.invariant
+    ∙ ap (λ w. c.args.messages.now.items
+    ++ told_below w c.near_changed-own.result c.args.had near c.loop-other.other)
+    c.near_changed-own.ensures.after
+    ∙ ap (λ own. c.args.messages.now.items
+    ++ told_below (near_changed old near) own c.args.had near c.loop-other.other)
+    c.near_changed-own.ensures.advert
+    ∙ ap (λ n. c.args.messages.now.items
+    ++ told_below (near_changed old near) (next_advert old near) c.args.had near n) all
+    ∙ ap (λ more. c.args.messages.now.items ++ more)
+    (told_all old c.args.count c.args.had near changed)

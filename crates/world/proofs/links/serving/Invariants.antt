@@ -1,6 +1,0 @@
-use Rattle.world.proofs.Relinking.{ServeBelow}
-use Rattle.world.proofs.links.serving.Given as goal
-
--- those of the switches so far
-abbrev pub invariant-loop-s : goal.invariant-loop-s
-invariant-loop-s l = ServeBelow l.mask l.s l.switches
