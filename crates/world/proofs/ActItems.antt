@@ -14,8 +14,8 @@ use Rattle.update_machine.specs.Folds.{count_of}
 use Rattle.update_machine.specs.Messages.{is_sending, next_message, sent_from}
 use Rattle.update_machine.proofs.CallerLemmas.{messages_keep}
 use Rattle.world_log.specs.Sending.{act_items, act_posts}
-use Rattle.world.proofs.Others.{NoneName}
-use Rattle.world.proofs.Posting.{SendFrom, posts_in, sending_one}
+use Rattle.log_ties.proofs.Others.{NoneName}
+use Rattle.log_ties.proofs.Posting.{SendFrom, posts_in, sending_one}
 
 -- what marks and messages concern not
 pub record SparesActs (concerns : List Item → Item → Bool) : Type 0 where

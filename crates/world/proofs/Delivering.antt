@@ -15,10 +15,11 @@ use Rattle.update_machine.specs.Pieces.{forget_items, nothing, piece}
 use Rattle.world.specs.Played.{MayPlay}
 use Rattle.update_machine.specs.Setting.{Setting}
 use Rattle.update_machine.proofs.CallerLemmas.{message_keeps}
-use Rattle.world.specs.State.{AreTied, Control, IsBagOf, post_in}
+use Rattle.world.specs.State.{AreTied, Control}
+use Rattle.log_ties.specs.Bags.{IsBagOf, post_in}
 use Rattle.travelling.specs.Travelling.{Travellers}
 use Rattle.world.proofs.OneItem.{grown, tied_one}
-use Rattle.world.proofs.Posting.{bag_forgotten, bag_on, some_within}
+use Rattle.log_ties.proofs.Posting.{bag_forgotten, bag_on, some_within}
 use Rattle.world.proofs.Tying.{switches_stay}
 
 -- ---- what the bag says of a message

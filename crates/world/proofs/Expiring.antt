@@ -16,10 +16,11 @@ use Rattle.switch_ties.proofs.Links.{kept_is}
 use Rattle.update_machine.specs.Pieces.{piece}
 use Rattle.world.specs.Played.{MayPlay}
 use Rattle.update_machine.specs.Setting.{Setting}
-use Rattle.world.specs.State.{AreTied, Control, IsBagOf}
+use Rattle.world.specs.State.{AreTied, Control}
+use Rattle.log_ties.specs.Bags.{IsBagOf}
 use Rattle.travelling.specs.Travelling.{Travellers}
 use Rattle.world.proofs.OneItem.{WritesOne, grown, tied_one}
-use Rattle.world.proofs.Posting.{bag_on}
+use Rattle.log_ties.proofs.Posting.{bag_on}
 use Rattle.world.proofs.Tying.{one_changes}
 
 -- what the step writes, by the number of the message that brought the entry

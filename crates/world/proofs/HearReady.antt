@@ -18,7 +18,7 @@ use Rattle.update_machine.specs.Settling.{to_switch}
 use Rattle.world.specs.State.{AreTied, Control}
 use Rattle.travelling.specs.Travelling.{Travellers}
 use Rattle.world.proofs.Delivering.{sent_as}
-use Rattle.world.proofs.Known.{Known, reached_known}
+use Rattle.log_ties.proofs.Known.{Known, reached_known}
 
 pub sends_few : (setting : Setting) (journal : List Item) → Known setting journal
     → StepsSendFew setting journal

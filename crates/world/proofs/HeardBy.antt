@@ -3,9 +3,8 @@ use Rattle.std.proofs.Common.{ℕ, ◌≡◌, ◌+◌, ◌^◌, ◌<◌, ◌==�
 use Rattle.std.specs.Prelude.{is_some, ◌||◌}
 use Rattle.std.specs.Option.{option_map_or}
 use Rattle.std.proofs.lemmas.List.{length-map, length-set}
-use Rattle.bag.specs.Posts.{Post, message_of as message_in, posted, with_delivered}
+use Rattle.bag.specs.Posts.{Post, message_of as message_in, posted, with_delivered, with_status}
 use Rattle.bag.specs.Deliveries.{delivered}
-use Rattle.bag.specs.Posts.{with_status}
 use Rattle.bag.proofs.Numbered.{length_changed}
 use Rattle.control_ties.specs.Written.{AreWritten}
 use Rattle.control_ties.proofs.CallerLemmas.{hears, names_there, steps_leave}
@@ -34,14 +33,15 @@ use Rattle.update_machine.specs.Setting.{Setting}
 use Rattle.update_machine.specs.Settling.{to_switch}
 use Rattle.update_machine.proofs.CallerLemmas.{message_keeps}
 use Rattle.world_log.specs.Sending.{act_items, act_posts}
-use Rattle.world.specs.State.{AreTied, Control, IsBagOf}
+use Rattle.world.specs.State.{AreTied, Control}
+use Rattle.log_ties.specs.Bags.{IsBagOf}
 use Rattle.travelling.specs.Travelling.{Travellers}
 use Rattle.world.proofs.ActItems.{posts_as_acts, sent_as_acts, written_is}
 use Rattle.world.proofs.Delivering.{deliverable_as, nothing_tied, sent_as}
 use Rattle.world.proofs.HearReady.{sends_few}
-use Rattle.world.proofs.Known.{reached_known}
+use Rattle.log_ties.proofs.Known.{reached_known}
 use Rattle.world.proofs.OneItem.{grown}
-use Rattle.world.proofs.Posting.{bag_delivered, bag_on, within_posts}
+use Rattle.log_ties.proofs.Posting.{bag_delivered, bag_on, within_posts}
 use Rattle.world.proofs.Told.{IsTold, acts_fit, tied_told}
 use Rattle.world.proofs.Tying.{links_stay, one_changes, up_stay}
 

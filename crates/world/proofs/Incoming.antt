@@ -1,24 +1,18 @@
 -- A packet that comes in: its whole step keeps the tie.
-use Rattle.std.proofs.Common.{ℕ, ◌≡◌, ◌+◌, ◌<◌, ◌≤◌, ◌==◌, Bool, true, false, if◌then◌else◌, cond, List, [], ◌∷◌, ◌++◌, refl, ap, sym, subst, ◌∙◌, length, get_or, set, eqb-true, eq-eqb, arith}
+use Rattle.std.proofs.Common.{ℕ, ◌≡◌, ◌+◌, ◌<◌, ◌≤◌, ◌==◌, true, false, cond, List, [], ◌∷◌, ◌++◌, refl, ap, sym, subst, ◌∙◌, length, get_or, set, eq-eqb, arith}
 use Rattle.std.specs.Prelude.{slice_index}
-use Rattle.std.proofs.lemmas.Bool.Decides.{nat_tests}
 use Rattle.std.proofs.lemmas.List.{length-set}
 use Rattle.std.proofs.lemmas.List.Sums.{sum_by-cons}
 use Rattle.five_tuple.specs.declared.header.Header.{Header}
 use Rattle.net_file.specs.Owners.{AreOwners}
 use Rattle.net_file.specs.declared.ports.Ports.{Ports}
-use Rattle.policy_rules.specs.declared.packet.Leg.{Leg}
 use Rattle.journal.specs.declared.item.Item.{Item}
 use Rattle.journal.specs.declared.item.Item.TheVariants as item
 use Rattle.steps.specs.declared.step.Step.{Step}
 use Rattle.steps.specs.declared.step.Step.TheVariants.{Packet as PacketStep}
 use Rattle.switch_core.specs.State.{SwitchValue, counted}
 use Rattle.switch_core.specs.declared.answers.Entered.{Entered}
-use Rattle.switch_core.specs.declared.answers.Entered.TheVariants as entered
-use Rattle.switch_ties.specs.Calls.{AreInStep}
 use Rattle.switch_ties.specs.SwitchOf.{switch_of}
-use Rattle.switch_ties.proofs.Steps.{call_ties}
-use Rattle.update_machine.specs.Concerns.{NoneConcern, concerns_policies}
 use Rattle.update_machine.specs.Folds.{count_of}
 use Rattle.update_machine.specs.Messages.{next_message}
 use Rattle.update_machine.specs.Packets.{is_packet, next_packet, targets_of}
@@ -28,91 +22,18 @@ use Rattle.update_machine.specs.Setting.{Setting}
 use Rattle.way_laws.specs.OnWay.{IsUnknown}
 use Rattle.way_laws.specs.Words.{words_of}
 use Rattle.world_log.specs.Packets.{coming_in, entry}
-use Rattle.world.specs.State.{AreTied, Control, traveller_in}
-use Rattle.travelling.specs.Travelling.{Travellers, WithOne, traveller}
-use Rattle.world_log.specs.Writing.{answer_items, entered_items, entered_posts, entered_traveller}
+use Rattle.world.specs.State.{AreTied, Control}
+use Rattle.travelling.specs.Travelling.{Travellers, WithOne}
+use Rattle.world_log.specs.Writing.{entered_items, entered_posts, entered_traveller}
 use Rattle.world_log.specs.declared.log.Standing.{Standing}
+use Rattle.log_ties.proofs.ComePieces.{come_along, come_called, entered_once}
 use Rattle.world.proofs.Asking.{known_of, seen}
-use Rattle.world.proofs.Coming.{ComesTo, come_goes, come_law, looking}
-use Rattle.world.proofs.Goings.{GoesIn, entered_goes}
-use Rattle.world.proofs.Known.{Known, traveller_stays}
-use Rattle.world.proofs.Later.{answer_later, entered_sends, later_packets}
-use Rattle.world.proofs.Others.{entered_other}
-use Rattle.world.proofs.Posting.{SendFrom, apart_known, apart_policies, posts_in}
+use Rattle.log_ties.proofs.Coming.{ComesTo, come_goes, come_law, looking}
+use Rattle.log_ties.proofs.Known.{Known}
+use Rattle.log_ties.proofs.Later.{entered_sends}
+use Rattle.log_ties.proofs.Posting.{SendFrom, apart_policies, posts_in}
 use Rattle.world.proofs.Tying.{Steps, numbered, one_changes, packets_are, switches_are, tied_more}
-use Rattle.world.proofs.Words.{Targets, by_targets, same_targets, traveller_along, words_along}
-
--- ---- one packet comes in, and then none
-
-once : (first : Item) (items : List Item) → is_packet first ≡ true → AreInStep items
-    → count_of is_packet (first ∷ items) ≡ 1
-once first items packet later =
-    let sum = sum_by-cons (λ x. cond (is_packet x) 1 0) first items in
-    let one : ◌≡◌ {A = ℕ} (cond (is_packet first) 1 0) 1 = ap (λ b. cond b 1 0) packet in
-    omega (arith, sum, one, later_packets items later)
-
-pub entered_once : (number : ℕ) (at : Standing) (what : Entered)
-    → count_of is_packet (entered_items number at what) ≡ 1
-entered_once number at entered.Closed =
-    once (item.Closed at.packet at.switch) [] refl tt
-entered_once number at (entered.Answered what) =
-    once (item.Entered at.packet at.switch at.header) (answer_items number at what) refl
-    (answer_later number at what)
-
--- ---- the switches
-
--- the switch where it comes in is called, and no other
-called : (setting : Setting) (journal : List Item) (row number q : ℕ) (at : Standing)
-    (what : Entered) (b : Bool) → SendFrom number (entered_items number at what)
-    → (at.switch == q) ≡ b
-    → switch_of setting (journal ++ item.Row row (PacketStep at.switch at.header)
-    ∷ entered_items number at what) q
-    ≡ (if b then counted (switch_of setting journal q) else switch_of setting journal q)
-called setting journal row number q at what b sends is =
-    by_answer what sends
-    ∙ ap (λ b. if b then counted (switch_of setting journal q) else switch_of setting journal q) is
-  where
-    by_answer : (what : Entered) → SendFrom number (entered_items number at what)
-        → switch_of setting (journal ++ item.Row row (PacketStep at.switch at.header)
-        ∷ entered_items number at what) q
-        ≡ (if at.switch == q then counted (switch_of setting journal q)
-        else switch_of setting journal q)
-    by_answer entered.Closed sends =
-        call_ties.closed setting journal row at.packet at.switch q at.header
-    by_answer (entered.Answered what) sends =
-        call_ties.entered setting journal row at.packet at.switch q at.header
-        (answer_items number at what) (answer_later number at what)
-        (apart_known q number journal (item.Row row (PacketStep at.switch at.header)
-        ∷ item.Entered at.packet at.switch at.header ∷ answer_items number at what) sends)
-
--- ---- the packets
-
-along : (setting : Setting) (journal : List Item) (row number : ℕ) (taken : Step) (targets : Targets)
-    (at : Standing) (answer : Entered) (before : Travellers) (q : ℕ) (b : Bool)
-    → Known setting journal → (q == at.packet) ≡ b → IsUnknown (words_of journal at.packet)
-    → (words_of journal at.packet).found ≡ at.down → GoesIn targets at answer
-    → ((leg : Leg) → targets leg ≡ targets_of setting journal leg)
-    → NoneConcern concerns_policies journal
-    (item.Row row taken ∷ entered_items number at answer)
-    → traveller before q ≡ traveller_in setting journal q
-    → (if b then entered_traveller answer else traveller before q)
-    ≡ traveller_in setting (journal ++ item.Row row taken ∷ entered_items number at answer) q
-along setting journal row number taken targets at answer before q true knows is unknown unmarked
-    comes same none was =
-    let first : Item = item.Row row taken in
-    let i : ℕ = at.packet in
-    entered_goes targets (journal ++ first ∷ []) number at answer (words_of journal i) unknown
-    unmarked comes
-    ∙ by_targets targets (targets_of setting journal) i
-    (words_along i journal (first ∷ entered_items number at answer) (words_of journal i)) (same _)
-    ∙ sym (traveller_along setting journal (first ∷ entered_items number at answer) i none)
-    ∙ ap (traveller_in setting (journal ++ first ∷ entered_items number at answer))
-    (sym (eqb-true q i is))
-along setting journal row number taken targets at answer before q false knows is unknown unmarked
-    comes same none was =
-    let other : (at.packet == q) ≡ false = grind (arith, nat_tests) in
-    was ∙ sym (traveller_stays setting journal (item.Row row taken ∷ entered_items number at answer)
-    q knows (refl, entered_other q number at answer other))
+use Rattle.log_ties.proofs.Words.{same_targets}
 
 -- ---- the step
 
@@ -216,14 +137,14 @@ module _ (control : Control) (setting : Setting) (journal : List Item)
     each = λ q d below.
         one_changes setting journal (journal ++ first ∷ items) switches s q (counted own) d
         (s == q) refl there
-        (ap counted own_is ∙ sym (called setting journal row number s (coming_in i header s) answer
+        (ap counted own_is ∙ sym (come_called setting journal row number s (coming_in i header s) answer
         true sends (eq-eqb s s refl)))
-        (called setting journal row number q (coming_in i header s) answer false sends)
+        (come_called setting journal row number q (coming_in i header s) answer false sends)
         (switches_are control setting journal switches before count tied q d below);
     travels = λ q. with q
-        ∙ along setting journal row number taken
+        ∙ come_along setting journal row number taken
         (targets_of setting (looking journal row taken i s header)) (coming_in i header s) answer
-        before q (q == i) knows refl unknown unknown.found
+        (traveller before q) q (q == i) knows refl unknown unknown.found
         (come_goes setting journal row i s taken header own near ports comes)
         (λ leg. same_targets setting (journal ++ first ∷ []) (item.Entered i s header ∷ [])
         (refl, tt) leg ∙ same_targets setting journal (first ∷ []) (refl, tt) leg)

@@ -7,9 +7,10 @@ use Rattle.journal.specs.declared.item.Item.{Item}
 use Rattle.update_machine.specs.Packets.{next_packet, next_travelling, travels}
 use Rattle.update_machine.specs.Setting.{Setting}
 use Rattle.way_laws.specs.Words.{words_of}
-use Rattle.world.specs.State.{AreTied, IsTied, WorldValue, setting_at, traveller_in, traveller_of}
+use Rattle.world.specs.State.{AreTied, IsTied, WorldValue, setting_at}
+use Rattle.log_ties.specs.Travellers.{traveller_in, traveller_of}
 use Rattle.travelling.specs.Travelling.{IsNextFrom, Travellers, traveller}
-use Rattle.world.proofs.Known.{reached_known}
+use Rattle.log_ties.proofs.Known.{reached_known}
 
 -- the least number from here on that satisfies the test
 abbrev IsLeast : (ℕ → Bool) → ℕ → Option ℕ → Type 0

@@ -13,11 +13,12 @@ use Rattle.world.specs.Played.{MayPlay}
 use Rattle.update_machine.specs.Setting.{Setting}
 use Rattle.way_laws.specs.Words.{words_of}
 use Rattle.way_laws.proofs.Words.{words_grow}
-use Rattle.world.specs.State.{AreTied, Control, traveller_in}
+use Rattle.world.specs.State.{AreTied, Control}
+use Rattle.log_ties.specs.Travellers.{traveller_in}
 use Rattle.travelling.specs.Travelling.{Travellers, WithOne, traveller}
-use Rattle.world.proofs.Known.{Known, reached_known, traveller_stays}
+use Rattle.log_ties.proofs.Known.{Known, reached_known, traveller_stays}
 use Rattle.world.proofs.Tying.{switches_stay, tied_silent}
-use Rattle.world.proofs.Words.{traveller_along}
+use Rattle.log_ties.proofs.Words.{traveller_along}
 
 -- a row tells nothing of a packet
 pub travels_on : (journal : List Item) (row i : ℕ) (step : Step)

@@ -13,10 +13,11 @@ use Rattle.update_machine.specs.Packets.{is_packet}
 use Rattle.update_machine.specs.Pieces.{piece}
 use Rattle.world.specs.Played.{MayPlay}
 use Rattle.update_machine.specs.Setting.{Setting}
-use Rattle.world.specs.State.{AreTied, Control, IsBagOf}
+use Rattle.world.specs.State.{AreTied, Control}
+use Rattle.log_ties.specs.Bags.{IsBagOf}
 use Rattle.travelling.specs.Travelling.{Travellers}
-use Rattle.world.proofs.Known.{reached_known, traveller_stays}
-use Rattle.world.proofs.Others.{NoneName}
+use Rattle.log_ties.proofs.Known.{reached_known, traveller_stays}
+use Rattle.log_ties.proofs.Others.{NoneName}
 use Rattle.world.proofs.Tying.{links_stay, tied_taken, up_stay}
 
 -- the journal behind the step

@@ -47,14 +47,15 @@ use Rattle.update_machine.specs.Setting.{Setting, switches_of}
 use Rattle.update_machine.proofs.CallerLemmas.{last_told_append, messages_keep}
 use Rattle.usable_links.specs.Linking.{AreRelinked, all_told, near_all}
 use Rattle.world_log.specs.Sending.{act_items}
-use Rattle.world.specs.State.{AreTied, Control, IsBagOf, is_up_link, up_links}
+use Rattle.world.specs.State.{AreTied, Control, is_up_link, up_links}
+use Rattle.log_ties.specs.Bags.{IsBagOf}
 use Rattle.travelling.specs.Travelling.{Travellers}
 use Rattle.world.proofs.ActItems.{posts_as_acts, sent_as_acts}
 use Rattle.world.proofs.HeardBy.{IsThere, as_sent, deliver_piece, is_there, row_keeps}
 use Rattle.world.proofs.OneItem.{grown}
 use Rattle.world.proofs.HearReady.{sends_few}
-use Rattle.world.proofs.Known.{reached_known, reached_more}
-use Rattle.world.proofs.Posting.{bag_on}
+use Rattle.log_ties.proofs.Known.{reached_known, reached_more}
+use Rattle.log_ties.proofs.Posting.{bag_on}
 use Rattle.world.proofs.Relinked.{CanRelink, near_now, switches_now, told_now}
 use Rattle.world.proofs.Told.{acts_fit, tied_told}
 use Rattle.world.proofs.Tying.{same_links, switches_are}

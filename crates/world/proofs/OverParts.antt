@@ -16,10 +16,10 @@ use Rattle.travelling.specs.Travelling.{Travellers, WithOne, traveller}
 use Rattle.world_log.specs.Writing.{entered_items, entered_posts, entered_traveller}
 use Rattle.world.specs.declared.parts.Parts.{Parts}
 use Rattle.travelling.specs.declared.travelling.Traveller.{Traveller}
-use Rattle.world.proofs.Asking.{CanAsk, can_ask, switch_is, within_here}
+use Rattle.world.proofs.Asking.{can_ask, switch_is, within_here, number_of_packet}
+use Rattle.log_ties.proofs.CanAsk.{CanAsk}
 use Rattle.world.proofs.HopTie.{hop_piece_of, hop_tied}
 use Rattle.world.proofs.Incoming.{come_piece, come_ready, come_tied}
-use Rattle.world.proofs.OnWay.{number_of_packet}
 use Rattle.world_log.proofs.Writing.{both_ok, three_ok}
 
 -- ---- a packet that comes in

@@ -22,8 +22,9 @@ use Rattle.update_machine.specs.Sound.{IsSetting, NamesOwnPort}
 use Rattle.update_machine.specs.Setting.{Setting, placed_in, plan_of_file, setting_of}
 use Rattle.update_machine.specs.Versions.{plan_at}
 use Rattle.update_machine.proofs.CallerLemmas.{of_its_file, start_laws}
-use Rattle.world.specs.State.{AreNear, AreTied, switch_begun, traveller_in, is_up_link}
-use Rattle.world.proofs.Posting.{bag_begun}
+use Rattle.world.specs.State.{AreNear, AreTied, switch_begun, is_up_link}
+use Rattle.log_ties.specs.Travellers.{traveller_in}
+use Rattle.log_ties.proofs.Posting.{bag_begun}
 
 planned_first : (net : Net) (policies : List (List Row)) → 1 ≤ length policies
     → plan_of_file (setting_of net policies) 1 ≡ plan_of (get_or policies 0 []) net

@@ -25,13 +25,14 @@ use Rattle.update_machine.specs.Setting.{Setting, plan_of_file, policy_of_file, 
 use Rattle.update_machine.specs.Settling.{submitted_items}
 use Rattle.update_machine.specs.Versions.{version_count}
 use Rattle.world_log.specs.Sending.{act_items, act_posts}
-use Rattle.world.specs.State.{AreTied, Control, IsBagOf}
+use Rattle.world.specs.State.{AreTied, Control}
+use Rattle.log_ties.specs.Bags.{IsBagOf}
 use Rattle.travelling.specs.Travelling.{Travellers}
 use Rattle.world.proofs.ActItems.{written_is}
 use Rattle.world.proofs.HearReady.{sends_few}
-use Rattle.world.proofs.Known.{reached_known}
+use Rattle.log_ties.proofs.Known.{reached_known}
 use Rattle.world.proofs.OneItem.{grown}
-use Rattle.world.proofs.Posting.{bag_on}
+use Rattle.log_ties.proofs.Posting.{bag_on}
 use Rattle.world.proofs.Told.{acts_fit, tied_told}
 use Rattle.world.proofs.Tying.{links_stay, up_stay}
 

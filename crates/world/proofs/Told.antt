@@ -20,12 +20,13 @@ use Rattle.world.specs.Played.{MayPlay}
 use Rattle.update_machine.specs.Setting.{Setting}
 use Rattle.update_machine.proofs.CallerLemmas.{count_of_append, have_append, near_stays, packets_keep}
 use Rattle.world_log.specs.Sending.{act_items, act_posts}
-use Rattle.world.specs.State.{AreTied, AreUp, AreUsable, Control, IsBagOf}
+use Rattle.world.specs.State.{AreTied, AreUp, AreUsable, Control}
+use Rattle.log_ties.specs.Bags.{IsBagOf}
 use Rattle.travelling.specs.Travelling.{Travellers}
 use Rattle.world.proofs.ActItems.{SparesActs, acts_apart, acts_counted, acts_posted, acts_send, acts_unnamed}
-use Rattle.world.proofs.Known.{reached_known, reached_more, traveller_stays}
-use Rattle.world.proofs.Others.{NoneName, none_more}
-use Rattle.world.proofs.Posting.{bag_sends}
+use Rattle.log_ties.proofs.Known.{reached_known, reached_more, traveller_stays}
+use Rattle.log_ties.proofs.Others.{NoneName, none_more}
+use Rattle.log_ties.proofs.Posting.{bag_sends}
 use Rattle.world.proofs.Tying.{up_stays}
 
 -- the step of the row writes these items; they name no packet, and what is done leaves the switches,

@@ -22,10 +22,12 @@ use Rattle.update_machine.specs.Pieces.{piece}
 use Rattle.world.specs.Played.{MayPlay}
 use Rattle.update_machine.specs.Setting.{Setting}
 use Rattle.update_machine.proofs.CallerLemmas.{count_of_append, links_keep, near_stays}
-use Rattle.world.specs.State.{AreTied, AreUp, AreUsable, Control, IsBagOf, is_up_link, traveller_in}
+use Rattle.world.specs.State.{AreTied, AreUp, AreUsable, Control, is_up_link}
+use Rattle.log_ties.specs.Bags.{IsBagOf}
+use Rattle.log_ties.specs.Travellers.{traveller_in}
 use Rattle.travelling.specs.Travelling.{Travellers, traveller}
-use Rattle.world.proofs.Known.{reached_known, reached_more}
-use Rattle.world.proofs.Posting.{SendFrom, apart_links, bag_sends, posts_in}
+use Rattle.log_ties.proofs.Known.{reached_known, reached_more}
+use Rattle.log_ties.proofs.Posting.{SendFrom, apart_links, bag_sends, posts_in}
 
 -- where one switch became what it is now, and another one stays if it isn't that one
 pub one_changes : (setting : Setting) (journal after : List Item) (switches : List SwitchValue)

@@ -1,14 +1,12 @@
--- A world as contracts see it, and what its journal says of it: where each packet that travels is
--- on its way, and what became of each message.
-use Rattle.std.specs.Prelude.{ℕ, ◌≡◌, ◌+◌, ◌<◌, Bool, false, filter, map, slice_index, if◌then◌else◌, Option, Some, None, option_map, unwrap_or, List, [], length, slice_index_or}
+-- A world as contracts see it, and how it is tied to its journal.
+use Rattle.std.specs.Prelude.{ℕ, ◌≡◌, ◌+◌, ◌<◌, Bool, false, filter, map, slice_index, List, [], length, slice_index_or}
 use Rattle.std.specs.List.{range_with_len}
-use Rattle.bag.specs.Numbered.{numbered}
 use Rattle.bag.specs.Posts.{Post}
 use Rattle.controller.specs.Controller.{ControllerValue, first_controller}
 use Rattle.controller.specs.Plan.{PlanValue}
 use Rattle.control_ties.specs.Controller.{IsControllerOf}
-use Rattle.policy_rules.specs.declared.packet.Leg.{Leg}
-use Rattle.policy_rules.specs.declared.packet.Leg.TheVariants.{Exit}
+use Rattle.log_ties.specs.Bags.{IsBagOf}
+use Rattle.log_ties.specs.Travellers.{traveller_in}
 use Rattle.policy_rules.specs.declared.policy.Row.{Row}
 use Rattle.journal.specs.declared.item.Item.{Item}
 use Rattle.failover.specs.Adverts.{first_adverts}
@@ -20,16 +18,12 @@ use Rattle.steps.specs.declared.step.Step.TheVariants.{Packet}
 use Rattle.switch_core.specs.State.{SwitchValue, begun}
 use Rattle.switch_table.specs.Tables.{Placed, tables_of}
 use Rattle.switch_ties.specs.SwitchOf.{switch_of}
-use Rattle.tunnel.specs.Tunnel.{TunnelValue}
 use Rattle.update_machine.specs.Answers.{IsReached}
 use Rattle.update_machine.specs.Links.{is_link_up, near as near_of}
-use Rattle.update_machine.specs.Messages.{is_forgotten, message_of, next_message, was_delivered}
-use Rattle.update_machine.specs.Moves.{header_at}
-use Rattle.update_machine.specs.Packets.{decision_of, found_down, ingress_of, leg_of, next_packet, route_in, route_place, targets_of, travels}
+use Rattle.update_machine.specs.Packets.{next_packet}
 use Rattle.update_machine.specs.Sound.{IsSetting}
 use Rattle.update_machine.specs.Setting.{Setting, setting_of}
 use Rattle.travelling.specs.Travelling.{Travellers, traveller}
-use Rattle.travelling.specs.declared.travelling.Traveller.{Traveller}
 
 pub record WorldValue : Type 0 where
   pub net : Net
@@ -51,57 +45,6 @@ pub record WorldValue : Type 0 where
 -- what its journal is read against
 abbrev pub setting_at : WorldValue → Setting
 setting_at world = setting_of world.net world.policies
-
--- ---- where a packet is
-
--- its leg; any where it has none
-abbrev pub own_leg : List Item → ℕ → Leg
-own_leg journal i = unwrap_or (leg_of journal i) (Exit 0)
-
-abbrev pub tunnel_of : Setting → List Item → ℕ → TunnelValue
-tunnel_of setting journal i = record {
-  packet = i;
-  header = header_at journal i;
-  ingress = unwrap_or (ingress_of journal i) 0;
-  leg = own_leg journal i;
-  targets = targets_of setting journal (own_leg journal i);
-  route = route_in journal i;
-  place = route_place journal i;
-  down = found_down journal i;
-}
-
--- what the journal says of a packet on its way: its tunnel, and the version and the rule of its
--- decision, 0 and none before it
-unfoldable pub traveller_of : Setting → List Item → ℕ → Traveller
-traveller_of setting journal i = record {
-  tunnel = tunnel_of setting journal i;
-  version = unwrap_or (option_map (λ decision. decision.version) (decision_of journal i)) 0;
-  rule = unwrap_or (option_map (λ decision. decision.rule) (decision_of journal i)) None;
-}
-
-unfoldable pub traveller_in : Setting → List Item → ℕ → Option Traveller
-traveller_in setting journal i =
-    if travels journal i then Some (traveller_of setting journal i) else None
-
--- ---- messages
-
--- what the journal says of the message of a number, if it was sent
-unfoldable pub post_in : List Item → ℕ → Option Post
-post_in journal n = option_map (λ message. (
-  message,
-  record {
-    delivered = was_delivered journal n;
-    forgotten = is_forgotten journal n;
-  },
-)) (message_of journal n)
-
--- the posts are the messages that the journal says, and of no number behind them does it tell a
--- delivery or that it is forgotten
-pub record IsBagOf (journal : List Item) (posts : List Post) : Type 0 where
-  pub many : next_message journal ≡ length posts + 1
-  pub each : (n : ℕ) → numbered posts n ≡ post_in journal n
-  pub undelivered : (n : ℕ) → length posts < n → was_delivered journal n ≡ false
-  pub remembered : (n : ℕ) → length posts < n → is_forgotten journal n ≡ false
 
 -- ---- the tie
 

@@ -6,10 +6,9 @@ use Rattle.journal.specs.declared.item.Item.TheVariants as item
 use Rattle.steps.specs.declared.step.Step.TheVariants.{Hop}
 use Rattle.world.specs.Parts.{control_in, setting_in}
 use Rattle.travelling.specs.Travelling.{traveller}
-use Rattle.world.proofs.Asking.{can_ask, within_here}
+use Rattle.world.proofs.Asking.{can_ask, within_here, number_of_packet}
 use Rattle.world.proofs.Frame.{goes_one, goes_quiet}
 use Rattle.world.proofs.HopTie.{hop_left}
-use Rattle.world.proofs.OnWay.{number_of_packet}
 use Rattle.world.proofs.OverParts.{hop_is, hop_ties}
 use Rattle.world.proofs.parts.Parts.hop.Goals as goal
 

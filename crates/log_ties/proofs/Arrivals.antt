@@ -38,14 +38,14 @@ use Rattle.way_laws.proofs.Plans.{Finds, IsPlanned, in_plan}
 use Rattle.world_log.specs.Writing.{arrived_items, arrived_traveller}
 use Rattle.world_log.specs.declared.log.Standing.{Standing}
 use Rattle.travelling.specs.declared.travelling.Traveller.{Traveller}
-use Rattle.world.proofs.Deciding.{header_is}
-use Rattle.world.proofs.Goings.{AreOfWords, IsComing, answer_goes, looked_goes, ruled_goes}
-use Rattle.world.proofs.Known.{Known}
-use Rattle.world.proofs.Legs.{at_switch}
-use Rattle.world.proofs.Looking.{IsAsked, IsOurs, looked_law, ruled_law}
-use Rattle.world.proofs.Own.{IsSeen}
-use Rattle.world.proofs.Saying.{own_numbered}
-use Rattle.world.proofs.Words.{Targets, traveller_by, words_along}
+use Rattle.log_ties.proofs.Deciding.{header_is}
+use Rattle.log_ties.proofs.Goings.{AreOfWords, IsComing, answer_goes, looked_goes, ruled_goes}
+use Rattle.log_ties.proofs.Known.{Known}
+use Rattle.log_ties.proofs.Legs.{at_switch}
+use Rattle.log_ties.proofs.Looking.{IsAsked, IsOurs, looked_law, ruled_law}
+use Rattle.log_ties.proofs.Own.{IsSeen}
+use Rattle.log_ties.proofs.Saying.{own_numbered}
+use Rattle.log_ties.proofs.Words.{Targets, traveller_by, words_along}
 
 -- ---- where a route ends
 

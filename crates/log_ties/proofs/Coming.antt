@@ -26,11 +26,11 @@ use Rattle.way_laws.specs.Words.{words_of}
 use Rattle.way_laws.proofs.Words.{words_grow}
 use Rattle.world_log.specs.Packets.{coming_in, entry}
 use Rattle.world_log.specs.Writing.{answer_items, entered_items}
-use Rattle.world.proofs.Deciding.{IsPacket}
-use Rattle.world.proofs.Goings.{GoesIn, looked_goes}
-use Rattle.world.proofs.Known.{Known}
-use Rattle.world.proofs.Looking.{IsAsked, looked_law}
-use Rattle.world.proofs.Seeing.{Sees, sees_one}
+use Rattle.log_ties.proofs.Deciding.{IsPacket}
+use Rattle.log_ties.proofs.Goings.{GoesIn, looked_goes}
+use Rattle.log_ties.proofs.Known.{Known}
+use Rattle.log_ties.proofs.Looking.{IsAsked, looked_law}
+use Rattle.log_ties.proofs.Seeing.{Sees, sees_one}
 
 -- the journal as the packet's switch looks it up
 abbrev pub looking : List Item → ℕ → Step → ℕ → ℕ → Header → List Item

@@ -49,15 +49,15 @@ use Rattle.world_log.specs.Packets.{arrival, arrival_items, ended_items, ended_t
 use Rattle.world_log.specs.Writing.{arrived_items}
 use Rattle.world_log.specs.declared.log.Standing.{Standing}
 use Rattle.travelling.specs.declared.travelling.Traveller.{Traveller}
-use Rattle.world.proofs.Arrivals.{IsAtEnd, arrival_goes, arrive_comes, arrive_law, at_end_on, end_of_route, ours_of}
-use Rattle.world.proofs.Goings.{AreOfWords}
-use Rattle.world.proofs.Known.{before_of}
-use Rattle.world.proofs.Later.{arrived_still}
-use Rattle.world.proofs.Legs.{at_switch, cause_law}
-use Rattle.world.proofs.Looking.{IsAsked}
-use Rattle.world.proofs.OnWay.{Stands, got, on_leg, on_route_of, tunnel_on}
-use Rattle.world.proofs.Seeing.{Sees, sees_counted, sees_one}
-use Rattle.world.proofs.Words.{Targets, by_targets, same_targets, traveller_by, words_along}
+use Rattle.log_ties.proofs.Arrivals.{IsAtEnd, arrival_goes, arrive_comes, arrive_law, at_end_on, end_of_route, ours_of}
+use Rattle.log_ties.proofs.Goings.{AreOfWords}
+use Rattle.log_ties.proofs.Known.{before_of}
+use Rattle.log_ties.proofs.Later.{arrived_still}
+use Rattle.log_ties.proofs.Legs.{at_switch, cause_law}
+use Rattle.log_ties.proofs.Looking.{IsAsked}
+use Rattle.log_ties.proofs.OnWay.{Stands, got, on_leg, on_route_of, tunnel_on}
+use Rattle.log_ties.proofs.Seeing.{Sees, sees_counted, sees_one}
+use Rattle.log_ties.proofs.Words.{Targets, by_targets, same_targets, traveller_by, words_along}
 
 own : (i : ℕ) → (i == i) ≡ true
 own i = eq-eqb i i refl

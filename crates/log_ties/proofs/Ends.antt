@@ -23,8 +23,8 @@ use Rattle.update_machine.specs.Setting.{Setting}
 use Rattle.update_machine.proofs.CallerLemmas.{known_link_laws}
 use Rattle.world_log.specs.Writing.{end_of, leaves}
 use Rattle.world_log.specs.declared.log.Standing.{Standing}
-use Rattle.world.proofs.Legs.{at_switch, leg_law, set_item}
-use Rattle.world.proofs.Seeing.{Sees}
+use Rattle.log_ties.proofs.Legs.{at_switch, leg_law, set_item}
+use Rattle.log_ties.proofs.Seeing.{Sees}
 
 -- what the journal says of a packet that was decided just now
 pub record IsDecided (journal : List Item) (packet : Packet) (decision : Decided) : Type 0 where

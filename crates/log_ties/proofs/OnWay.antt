@@ -1,12 +1,11 @@
 -- A packet on its way: what is known of it.
-use Rattle.std.proofs.Common.{ℕ, ◌≡◌, ◌<◌, Bool, true, false, if◌then◌else◌, Some, None, List, refl, ap, sym, ◌∙◌, length, get_or}
+use Rattle.std.proofs.Common.{ℕ, ◌≡◌, ◌<◌, Bool, true, false, if◌then◌else◌, Some, None, List, refl, sym, length, get_or}
 use Rattle.std.specs.Prelude.{IsTrue, unwrap_or, option_map, slice_get}
 use Rattle.std.proofs.lemmas.Option.{slice_get_within, slice_get-get_or}
 use Rattle.five_tuple.specs.Header.{IsHeader}
 use Rattle.five_tuple.specs.declared.header.Header.{Header}
 use Rattle.policy_rules.specs.declared.packet.Leg.{Leg}
 use Rattle.journal.specs.declared.item.Item.{Item}
-use Rattle.switch_core.specs.State.{SwitchValue}
 use Rattle.tunnel.specs.Tunnel.{TunnelValue}
 use Rattle.update_machine.specs.Boots.{serves}
 use Rattle.update_machine.specs.Packets.{targets_of}
@@ -14,12 +13,10 @@ use Rattle.update_machine.specs.Setting.{Setting}
 use Rattle.way_laws.specs.OnWay.{IsOnLeg, IsOnWay}
 use Rattle.way_laws.specs.Words.{PacketWords, words_of}
 use Rattle.way_laws.specs.Rest.{IsServed}
-use Rattle.world.specs.State.{AreTied, Control}
-use Rattle.travelling.specs.Travelling.{Travellers, traveller}
 use Rattle.travelling.specs.declared.travelling.Traveller.{Traveller}
-use Rattle.world.proofs.Arrivals.{some_same}
-use Rattle.world.proofs.Known.{Known, Travels, reached_known, travels_known}
-use Rattle.world.proofs.Words.{Targets, traveller_by, traveller_now}
+use Rattle.log_ties.proofs.Arrivals.{some_same}
+use Rattle.log_ties.proofs.Known.{Known, Travels, travels_known}
+use Rattle.log_ties.proofs.Words.{Targets, traveller_by}
 
 -- its tunnel, at this place of this route, with these links found down
 abbrev pub tunnel_on : Targets → ℕ → Header → ℕ → Leg → List ℕ → ℕ → List ℕ → TunnelValue
@@ -133,20 +130,3 @@ standing_by setting journal i t knows by =
           (known_by targets i words way.under_way.header way.under_way.ingress way.leg on
           way.under_way.entered way.under_way.came way.takes);
     }
-
-pub standing_of : (control : Control) (setting : Setting) (journal : List Item)
-    (switches : List SwitchValue) (before : Travellers) (count i : ℕ) (t : Traveller)
-    → AreTied setting journal switches before count control → traveller before i ≡ Some t
-    → IsStanding setting journal i t
-unfolding AreTied
-standing_of control setting journal switches before count i t tied its =
-    standing_by setting journal i t (reached_known setting journal tied.sound tied.reached)
-    (sym (tied.packet i ∙ traveller_now setting journal i) ∙ its)
-
-pub number_of_packet : (control : Control) (setting : Setting) (journal : List Item)
-    (switches : List SwitchValue) (before : Travellers) (count i : ℕ) (t : Traveller)
-    → AreTied setting journal switches before count control → traveller before i ≡ Some t
-    → t.tunnel.packet ≡ i
-number_of_packet control setting journal switches before count i t tied its =
-    ap (λ (u : Traveller). u.tunnel.packet)
-    (standing_of control setting journal switches before count i t tied its).is

@@ -21,7 +21,7 @@ use Rattle.update_machine.specs.Setting.{Setting}
 use Rattle.update_machine.specs.Versions.{holds_version as holds_in, plan_at, stamp_of, tables_at}
 use Rattle.update_machine.proofs.CallerLemmas.{known_keeps, lookup_stays, near_stays, policies_keep, switch_keeps}
 use Rattle.switch_table.specs.Tables.{tables_of}
-use Rattle.world.proofs.Known.{Known}
+use Rattle.log_ties.proofs.Known.{Known}
 
 -- the switch and the mask of its usable links are as the journal says of this one
 pub record Sees (setting : Setting) (journal : List Item) (s : ℕ) (w : SwitchValue) (mask : ℕ)

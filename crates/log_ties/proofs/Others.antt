@@ -21,7 +21,7 @@ use Rattle.way_laws.specs.Words.{PacketWords, names, told_by}
 use Rattle.world_log.specs.Writing.{answer_items, arrived_items, cache_message, end_of, entered_items, messages_in}
 use Rattle.world_log.specs.declared.log.Standing.{Standing}
 use Rattle.travelling.specs.declared.travelling.Traveller.{Traveller}
-use Rattle.world.proofs.Words.{words_along}
+use Rattle.log_ties.proofs.Words.{words_along}
 
 -- none of the items names the packet
 abbrev pub NoneName : ℕ → List Item → Type 0

@@ -40,11 +40,11 @@ use Rattle.way_laws.specs.Words.{PacketWords, told_by}
 use Rattle.way_laws.proofs.Lookups.{FindsTargets, IsStamped, redirect_told, stamped}
 use Rattle.world_log.specs.Writing.{answer_items, answer_traveller, cache_message, entered_items, entered_traveller, messages_in}
 use Rattle.world_log.specs.declared.log.Standing.{Standing}
-use Rattle.world.proofs.Legs.{at_switch}
-use Rattle.world.proofs.Looking.{IsAsked, targets_are}
-use Rattle.world.proofs.Others.{sends_unnamed}
-use Rattle.world.proofs.Own.{GoesOn, IsSeen, decided_goes}
-use Rattle.world.proofs.Words.{Targets, traveller_by, words_along}
+use Rattle.log_ties.proofs.Legs.{at_switch}
+use Rattle.log_ties.proofs.Looking.{IsAsked, targets_are}
+use Rattle.log_ties.proofs.Others.{sends_unnamed}
+use Rattle.log_ties.proofs.Own.{GoesOn, IsSeen, decided_goes}
+use Rattle.log_ties.proofs.Words.{Targets, traveller_by, words_along}
 
 -- ---- once it is decided
 

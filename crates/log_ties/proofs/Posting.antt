@@ -16,7 +16,7 @@ use Rattle.update_machine.specs.Folds.{count_of, last_told}
 use Rattle.update_machine.specs.Laws.{MessageKeeps}
 use Rattle.update_machine.specs.Messages.{is_forgotten, is_forgetting, is_delivery, is_sending, message_of, next_message, tells_message, was_delivered}
 use Rattle.update_machine.proofs.CallerLemmas.{count_of_append, last_told_append, fewer, message_keeps, messages_keep, start_laws}
-use Rattle.world.specs.State.{IsBagOf, post_in}
+use Rattle.log_ties.specs.Bags.{IsBagOf, post_in}
 
 -- ---- items that concern no message
 

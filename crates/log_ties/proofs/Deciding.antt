@@ -23,11 +23,11 @@ use Rattle.update_machine.proofs.CallerLemmas.{count_of_append}
 use Rattle.way_laws.specs.Words.{words_of}
 use Rattle.way_laws.proofs.Words.{words_grow}
 use Rattle.world_log.specs.Writing.{cache_message, decided_items, messages_in}
-use Rattle.world.proofs.Ends.{IsDecided, end_law}
-use Rattle.world.proofs.Legs.{at_switch}
-use Rattle.world.proofs.Others.{sends_unnamed, unnamed}
-use Rattle.world.proofs.Seeing.{Sees, sees_one}
-use Rattle.world.proofs.Words.{words_all}
+use Rattle.log_ties.proofs.Ends.{IsDecided, end_law}
+use Rattle.log_ties.proofs.Legs.{at_switch}
+use Rattle.log_ties.proofs.Others.{sends_unnamed, unnamed}
+use Rattle.log_ties.proofs.Seeing.{Sees, sees_one}
+use Rattle.log_ties.proofs.Words.{words_all}
 
 -- a packet with this header that came in at this switch and found these links down
 pub record IsPacket (journal : List Item) (packet : Packet) : Type 0 where

@@ -12,7 +12,7 @@ use Rattle.update_machine.specs.Setting.{Setting}
 use Rattle.update_machine.proofs.CallerLemmas.{policies_keep}
 use Rattle.way_laws.specs.Words.{PacketWords, names, told_by, words_of}
 use Rattle.way_laws.proofs.Words.{words_grow}
-use Rattle.world.specs.State.{traveller_in, traveller_of}
+use Rattle.log_ties.specs.Travellers.{traveller_in, traveller_of}
 use Rattle.travelling.specs.declared.travelling.Traveller.{Traveller}
 
 -- the words of a packet behind these items

@@ -34,9 +34,9 @@ use Rattle.way_laws.proofs.AllKept.{Before, all_kept}
 use Rattle.way_laws.proofs.Here.{travels_in}
 use Rattle.way_laws.proofs.Reached.{reached_settled}
 use Rattle.way_laws.proofs.Rests.{IsSettled, switches_of_all}
-use Rattle.world.specs.State.{traveller_in}
-use Rattle.world.proofs.Others.{NoneName, unnamed}
-use Rattle.world.proofs.Words.{by_targets, traveller_by, traveller_now, words_all}
+use Rattle.log_ties.specs.Travellers.{traveller_in}
+use Rattle.log_ties.proofs.Others.{NoneName, unnamed}
+use Rattle.log_ties.proofs.Words.{by_targets, traveller_by, traveller_now, words_all}
 
 -- ---- the laws
 

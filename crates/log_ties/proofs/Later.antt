@@ -35,7 +35,7 @@ use Rattle.world_log.specs.Packets.{arrival_items, arrival_posts, ended_items, e
 use Rattle.world_log.specs.Writing.{answer_items, answer_posts, arrived_items, arrived_posts, cache_message, decided_items, end_of, entered_items, entered_posts, messages_in}
 use Rattle.world_log.specs.declared.log.Standing.{Standing}
 use Rattle.travelling.specs.declared.travelling.Traveller.{Traveller}
-use Rattle.world.proofs.Posting.{SendFrom, posts_in}
+use Rattle.log_ties.proofs.Posting.{SendFrom, posts_in}
 
 -- they bring no packet in
 no_packet : (one : Item) → IsInStep one → is_packet one ≡ false

@@ -21,7 +21,7 @@ use Rattle.update_machine.specs.Moves.{cause_at, leg_items, takes_route}
 use Rattle.update_machine.specs.Packets.{found_down, targets_of}
 use Rattle.update_machine.specs.Setting.{Setting}
 use Rattle.world_log.specs.declared.log.Standing.{Standing}
-use Rattle.world.proofs.Seeing.{Sees}
+use Rattle.log_ties.proofs.Seeing.{Sees}
 
 abbrev pub at_switch : ℕ → Packet → Standing
 at_switch s packet = record {

@@ -40,11 +40,11 @@ use Rattle.way_laws.proofs.Lookups.{FindsRule, FindsTargets, IsStamped, authorit
 use Rattle.way_laws.proofs.Plans.{Finds, IsPlanned}
 use Rattle.world_log.specs.Writing.{answer_items}
 use Rattle.world_log.specs.declared.log.Standing.{Standing}
-use Rattle.world.proofs.Deciding.{IsPacket, authority_law, decided_words, found_of, header_is}
-use Rattle.world.proofs.Ends.{end_law}
-use Rattle.world.proofs.Legs.{at_switch, leg_law, set_item}
-use Rattle.world.proofs.Saying.{own_numbered}
-use Rattle.world.proofs.Seeing.{Sees, sees_one}
+use Rattle.log_ties.proofs.Deciding.{IsPacket, authority_law, decided_words, found_of, header_is}
+use Rattle.log_ties.proofs.Ends.{end_law}
+use Rattle.log_ties.proofs.Legs.{at_switch, leg_law, set_item}
+use Rattle.log_ties.proofs.Saying.{own_numbered}
+use Rattle.log_ties.proofs.Seeing.{Sees, sees_one}
 
 -- the switch serves, is as the journal says, and is asked what becomes of this packet
 pub record IsAsked (setting : Setting) (journal : List Item) (s : ℕ) (w : SwitchValue) (mask : ℕ)

@@ -13,8 +13,8 @@ use Rattle.tunnel.specs.Tunnel.{TunnelValue}
 use Rattle.way_laws.specs.Words.{PacketWords}
 use Rattle.world_log.specs.Writing.{decided_items, decided_traveller, end_of}
 use Rattle.world_log.specs.declared.log.Standing.{Standing}
-use Rattle.world.proofs.Others.{NoneName, unnamed_first}
-use Rattle.world.proofs.Words.{Targets, traveller_by, words_along}
+use Rattle.log_ties.proofs.Others.{NoneName, unnamed_first}
+use Rattle.log_ties.proofs.Words.{Targets, traveller_by, words_along}
 
 -- the packet's words as its switch decides it
 pub record IsSeen (at : Standing) (ingress : ℕ) (words : PacketWords) : Type 0 where
