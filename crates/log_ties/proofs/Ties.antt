@@ -88,9 +88,11 @@ module _ (setting : Setting) (journal : List Item) (row s : ℕ) (header : Heade
       (traveller_in setting journal q) q b knows is unknown unknown.found
       (come_goes setting journal row i s taken header w mask ports comes)
       (λ leg. same_targets setting (journal ++ first ∷ []) (item.Entered i s header ∷ [])
-      (refl, tt) leg ∙ same_targets setting journal (first ∷ []) (refl, tt) leg)
-      (refl, apart_policies (next_message journal) (journal ++ first ∷ []) items
-      (entered_sends (next_message journal) (coming_in i header s) answer).0) refl
+      (refl, tt) leg ∙ same_targets setting journal (first ∷ []) (refl, tt) leg) (
+        refl,
+        apart_policies (next_message journal) (journal ++ first ∷ []) items
+            (entered_sends (next_message journal) (coming_in i header s) answer).0,
+      ) refl
 
   come : Comes setting journal row s header ports
   come = record {

@@ -23,7 +23,7 @@ use Rattle.way_laws.specs.OnWay.{IsUnknown}
 use Rattle.way_laws.specs.Words.{words_of}
 use Rattle.world_log.specs.Packets.{coming_in, entry}
 use Rattle.world.specs.State.{AreTied, Control}
-use Rattle.travelling.specs.Travelling.{Travellers, WithOne}
+use Rattle.travelling.specs.Travelling.{Travellers, WithOne, traveller}
 use Rattle.world_log.specs.Writing.{entered_items, entered_posts, entered_traveller}
 use Rattle.world_log.specs.declared.log.Standing.{Standing}
 use Rattle.log_ties.proofs.ComePieces.{come_along, come_called, entered_once}
