@@ -5,10 +5,26 @@ use Rattle.std.specs.Option.{option_map_or}
 use Rattle.ctrl_msg.specs.declared.message.Message.{Message}
 use Rattle.failover.specs.declared.advert.Advert.{Advert}
 use Rattle.masks.specs.Masks.{has, mask_of}
+use Rattle.net_file.specs.Net.{joins}
+use Rattle.steps.specs.declared.step.Step.{Step}
+use Rattle.steps.specs.declared.step.Step.TheVariants.{LinkDown, LinkUp}
 use Rattle.switch_core.specs.Life.{near_changed, next_advert}
 use Rattle.switch_core.specs.State.{SwitchValue, serves}
 use Rattle.switch_ties.specs.Links.{all_held}
 use Rattle.update_machine.specs.Deliveries.{advert_to}
+
+-- ---- a link that fails or comes back
+
+-- the step by which the link of two switches comes back, or fails
+abbrev pub link_step : Bool → ℕ → ℕ → Step
+link_step true one two = LinkUp one two
+link_step false one two = LinkDown one two
+
+-- both ends of the link of these two switches are up, or down; all other links are as before
+abbrev pub SetsLink : List ℕ → ℕ → ℕ → Bool → List ℕ → Type 0
+SetsLink before one two up after = (s k : ℕ) → s < 64 → k < 64
+    → has (slice_index after s) k ≡ (if joins s k (record { one = one; two = two }) then up
+    else has (slice_index before s) k)
 
 -- ---- usable links
 

@@ -8,6 +8,7 @@ pub mod HearReady
 pub mod Submitting
 pub mod Relinked
 pub mod Opening
+pub mod LinkRows
 pub mod Starting
 pub mod Asking
 pub mod HopTie

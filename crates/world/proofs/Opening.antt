@@ -96,7 +96,7 @@ linked_ends count s k (link ∷ links) all is =
     by_joins true e rest is = by_order (link.one == s && link.two == k) refl e
     by_joins false e rest is = rest is
 
-up_ends : (setting : Setting) (journal : List Item) (s k : ℕ) → IsNet setting.net
+pub up_ends : (setting : Setting) (journal : List Item) (s k : ℕ) → IsNet setting.net
     → are_linked (up_links setting journal) s k ≡ true
     → (s < length setting.net.switches) × (k < length setting.net.switches)
 up_ends setting journal s k net is =
@@ -105,7 +105,7 @@ up_ends setting journal s k net is =
     (any_filter (joins s k) (is_up_link journal) setting.net.links is)
 
 -- the first items have their causes
-have_first_ones : (cause : List Item → Item → Type 0) (before xs ys : List Item)
+pub have_first_ones : (cause : List Item → Item → Type 0) (before xs ys : List Item)
     → HaveCauses cause before (xs ++ ys) → HaveCauses cause before xs
 have_first_ones cause before [] ys have = tt
 have_first_ones cause before (x ∷ xs) ys have =

@@ -20,6 +20,7 @@
 mod beginning;
 mod delivery;
 mod error;
+mod link_rows;
 mod parts;
 mod updating;
 mod world;

@@ -47,6 +47,8 @@ impl Parts {
             Step::Forget { message } => self.forget(*message),
             Step::Expire { switch, place } => self.expire(*switch, *place),
             Step::Update { file } => self.update(alloc, *file),
+            Step::LinkDown { one, two } => self.set_link(alloc, *one, *two, false),
+            Step::LinkUp { one, two } => self.set_link(alloc, *one, *two, true),
             _ => unreachable!(),
         }
     }

@@ -1,5 +1,5 @@
 -- Each kind of step behind its row.
-use Rattle.steps.specs.declared.step.Step.TheVariants.{Deliver, Expire, Forget, Hop, Lose, Packet, Update}
+use Rattle.steps.specs.declared.step.Step.TheVariants.{Deliver, Expire, Forget, Hop, LinkDown, LinkUp, Lose, Packet, Update}
 use Rattle.world.proofs.Frame.{begun, played}
 use Rattle.world.proofs.parts.Parts.play.Goals as goal
 
@@ -72,3 +72,25 @@ pub returns-in-Update : goal.returns-in-Update
 returns-in-Update c =
     played c.args.row c.args.step.now (Update c.in-Update.file) c.args.self.now c.push.new.self c.requires
     c.in_ok-push.ensures.pushed c.in-Update.is c.update.result _ c.update.ensures
+
+pub set_link-requires : goal.set_link-requires
+set_link-requires c =
+    begun c.args.row c.args.step.now (LinkDown c.in-LinkDown.one c.in-LinkDown.two)
+    c.args.self.now c.push.new.self c.requires c.in_ok-push.ensures.pushed c.in-LinkDown.is
+
+pub returns-in-LinkDown : goal.returns-in-LinkDown
+returns-in-LinkDown c =
+    played c.args.row c.args.step.now (LinkDown c.in-LinkDown.one c.in-LinkDown.two)
+    c.args.self.now c.push.new.self c.requires c.in_ok-push.ensures.pushed c.in-LinkDown.is
+    c.set_link.result _ c.set_link.ensures
+
+pub set_link-requires-in-LinkUp : goal.set_link-requires-in-LinkUp
+set_link-requires-in-LinkUp c =
+    begun c.args.row c.args.step.now (LinkUp c.in-LinkUp.one c.in-LinkUp.two)
+    c.args.self.now c.push.new.self c.requires c.in_ok-push.ensures.pushed c.in-LinkUp.is
+
+pub returns-in-LinkUp : goal.returns-in-LinkUp
+returns-in-LinkUp c =
+    played c.args.row c.args.step.now (LinkUp c.in-LinkUp.one c.in-LinkUp.two)
+    c.args.self.now c.push.new.self c.requires c.in_ok-push.ensures.pushed c.in-LinkUp.is
+    c.set_link-in-LinkUp.result _ c.set_link-in-LinkUp.ensures

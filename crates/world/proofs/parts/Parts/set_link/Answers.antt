@@ -1,0 +1,140 @@
+use Rattle.std.proofs.Common.{◌+◌, ◌++◌, ◌∷◌, [], List, length, map, max, min, refl, ap, sym, subst, ◌∙◌, arith, rules}
+use Rattle.std.specs.Bool.{beq}
+use Rattle.bag.specs.Posts.{posted}
+use Rattle.ctrl_msg.specs.declared.message.Message.{Message}
+use Rattle.journal.specs.declared.item.Item.{Item}
+use Rattle.journal.specs.declared.item.Item.TheVariants as item
+use Rattle.update_machine.specs.Messages.{sent_from}
+use Rattle.usable_links.specs.Linking.{all_told, link_step, near_all}
+use Rattle.world.specs.Parts.{control_in, setting_in}
+use Rattle.world.specs.State.{AreTied}
+use Rattle.world.proofs.Frame.{goes_one, nothing_goes}
+use Rattle.world.proofs.GoesTold.{goes_told, same_control}
+use Rattle.world.proofs.HearReady.{few_switches}
+use Rattle.world.proofs.LinkRows.{ends_below, none_come, numbers_left, same_tied, set_few, set_piece, set_tied}
+use Rattle.world_log.proofs.Writing.{both_ok}
+use Rattle.world.proofs.parts.Parts.set_link.Goals as goal
+
+pub bounds-self-one : goal.bounds-self-one
+bounds-self-one c =
+    let self = c.args.self.now in
+    let ready = c.requires.begins.ready in
+    (ends_below (control_in self) (setting_in self) c.requires.before self.switches.items
+    self.log.travelling self.packets c.requires.row c.args.one c.args.two c.args.up ready.tied
+    ready.may).0
+
+pub has-requires : goal.has-requires
+has-requires c =
+    let self = c.args.self.now in
+    let ready = c.requires.begins.ready in
+    (ends_below (control_in self) (setting_in self) c.requires.before self.switches.items
+    self.log.travelling self.packets c.requires.row c.args.one c.args.two c.args.up ready.tied
+    ready.may).1
+
+pub set_ends-requires-clause-one : goal.set_ends-requires-clause-one
+set_ends-requires-clause-one c =
+    let self = c.args.self.now in
+    let ready = c.requires.begins.ready in
+    (ends_below (control_in self) (setting_in self) c.requires.before self.switches.items
+    self.log.travelling self.packets c.requires.row c.args.one c.args.two c.args.up ready.tied
+    ready.may).0
+
+pub set_ends-requires-clause-two : goal.set_ends-requires-clause-two
+set_ends-requires-clause-two c =
+    let self = c.args.self.now in
+    let ready = c.requires.begins.ready in
+    (ends_below (control_in self) (setting_in self) c.requires.before self.switches.items
+    self.log.travelling self.packets c.requires.row c.args.one c.args.two c.args.up ready.tied
+    ready.may).1
+
+-- ---- it is so already
+
+pub returns-then-has-up : goal.returns-then-has-up
+returns-then-has-up c = λ before row begins.
+    let self = c.args.self.now in
+    let one = c.args.one in
+    let two = c.args.two in
+    let up = c.args.up in
+    goes_one c.push.result before row (link_step up one two) self _ begins (search rules)
+    item.Nothing self.log.bag (search rules) refl (omega (arith, none_come one two up))
+    (same_tied (control_in self) (setting_in self) before self.switches.items
+    self.log.travelling self.packets row one two up begins.ready.tied begins.ready.may
+    (ap (λ b. beq b up) (sym c.has.ensures.has) ∙ c.if-has-up.true))
+    c.push.ensures.pushed c.push.ensures.unchanged
+
+-- ---- it changes
+
+pub returns-in_err-push : goal.returns-in_err-push
+returns-in_err-push c = λ before row begins.
+    nothing_goes c.from_residual.result before row (link_step c.args.up c.args.one c.args.two)
+    c.args.self.now _ begins (search rules) c.from_residual.ensures.0
+    c.in_err-push.ensures.unchanged
+
+pub change_links-requires-clause-many : goal.change_links-requires-clause-many
+change_links-requires-clause-many c =
+    let self = c.args.self.now in
+    few_switches (control_in self) (setting_in self) c.requires.before self.switches.items
+    self.log.travelling self.packets c.requires.begins.ready.tied
+
+pub change_links-requires-clause-next : goal.change_links-requires-clause-next
+change_links-requires-clause-next c =
+    let self = c.args.self.now in
+    let ready = c.requires.begins.ready in
+    numbers_left (control_in self) (setting_in self) c.requires.before self.switches.items
+    self.log.travelling self.packets c.requires.row c.args.one c.args.two c.args.up ready.tied
+    ready.may ready.room
+
+pub change_links-requires-clause-few : goal.change_links-requires-clause-few
+change_links-requires-clause-few c =
+    let self = c.args.self.now in
+    let ready = c.requires.begins.ready in
+    set_few (control_in self) (setting_in self) c.requires.before self.switches.items
+    self.log.travelling self.packets c.requires.row c.args.one c.args.two c.args.up ready.tied
+    ready.may c.set_ends.new.links
+    (ap (λ b. beq b c.args.up) (sym c.has.ensures.has) ∙ c.if-has-up.false) c.set_ends.ensures.set
+    ready.room
+
+pub returns : goal.returns
+returns c = λ before row begins.
+    let self = c.args.self.now in
+    let new = c.change_links.new.self in
+    let one = c.args.one in
+    let two = c.args.two in
+    let up = c.args.up in
+    let ready = begins.ready in
+    let links = c.set_ends.new.links in
+    let other = ap (λ b. beq b up) (sym c.has.ensures.has) ∙ c.if-has-up.false in
+    let near = near_all links self.switches.items in
+    let messages : List Message = all_told self.near near self.switches.items in
+    let told : Item = item.LinkIs (min one two) (max one two) up in
+    let rest = c.change_links.ensures.rest in
+    goes_told c.change_links.result before row (link_step up one two) self new told
+    (λ k. sent_from k messages) c.push-2.new.self (length self.log.bag) self.log.bag
+    (map posted messages) begins
+    (record { same_files = rest.files; same_ports = rest.ports }) (record {
+      piece_is = set_piece (control_in self) (setting_in self) before self.switches.items
+          self.log.travelling self.packets row one two up ready.tied ready.may links other
+          c.set_ends.ensures.set;
+      counted = omega (arith, rest.packets, none_come one two up);
+      pushed = c.in_ok-push.ensures.pushed
+          ∙ ap (λ low. self.log.journal ++ item.LinkIs low c.max.result up ∷ []) c.min.ensures
+          ∙ ap (λ high. self.log.journal ++ item.LinkIs (min one two) high up ∷ []) c.max.ensures;
+      number_is = refl;
+      travelling = rest.travelling;
+      written = c.change_links.ensures.written;
+      part = c.change_links.ensures.part;
+      posted = c.change_links.ensures.posted;
+      tied = both_ok c.change_links.result (λ near_is are.
+          let all : List Item = before ++ item.Row row (link_step up one two) ∷ told
+          ∷ sent_from (length self.log.bag + 1) messages in
+          let posts = self.log.bag ++ map posted messages in
+          subst (λ count. AreTied (setting_in self) all new.switches.items self.log.travelling
+          count (record (control_in new) { posts = posts })) (sym rest.packets)
+          (subst (λ control. AreTied (setting_in self) all new.switches.items self.log.travelling
+          self.packets control) (same_control (record (control_in self) { links = links }) new
+          posts near rest.controller rest.links near_is)
+          (set_tied (control_in self) (setting_in self) before self.switches.items
+          self.log.travelling self.packets row one two up ready.tied ready.may links other
+          c.set_ends.ensures.set c.set_ends.ensures.fits new.switches.items are)))
+          c.change_links.ensures.near c.change_links.ensures.switches;
+    })
