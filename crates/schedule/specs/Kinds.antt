@@ -42,6 +42,7 @@ is_built kind.Deliver = true
 is_built kind.Forget = true
 is_built kind.Expire = true
 is_built kind.Update = true
+is_built kind.Crash = true
 is_built kind.Flush = true
 is_built kind.Drain = true
 is_built _ = false

@@ -71,7 +71,7 @@ impl Kind {
         match self {
             Kind::Packet | Kind::Hop | Kind::Lose | Kind::Drain => true,
             Kind::Deliver | Kind::Forget | Kind::Expire | Kind::Flush => true,
-            Kind::Update => true,
+            Kind::Update | Kind::Crash => true,
             _ => false,
         }
     }

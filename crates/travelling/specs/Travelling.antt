@@ -1,6 +1,8 @@
 -- The packets on their way, by their numbers.
-use Rattle.std.specs.Prelude.{ℕ, ◌≡◌, ◌<◌, ◌≤◌, ◌==◌, false, if◌then◌else◌, Option, None, List, IsSome, IsSomeAnd, MatchOption, length, slice_index_or, unwrap_or}
+use Rattle.std.specs.Prelude.{ℕ, ◌≡◌, ◌<◌, ◌≤◌, ◌==◌, Bool, true, false, if◌then◌else◌, Option, Some, None, List, IsSome, IsSomeAnd, MatchOption, count_by, filter, length, slice_index, slice_index_or, unwrap_or}
+use Rattle.std.specs.List.{range_with_len}
 use Rattle.failover.specs.DownSet.{no_links}
+use Rattle.tunnel.specs.Moves.{here}
 use Rattle.travelling.specs.declared.kept.Kept.TheInside.{Inside}
 use Rattle.travelling.specs.declared.travelling.Traveller.{Traveller}
 
@@ -41,6 +43,30 @@ abbrev pub IsKeptOn : Travellers → Traveller → Type 0
 IsKeptOn travellers t = IsSomeAnd (traveller travellers t.tunnel.packet)
     (λ was. placed_at t.tunnel.place was ≡ t)
 
+-- ---- where they stand
+
+-- a packet is there, and stands at the switch
+abbrev pub stands_at : ℕ → Option Traveller → Bool
+stands_at switch None = false
+stands_at switch (Some t) = here t.tunnel == switch
+
+-- the least number at or above `from` of a packet that stands at the switch; none where none does
+abbrev pub IsNextAt : Travellers → ℕ → ℕ → Option ℕ → Type 0
+IsNextAt travellers switch from next = MatchOption next
+    ((i : ℕ) → from ≤ i → stands_at switch (traveller travellers i) ≡ false)
+    (λ least. (from ≤ least) × (stands_at switch (traveller travellers least) ≡ true)
+    × ((i : ℕ) → from ≤ i → i < least → stands_at switch (traveller travellers i) ≡ false))
+
+-- the packets that stand at the switch, ascending by number
+unfoldable pub numbers_at : Travellers → ℕ → List ℕ
+numbers_at travellers switch =
+    filter (λ i. stands_at switch (traveller travellers i)) (range_with_len 0 (length travellers))
+
+-- those that stood at the switch travel no more; all others are as before
+abbrev pub WithoutAt : Travellers → ℕ → Travellers → Type 0
+WithoutAt before switch after = (i : ℕ) → traveller after i
+    ≡ (if stands_at switch (traveller before i) then None else traveller before i)
+
 -- ---- how they are kept
 
 -- the traveller of a slot; without a set of links it found none down
@@ -60,7 +86,14 @@ traveller_kept kept = record {
   rule = kept.rule;
 }
 
--- numbers have 32 bits, and no packet below the first one travels
-pub record IsTable (travellers : Travellers) (first : ℕ) : Type 0 where
+-- so many packets stand at each switch
+abbrev pub AreCounted : Travellers → List ℕ → Type 0
+AreCounted travellers standing =
+    (s : ℕ) → s < 64 → slice_index standing s ≡ count_by (stands_at s) travellers
+
+-- numbers have 32 bits, no packet below the first one travels, and packets are counted where they
+-- stand
+pub record IsTable (travellers : Travellers) (first : ℕ) (standing : List ℕ) : Type 0 where
   pub few : length travellers ≤ 4_294_967_296
   pub none : (i : ℕ) → i < first → traveller travellers i ≡ None
+  pub counted : AreCounted travellers standing

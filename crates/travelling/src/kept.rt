@@ -1,4 +1,5 @@
-ghost use Rattle.std.specs.Prelude.{◌≡◌, IfOk};
+ghost use Rattle.std.specs.Prelude.{◌≡◌, ◌<◌, IfOk};
+ghost use Rattle.tunnel.specs.Moves.{here};
 ghost use Rattle.travelling.specs.Travelling.{HasPlace, placed_at};
 
 use crate::travelling::Traveller;
@@ -91,6 +92,14 @@ impl Kept {
             version: self.version,
             rule: self.rule,
         }
+    }
+
+    /// The switch where it stands.
+    pub fn here(&self) -> u32
+        ensures here { result ≡ here self.now.tunnel }
+        ensures switch { result < 64 }
+    {
+        self.route.route().items()[self.place as usize]
     }
 
     /// It stands at this place of its route. It takes no memory.

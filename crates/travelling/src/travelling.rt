@@ -4,10 +4,13 @@
 //! n packets take O(n) in all. The packet's route is that of the journal's item, and a hop writes
 //! the place on it alone, so a hop takes no memory. The first number moves on over the slots of
 //! packets that ended, so that a drain behind each of n packets passes each slot once, O(n) in all.
+//! Packets are counted where they stand, so that a search for those at a switch ends with the last
+//! of them, and passes no slot where none is there.
 //! No slot is given back before the end, as in a journal.
 ghost use Rattle.std.specs.Prelude.{◌≡◌, ◌+◌, ◌<◌, ◌≤◌, ℕ, max, [], Some, None, is_some, option_map, length, IsSome, OnOk};
 ghost use Rattle.std.specs.Option.{IsSomeAnd};
-ghost use Rattle.travelling.specs.Travelling.{HasPlace, IsNextFrom, WithOne, placed_at, traveller};
+ghost use Rattle.std.specs.Prelude.{true, false, if◌then◌else◌, count_by, slice_index, slice_set};
+ghost use Rattle.travelling.specs.Travelling.{AreCounted, HasPlace, IsNextAt, IsNextFrom, WithOne, placed_at, stands_at, traveller};
 
 use crate::kept::Kept;
 use std::alloc::{AllocError, Global};
@@ -31,6 +34,8 @@ pub struct Travelling {
     slots: Vec<Option<Kept>>,
     // No packet below it travels.
     first: usize,
+    // How many packets stand at each switch.
+    standing: [usize; 64],
 }
 
 impl Model for Travelling {
@@ -40,7 +45,7 @@ impl Model for Travelling {
 
     ghost view = { λ t. t.slots.items };
 
-    ghost invariant = { λ t. IsTable t.slots.items t.first };
+    ghost invariant = { λ t. IsTable t.slots.items t.first t.standing };
 }
 
 impl Travelling {
@@ -51,6 +56,7 @@ impl Travelling {
         Travelling {
             slots: Vec::new(alloc),
             first: 0,
+            standing: [0; 64],
         }
     }
 
@@ -79,12 +85,14 @@ impl Travelling {
         ensures { OnOk result (WithOne self.old packet (Some kept) self.new) }
     {
         let number = packet as usize;
-        let none_travels = self.first >= self.slots.len();
+        let first = if self.first < self.slots.len() {
+            self.first.min(number)
+        } else {
+            number
+        };
         make_room(&mut self.slots, number)?;
-        if none_travels || number < self.first {
-            self.first = number;
-        }
-        self.slots[number] = Some(kept);
+        set_slot(&mut self.slots, &mut self.standing, number, Some(kept));
+        self.first = first;
         Ok(())
     }
 
@@ -94,9 +102,7 @@ impl Travelling {
         ensures { WithOne self.old packet
             (option_map (placed_at place) (traveller self.old packet)) self.new }
     {
-        if let Some(kept) = &mut self.slots[packet as usize] {
-            kept.move_to(place);
-        }
+        move_slot(&mut self.slots, &mut self.standing, packet as usize, place);
     }
 
     /// The packet doesn't travel from now on. Answers whether it did.
@@ -107,7 +113,7 @@ impl Travelling {
         if !self.has(packet) {
             return false;
         }
-        self.slots[packet as usize] = None;
+        set_slot(&mut self.slots, &mut self.standing, packet as usize, None);
         self.first = first_held(&self.slots, self.first);
         true
     }
@@ -123,14 +129,31 @@ impl Travelling {
             None
         }
     }
+
+    /// The least number at or above `from` of a packet that stands at the switch.
+    pub fn next_at(&self, from: usize, switch: u32) -> Option<u32>
+        ensures { IsNextAt self.now switch from result }
+    {
+        if switch < 64 && self.standing[switch as usize] == 0 {
+            return None;
+        }
+        let number = first_at(&self.slots, self.first.max(from), switch);
+        if number < self.slots.len() {
+            Some(number as u32)
+        } else {
+            None
+        }
+    }
 }
 
 // There is a slot of this number. Each new one is pushed, so that n of them take O(n) in all.
-#[tactic(auto, using(crate::proofs::Tables::pushed_same))]
+#[tactic(auto, using(crate::proofs::Tables::pushed_same, crate::proofs::Counted::pushed_count))]
 fn make_room(slots: &mut Vec<Option<Kept>>, number: usize) -> Result<(), AllocError>
     ensures room { OnOk result (number < length slots.new.items) }
     ensures few { length slots.new.items ≤ max (length slots.old.items) (number + 1) }
     ensures same { (i : ℕ) → traveller slots.new.items i ≡ traveller slots.old.items i }
+    ensures counts { (s : ℕ) → count_by (stands_at s) slots.new.items
+        ≡ count_by (stands_at s) slots.old.items }
 {
     while slots.len() <= number {
         slots.push(None)?;
@@ -150,4 +173,86 @@ fn first_held(slots: &[Option<Kept>], from: usize) -> usize
         number += 1;
     }
     number
+}
+
+// The slot holds this from now on, and its packet is counted where it stands.
+fn set_slot(
+    slots: &mut Vec<Option<Kept>>,
+    standing: &mut [usize; 64],
+    number: usize,
+    slot: Option<Kept>,
+)
+    requires within { number < length slots.old.items }
+    requires few { length slots.old.items ≤ 4_294_967_296 }
+    requires counted { AreCounted slots.old.items standing.old }
+    ensures slots { slots.new.items ≡ slice_set slots.old.items number slot }
+    ensures counted { AreCounted slots.new.items standing.new }
+{
+    count_out(standing, &slots[number]);
+    count_in(standing, &slot);
+    slots[number] = slot;
+}
+
+// The packet of the slot stands at this place of its route, and is counted there.
+fn move_slot(slots: &mut Vec<Option<Kept>>, standing: &mut [usize; 64], number: usize, place: u32)
+    requires held { IsSomeAnd (traveller slots.old.items number) (HasPlace place) }
+    requires few { length slots.old.items ≤ 4_294_967_296 }
+    requires counted { AreCounted slots.old.items standing.old }
+    ensures slots { slots.new.items ≡ slice_set slots.old.items number
+        (option_map (placed_at place) (traveller slots.old.items number)) }
+    ensures counted { AreCounted slots.new.items standing.new }
+{
+    count_out(standing, &slots[number]);
+    if let Some(kept) = &mut slots[number] {
+        kept.move_to(place);
+    }
+    count_in(standing, &slots[number]);
+}
+
+// A packet that stands somewhere is no longer counted there.
+fn count_out(standing: &mut [usize; 64], slot: &Option<Kept>)
+    requires { (s : ℕ) → s < 64 → stands_at s slot.now ≡ true → 1 ≤ slice_index standing.old s }
+    ensures { (s : ℕ) → s < 64 → slice_index standing.new s
+        + (if stands_at s slot.now then 1 else 0) ≡ slice_index standing.old s }
+{
+    if let Some(kept) = slot {
+        standing[kept.here() as usize] -= 1;
+    }
+}
+
+// It is counted there.
+fn count_in(standing: &mut [usize; 64], slot: &Option<Kept>)
+    requires { (s : ℕ) → s < 64 → slice_index standing.old s ≤ 4_294_967_296 }
+    ensures { (s : ℕ) → s < 64 → slice_index standing.new s
+        ≡ slice_index standing.old s + (if stands_at s slot.now then 1 else 0) }
+{
+    if let Some(kept) = slot {
+        standing[kept.here() as usize] += 1;
+    }
+}
+
+// The least number at or above `from` of a slot whose packet stands at the switch; where there is
+// none, one of no slot.
+fn first_at(slots: &[Option<Kept>], from: usize, switch: u32) -> usize
+    ensures from { from ≤ result }
+    ensures away { (i : ℕ) → from ≤ i → i < result
+        → stands_at switch (traveller slots.now i) ≡ false }
+    ensures here { result < length slots.now
+        → stands_at switch (traveller slots.now result) ≡ true }
+{
+    let mut number = from;
+    while number < slots.len() && !stands_at(&slots[number], switch) {
+        number += 1;
+    }
+    number
+}
+
+// Whether a packet is there, and stands at the switch.
+fn stands_at(slot: &Option<Kept>, switch: u32) -> bool
+    ensures { result ≡ stands_at switch slot.now }
+{
+    match slot {
+        Some(kept) => kept.here() == switch,
+        None => false,
+    }
 }

@@ -9,6 +9,9 @@ pub mod Submitting
 pub mod Relinked
 pub mod Opening
 pub mod LinkRows
+pub mod Standing
+pub mod Losses
+pub mod Crashed
 pub mod Starting
 pub mod Asking
 pub mod HopTie

@@ -50,7 +50,7 @@ pub record IsTold (setting : Setting) (journal : List Item) (row : ℕ) (step : 
   pub usable : AreUsable setting (journal ++ item.Row row step ∷ first) later.near
 
 -- marks and messages concern no packet, no switch and no call of one
-spares_links : SparesActs concerns_links
+pub spares_links : SparesActs concerns_links
 spares_links = record {
   current = λ before v. refl;
   retired = λ before v. refl;

@@ -1,16 +1,16 @@
 -- The kinds of steps that are played so far: packets that come in, move on and are lost, messages
--- that are delivered and forgotten, cache rules that time out, updates of the policy, and links that
--- fail and come back.
+-- that are delivered and forgotten, cache rules that time out, updates of the policy, links that fail
+-- and come back, and crashes.
 use Rattle.std.specs.Prelude.{⊤, length}
 use Rattle.steps.specs.Steps.{IsStep}
 use Rattle.steps.specs.declared.step.Event.{Event}
 use Rattle.steps.specs.declared.step.Event.TheVariants.{One, Flush, Drain}
 use Rattle.steps.specs.declared.step.Step.{Step}
-use Rattle.steps.specs.declared.step.Step.TheVariants.{Packet, Hop, Lose, Deliver, Forget, Expire, Update, LinkDown, LinkUp}
+use Rattle.steps.specs.declared.step.Step.TheVariants.{Packet, Hop, Lose, Deliver, Forget, Expire, Update, LinkDown, LinkUp, Crash}
 use Rattle.update_machine.specs.Setting.{Setting}
 
 -- a packet comes in, moves on or is lost; a message is delivered or forgotten; a cache rule times
--- out; a policy is updated; a link fails or comes back
+-- out; a policy is updated; a link fails or comes back; a switch crashes
 abbrev pub IsPlayedKind : Step → Type 0
 IsPlayedKind (Packet switch header) = ⊤
 IsPlayedKind (Hop packet) = ⊤
@@ -21,6 +21,7 @@ IsPlayedKind (Expire switch place) = ⊤
 IsPlayedKind (Update file) = ⊤
 IsPlayedKind (LinkDown one two) = ⊤
 IsPlayedKind (LinkUp one two) = ⊤
+IsPlayedKind (Crash switch) = ⊤
 IsPlayedKind _ = ⊥
 
 -- a step of the network that is played

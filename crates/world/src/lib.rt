@@ -18,6 +18,7 @@
 #![tactic(auto)]
 
 mod beginning;
+mod crashing;
 mod delivery;
 mod error;
 mod link_rows;

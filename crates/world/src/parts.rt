@@ -49,6 +49,7 @@ impl Parts {
             Step::Update { file } => self.update(alloc, *file),
             Step::LinkDown { one, two } => self.set_link(alloc, *one, *two, false),
             Step::LinkUp { one, two } => self.set_link(alloc, *one, *two, true),
+            Step::Crash { switch } => self.crash(alloc, *switch),
             _ => unreachable!(),
         }
     }

@@ -14,6 +14,27 @@ pub by_error : {T E P : Type 0} (r : Result T E) → P → OnErr r P
 by_error (Ok x) p = tt
 by_error (Err e) p = p
 
+-- a part of the first items is a part of all of them
+pub part_of_first : (old first rest new : List Item) → IsPart old first new
+    → IsPart old (first ++ rest) new
+part_of_first old first rest new part = record {
+  written = part.written;
+  rest = part.rest ++ rest;
+  split = ap (λ items. items ++ rest) part.split ∙ append_assoc part.written part.rest rest;
+  grown = part.grown;
+}
+
+-- the first items were written, and then a part of the rest
+pub part_of_rest : (old begun first rest new : List Item) → begun ≡ old ++ first
+    → IsPart begun rest new → IsPart old (first ++ rest) new
+part_of_rest old begun first rest new first_is part = record {
+  written = first ++ part.written;
+  rest = part.rest;
+  split = ap (λ items. first ++ items) part.split ∙ sym (append_assoc first part.written part.rest);
+  grown = part.grown ∙ ap (λ js. js ++ part.written) first_is
+      ∙ append_assoc old first part.written;
+}
+
 -- ---- the row, and then the rest
 
 pub both_ok : {T E P Q R : Type 0} (r : Result T E) → (P → Q → R) → OnOk r P → OnOk r Q → OnOk r R

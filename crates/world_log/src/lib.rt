@@ -16,6 +16,7 @@
 #![tactic(auto)]
 
 mod log;
+mod losing;
 mod packets;
 mod sending;
 

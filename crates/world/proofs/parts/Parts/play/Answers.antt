@@ -1,5 +1,5 @@
 -- Each kind of step behind its row.
-use Rattle.steps.specs.declared.step.Step.TheVariants.{Deliver, Expire, Forget, Hop, LinkDown, LinkUp, Lose, Packet, Update}
+use Rattle.steps.specs.declared.step.Step.TheVariants.{Crash, Deliver, Expire, Forget, Hop, LinkDown, LinkUp, Lose, Packet, Update}
 use Rattle.world.proofs.Frame.{begun, played}
 use Rattle.world.proofs.parts.Parts.play.Goals as goal
 
@@ -94,3 +94,13 @@ returns-in-LinkUp c =
     played c.args.row c.args.step.now (LinkUp c.in-LinkUp.one c.in-LinkUp.two)
     c.args.self.now c.push.new.self c.requires c.in_ok-push.ensures.pushed c.in-LinkUp.is
     c.set_link-in-LinkUp.result _ c.set_link-in-LinkUp.ensures
+
+pub crash-requires : goal.crash-requires
+crash-requires c =
+    begun c.args.row c.args.step.now (Crash c.in-Crash.switch) c.args.self.now c.push.new.self c.requires
+    c.in_ok-push.ensures.pushed c.in-Crash.is
+
+pub returns-in-Crash : goal.returns-in-Crash
+returns-in-Crash c =
+    played c.args.row c.args.step.now (Crash c.in-Crash.switch) c.args.self.now c.push.new.self c.requires
+    c.in_ok-push.ensures.pushed c.in-Crash.is c.crash.result _ c.crash.ensures

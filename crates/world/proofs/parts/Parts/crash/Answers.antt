@@ -1,0 +1,188 @@
+use Rattle.std.proofs.Common.{◌≡◌, ◌+◌, ◌^◌, ◌<◌, ◌++◌, ◌∷◌, List, map, set, refl, ap, sym, subst, ◌∙◌, append_assoc, length, arith, rules}
+use Rattle.std.proofs.lemmas.List.{length-set}
+use Rattle.std.proofs.lemmas.Result.{on_err_weaker, on_ok_weaker}
+use Rattle.bag.specs.Posts.{posted}
+use Rattle.ctrl_msg.specs.declared.message.Message.{Message}
+use Rattle.journal.specs.declared.item.Item.{Item}
+use Rattle.journal.specs.declared.item.Item.TheVariants as item
+use Rattle.steps.specs.declared.step.Step.TheVariants.{Crash}
+use Rattle.switch_core.specs.State.{SwitchValue}
+use Rattle.update_machine.specs.Messages.{sent_from}
+use Rattle.usable_links.specs.Linking.{all_told, near_all}
+use Rattle.world.specs.Parts.{control_in, setting_in}
+use Rattle.world.specs.State.{AreTied}
+use Rattle.travelling.specs.Travelling.{WithoutAt, numbers_at}
+use Rattle.world_log.specs.Writing.{IsPart}
+use Rattle.world.proofs.Crashed.{crash_few, crash_next, crash_piece, crash_ready, crash_tied, same_switch, stays_down}
+use Rattle.world_log.proofs.Writing.{by_error}
+use Rattle.world.proofs.Frame.{goes, goes_one, none_ok, nothing_goes}
+use Rattle.world.proofs.GoesTold.{same_control}
+use Rattle.world.proofs.HearReady.{few_switches}
+use Rattle.world_log.proofs.Writing.{part_of_first, part_of_rest, step_part, step_written, three_ok}
+use Rattle.world.proofs.parts.Parts.crash.Goals as goal
+
+-- the switch is there
+pub index-requires : goal.index-requires
+index-requires c =
+    let self = c.args.self.now in
+    let there = crash_ready (control_in self) (setting_in self) c.requires.before
+    self.switches.items self.log.travelling self.packets c.args.switch
+    c.requires.begins.ready.tied c.requires.begins.ready.may in
+    omega (arith, there, self.switches.ok.0)
+
+pub index_mut-requires : goal.index_mut-requires
+index_mut-requires c =
+    let self = c.args.self.now in
+    let there = crash_ready (control_in self) (setting_in self) c.requires.before
+    self.switches.items self.log.travelling self.packets c.args.switch
+    c.requires.begins.ready.tied c.requires.begins.ready.may in
+    omega (arith, there, self.switches.ok.0)
+
+-- ---- it is down
+
+pub returns-then-not-is_up : goal.returns-then-not-is_up
+returns-then-not-is_up c = λ before row begins.
+    let self = c.args.self.now in
+    goes_one c.push.result before row (Crash c.args.switch) self _ begins (search rules)
+    item.Nothing self.log.bag (search rules) refl (omega arith)
+    (stays_down (control_in self) (setting_in self) before self.switches.items
+    self.log.travelling self.packets row c.args.switch c.index.result.now begins.ready.tied
+    begins.ready.may c.index.ensures (sym c.is_up.ensures ∙ c.if-not-is_up.true))
+    c.push.ensures.pushed c.push.ensures.unchanged
+
+-- ---- it goes down
+
+pub returns-in_err-push : goal.returns-in_err-push
+returns-in_err-push c = λ before row begins.
+    nothing_goes c.from_residual.result before row (Crash c.args.switch) c.args.self.now _ begins
+    (search rules) c.from_residual.ensures.0 c.in_err-push.ensures.unchanged
+
+pub returns-in_err-lose_at : goal.returns-in_err-lose_at
+returns-in_err-lose_at c = λ before row begins.
+    let self = c.args.self.now in
+    let s = c.args.switch in
+    let own = c.index_mut.result.now in
+    let changed = c.crash.new.self in
+    let within = crash_ready (control_in self) (setting_in self) before self.switches.items
+    self.log.travelling self.packets s begins.ready.tied begins.ready.may in
+    let others = set self.switches.items s changed in
+    let messages : List Message = all_told self.near (near_all self.links others) others in
+    let sends = sent_from (length self.log.bag + 1) messages in
+    let losses = map item.Lost (numbers_at self.log.travelling s) in
+    let r = c.from_residual-in_err-lose_at.result in
+    let failed = c.from_residual-in_err-lose_at.ensures.0 in
+    goes r before row (Crash s) self _ begins (search rules) (item.Down s ∷ losses ++ sends)
+    (crash_piece (control_in self) (setting_in self) before self.switches.items
+    self.log.travelling self.packets row s own changed begins.ready.tied begins.ready.may within
+    c.index_mut.ensures.value c.crash.ensures
+    (ap (λ (w : SwitchValue). w.is_up) (same_switch self.switches.items s
+    c.index_mut.result.now c.index.result.now within c.index_mut.ensures.value c.index.ensures)
+    ∙ sym c.is_up.ensures ∙ c.if-not-is_up.false))
+    (none_ok _ r failed) (none_ok _ r failed)
+    (step_part r self.log.journal c.push-2.new.self c.lose_at.new.self.journal (losses ++ sends)
+    (item.Down s ∷ losses ++ sends) (item.Down s) refl c.in_ok-push.ensures.pushed
+    (by_error r (part_of_first c.push-2.new.self losses sends c.lose_at.new.self.journal
+    c.in_err-lose_at.ensures.part)))
+    (none_ok _ r failed)
+
+-- ---- links change
+
+pub change_links-requires-clause-many : goal.change_links-requires-clause-many
+change_links-requires-clause-many c =
+    let self = c.args.self.now in
+    omega (
+      arith,
+      length-set self.switches.items c.args.switch c.crash.new.self,
+      few_switches (control_in self) (setting_in self) c.requires.before self.switches.items
+          self.log.travelling self.packets c.requires.begins.ready.tied,
+    )
+
+pub change_links-requires-clause-next : goal.change_links-requires-clause-next
+change_links-requires-clause-next c =
+    let self = c.args.self.now in
+    let s = c.args.switch in
+    let ready = c.requires.begins.ready in
+    let within = crash_ready (control_in self) (setting_in self) c.requires.before
+    self.switches.items self.log.travelling self.packets s ready.tied ready.may in
+    crash_next (control_in self) (setting_in self) c.requires.before self.switches.items
+    self.log.travelling self.packets c.requires.row s c.index_mut.result.now c.crash.new.self
+    ready.tied ready.may within c.index_mut.ensures.value c.crash.ensures
+    (ap (λ (w : SwitchValue). w.is_up) (same_switch self.switches.items s
+    c.index_mut.result.now c.index.result.now within c.index_mut.ensures.value c.index.ensures)
+    ∙ sym c.is_up.ensures ∙ c.if-not-is_up.false) ready.room
+
+pub change_links-requires-clause-few : goal.change_links-requires-clause-few
+change_links-requires-clause-few c =
+    let self = c.args.self.now in
+    let s = c.args.switch in
+    let ready = c.requires.begins.ready in
+    let within = crash_ready (control_in self) (setting_in self) c.requires.before
+    self.switches.items self.log.travelling self.packets s ready.tied ready.may in
+    let others = set self.switches.items s c.crash.new.self in
+    subst (λ bag. length bag + length (all_told self.near (near_all self.links others) others)
+    < 2 ^ 32) (sym c.lose_at.ensures.unsent)
+    (crash_few (control_in self) (setting_in self) c.requires.before self.switches.items
+    self.log.travelling self.packets c.requires.row s c.index_mut.result.now c.crash.new.self
+    ready.tied ready.may within c.index_mut.ensures.value c.crash.ensures
+    (ap (λ (w : SwitchValue). w.is_up) (same_switch self.switches.items s
+    c.index_mut.result.now c.index.result.now within c.index_mut.ensures.value c.index.ensures)
+    ∙ sym c.is_up.ensures ∙ c.if-not-is_up.false) ready.room)
+
+pub returns : goal.returns
+returns c = λ before row begins.
+    let self = c.args.self.now in
+    let new = c.change_links.new.self in
+    let r = c.change_links.result in
+    let s = c.args.switch in
+    let ready = begins.ready in
+    let own = c.index_mut.result.now in
+    let changed = c.crash.new.self in
+    let within = crash_ready (control_in self) (setting_in self) before self.switches.items
+    self.log.travelling self.packets s ready.tied ready.may in
+    let is_up = ap (λ (w : SwitchValue). w.is_up) (same_switch self.switches.items s
+    c.index_mut.result.now c.index.result.now within c.index_mut.ensures.value c.index.ensures)
+    ∙ sym c.is_up.ensures ∙ c.if-not-is_up.false in
+    let others = set self.switches.items s changed in
+    let messages : List Message = all_told self.near (near_all self.links others) others in
+    let sends = sent_from (length self.log.bag + 1) messages in
+    let losses = map item.Lost (numbers_at self.log.travelling s) in
+    let rest = c.change_links.ensures.rest in
+    let down = c.push-2.new.self in
+    let behind = c.lose_at.new.self in
+    goes r before row (Crash s) self new begins
+    (record { same_files = rest.files; same_ports = rest.ports })
+    (item.Down s ∷ losses ++ sends)
+    (crash_piece (control_in self) (setting_in self) before self.switches.items
+    self.log.travelling self.packets row s own changed ready.tied ready.may within
+    c.index_mut.ensures.value c.crash.ensures is_up)
+    (on_ok_weaker r (λ done. omega (arith, rest.packets)) c.change_links.ensures.written)
+    (step_written r self.log.journal down new.log.journal (losses ++ sends)
+    (item.Down s ∷ losses ++ sends) (item.Down s) refl c.in_ok-push.ensures.pushed
+    (on_ok_weaker r (λ written. written
+    ∙ ap (λ bag. behind.journal ++ sent_from (length bag + 1) messages) c.lose_at.ensures.unsent
+    ∙ ap (λ js. js ++ sends) c.in_ok-lose_at.ensures.written
+    ∙ append_assoc down losses sends) c.change_links.ensures.written))
+    (step_part r self.log.journal down new.log.journal (losses ++ sends)
+    (item.Down s ∷ losses ++ sends) (item.Down s) refl c.in_ok-push.ensures.pushed
+    (on_err_weaker r (λ part. part_of_rest down behind.journal losses sends new.log.journal
+    c.in_ok-lose_at.ensures.written
+    (subst (λ bag. IsPart behind.journal (sent_from (length bag + 1) messages) new.log.journal)
+    c.lose_at.ensures.unsent part)) c.change_links.ensures.part))
+    (three_ok r (λ near_is are posts_are.
+    let all : List Item = before ++ (item.Row row (Crash s) ∷ item.Down s ∷ losses ++ sends) in
+    let posts = self.log.bag ++ map posted messages in
+    let bag_is : new.log.bag ≡ posts =
+    posts_are ∙ ap (λ bag. bag ++ map posted messages) c.lose_at.ensures.unsent in
+    subst (λ bag. AreTied (setting_in self) all new.switches.items new.log.travelling new.packets
+    (record (control_in new) { posts = bag })) (sym bag_is)
+    (subst (λ count. AreTied (setting_in self) all new.switches.items new.log.travelling count
+    (record (control_in new) { posts = posts })) (sym rest.packets)
+    (subst (λ control. AreTied (setting_in self) all new.switches.items new.log.travelling
+    self.packets control) (same_control (control_in self) new posts
+    (near_all self.links others) rest.controller rest.links near_is)
+    (crash_tied (control_in self) (setting_in self) before self.switches.items
+    self.log.travelling self.packets row s own changed ready.tied ready.may within
+    c.index_mut.ensures.value c.crash.ensures is_up new.switches.items new.log.travelling are
+    (subst (WithoutAt self.log.travelling s) (sym rest.travelling)
+    c.in_ok-lose_at.ensures.lost)))))
+    c.change_links.ensures.near c.change_links.ensures.switches c.change_links.ensures.posted)

@@ -1,0 +1,151 @@
+-- The packets that stand at a switch are lost, one after another.
+use Rattle.std.proofs.Common.{ℕ, ◌≡◌, ◌≢◌, ◌+◌, ◌-◌, ◌<◌, ◌≤◌, ◌==◌, ◌⊎◌, inl, inr, Bool, true, false, cond, if◌then◌else◌, Some, None, List, [], ◌∷◌, ◌++◌, refl, ap, sym, ◌∙◌, length, filter, map, append-nil, append_assoc, arith, eq-eqb, eqb-true, ne_eqb}
+use Rattle.std.specs.List.{range_with_len}
+use Rattle.std.proofs.lemmas.Bool.{cases_lt}
+use Rattle.std.proofs.lemmas.List.{map-append}
+use Rattle.journal.specs.declared.item.Item.{Item}
+use Rattle.journal.specs.declared.item.Item.TheVariants as item
+use Rattle.policy_rules.proofs.CallerLemmas.{filter_more}
+use Rattle.travelling.specs.Travelling.{IsNextAt, Travellers, WithOne, WithoutAt, numbers_at, stands_at, traveller}
+use Rattle.world_log.specs.Writing.{IsPart}
+use Rattle.travelling.proofs.Numbers.{beyond, filter_on, none_between}
+
+-- those below a number
+abbrev pub numbers_below : Travellers → ℕ → ℕ → List ℕ
+numbers_below before switch from =
+    filter (λ i. stands_at switch (traveller before i)) (range_with_len 0 from)
+
+-- of the packets below this number those that stood at the switch are lost
+pub record AreLostBelow (before : Travellers) (switch from : ℕ) (journal now : List Item)
+    (after : Travellers) : Type 0 where
+  pub within : from ≤ length before
+  pub written : now ≡ journal ++ map item.Lost (numbers_below before switch from)
+  pub lost : (i : ℕ) → i < from → traveller after i
+      ≡ (if stands_at switch (traveller before i) then None else traveller before i)
+  pub later : (i : ℕ) → from ≤ i → traveller after i ≡ traveller before i
+
+pub none_lost : (before : Travellers) (switch : ℕ) (journal : List Item)
+    → AreLostBelow before switch 0 journal journal before
+none_lost before switch journal = record {
+  within = omega arith;
+  written = sym (append-nil journal);
+  lost = λ i below. absurd (omega (arith, below));
+  later = λ i above. refl;
+}
+
+module _ (before : Travellers) (switch from : ℕ) (journal now : List Item) (after : Travellers)
+    (lost : AreLostBelow before switch from journal now after) where
+  abbrev test : ℕ → Bool
+  test i = stands_at switch (traveller before i)
+
+  stands_so : (i : ℕ) → from ≤ i → stands_at switch (traveller after i) ≡ test i
+  stands_so i above = ap (stands_at switch) (lost.later i above)
+
+  -- a part of all is written
+  pub lost_part : IsPart journal (map item.Lost (numbers_at before switch)) now
+  unfolding numbers_at
+  lost_part =
+      let more : ℕ = length before - from in
+      let rest : List ℕ = filter test (range_with_len from more) in
+      let whole : ◌≡◌ {A = ℕ} (length before) (from + more) = omega (arith, lost.within) in
+      record {
+        written = map item.Lost (numbers_below before switch from);
+        rest = map item.Lost rest;
+        split = ap (λ k. map item.Lost (filter test (range_with_len 0 k))) whole
+            ∙ ap (map item.Lost) (filter_on test from more)
+            ∙ map-append item.Lost (numbers_below before switch from) rest;
+        grown = lost.written;
+      }
+
+  module _ (packet : ℕ) (next : IsNextAt after switch from (Some packet)) where
+    stood : test packet ≡ true
+    stood = sym (stands_so packet next.0) ∙ next.1
+
+    between : (i : ℕ) → from ≤ i → i < packet → test i ≡ false
+    between i above below = sym (stands_so i above) ∙ next.2 i above below
+
+    -- it is one of the table
+    pub lost_within : packet < length before
+    lost_within = by_place (cases_lt packet (length before))
+      where
+        by_place : (packet < length before) ⊎ (length before ≤ packet) → packet < length before
+        by_place (inl below) = below
+        by_place (inr past) =
+            absurd (let clash : true ≡ false = sym stood ∙ beyond before switch packet past in cc)
+
+    below_next : numbers_below before switch (packet + 1)
+        ≡ numbers_below before switch from ++ packet ∷ []
+    below_next =
+        let more : ℕ = packet - from in
+        let whole : ◌≡◌ {A = ℕ} packet (from + more) = omega (arith, next.0) in
+        filter_more test packet
+        ∙ ap (λ b. filter test (range_with_len 0 packet) ++ cond b (packet ∷ []) []) stood
+        ∙ ap (λ numbers. numbers ++ packet ∷ [])
+        (ap (λ k. filter test (range_with_len 0 k)) whole
+        ∙ none_between test from more
+        (λ i above below. between i above (omega (arith, below, next.0))))
+
+    -- it is lost too
+    pub lost_more : (behind : List Item) (gone : Travellers)
+        → behind ≡ now ++ item.Lost packet ∷ [] → WithOne after packet None gone
+        → AreLostBelow before switch (packet + 1) journal behind gone
+    lost_more behind gone pushed without = record {
+      within = omega (arith, lost_within);
+      written = pushed ∙ ap (λ js. js ++ item.Lost packet ∷ []) lost.written
+          ∙ append_assoc journal (map item.Lost (numbers_below before switch from))
+          (item.Lost packet ∷ [])
+          ∙ ap (λ items. journal ++ items)
+          (sym (map-append item.Lost (numbers_below before switch from) (packet ∷ []))
+          ∙ ap (map item.Lost) (sym below_next));
+      lost = λ i below. without i ∙ by_same i (i == packet) refl below;
+      later = λ i above. without i
+          ∙ ap (λ b. if b then None else traveller after i)
+          (ne_eqb i packet (λ e. absurd (omega (arith, e, above))))
+          ∙ lost.later i (omega (arith, above, next.0));
+    }
+      where
+        by_place : (i : ℕ) → (i < from) ⊎ (from ≤ i) → i < packet
+            → traveller after i ≡ (if test i then None else traveller before i)
+        by_place i (inl low) below = lost.lost i low
+        by_place i (inr high) below =
+            lost.later i high
+            ∙ sym (ap (λ b. if b then None else traveller before i) (between i high below))
+
+        by_same : (i : ℕ) (b : Bool) → (i == packet) ≡ b → i < packet + 1
+            → (if b then None else traveller after i)
+            ≡ (if test i then None else traveller before i)
+        by_same i true e below =
+            sym (ap (λ c. if c then None else traveller before i)
+            (ap test (eqb-true i packet e) ∙ stood))
+        by_same i false e below =
+            by_place i (cases_lt i from) (omega (arith, below, other))
+          where
+            other : i ≢ packet
+            other same = absurd (let differs : (packet == packet) ≡ false =
+                ap (λ k. k == packet) (sym same) ∙ e in let same_as : (packet == packet) ≡ true =
+                eq-eqb packet packet refl in cc)
+
+  module _ (next : IsNextAt after switch from None) where
+    none_more : (i : ℕ) → from ≤ i → test i ≡ false
+    none_more i above = sym (stands_so i above) ∙ next i above
+
+    -- all of them are lost
+    pub lost_written : now ≡ journal ++ map item.Lost (numbers_at before switch)
+    unfolding numbers_at
+    lost_written =
+        let more : ℕ = length before - from in
+        let whole : ◌≡◌ {A = ℕ} (length before) (from + more) = omega (arith, lost.within) in
+        lost.written
+        ∙ ap (λ numbers. journal ++ map item.Lost numbers)
+        (sym (ap (λ k. filter test (range_with_len 0 k)) whole
+        ∙ none_between test from more (λ i above below. none_more i above)))
+
+    pub lost_all : WithoutAt before switch after
+    lost_all = λ i. by_place i (cases_lt i from)
+      where
+        by_place : (i : ℕ) → (i < from) ⊎ (from ≤ i)
+            → traveller after i ≡ (if test i then None else traveller before i)
+        by_place i (inl low) = lost.lost i low
+        by_place i (inr high) =
+            lost.later i high
+            ∙ sym (ap (λ b. if b then None else traveller before i) (none_more i high))
