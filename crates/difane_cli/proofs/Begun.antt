@@ -78,6 +78,9 @@ may_happen net policies (One (step.Expire switch place)) own built =
     record { kind = tt; own = own }
 may_happen net policies (One (step.Update file)) own built = record { kind = tt; own = own }
 may_happen net policies (One (step.Crash switch)) own built = record { kind = tt; own = own }
+may_happen net policies (One (step.Restart switch)) own built = record { kind = tt; own = own }
+may_happen net policies (One (step.Confirm switch)) own built = record { kind = tt; own = own }
+may_happen net policies (One (step.Resend switch)) own built = record { kind = tt; own = own }
 may_happen net policies Flush own built = tt
 may_happen net policies Drain own built = tt
 may_happen net policies _ own built = cc built

@@ -71,7 +71,7 @@ impl Kind {
         match self {
             Kind::Packet | Kind::Hop | Kind::Lose | Kind::Drain => true,
             Kind::Deliver | Kind::Forget | Kind::Expire | Kind::Flush => true,
-            Kind::Update | Kind::Crash => true,
+            Kind::Update | Kind::Crash | Kind::Restart | Kind::Confirm | Kind::Resend => true,
             _ => false,
         }
     }

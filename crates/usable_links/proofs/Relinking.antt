@@ -10,6 +10,7 @@ use Rattle.std.proofs.lemmas.Grind.{flat_map-append}
 use Rattle.std.proofs.lemmas.List.{map-append}
 use Rattle.std.proofs.lemmas.List.Elements.{filter_map-append}
 use Rattle.std.proofs.lemmas.Option.{slice_get-get_or}
+use Rattle.ctrl_msg.specs.declared.message.Body.TheVariants.{Hello}
 use Rattle.ctrl_msg.specs.declared.message.Message.{Message}
 use Rattle.failover.specs.Adverts.{held}
 use Rattle.failover.specs.declared.advert.Advert.{Advert}
@@ -18,8 +19,9 @@ use Rattle.masks.proofs.CallerLemmas.{has-and, has-or, has-zero, has_mask, has_o
 use Rattle.policy_rules.proofs.CallerLemmas.{filter_more, range_more}
 use Rattle.switch_core.specs.State.{SwitchValue, serves}
 use Rattle.switch_core.specs.Life.{near_changed, next_advert}
-use Rattle.update_machine.specs.Deliveries.{advert_to}
-use Rattle.usable_links.specs.Linking.{all_told, changes, near_where, relinked_as, serves_at, told_as, told_at, told_if, told_near, told_to}
+use Rattle.switch_ties.specs.Links.{all_held}
+use Rattle.update_machine.specs.Deliveries.{advert_to, to_controller}
+use Rattle.usable_links.specs.Linking.{all_told, changes, near_where, relinked_as, serves_at, told_again, told_as, told_at, told_if, told_to}
 
 -- ---- adverts
 
@@ -56,52 +58,58 @@ held_step switch other n =
     by_one None e = rw e refl
     by_one (Some advert) e = rw e refl
 
-pub held_all : (switch : SwitchValue) (own : Advert) (other : ℕ)
-    → held_below switch other 64 ≡ told_to switch own false other
+pub held_all : (switch : SwitchValue) (other : ℕ)
+    → held_below switch other 64 ≡ map (advert_to other) (all_held switch)
 unfolding held_below switches
-held_all switch own other = refl
+held_all switch other = refl
 
 -- ---- neighbours
 
--- what it tells the neighbours below n
-unfoldable pub told_below : SwitchValue → Advert → ℕ → ℕ → ℕ → List Message
-told_below switch own had near n =
-    flat_map (λ other. told_to switch own (has had other) other)
-    (filter (has near) (range_with_len 0 n))
+-- what the neighbours below n are told, where each is told this
+unfoldable pub near_below : (ℕ → List Message) → ℕ → ℕ → List Message
+near_below tell near n = flat_map tell (filter (has near) (range_with_len 0 n))
 
-pub told_none : (switch : SwitchValue) (own : Advert) (had near : ℕ)
-    → told_below switch own had near 0 ≡ []
-unfolding told_below
-told_none switch own had near = refl
+pub near_none : (tell : ℕ → List Message) (near : ℕ) → near_below tell near 0 ≡ []
+unfolding near_below
+near_none tell near = refl
 
-told_one : (switch : SwitchValue) (own : Advert) (had near n : ℕ)
-    → told_below switch own had near (n + 1) ≡ told_below switch own had near n
-    ++ flat_map (λ other. told_to switch own (has had other) other)
-    (cond (has near n) (n ∷ []) [])
-unfolding told_below
-told_one switch own had near n =
-    let tell : ℕ → List Message = λ other. told_to switch own (has had other) other in
+pub near_step : (tell : ℕ → List Message) (near n : ℕ) → near_below tell near (n + 1)
+    ≡ near_below tell near n ++ (if has near n then tell n else [])
+unfolding near_below
+near_step tell near n =
     ap (flat_map tell) (filter_more (has near) n)
     ∙ flat_map-append tell (filter (has near) (range_with_len 0 n))
     (cond (has near n) (n ∷ []) [])
-
-pub told_step : (switch : SwitchValue) (own : Advert) (had near n : ℕ)
-    → told_below switch own had near (n + 1)
-    ≡ told_below switch own had near n ++ told_near switch own had near n
-told_step switch own had near n =
-    told_one switch own had near n
-    ∙ ap (λ more. told_below switch own had near n ++ more) (by_test (has near n))
+    ∙ ap (λ more. near_below tell near n ++ more) (by_test (has near n))
   where
-    by_test : (b : Bool)
-        → flat_map (λ other. told_to switch own (has had other) other) (cond b (n ∷ []) [])
-        ≡ (if b then told_to switch own (has had n) n else [])
-    by_test true = append-nil (told_to switch own (has had n) n)
+    by_test : (b : Bool) → flat_map tell (cond b (n ∷ []) []) ≡ (if b then tell n else [])
+    by_test true = append-nil (tell n)
     by_test false = refl
+
+-- what it tells the neighbours below n of its links
+abbrev pub told_below : SwitchValue → Advert → ℕ → ℕ → ℕ → List Message
+told_below switch own had near n =
+    near_below (λ other. told_to switch own (has had other) other) near n
+
+-- and what it tells them again
+abbrev pub again_below : SwitchValue → ℕ → ℕ → List Message
+again_below switch near n =
+    near_below (λ other. map (advert_to other) (all_held switch)) near n
+
+pub again_all : (s count near : ℕ) (switch : SwitchValue) → switch.is_up ≡ true
+    → to_controller (Hello s switch.boot) ∷ again_below switch near count
+    ≡ told_again s count near switch
+unfolding near_below
+again_all s count near switch up = rw up refl
+
+pub again_none : (s count near : ℕ) (switch : SwitchValue) → switch.is_up ≡ false
+    → [] ≡ told_again s count near switch
+again_none s count near switch down = rw down refl
 
 pub told_all : (switch : SwitchValue) (count had near : ℕ) → changes had near switch ≡ true
     → told_below (near_changed switch near) (next_advert switch near) had near count
     ≡ told_as count had near switch
-unfolding told_below
+unfolding near_below
 told_all switch count had near is = rw is refl
 
 pub told_nothing : (switch : SwitchValue) (count had near : ℕ)

@@ -2,6 +2,7 @@
 use Rattle.std.specs.Prelude.{ℕ, ◌≡◌, ◌<◌, ◌==◌, not, ◌&&◌, Bool, true, false, if◌then◌else◌, Option, Some, None, List, [], ◌∷◌, filter, length, map, slice_get, slice_index, slice_index_or}
 use Rattle.std.specs.List.{flat_map, range_with_len}
 use Rattle.std.specs.Option.{option_map_or}
+use Rattle.ctrl_msg.specs.declared.message.Body.TheVariants.{Hello}
 use Rattle.ctrl_msg.specs.declared.message.Message.{Message}
 use Rattle.failover.specs.declared.advert.Advert.{Advert}
 use Rattle.masks.specs.Masks.{has, mask_of}
@@ -11,7 +12,7 @@ use Rattle.steps.specs.declared.step.Step.TheVariants.{LinkDown, LinkUp}
 use Rattle.switch_core.specs.Life.{near_changed, next_advert}
 use Rattle.switch_core.specs.State.{SwitchValue, serves}
 use Rattle.switch_ties.specs.Links.{all_held}
-use Rattle.update_machine.specs.Deliveries.{advert_to}
+use Rattle.update_machine.specs.Deliveries.{advert_to, to_controller}
 
 -- ---- a link that fails or comes back
 
@@ -64,6 +65,20 @@ told_near switch own had near other =
 abbrev pub told_if : ℕ → Option Advert → List Message
 told_if other None = []
 told_if other (Some advert) = advert_to other advert ∷ []
+
+-- all that it holds, if it has a usable link to that
+abbrev pub told_all_near : SwitchValue → ℕ → ℕ → List Message
+told_all_near switch near other =
+    if has near other then map (advert_to other) (all_held switch) else []
+
+-- what a switch that is up tells again: the controller its boot, and its neighbours among so many
+-- switches all that it holds
+abbrev pub told_again : ℕ → ℕ → ℕ → SwitchValue → List Message
+told_again s count near switch = if switch.is_up
+    then to_controller (Hello s switch.boot)
+    ∷ flat_map (λ other. map (advert_to other) (all_held switch))
+    (filter (has near) (range_with_len 0 count))
+    else []
 
 -- it is up, and its usable links changed
 abbrev pub changes : ℕ → ℕ → SwitchValue → Bool

@@ -13,4 +13,4 @@
 
 mod links;
 
-pub use links::{relink, usable};
+pub use links::{relink, tell_all, usable};

@@ -1,7 +1,8 @@
 //! Which links switches can use, and what they tell each other when that changes, as routers in
 //! OSPF tell what they learn of their links (RFC 2328, sections 12.4 and 13).
-ghost use Rattle.std.specs.Prelude.{ℕ, ◌≡◌, ◌-◌, ◌^◌, ◌<◌, ◌≤◌, ◌++◌, All, IfOk, OnOk, length};
+ghost use Rattle.std.specs.Prelude.{ℕ, ◌≡◌, ◌-◌, ◌^◌, ◌<◌, ◌≤◌, ◌++◌, All, IfOk, OnOk, length, map};
 ghost use Rattle.masks.specs.Masks.{has};
+ghost use Rattle.switch_ties.specs.Links.{all_held};
 ghost use Rattle.update_machine.specs.Deliveries.{advert_to};
 ghost use Rattle.usable_links.specs.Linking.{AreRelinked, all_told, near_all, near_where, relinked_as, serves_at, told_as, told_if, told_near, told_to};
 
@@ -128,6 +129,17 @@ fn tell(
         messages.push(advert_to(other, own))?;
         return Ok(());
     }
+    tell_all(messages, switch, other)
+}
+
+/// The switch tells all adverts that it holds.
+///
+/// # Errors
+/// Want of memory alone.
+pub fn tell_all(messages: &mut Vec<Message>, switch: &Switch, other: u32) -> Result<(), AllocError>
+    ensures { OnOk result (messages.new.items
+        ≡ messages.old.items ++ map (advert_to other) (all_held switch.now)) }
+{
     for origin in 0..64 {
         tell_one(messages, other, switch.known(origin))?;
     }

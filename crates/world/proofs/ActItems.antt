@@ -11,7 +11,7 @@ use Rattle.journal.specs.declared.item.Item.{Item}
 use Rattle.journal.specs.declared.item.Item.TheVariants as item
 use Rattle.update_machine.specs.Concerns.{NoneConcern}
 use Rattle.update_machine.specs.Folds.{count_of}
-use Rattle.update_machine.specs.Messages.{is_sending, next_message, sent_from}
+use Rattle.update_machine.specs.Messages.{is_sending, next_message}
 use Rattle.update_machine.proofs.CallerLemmas.{messages_keep}
 use Rattle.world_log.specs.Sending.{act_items, act_posts}
 use Rattle.log_ties.proofs.Others.{NoneName}
@@ -97,20 +97,6 @@ written_is journal (act.Post message ∷ acts) =
     ap (λ items. item.Sent n message ∷ items)
     (written_is (journal ++ item.Sent n message ∷ []) acts
     ∙ ap (λ k. act_items k acts) (sending_one journal n message))
-
--- messages alone
-pub sent_as_acts : (number : ℕ) (messages : List Message)
-    → act_items number (map act.Post messages) ≡ sent_from number messages
-unfolding act_items sent_from
-sent_as_acts number [] = refl
-sent_as_acts number (message ∷ messages) =
-    ap (λ items. item.Sent number message ∷ items) (sent_as_acts (number + 1) messages)
-
-pub posts_as_acts : (messages : List Message)
-    → act_posts (map act.Post messages) ≡ map posted messages
-unfolding act_posts
-posts_as_acts [] = refl
-posts_as_acts (message ∷ messages) = ap (λ posts. posted message ∷ posts) (posts_as_acts messages)
 
 -- none of it names a packet
 pub acts_unnamed : (i number : ℕ) (acts : List Act) → NoneName i (act_items number acts)

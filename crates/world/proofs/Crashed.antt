@@ -49,7 +49,8 @@ use Rattle.world.specs.State.{AreTied, AreUp, AreUsable, Control, is_up_link, up
 use Rattle.log_ties.specs.Bags.{IsBagOf}
 use Rattle.log_ties.specs.Travellers.{traveller_in}
 use Rattle.travelling.specs.Travelling.{Travellers, WithoutAt, numbers_at, traveller}
-use Rattle.world.proofs.ActItems.{SparesActs, acts_apart, acts_posted, acts_send, acts_unnamed, posts_as_acts, sent_as_acts}
+use Rattle.world.proofs.ActItems.{SparesActs, acts_apart, acts_posted, acts_send, acts_unnamed}
+use Rattle.world_log.proofs.Sends.{posts_as_acts, sent_as_acts}
 use Rattle.world.proofs.HearReady.{sends_few}
 use Rattle.log_ties.proofs.Known.{reached_known, reached_more}
 use Rattle.world.proofs.Losses.{acts_bring_none, losts_apart, losts_bring_none, losts_no_rows, traveller_lost}

@@ -36,7 +36,8 @@ use Rattle.world_log.specs.Sending.{act_items, act_posts}
 use Rattle.world.specs.State.{AreTied, Control}
 use Rattle.log_ties.specs.Bags.{IsBagOf}
 use Rattle.travelling.specs.Travelling.{Travellers}
-use Rattle.world.proofs.ActItems.{posts_as_acts, sent_as_acts, written_is}
+use Rattle.world_log.proofs.Sends.{posts_as_acts, sent_as_acts}
+use Rattle.world.proofs.ActItems.{written_is}
 use Rattle.world.proofs.Delivering.{deliverable_as, nothing_tied, sent_as}
 use Rattle.world.proofs.HearReady.{sends_few}
 use Rattle.log_ties.proofs.Known.{reached_known}

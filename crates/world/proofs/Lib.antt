@@ -6,6 +6,9 @@ pub mod Told
 pub mod HeardBy
 pub mod HearReady
 pub mod Submitting
+pub mod GoneSwitches
+pub mod Booting
+pub mod SentAgain
 pub mod Relinked
 pub mod Opening
 pub mod LinkRows

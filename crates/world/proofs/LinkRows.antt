@@ -53,7 +53,7 @@ use Rattle.world.specs.Played.{MayPlay}
 use Rattle.world_log.specs.Sending.{act_items}
 use Rattle.world.specs.State.{AreTied, Control, comes_in, is_up_link, up_links}
 use Rattle.travelling.specs.Travelling.{Travellers}
-use Rattle.world.proofs.ActItems.{posts_as_acts, sent_as_acts}
+use Rattle.world_log.proofs.Sends.{posts_as_acts, sent_as_acts}
 use Rattle.world.proofs.Delivering.{nothing_tied}
 use Rattle.world.proofs.HearReady.{sends_few}
 use Rattle.log_ties.proofs.Known.{reached_known, reached_more}

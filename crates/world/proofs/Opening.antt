@@ -50,7 +50,7 @@ use Rattle.world_log.specs.Sending.{act_items}
 use Rattle.world.specs.State.{AreTied, Control, is_up_link, up_links}
 use Rattle.log_ties.specs.Bags.{IsBagOf}
 use Rattle.travelling.specs.Travelling.{Travellers}
-use Rattle.world.proofs.ActItems.{posts_as_acts, sent_as_acts}
+use Rattle.world_log.proofs.Sends.{posts_as_acts, sent_as_acts}
 use Rattle.world.proofs.HeardBy.{IsThere, as_sent, deliver_piece, is_there, row_keeps}
 use Rattle.world.proofs.OneItem.{grown}
 use Rattle.world.proofs.HearReady.{sends_few}

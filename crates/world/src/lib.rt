@@ -18,11 +18,14 @@
 #![tactic(auto)]
 
 mod beginning;
+mod confirming;
 mod crashing;
 mod delivery;
 mod error;
 mod link_rows;
 mod parts;
+mod resending;
+mod restarting;
 mod updating;
 mod world;
 

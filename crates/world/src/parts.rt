@@ -50,6 +50,9 @@ impl Parts {
             Step::LinkDown { one, two } => self.set_link(alloc, *one, *two, false),
             Step::LinkUp { one, two } => self.set_link(alloc, *one, *two, true),
             Step::Crash { switch } => self.crash(alloc, *switch),
+            Step::Restart { switch } => self.restart(alloc, *switch),
+            Step::Confirm { switch } => self.confirm(alloc, *switch),
+            Step::Resend { switch } => self.resend(alloc, *switch),
             _ => unreachable!(),
         }
     }

@@ -210,3 +210,75 @@ done_begun journal bag acts = record {
   written = sym (append-nil journal);
   posted = sym (append-nil bag);
 }
+
+-- ---- messages, and then acts
+
+-- messages alone
+pub sent_as_acts : (number : ℕ) (messages : List Message)
+    → act_items number (map act.Post messages) ≡ sent_from number messages
+unfolding act_items sent_from
+sent_as_acts number [] = refl
+sent_as_acts number (message ∷ messages) =
+    ap (λ items. item.Sent number message ∷ items) (sent_as_acts (number + 1) messages)
+
+pub posts_as_acts : (messages : List Message)
+    → act_posts (map act.Post messages) ≡ map posted messages
+unfolding act_posts
+posts_as_acts [] = refl
+posts_as_acts (message ∷ messages) = ap (λ posts. posted message ∷ posts) (posts_as_acts messages)
+
+-- messages are acts too
+pub sent_done : (journal now : List Item) (bag posts : List Post) (messages : List Message)
+    → now ≡ journal ++ sent_from (length bag + 1) messages → posts ≡ bag ++ map posted messages
+    → AreDone journal bag (map act.Post messages) now posts
+sent_done journal now bag posts messages sent post = record {
+  written = sent
+      ∙ ap (λ items. journal ++ items) (sym (sent_as_acts (length bag + 1) messages));
+  posted = post ∙ ap (λ more. bag ++ more) (sym (posts_as_acts messages));
+}
+
+module _ (journal now : List Item) (bag posts : List Post) (first later : List Act)
+    (so : AreDone journal bag first now posts) where
+  both_are : act_items (length bag + 1) (first ++ later)
+      ≡ act_items (length bag + 1) first ++ act_items (length posts + 1) later
+  both_are = acts_append (length bag + 1) first later
+      ∙ ap (λ n. act_items (length bag + 1) first ++ act_items n later)
+      (omega (arith, ap length so.posted, length-append bag (act_posts first)))
+
+  pub done_both : (after : List Item) (final : List Post)
+      → after ≡ now ++ act_items (length posts + 1) later → final ≡ posts ++ act_posts later
+      → AreDone journal bag (first ++ later) after final
+  done_both after final done post = record {
+    written = done ∙ ap (λ js. js ++ act_items (length posts + 1) later) so.written
+        ∙ append_assoc journal (act_items (length bag + 1) first)
+        (act_items (length posts + 1) later)
+        ∙ ap (λ items. journal ++ items) (sym both_are);
+    posted = post ∙ ap (λ all. all ++ act_posts later) so.posted
+        ∙ append_assoc bag (act_posts first) (act_posts later)
+        ∙ ap (λ more. bag ++ more) (sym (posts_append first later));
+  }
+
+  -- memory runs out among the later ones
+  pub later_part : (after : List Item) → IsPart now (act_items (length posts + 1) later) after
+      → IsPart journal (act_items (length bag + 1) (first ++ later)) after
+  later_part after part = record {
+    written = act_items (length bag + 1) first ++ part.written;
+    rest = part.rest;
+    split = both_are ∙ ap (λ items. act_items (length bag + 1) first ++ items) part.split
+        ∙ sym (append_assoc (act_items (length bag + 1) first) part.written part.rest);
+    grown = part.grown ∙ ap (λ js. js ++ part.written) so.written
+        ∙ append_assoc journal (act_items (length bag + 1) first) part.written;
+  }
+
+-- or among the first ones
+pub first_part : (journal now : List Item) (number : ℕ) (first later : List Act)
+    → IsPart journal (act_items number first) now
+    → IsPart journal (act_items number (first ++ later)) now
+first_part journal now number first later part =
+    let more : List Item = act_items (number + length (act_posts first)) later in record {
+      written = part.written;
+      rest = part.rest ++ more;
+      split = acts_append number first later ∙ ap (λ items. items ++ more) part.split
+          ∙ append_assoc part.written part.rest more;
+      grown = part.grown;
+    }

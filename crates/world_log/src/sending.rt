@@ -1,6 +1,7 @@
 //! Messages that are sent one after another, and what the controller does, written into the log.
 ghost use Rattle.std.specs.Prelude.{◌≡◌, ◌+◌, ◌^◌, ◌<◌, ◌++◌, ◌∷◌, [], OnOk, OnErr, length, map};
 ghost use Rattle.bag.specs.Posts.{posted};
+ghost use Rattle.controller.specs.declared.sends.Act.TheVariants.{Post};
 ghost use Rattle.update_machine.specs.Messages.{sent_from};
 ghost use Rattle.world_log.specs.Sending.{act_item, act_items, act_post, act_posts};
 ghost use Rattle.world_log.specs.Writing.{IsPart};
@@ -48,6 +49,30 @@ impl Log {
             self.note_act(alloc, act)?;
         }
         Ok(())
+    }
+
+    /// The messages are sent, and then the controller does this.
+    ///
+    /// # Errors
+    /// Want of memory alone; a part of the items is written then.
+    pub fn send_and_note(
+        &mut self,
+        alloc: Global,
+        messages: &[Message],
+        acts: &[Act],
+    ) -> Result<(), AllocError>
+        requires few { length self.old.bag + length (act_posts (map Post messages.now ++ acts.now))
+            < 2 ^ 32 }
+        ensures written { OnOk result (self.new.journal ≡ self.old.journal
+            ++ act_items (length self.old.bag + 1) (map Post messages.now ++ acts.now)) }
+        ensures posted { OnOk result (self.new.bag
+            ≡ self.old.bag ++ act_posts (map Post messages.now ++ acts.now)) }
+        ensures part { OnErr result (IsPart self.old.journal (act_items (length self.old.bag + 1)
+            (map Post messages.now ++ acts.now)) self.new.journal) }
+        ensures travelling { self.new.travelling ≡ self.old.travelling }
+    {
+        self.send_all(alloc, messages)?;
+        self.note_acts(alloc, acts)
     }
 
     // One mark rises, or one message is sent.

@@ -1,5 +1,5 @@
 -- Each kind of step behind its row.
-use Rattle.steps.specs.declared.step.Step.TheVariants.{Crash, Deliver, Expire, Forget, Hop, LinkDown, LinkUp, Lose, Packet, Update}
+use Rattle.steps.specs.declared.step.Step.TheVariants.{Confirm, Crash, Deliver, Expire, Forget, Hop, LinkDown, LinkUp, Lose, Packet, Resend, Restart, Update}
 use Rattle.world.proofs.Frame.{begun, played}
 use Rattle.world.proofs.parts.Parts.play.Goals as goal
 
@@ -104,3 +104,33 @@ pub returns-in-Crash : goal.returns-in-Crash
 returns-in-Crash c =
     played c.args.row c.args.step.now (Crash c.in-Crash.switch) c.args.self.now c.push.new.self c.requires
     c.in_ok-push.ensures.pushed c.in-Crash.is c.crash.result _ c.crash.ensures
+
+pub confirm-requires : goal.confirm-requires
+confirm-requires c =
+    begun c.args.row c.args.step.now (Confirm c.in-Confirm.switch) c.args.self.now c.push.new.self c.requires
+    c.in_ok-push.ensures.pushed c.in-Confirm.is
+
+pub returns-in-Confirm : goal.returns-in-Confirm
+returns-in-Confirm c =
+    played c.args.row c.args.step.now (Confirm c.in-Confirm.switch) c.args.self.now c.push.new.self c.requires
+    c.in_ok-push.ensures.pushed c.in-Confirm.is c.confirm.result _ c.confirm.ensures
+
+pub restart-requires : goal.restart-requires
+restart-requires c =
+    begun c.args.row c.args.step.now (Restart c.in-Restart.switch) c.args.self.now c.push.new.self c.requires
+    c.in_ok-push.ensures.pushed c.in-Restart.is
+
+pub returns-in-Restart : goal.returns-in-Restart
+returns-in-Restart c =
+    played c.args.row c.args.step.now (Restart c.in-Restart.switch) c.args.self.now c.push.new.self c.requires
+    c.in_ok-push.ensures.pushed c.in-Restart.is c.restart.result _ c.restart.ensures
+
+pub resend-requires : goal.resend-requires
+resend-requires c =
+    begun c.args.row c.args.step.now (Resend c.in-Resend.switch) c.args.self.now c.push.new.self c.requires
+    c.in_ok-push.ensures.pushed c.in-Resend.is
+
+pub returns-in-Resend : goal.returns-in-Resend
+returns-in-Resend c =
+    played c.args.row c.args.step.now (Resend c.in-Resend.switch) c.args.self.now c.push.new.self c.requires
+    c.in_ok-push.ensures.pushed c.in-Resend.is c.resend.result _ c.resend.ensures

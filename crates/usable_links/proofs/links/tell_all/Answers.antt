@@ -1,8 +1,8 @@
 use Rattle.std.proofs.Common.{ℕ, ◌≡◌, ◌++◌, ap, sym, ◌∙◌, append_assoc, append-nil, arith}
 use Rattle.usable_links.proofs.Relinking.{held_all, held_below, held_none, held_step}
 use Rattle.failover.specs.Adverts.{held}
-use Rattle.usable_links.specs.Linking.{told_if, told_to}
-use Rattle.usable_links.proofs.links.tell.Goals as goal
+use Rattle.usable_links.specs.Linking.{told_if}
+use Rattle.usable_links.proofs.links.tell_all.Goals as goal
 
 pub loop-origin-init : goal.loop-origin-init
 loop-origin-init c = sym (append-nil c.args.messages.now.items)
@@ -27,5 +27,4 @@ returns c =
     c.loop-origin.invariant
     ∙ ap (λ n. c.args.messages.now.items ++ held_below c.args.switch.now c.args.other n) all
     ∙ ap (λ more. c.args.messages.now.items ++ more)
-    (held_all c.args.switch.now c.args.own.now c.args.other
-    ∙ ap (λ b. told_to c.args.switch.now c.args.own.now b c.args.other) (sym c.if-had.false))
+    (held_all c.args.switch.now c.args.other)

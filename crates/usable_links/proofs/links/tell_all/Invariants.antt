@@ -1,6 +1,6 @@
 use Rattle.std.proofs.Common.{◌≡◌, ◌++◌}
 use Rattle.usable_links.proofs.Relinking.{held_below}
-use Rattle.usable_links.proofs.links.tell.Given as goal
+use Rattle.usable_links.proofs.links.tell_all.Given as goal
 
 -- the adverts of the origins so far
 abbrev pub invariant-loop-origin : goal.invariant-loop-origin

@@ -1,0 +1,111 @@
+use Rattle.std.proofs.Common.{◌≡◌, ◌+◌, ◌^◌, ◌<◌, ◌++◌, List, OnOk, OnErr, length, refl, sym, subst, ◌∙◌, arith, rules}
+use Rattle.std.proofs.lemmas.Result.{on_ok_weaker}
+use Rattle.controller.specs.Controller.{ControllerValue}
+use Rattle.controller.specs.Sends.{settling}
+use Rattle.controller.specs.declared.sends.Act.{Act}
+use Rattle.journal.specs.declared.item.Item.TheVariants as item
+use Rattle.steps.specs.declared.step.Step.TheVariants.{Confirm}
+use Rattle.version_update.specs.Marks.{at_switch}
+use Rattle.version_update.specs.Record.{after_over}
+use Rattle.world.specs.Parts.{control_in, setting_in}
+use Rattle.world_log.specs.Sending.{act_items, act_posts}
+use Rattle.world_log.specs.Writing.{IsPart}
+use Rattle.world.proofs.Frame.{goes_one, nothing_goes}
+use Rattle.world.proofs.GoesTold.{goes_told}
+use Rattle.world.proofs.GoneSwitches.{gone_few, gone_known, gone_piece, gone_there, gone_tied, still_up}
+use Rattle.world.proofs.parts.Parts.confirm.Goals as goal
+
+pub index-requires : goal.index-requires
+index-requires c =
+    let self = c.args.self.now in
+    omega (
+      arith,
+      gone_there (control_in self) (setting_in self) c.requires.before
+          self.switches.items self.log.travelling self.packets c.args.switch
+          c.requires.begins.ready.tied c.requires.begins.ready.may,
+      self.switches.ok.0,
+    )
+
+-- ---- it is up
+
+pub returns-then-is_up : goal.returns-then-is_up
+returns-then-is_up c = λ before row begins.
+    let self = c.args.self.now in
+    let s = c.args.switch in
+    goes_one c.push.result before row (Confirm s) self _ begins (search rules) item.Nothing
+    self.log.bag (search rules) refl (omega arith)
+    (still_up (control_in self) (setting_in self) before self.switches.items
+    self.log.travelling self.packets row s c.index.result.now begins.ready.tied begins.ready.may
+    c.index.ensures (sym c.is_up.ensures ∙ c.if-is_up.true))
+    c.push.ensures.pushed c.push.ensures.unchanged
+
+-- ---- it is down
+
+pub over-requires : goal.over-requires
+over-requires c =
+    let self = c.args.self.now in
+    omega (
+      arith,
+      gone_known (control_in self) (setting_in self) c.requires.before
+          self.switches.items self.log.travelling self.packets c.args.switch
+          c.requires.begins.ready.tied c.requires.begins.ready.may,
+    )
+
+pub returns-in_err-sends : goal.returns-in_err-sends
+returns-in_err-sends c = λ before row begins.
+    nothing_goes c.from_residual.result before row (Confirm c.args.switch) c.args.self.now _
+    begins (search rules) c.from_residual.ensures.0 refl
+
+pub returns-in_err-push : goal.returns-in_err-push
+returns-in_err-push c = λ before row begins.
+    nothing_goes c.from_residual-in_err-push.result before row (Confirm c.args.switch)
+    c.args.self.now _ begins (search rules) c.from_residual-in_err-push.ensures.0
+    c.in_err-push.ensures.unchanged
+
+pub note_acts-requires : goal.note_acts-requires
+note_acts-requires c =
+    let self = c.args.self.now in
+    let ready = c.requires.begins.ready in
+    record {
+      few = subst (λ (acts : List Act). length self.log.bag + length (act_posts acts) < 2 ^ 32)
+          (sym (c.acts.ensures ∙ c.in_ok-sends.ensures.sends))
+          (gone_few (control_in self) (setting_in self) c.requires.before self.switches.items
+          self.log.travelling self.packets c.requires.row c.args.switch c.index.result.now
+          ready.tied ready.may c.index.ensures c.over.new.self
+          (sym c.is_up.ensures ∙ c.if-is_up.false) c.over.ensures.after ready.room);
+    }
+
+pub returns : goal.returns
+returns c = λ before row begins.
+    let self = c.args.self.now in
+    let s = c.args.switch in
+    let ready = begins.ready in
+    let new : ControllerValue = c.over.new.self in
+    let acts : List Act =
+    settling (at_switch s after_over self.controller.marks) new.marks in
+    let are : c.acts.result.now ≡ acts = c.acts.ensures ∙ c.in_ok-sends.ensures.sends in
+    let down = sym c.is_up.ensures ∙ c.if-is_up.false in
+    let begun = c.push-2.new.self in
+    goes_told c.note_acts.result before row (Confirm s) self _ (item.OverNow s)
+    (λ k. act_items k acts) begun (length self.log.bag) self.log.bag (act_posts acts) begins
+    (search rules) (record {
+      piece_is = gone_piece (control_in self) (setting_in self) before self.switches.items
+          self.log.travelling self.packets row s c.index.result.now ready.tied ready.may
+          c.index.ensures new down c.over.ensures.after;
+      counted = omega arith;
+      pushed = c.in_ok-push.ensures.pushed;
+      number_is = refl;
+      travelling = c.note_acts.ensures.travelling;
+      written = subst (λ all. OnOk c.note_acts.result (c.note_acts.new.self.journal
+          ≡ begun ++ act_items (length self.log.bag + 1) all)) are c.note_acts.ensures.written;
+      part = subst (λ all. OnErr c.note_acts.result (IsPart begun
+          (act_items (length self.log.bag + 1) all) c.note_acts.new.self.journal)) are
+          c.note_acts.ensures.part;
+      posted = subst (λ all. OnOk c.note_acts.result
+          (c.note_acts.new.self.bag ≡ self.log.bag ++ act_posts all)) are
+          c.note_acts.ensures.posted;
+      tied = on_ok_weaker c.note_acts.result (λ done. gone_tied (control_in self)
+          (setting_in self) before self.switches.items self.log.travelling self.packets row s
+          c.index.result.now ready.tied ready.may c.index.ensures new down c.over.ensures.after)
+          c.note_acts.ensures.written;
+    })

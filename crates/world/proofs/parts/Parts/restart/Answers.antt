@@ -1,0 +1,122 @@
+use Rattle.std.proofs.Common.{◌≡◌, ◌+◌, ◌++◌, ◌∷◌, [], OnOk, false, length, refl, ap, sym, subst, ◌∙◌, arith, rules}
+use Rattle.std.proofs.lemmas.List.{get_or_default}
+use Rattle.std.proofs.lemmas.Result.{on_err_weaker, on_ok_weaker}
+use Rattle.bag.specs.Posts.{posted}
+use Rattle.ctrl_msg.specs.declared.message.Body.TheVariants.{Hello}
+use Rattle.journal.specs.declared.item.Item.TheVariants as item
+use Rattle.steps.specs.declared.step.Step.TheVariants.{Restart}
+use Rattle.switch_core.specs.State.{SwitchValue}
+use Rattle.update_machine.specs.Deliveries.{to_controller}
+use Rattle.world.specs.Parts.{control_in, setting_in}
+use Rattle.world.proofs.Booting.{boot_here, boot_next, boot_piece, boot_tied, up_already}
+use Rattle.world.proofs.Frame.{goes_one, nothing_goes}
+use Rattle.world.proofs.GoesTold.{goes_told}
+use Rattle.world_log.proofs.Writing.{part_none}
+use Rattle.world.proofs.parts.Parts.restart.Goals as goal
+
+pub index-requires : goal.index-requires
+index-requires c =
+    let self = c.args.self.now in
+    omega (
+      arith,
+      boot_here (control_in self) (setting_in self) c.requires.before
+          self.switches.items self.log.travelling self.packets c.args.switch
+          c.requires.begins.ready.tied c.requires.begins.ready.may,
+      self.switches.ok.0,
+    )
+
+-- ---- it is up
+
+pub returns-then-is_up : goal.returns-then-is_up
+returns-then-is_up c = λ before row begins.
+    let self = c.args.self.now in
+    let s = c.args.switch in
+    goes_one c.push.result before row (Restart s) self _ begins (search rules) item.Nothing
+    self.log.bag (search rules) refl (omega arith)
+    (up_already (control_in self) (setting_in self) before self.switches.items
+    self.log.travelling self.packets row s c.index.result.now begins.ready.tied begins.ready.may
+    c.index.ensures (sym c.is_up.ensures ∙ c.if-is_up.true))
+    c.push.ensures.pushed c.push.ensures.unchanged
+
+-- ---- it is down
+
+pub index_mut-requires : goal.index_mut-requires
+index_mut-requires c =
+    let self = c.args.self.now in
+    omega (
+      arith,
+      boot_here (control_in self) (setting_in self) c.requires.before
+          self.switches.items self.log.travelling self.packets c.args.switch
+          c.requires.begins.ready.tied c.requires.begins.ready.may,
+      self.switches.ok.0,
+    )
+
+pub restart-boot-requires : goal.restart-boot-requires
+restart-boot-requires c =
+    let self = c.args.self.now in
+    let s = c.args.switch in
+    let ready = c.requires.begins.ready in
+    let own = c.index_mut.result.now in
+    let same : own ≡ c.index.result.now = c.index_mut.ensures.value
+    ∙ get_or_default self.switches.items s own c.index.result.now
+    (boot_here (control_in self) (setting_in self) c.requires.before self.switches.items
+    self.log.travelling self.packets s ready.tied ready.may) ∙ sym c.index.ensures in
+    let down : own.is_up ≡ false = ap (λ (w : SwitchValue). w.is_up) same
+    ∙ sym c.is_up.ensures ∙ c.if-is_up.false in
+    let can = boot_next (control_in self) (setting_in self) c.requires.before
+    self.switches.items self.log.travelling self.packets c.requires.row s own ready.tied ready.may
+    c.index_mut.ensures.value down ready.room in
+    record { down = can.down; boot = can.boot }
+
+pub returns-in_err-push : goal.returns-in_err-push
+returns-in_err-push c = λ before row begins.
+    nothing_goes c.from_residual.result before row (Restart c.args.switch) c.args.self.now _
+    begins (search rules) c.from_residual.ensures.0 c.in_err-push.ensures.unchanged
+
+pub send-requires : goal.send-requires
+send-requires c = omega (arith, c.requires.begins.ready.room)
+
+pub returns : goal.returns
+returns c = λ before row begins.
+    let self = c.args.self.now in
+    let s = c.args.switch in
+    let ready = begins.ready in
+    let own = c.index_mut.result.now in
+    let same : own ≡ c.index.result.now = c.index_mut.ensures.value
+    ∙ get_or_default self.switches.items s own c.index.result.now
+    (boot_here (control_in self) (setting_in self) before self.switches.items
+    self.log.travelling self.packets s ready.tied ready.may) ∙ sym c.index.ensures in
+    let down : own.is_up ≡ false = ap (λ (w : SwitchValue). w.is_up) same
+    ∙ sym c.is_up.ensures ∙ c.if-is_up.false in
+    let boot = own.boot + 1 in
+    let hello = to_controller (Hello s boot) in
+    let begun = c.push-2.new.self in
+    let told : c.restart-boot.result ≡ boot = c.restart-boot.ensures.boot in
+    let said : c.hello.result ≡ hello =
+    c.hello.ensures ∙ ap (λ b. to_controller (Hello s b)) told in
+    let written : OnOk c.send.result (c.send.new.self.journal
+    ≡ begun ++ item.Sent (length self.log.bag + 1) hello ∷ []) =
+    subst (λ message. OnOk c.send.result (c.send.new.self.journal
+    ≡ begun ++ item.Sent (length self.log.bag + 1) message ∷ [])) said c.send.ensures.written in
+    goes_told c.send.result before row (Restart s) self _ (item.Booted s boot)
+    (λ k. item.Sent k hello ∷ []) begun (length self.log.bag) self.log.bag (posted hello ∷ [])
+    begins (search rules) (record {
+      piece_is = boot_piece (control_in self) (setting_in self) before self.switches.items
+          self.log.travelling self.packets row s own ready.tied ready.may
+          c.index_mut.ensures.value down;
+      counted = omega arith;
+      pushed = subst (λ b. begun ≡ self.log.journal ++ item.Booted s b ∷ []) told
+          c.in_ok-push.ensures.pushed;
+      number_is = refl;
+      travelling = c.send.ensures.travelling;
+      written = written;
+      part = on_err_weaker c.send.result (λ same. part_none begun
+          (item.Sent (length self.log.bag + 1) hello ∷ []) c.send.new.self.journal same)
+          c.send.ensures.unwritten;
+      posted = subst (λ message. OnOk c.send.result (c.send.new.self.bag
+          ≡ self.log.bag ++ posted message ∷ [])) said c.send.ensures.posted;
+      tied = on_ok_weaker c.send.result (λ done. boot_tied (control_in self) (setting_in self)
+          before self.switches.items self.log.travelling self.packets row s own ready.tied
+          ready.may c.index_mut.ensures.value c.restart-boot.new.self down
+          c.restart-boot.ensures.after) written;
+    })
