@@ -10,14 +10,10 @@ use Rattle.policy_file.specs.Ports.{has_port}
 use Rattle.policy_rules.specs.declared.policy.Action.{Action}
 use Rattle.policy_rules.specs.declared.policy.Action.TheVariants as action
 use Rattle.policy_rules.specs.declared.policy.Row.{Row}
-use Rattle.schedule.specs.Kinds.{IsBuiltEvent}
 use Rattle.schedule.specs.Reading.{AreSound}
 use Rattle.steps.specs.Steps.{IsEvent}
 use Rattle.steps.specs.declared.step.Event.{Event}
-use Rattle.steps.specs.declared.step.Event.TheVariants.{One, Flush, Drain}
-use Rattle.steps.specs.declared.step.Step.TheVariants as step
 use Rattle.update_machine.specs.Sound.{IsSetting, NamesOwnPort}
-use Rattle.world.specs.Played.{MayHappen}
 use Rattle.update_machine.specs.Setting.{Setting, setting_of}
 use Rattle.replay.proofs.Events.{first_planned}
 use Rattle.world.specs.State.{AreTied, IsTied, WorldValue, setting_at}
@@ -65,33 +61,12 @@ planned_by net policies setting same sound =
 
 -- ---- events
 
-may_happen : (net : Net) (policies : List (List Row)) (event : Event)
-    → IsEvent net (length policies) event → IsBuiltEvent event
-    → MayHappen (setting_of net policies) event
-may_happen net policies (One (step.Packet switch header)) own built =
-    record { kind = tt; own = own }
-may_happen net policies (One (step.Hop packet)) own built = record { kind = tt; own = own }
-may_happen net policies (One (step.Lose packet)) own built = record { kind = tt; own = own }
-may_happen net policies (One (step.Deliver message)) own built = record { kind = tt; own = own }
-may_happen net policies (One (step.Forget message)) own built = record { kind = tt; own = own }
-may_happen net policies (One (step.Expire switch place)) own built =
-    record { kind = tt; own = own }
-may_happen net policies (One (step.Update file)) own built = record { kind = tt; own = own }
-may_happen net policies (One (step.Crash switch)) own built = record { kind = tt; own = own }
-may_happen net policies (One (step.Restart switch)) own built = record { kind = tt; own = own }
-may_happen net policies (One (step.Confirm switch)) own built = record { kind = tt; own = own }
-may_happen net policies (One (step.Resend switch)) own built = record { kind = tt; own = own }
-may_happen net policies Flush own built = tt
-may_happen net policies Drain own built = tt
-may_happen net policies _ own built = cc built
-
-pub all_may_happen : (net : Net) (policies : List (List Row)) (count : ℕ) (setting : Setting)
+pub all_are_events : (net : Net) (policies : List (List Row)) (count : ℕ) (setting : Setting)
     (events : List Event) → setting ≡ setting_of net policies → length policies ≡ count
-    → AreSound net count events → All (MayHappen setting) events
-all_may_happen net policies count setting events same many sound =
-    let own = subst (λ n. AreSound net n events) (sym many) sound in
-    subst (λ s. All (MayHappen s) events) (sym same)
-    (λ k d within. may_happen net policies _ (own.steps k d within) (own.built k d within))
+    → AreSound net count events → All (IsEvent setting.net (length setting.policies)) events
+all_are_events net policies count setting events same many sound =
+    subst (λ (s : Setting). All (IsEvent s.net (length s.policies)) events) (sym same)
+    (subst (λ n. All (IsEvent net n) events) (sym many) sound.steps)
 
 -- ---- the inputs of a replay
 
@@ -99,7 +74,7 @@ all_may_happen net policies count setting events same many sound =
 pub asked_for : (words : ReplayCommand) (net : Net) (policies : List (List Row))
     (events : List Event) (setting : Setting) → IsNetOf words.net net
     → setting ≡ setting_of net policies → length policies ≡ length words.policies
-    → IsSetting setting → All (MayHappen setting) events
+    → IsSetting setting → All (IsEvent setting.net (length setting.policies)) events
     → IsReplayOf words (record { setting = setting; events = events })
 asked_for words net policies events setting named own many sound may = record {
   net = subst (λ s. IsNetOf words.net s.net) (sym own) named;

@@ -2,19 +2,15 @@
 use Rattle.std.specs.Prelude.{⊤}
 use Rattle.std.proofs.Common.{ℕ, ◌≡◌, inr, refl, Option, Some, None, Result, Ok, Err, OnOk, OnErr, IsErrOf, List, [], All, length}
 use Rattle.std.specs.Option.{ForSome}
-use Rattle.std.proofs.lemmas.List.Elements.{All-weaker}
 use Rattle.boot_laws.specs.Always.{HoldsReached}
 use Rattle.journal.specs.declared.item.Item.{Item}
 use Rattle.journal_text.specs.Lines.{journal_text}
 use Rattle.steps.specs.Steps.{IsEvent}
-use Rattle.steps.specs.declared.step.Event.{Event}
-use Rattle.steps.specs.declared.step.Event.TheVariants.{Drain, Flush, One}
 use Rattle.update_machine.specs.Answers.{BeginsAnswer}
 use Rattle.update_machine.specs.Causes.{EndsHaveCauses}
 use Rattle.update_machine.specs.Full.{IsPlay}
 use Rattle.update_machine.specs.Machine.{IsRun}
 use Rattle.update_machine.specs.Sound.{IsSetting}
-use Rattle.world.specs.Played.{MayHappen}
 use Rattle.update_machine.specs.Setting.{Setting}
 use Rattle.update_machine.proofs.CallerLemmas.{answers_so_far, begins_itself, stop_begins}
 use Rattle.difane_cli.specs.Inputs.{Inputs, Play, Print, Printing}
@@ -30,19 +26,6 @@ pub record AnswerLaws : Type 0 where
   pub run : HoldsReached (λ setting journal. IsSetting setting → IsRun setting journal)
   pub causes : HoldsReached (λ setting journal.
       IsSetting setting → EndsHaveCauses setting journal)
-
--- what may happen are events of the network
-is_event : (setting : Setting) (event : Event) → MayHappen setting event
-    → IsEvent setting.net (length setting.policies) event
-is_event setting (One step) may = may.own
-is_event setting Flush may = tt
-is_event setting Drain may = tt
-
-are_events : (setting : Setting) (events : List Event) → All (MayHappen setting) events
-    → All (IsEvent setting.net (length setting.policies)) events
-are_events setting events may =
-    All-weaker (MayHappen setting) (IsEvent setting.net (length setting.policies))
-    (is_event setting) events may
 
 begins : (inputs : Inputs) (journal : List Item) (full : Option ℕ)
     → IsPlay inputs.setting inputs.events journal full
@@ -62,10 +45,10 @@ played laws command known inputs journal full asked accepted play = record {
   accepted = accepted;
   play = play;
   run = laws.run.begun inputs.setting inputs.events journal
-      (are_events inputs.setting inputs.events asked.events) (begins inputs journal full play)
+      asked.events (begins inputs journal full play)
       asked.setting;
   causes = laws.causes.begun inputs.setting inputs.events journal
-      (are_events inputs.setting inputs.events asked.events) (begins inputs journal full play)
+      asked.events (begins inputs journal full play)
       asked.setting;
 }
 

@@ -2,8 +2,7 @@
 use Rattle.std.specs.Prelude.{⊤, ℕ, ◌≡◌, ◌≤◌, Option, option_map, List, length, map, string_bytes, All}
 use Rattle.std.specs.Borrow.{Bor}
 use Rattle.net_file.specs.Net.{IsNet}
-use Rattle.steps.specs.Steps.{max_events}
-use Rattle.world.specs.Played.{MayHappen}
+use Rattle.steps.specs.Steps.{IsEvent, max_events}
 use Rattle.world.specs.State.{IsBegun, setting_at}
 use Rattle.difane_cli.specs.Run.{IsPrintingOf, IsReplayOf}
 use Rattle.difane_cli.specs.Inputs.{Inputs, Printing, Task, Play, Print}
@@ -76,7 +75,7 @@ task_stated (asked.Print inputs) = Print (printing_stated inputs)
 pub record IsReady (inputs : ReplayInputs) : Type 0 where
   pub begun : IsBegun (setting_at inputs.world) inputs.world
   pub net : inputs.world.net ≡ inputs.net
-  pub may : All (MayHappen (setting_at inputs.world)) inputs.events.items
+  pub may : All (IsEvent inputs.world.net (length inputs.world.policies)) inputs.events.items
   pub few : length inputs.events.items ≤ max_events
 
 -- a plan is on a network

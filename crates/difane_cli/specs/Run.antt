@@ -15,7 +15,7 @@ use Rattle.update_machine.specs.Causes.{EndsHaveCauses}
 use Rattle.update_machine.specs.Full.{IsPlay}
 use Rattle.update_machine.specs.Machine.{IsRun}
 use Rattle.update_machine.specs.Sound.{IsSetting}
-use Rattle.world.specs.Played.{MayHappen}
+use Rattle.steps.specs.Steps.{IsEvent}
 use Rattle.difane_cli.specs.Inputs.{Inputs, Play, Print, Printing, Task}
 use Rattle.difane_cli.specs.Words.{Command, PrintCommand, ReplayCommand}
 use Rattle.difane_cli.specs.Words as asked
@@ -61,7 +61,7 @@ pub record IsReplayOf (command : ReplayCommand) (inputs : Inputs) : Type 0 where
   pub net : IsNetOf command.net inputs.setting.net
   pub policies : length inputs.setting.policies ≡ length command.policies
   pub setting : IsSetting inputs.setting
-  pub events : All (MayHappen inputs.setting) inputs.events
+  pub events : All (IsEvent inputs.setting.net (length inputs.setting.policies)) inputs.events
 
 -- the journal is that of the play of these inputs, which are the known ones where the task is
 -- known: it answers them, or it answers them up to a row at which the play stopped full; so it is a

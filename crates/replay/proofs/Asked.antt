@@ -1,12 +1,12 @@
 -- The step that an event asks for next: it may be played, and leaves the event fewer to ask for.
-use Rattle.std.proofs.Common.{ℕ, ◌≡◌, ◌+◌, ◌-◌, ◌^◌, ◌<◌, ◌≤◌, Bool, true, false, Option, Some, None, List, ◌++◌, refl, sym, subst, arith}
+use Rattle.std.proofs.Common.{ℕ, ◌≡◌, ◌+◌, ◌-◌, ◌^◌, ◌<◌, ◌≤◌, Bool, true, false, Option, Some, None, List, ◌++◌, refl, sym, subst, arith, length}
 use Rattle.std.specs.Prelude.{option_map}
 use Rattle.journal.specs.declared.item.Item.{Item}
 use Rattle.steps.specs.declared.step.Event.{Event}
 use Rattle.steps.specs.declared.step.Event.TheVariants.{Drain, Flush, One}
 use Rattle.steps.specs.declared.step.Step.{Step}
 use Rattle.steps.specs.declared.step.Step.TheVariants.{Deliver, Hop, Packet}
-use Rattle.steps.specs.Steps.{max_events}
+use Rattle.steps.specs.Steps.{IsEvent, IsStep, max_events}
 use Rattle.hop_laws.specs.Drains.{drain_left}
 use Rattle.update_machine.specs.Answers.{IsReached}
 use Rattle.update_machine.specs.Full.{HasRoom}
@@ -14,7 +14,6 @@ use Rattle.update_machine.specs.Messages.{next_waiting}
 use Rattle.update_machine.specs.Packets.{next_packet, next_travelling}
 use Rattle.update_machine.specs.Pieces.{piece}
 use Rattle.update_machine.specs.Sound.{IsSetting}
-use Rattle.world.specs.Played.{MayHappen, MayPlay}
 use Rattle.update_machine.specs.Setting.{Setting}
 use Rattle.world.specs.State.{IsTied, WorldValue, comes_in, setting_at}
 use Rattle.replay.specs.Playing.{brought_in, next_step}
@@ -44,8 +43,9 @@ steps_left Drain is_begun journal = drain_left journal
 
 pub record Asked (setting : Setting) (row : ℕ) (event : Event) (is_begun : Bool)
     (journal : List Item) (step : Step) : Type 0 where
-  pub may : MayHappen setting event → next_packet journal ≤ max_events + 1 → HasRoom journal
-      → MayPlay setting step
+  pub may : IsEvent setting.net (length setting.policies) event
+      → next_packet journal ≤ max_events + 1 → HasRoom journal
+      → IsStep setting.net (length setting.policies) step
   -- it is the first that may bring one in
   pub none : brought_so_far event is_begun ≡ 0
   pub brought : comes_in step ≡ brought_so_far event true
@@ -95,7 +95,7 @@ asked hops rise world row Flush is_begun step tied is =
     let at = found_by Deliver (next_waiting journal) step is in
     subst (Asked (setting_at world) row Flush is_begun journal) at.made (record {
       may = λ may few room.
-          record { kind = tt; own = omega (arith, least_is_small journal at.number at.is room) };
+          omega (arith, least_is_small journal at.number at.is room);
       none = refl;
       brought = refl;
       fewer = λ room.
@@ -112,7 +112,7 @@ asked hops rise world row Drain is_begun step tied is =
     let whole = tie_of world tied in
     subst (Asked (setting_at world) row Drain is_begun journal) at.made (record {
       may = λ may few room.
-          record { kind = tt; own = omega (arith, few, least_is_packet journal at.number at.is) };
+          omega (arith, few, least_is_packet journal at.number at.is);
       none = refl;
       brought = refl;
       fewer = λ room. hops (setting_at world) journal row at.number whole.sound

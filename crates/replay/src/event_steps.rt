@@ -1,6 +1,5 @@
-ghost use Rattle.std.specs.Prelude.{◌≡◌, ◌+◌, ◌≤◌, false, IsErrOf, OnErr, OnOk};
-ghost use Rattle.steps.specs.Steps.{max_events};
-ghost use Rattle.world.specs.Played.{MayHappen};
+ghost use Rattle.std.specs.Prelude.{◌≡◌, ◌+◌, ◌≤◌, false, IsErrOf, OnErr, OnOk, length};
+ghost use Rattle.steps.specs.Steps.{IsEvent, max_events};
 ghost use Rattle.world.specs.declared.error.StepError.TheVariants.{Full};
 ghost use Rattle.replay.specs.Playing.{Begins, Happens, StopsWithin, brought_in, next_step};
 ghost use Rattle.world.specs.State.{setting_at};
@@ -25,7 +24,7 @@ pub fn take_steps(
 ) -> Result<(), StepError>
     requires able { world.old.is_spent ≡ false }
     requires few { world.old.packets ≤ max_events }
-    requires may { MayHappen (setting_at world.old) event.now }
+    requires may { IsEvent world.old.net (length world.old.policies) event.now }
     ensures setting { setting_at world.new ≡ setting_at world.old }
     ensures able { OnOk result (world.new.is_spent ≡ false) }
     ensures packets { OnOk result (world.new.packets

@@ -2,10 +2,9 @@ ghost use Rattle.std.specs.Prelude.{◌≡◌, ◌≤◌, ◌+◌, All, IfErr, I
 ghost use Rattle.net_file.specs.Net.{IsNet};
 ghost use Rattle.partition.specs.Plan.{plan_of};
 ghost use Rattle.policy_rules.specs.Policy.{IsPolicy};
-ghost use Rattle.steps.specs.Steps.{max_events};
+ghost use Rattle.steps.specs.Steps.{IsEvent, max_events};
 ghost use Rattle.update_machine.specs.Full.{IsPlay};
 ghost use Rattle.update_machine.specs.Sound.{NamesOwnPort};
-ghost use Rattle.world.specs.Played.{MayHappen};
 ghost use Rattle.update_machine.specs.Setting.{setting_of};
 ghost use Rattle.world.specs.State.{IsBegun, setting_at};
 ghost use Rattle.replay.specs.Playing.{IsRefusal};
@@ -45,7 +44,7 @@ pub fn replay(
     requires sound { All IsPolicy policies.items }
     requires ports { All (All (λ row. NamesOwnPort (setting_of net.now policies.items)
         row.action)) policies.items }
-    requires events { All (MayHappen (setting_of net.now policies.items)) events.now }
+    requires events { All (IsEvent net.now (length policies.items)) events.now }
     requires few { length events.now ≤ max_events }
     ensures play { IfOk result (λ played.
         IsPlay (setting_of net.now policies.items) events.now played.journal played.full) }
@@ -66,7 +65,7 @@ pub fn replay(
 /// Want of memory alone.
 pub fn play(alloc: Global, world: World, events: &[Event]) -> Result<Played, AllocError>
     requires begun { IsBegun (setting_at world) world }
-    requires events { All (MayHappen (setting_at world)) events.now }
+    requires events { All (IsEvent world.net (length world.policies)) events.now }
     requires few { length events.now ≤ max_events }
     ensures { IfOk result (λ played.
         IsPlay (setting_at world) events.now played.journal played.full) }

@@ -4,7 +4,7 @@ use Rattle.std.specs.Prelude.{◌≢◌, Err, bytes_eq, codes}
 use Rattle.csv.specs.Records.{field_at}
 use Rattle.csv_records.specs.Texts.{field}
 use Rattle.net_file.specs.declared.net.Net.{Net}
-use Rattle.schedule.specs.Kinds.{is_built, kind_of}
+use Rattle.schedule.specs.Kinds.{kind_of}
 use Rattle.schedule.specs.Rows.{event_of, event_with, is_heading}
 use Rattle.schedule.specs.declared.error.ScheduleRefusal.TheVariants as why
 use Rattle.schedule.specs.declared.kind.Kind.{Kind}
@@ -42,21 +42,14 @@ unfolding field_at
 event_of-no_kind net files [] none = refl
 event_of-no_kind net files (word ∷ fields) none = rw none refl
 
-pub event_of-not_built : (net : Net) (files : ℕ) (fields : List (List ℕ)) (k : Kind)
-    → kind_of (field fields 0) ≡ Some k → is_built k ≡ false
-    → event_of net files fields ≡ Err why.NotBuilt
-unfolding field_at
-event_of-not_built net files [] k is built = cc (no_word, is)
-event_of-not_built net files (word ∷ fields) k is built = rw (is, built) refl
-
 -- ---- the width
 
-pub event_of-built : (net : Net) (files : ℕ) (fields : List (List ℕ)) (k : Kind)
-    → kind_of (field fields 0) ≡ Some k → is_built k ≡ true
+pub event_of-known : (net : Net) (files : ℕ) (fields : List (List ℕ)) (k : Kind)
+    → kind_of (field fields 0) ≡ Some k
     → event_of net files fields ≡ event_with net files k (drop 1 fields)
 unfolding field_at
-event_of-built net files [] k is built = cc (no_word, is)
-event_of-built net files (word ∷ fields) k is built = rw (is, built) refl
+event_of-known net files [] k is = cc (no_word, is)
+event_of-known net files (word ∷ fields) k is = rw is refl
 
 none_behind : (fields : List (List ℕ)) → length fields ≡ 1 → drop 1 fields ≡ []
 none_behind (word ∷ []) one = refl
@@ -81,21 +74,21 @@ six_behind (word ∷ a ∷ b ∷ c ∷ d ∷ e ∷ f ∷ []) seven = refl
 six_behind _ seven = absurd (omega arith)
 
 pub event_of-one : (net : Net) (files : ℕ) (fields : List (List ℕ)) (k : Kind)
-    → kind_of (field fields 0) ≡ Some k → is_built k ≡ true → length fields ≡ 1
+    → kind_of (field fields 0) ≡ Some k → length fields ≡ 1
     → event_of net files fields ≡ event_with net files k []
-event_of-one net files fields k is built one = event_of-built net files fields k is built
+event_of-one net files fields k is one = event_of-known net files fields k is
     ∙ ap (event_with net files k) (none_behind fields one)
 
 pub event_of-two : (net : Net) (files : ℕ) (fields : List (List ℕ)) (k : Kind)
-    → kind_of (field fields 0) ≡ Some k → is_built k ≡ true → length fields ≡ 2
+    → kind_of (field fields 0) ≡ Some k → length fields ≡ 2
     → event_of net files fields ≡ event_with net files k (field fields 1 ∷ [])
-event_of-two net files fields k is built two = event_of-built net files fields k is built
+event_of-two net files fields k is two = event_of-known net files fields k is
     ∙ ap (event_with net files k) (one_behind fields two)
 
 pub event_of-three : (net : Net) (files : ℕ) (fields : List (List ℕ)) (k : Kind)
-    → kind_of (field fields 0) ≡ Some k → is_built k ≡ true → length fields ≡ 3
+    → kind_of (field fields 0) ≡ Some k → length fields ≡ 3
     → event_of net files fields ≡ event_with net files k (field fields 1 ∷ field fields 2 ∷ [])
-event_of-three net files fields k is built three = event_of-built net files fields k is built
+event_of-three net files fields k is three = event_of-known net files fields k is
     ∙ ap (event_with net files k) (two_behind fields three)
 
 -- no kind has another width
@@ -113,13 +106,13 @@ other_width net files kind.Packet (a ∷ b ∷ c ∷ d ∷ e ∷ f ∷ g ∷ mor
 other_width _ _ _ _ none one two six = refl
 
 pub event_of-other : (net : Net) (files : ℕ) (fields : List (List ℕ)) (k : Kind)
-    → kind_of (field fields 0) ≡ Some k → is_built k ≡ true
+    → kind_of (field fields 0) ≡ Some k
     → length fields ≢ 1 → length fields ≢ 2 → length fields ≢ 3 → length fields ≢ 7
     → event_of net files fields ≡ Err why.Width
 unfolding field_at
-event_of-other net files [] k is built one two three seven = cc (no_word, is)
-event_of-other net files (word ∷ fields) k is built one two three seven =
-    event_of-built net files (word ∷ fields) k is built
+event_of-other net files [] k is one two three seven = cc (no_word, is)
+event_of-other net files (word ∷ fields) k is one two three seven =
+    event_of-known net files (word ∷ fields) k is
     ∙ other_width net files k fields (λ e. one (omega arith)) (λ e. two (omega arith))
     (λ e. three (omega arith)) (λ e. seven (omega arith))
 
@@ -127,8 +120,7 @@ pub ruleset heading = (is_heading-two, is_heading-other)
 
 pub ruleset counted = (
   event_of-no_kind,
-  event_of-not_built,
-  event_of-built,
+  event_of-known,
   event_of-one,
   event_of-two,
   event_of-three,

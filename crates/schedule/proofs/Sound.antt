@@ -21,7 +21,7 @@ use Rattle.steps.specs.declared.step.Event.{Event}
 use Rattle.steps.specs.declared.step.Event.TheVariants.{One, Flush, Drain}
 use Rattle.steps.specs.declared.step.Step.{Step}
 use Rattle.steps.specs.declared.step.Step.TheVariants as step
-use Rattle.schedule.specs.Kinds.{IsBuiltEvent, is_built, kind_of, kind_of_event}
+use Rattle.schedule.specs.Kinds.{kind_of}
 use Rattle.schedule.specs.Reading.{AreSound, events_in, events_of, events_under_heading, no_heading, refused_row, refusals_from}
 use Rattle.schedule.specs.Refusals.{Refusal}
 use Rattle.schedule.specs.Rows.{event_of, event_with, file_in, header_in, is_heading, link_in, number_in, switch_in}
@@ -116,129 +116,88 @@ module _ (net : Net) (files : ℕ) where
   abbrev IsSound : (Event → Type 0) → Result Event ScheduleRefusal → Type 0
   IsSound Holds read = (event : Event) → read ≡ Ok event → Holds event
 
-  -- an event of the network, of this kind
-  abbrev IsOf : Kind → Event → Type 0
-  IsOf k event = IsEvent net files event × (kind_of_event event ≡ k)
+  abbrev Sound : Result Event ScheduleRefusal → Type 0
+  Sound = IsSound (IsEvent net files)
 
-  -- an event of the network, of a kind that can be played
-  abbrev IsRight : Event → Type 0
-  IsRight event = IsEvent net files event × IsBuiltEvent event
-
-  gives : (k : Kind) (event : Event) → IsEvent net files event → kind_of_event event ≡ k
-      → IsSound (IsOf k) (Ok event)
-  gives k event sound own other is =
+  gives : (event : Event) → IsEvent net files event → Sound (Ok event)
+  gives event sound other is =
       let same : event ≡ other = cc is in
-      subst (IsOf k) same (sound, own)
+      subst (IsEvent net files) same sound
 
-  follows : {X : Type 0} (Holds : Event → Type 0) (read : Result X ScheduleRefusal)
-      (next : X → Result Event ScheduleRefusal)
-      → ((x : X) → read ≡ Ok x → IsSound Holds (next x)) → IsSound Holds (with_value read next)
-  follows Holds (Ok x) next sound event is = sound x refl event is
-  follows Holds (Err e) next sound event is = cc is
+  follows : {X : Type 0} (read : Result X ScheduleRefusal) (next : X → Result Event ScheduleRefusal)
+      → ((x : X) → read ≡ Ok x → Sound (next x)) → Sound (with_value read next)
+  follows (Ok x) next sound event is = sound x refl event is
+  follows (Err e) next sound event is = cc is
 
-  one_number : (k : Kind) (text : List ℕ) (make : ℕ → Step)
+  one_number : (text : List ℕ) (make : ℕ → Step)
       → ((n : ℕ) → n ≤ 999999999 → IsStep net files (make n))
-      → ((n : ℕ) → kind_of_event (One (make n)) ≡ k)
-      → IsSound (IsOf k) (with_value (number_in text) (λ n. Ok (One (make n))))
-  one_number k text make sound own = follows (IsOf k) (number_in text) (λ n. Ok (One (make n)))
-      (λ n is. gives k (One (make n)) (sound n (number_sound text n is)) (own n))
+      → Sound (with_value (number_in text) (λ n. Ok (One (make n))))
+  one_number text make sound = follows (number_in text) (λ n. Ok (One (make n)))
+      (λ n is. gives (One (make n)) (sound n (number_sound text n is)))
 
-  one_switch : (k : Kind) (name : List ℕ) (make : ℕ → Step)
+  one_switch : (name : List ℕ) (make : ℕ → Step)
       → ((s : ℕ) → HasSwitch net s → IsStep net files (make s))
-      → ((s : ℕ) → kind_of_event (One (make s)) ≡ k)
-      → IsSound (IsOf k) (with_value (switch_in net name) (λ s. Ok (One (make s))))
-  one_switch k name make sound own = follows (IsOf k) (switch_in net name)
-      (λ s. Ok (One (make s)))
-      (λ s is. gives k (One (make s)) (sound s (switch_sound net name s is)) (own s))
+      → Sound (with_value (switch_in net name) (λ s. Ok (One (make s))))
+  one_switch name make sound = follows (switch_in net name) (λ s. Ok (One (make s)))
+      (λ s is. gives (One (make s)) (sound s (switch_sound net name s is)))
 
-  one_link : (k : Kind) (one two : List ℕ) (make : LinkRow → Step)
+  one_link : (one two : List ℕ) (make : LinkRow → Step)
       → ((link : LinkRow) → HasLink net link.one link.two → IsStep net files (make link))
-      → ((link : LinkRow) → kind_of_event (One (make link)) ≡ k)
-      → IsSound (IsOf k) (with_value (link_in net one two) (λ link. Ok (One (make link))))
-  one_link k one two make sound own = follows (IsOf k) (link_in net one two)
-      (λ link. Ok (One (make link)))
-      (λ link is. gives k (One (make link)) (sound link (link_sound net one two link is))
-      (own link))
+      → Sound (with_value (link_in net one two) (λ link. Ok (One (make link))))
+  one_link one two make sound = follows (link_in net one two) (λ link. Ok (One (make link)))
+      (λ link is. gives (One (make link)) (sound link (link_sound net one two link is)))
 
-  with_sound : (k : Kind) (fields : List (List ℕ)) → IsSound (IsOf k)
-      (event_with net files k fields)
+  with_sound : (k : Kind) (fields : List (List ℕ)) → Sound (event_with net files k fields)
   with_sound kind.Packet (switch ∷ src ∷ dst ∷ sport ∷ dport ∷ proto ∷ []) =
-      follows (IsOf kind.Packet) (switch_in net switch)
+      follows (switch_in net switch)
       (λ s. with_value (header_in src dst sport dport proto)
       (λ header. Ok (One (step.Packet s header)))) (λ s is.
-      follows (IsOf kind.Packet) (header_in src dst sport dport proto)
+      follows (header_in src dst sport dport proto)
       (λ header. Ok (One (step.Packet s header))) (λ header has.
-      gives kind.Packet (One (step.Packet s header))
-      (switch_sound net switch s is, header_sound src dst sport dport proto header has) refl))
-  with_sound kind.Hop (packet ∷ []) =
-      one_number kind.Hop packet (λ n. step.Hop n) (λ n h. h) (λ n. refl)
-  with_sound kind.Lose (packet ∷ []) =
-      one_number kind.Lose packet (λ n. step.Lose n) (λ n h. h) (λ n. refl)
-  with_sound kind.Deliver (message ∷ []) =
-      one_number kind.Deliver message (λ n. step.Deliver n) (λ n h. h) (λ n. refl)
-  with_sound kind.Forget (message ∷ []) =
-      one_number kind.Forget message (λ n. step.Forget n) (λ n h. h) (λ n. refl)
+      gives (One (step.Packet s header))
+      (switch_sound net switch s is, header_sound src dst sport dport proto header has)))
+  with_sound kind.Hop (packet ∷ []) = one_number packet (λ n. step.Hop n) (λ n h. h)
+  with_sound kind.Lose (packet ∷ []) = one_number packet (λ n. step.Lose n) (λ n h. h)
+  with_sound kind.Deliver (message ∷ []) = one_number message (λ n. step.Deliver n) (λ n h. h)
+  with_sound kind.Forget (message ∷ []) = one_number message (λ n. step.Forget n) (λ n h. h)
   with_sound kind.Expire (switch ∷ place ∷ []) =
-      follows (IsOf kind.Expire) (switch_in net switch)
+      follows (switch_in net switch)
       (λ s. with_value (number_in place) (λ n. Ok (One (step.Expire s n)))) (λ s is.
-      one_number kind.Expire place (λ n. step.Expire s n)
-      (λ n h. (switch_sound net switch s is, h)) (λ n. refl))
-  with_sound kind.Update (file ∷ []) = follows (IsOf kind.Update) (file_in files file)
+      one_number place (λ n. step.Expire s n) (λ n h. (switch_sound net switch s is, h)))
+  with_sound kind.Update (file ∷ []) = follows (file_in files file)
       (λ n. Ok (One (step.Update n)))
-      (λ n is. gives kind.Update (One (step.Update n)) (file_sound files file n is) refl)
-  with_sound kind.LinkDown (one ∷ two ∷ []) = one_link kind.LinkDown one two
-      (λ link. step.LinkDown link.one link.two) (λ link h. h) (λ link. refl)
-  with_sound kind.LinkUp (one ∷ two ∷ []) = one_link kind.LinkUp one two
-      (λ link. step.LinkUp link.one link.two) (λ link h. h) (λ link. refl)
-  with_sound kind.Crash (switch ∷ []) =
-      one_switch kind.Crash switch (λ s. step.Crash s) (λ s h. h) (λ s. refl)
-  with_sound kind.Restart (switch ∷ []) =
-      one_switch kind.Restart switch (λ s. step.Restart s) (λ s h. h) (λ s. refl)
-  with_sound kind.Confirm (switch ∷ []) =
-      one_switch kind.Confirm switch (λ s. step.Confirm s) (λ s h. h) (λ s. refl)
-  with_sound kind.Resend (switch ∷ []) =
-      one_switch kind.Resend switch (λ s. step.Resend s) (λ s h. h) (λ s. refl)
-  with_sound kind.Flush [] = gives kind.Flush Flush tt refl
-  with_sound kind.Drain [] = gives kind.Drain Drain tt refl
+      (λ n is. gives (One (step.Update n)) (file_sound files file n is))
+  with_sound kind.LinkDown (one ∷ two ∷ []) =
+      one_link one two (λ link. step.LinkDown link.one link.two) (λ link h. h)
+  with_sound kind.LinkUp (one ∷ two ∷ []) =
+      one_link one two (λ link. step.LinkUp link.one link.two) (λ link h. h)
+  with_sound kind.Crash (switch ∷ []) = one_switch switch (λ s. step.Crash s) (λ s h. h)
+  with_sound kind.Restart (switch ∷ []) = one_switch switch (λ s. step.Restart s) (λ s h. h)
+  with_sound kind.Confirm (switch ∷ []) = one_switch switch (λ s. step.Confirm s) (λ s h. h)
+  with_sound kind.Resend (switch ∷ []) = one_switch switch (λ s. step.Resend s) (λ s h. h)
+  with_sound kind.Flush [] = gives Flush tt
+  with_sound kind.Drain [] = gives Drain tt
   with_sound _ _ = λ event is. cc is
 
-  built_sound : (k : Kind) (built : Bool) → is_built k ≡ built
-      → (read : Result Event ScheduleRefusal) → IsSound (IsOf k) read
-      → IsSound IsRight (require built why.NotBuilt read)
-  built_sound k true can read sound = λ event is.
-      let both = sound event is in (both.0, ap is_built both.1 ∙ can)
-  built_sound k false can read sound = λ event is. cc is
-
-  row_sound : (fields : List (List ℕ)) → IsSound IsRight (event_of net files fields)
+  row_sound : (fields : List (List ℕ)) → Sound (event_of net files fields)
   row_sound [] = λ event is. cc is
   row_sound (word ∷ fields) =
-      follows IsRight (ok_or (kind_of word) why.Kind)
-      (λ k. require (is_built k) why.NotBuilt (event_with net files k fields)) (λ k is.
-      built_sound k (is_built k) refl (event_with net files k fields) (with_sound k fields))
+      follows (ok_or (kind_of word) why.Kind) (λ k. event_with net files k fields)
+      (λ k is. with_sound k fields)
 
   -- ---- all rows
 
-  rows_sound : (records : List (List (List ℕ))) → AllByRecursion IsRight
+  rows_sound : (records : List (List (List ℕ))) → AllByRecursion (IsEvent net files)
       (events_in net files records)
   rows_sound [] = tt
   rows_sound (fields ∷ records) = kept (event_of net files fields) (row_sound fields)
       (events_in net files records) (rows_sound records)
     where
-      kept : (read : Result Event ScheduleRefusal) → IsSound IsRight read → (events : List Event)
-          → AllByRecursion IsRight events → AllByRecursion IsRight
+      kept : (read : Result Event ScheduleRefusal) → Sound read → (events : List Event)
+          → AllByRecursion (IsEvent net files) events → AllByRecursion (IsEvent net files)
           (cons_option (result_ok read) events)
       kept (Ok event) sound events rest = (sound event refl, rest)
       kept (Err refusal) sound events rest = rest
-
-  own_events : (events : List Event) → AllByRecursion IsRight events
-      → AllByRecursion (IsEvent net files) events
-  own_events [] all = tt
-  own_events (event ∷ events) all = (all.0.0, own_events events all.1)
-
-  built_events : (events : List Event) → AllByRecursion IsRight events
-      → AllByRecursion IsBuiltEvent events
-  built_events [] all = tt
-  built_events (event ∷ events) all = (all.0.1, built_events events all.1)
 
   as_many : (records : List (List (List ℕ))) → length (events_in net files records) ≤ length records
   as_many [] = omega arith
@@ -290,9 +249,7 @@ module _ (net : Net) (files : ℕ) where
       subst (AreSound net files) same
       (record {
         steps = All-from_recursion (IsEvent net files) (events_in net files records)
-            (own_events (events_in net files records) (rows_sound records));
-        built = All-from_recursion IsBuiltEvent (events_in net files records)
-            (built_events (events_in net files records) (rows_sound records));
+            (rows_sound records);
         few = most;
       })
 

@@ -33,45 +33,6 @@ kinds = kind.Packet ∷ kind.Hop ∷ kind.Lose ∷ kind.Deliver ∷ kind.Forget 
 unfoldable pub kind_of : List ℕ → Option Kind
 kind_of word = find (λ kind. bytes_eq (word_of kind) word) kinds
 
--- the kinds that can be played so far
-abbrev pub is_built : Kind → Bool
-is_built kind.Packet = true
-is_built kind.Hop = true
-is_built kind.Lose = true
-is_built kind.Deliver = true
-is_built kind.Forget = true
-is_built kind.Expire = true
-is_built kind.Update = true
-is_built kind.Crash = true
-is_built kind.Restart = true
-is_built kind.Confirm = true
-is_built kind.Resend = true
-is_built kind.Flush = true
-is_built kind.Drain = true
-is_built _ = false
-
--- the kind of an event
-abbrev pub kind_of_event : Event → Kind
-kind_of_event (One (step.Packet switch header)) = kind.Packet
-kind_of_event (One (step.Hop packet)) = kind.Hop
-kind_of_event (One (step.Lose packet)) = kind.Lose
-kind_of_event (One (step.Deliver message)) = kind.Deliver
-kind_of_event (One (step.Forget message)) = kind.Forget
-kind_of_event (One (step.Expire switch place)) = kind.Expire
-kind_of_event (One (step.Update file)) = kind.Update
-kind_of_event (One (step.LinkDown one two)) = kind.LinkDown
-kind_of_event (One (step.LinkUp one two)) = kind.LinkUp
-kind_of_event (One (step.Crash switch)) = kind.Crash
-kind_of_event (One (step.Restart switch)) = kind.Restart
-kind_of_event (One (step.Confirm switch)) = kind.Confirm
-kind_of_event (One (step.Resend switch)) = kind.Resend
-kind_of_event Flush = kind.Flush
-kind_of_event Drain = kind.Drain
-
--- an event that can be played so far
-abbrev pub IsBuiltEvent : Event → Type 0
-IsBuiltEvent event = IsTrue (is_built (kind_of_event event))
-
 -- kinds and their words stand for each other
 pub record KindLaws : Type 0 where
   pub kind : (kind : Kind) → kind_of (word_of kind) ≡ Some kind

@@ -7,7 +7,6 @@ use Rattle.csv_records.specs.Texts.{records_of}
 use Rattle.net_file.specs.declared.net.Net.{Net}
 use Rattle.steps.specs.Steps.{IsEvent, max_events}
 use Rattle.steps.specs.declared.step.Event.{Event}
-use Rattle.schedule.specs.Kinds.{IsBuiltEvent}
 use Rattle.schedule.specs.Refusals.{Refusal}
 use Rattle.schedule.specs.Rows.{event_of, is_heading}
 use Rattle.schedule.specs.declared.error.ScheduleError.{ScheduleError}
@@ -66,7 +65,6 @@ IsRefusal events error.NoMemory = ⊤
 -- what is true of the events of any text
 pub record AreSound (net : Net) (files : ℕ) (events : List Event) : Type 0 where
   pub steps : All (IsEvent net files) events
-  pub built : All IsBuiltEvent events
   pub few : length events ≤ max_events
 
 pub record ScheduleLaws : Type 0 where

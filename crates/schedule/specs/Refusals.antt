@@ -14,7 +14,6 @@ code_of why.Address = 6
 code_of why.File = 7
 code_of why.TooManyRows = 8
 code_of why.NoLink = 9
-code_of why.NotBuilt = 10
 
 -- why a text is refused, and in which row, counted from 1; the heading is row 0
 pub record Refusal : Type 0 where

@@ -12,7 +12,7 @@ use Rattle.steps.specs.Steps.{max_number}
 use Rattle.steps.specs.declared.step.Event.{Event}
 use Rattle.steps.specs.declared.step.Event.TheVariants.{One, Flush, Drain}
 use Rattle.steps.specs.declared.step.Step.TheVariants as step
-use Rattle.schedule.specs.Kinds.{is_built, kind_of}
+use Rattle.schedule.specs.Kinds.{kind_of}
 use Rattle.schedule.specs.declared.error.ScheduleRefusal.{ScheduleRefusal}
 use Rattle.schedule.specs.declared.error.ScheduleRefusal.TheVariants as why
 use Rattle.schedule.specs.declared.kind.Kind.{Kind}
@@ -96,5 +96,4 @@ event_with net files kind fields = Err why.Width
 abbrev pub event_of : Net → ℕ → List (List ℕ) → Result Event ScheduleRefusal
 event_of net files [] = Err why.Kind
 event_of net files (word ∷ fields) =
-    with_value (ok_or (kind_of word) why.Kind) (λ kind.
-    require (is_built kind) why.NotBuilt (event_with net files kind fields))
+    with_value (ok_or (kind_of word) why.Kind) (λ kind. event_with net files kind fields)

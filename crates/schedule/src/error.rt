@@ -26,16 +26,14 @@ pub enum ScheduleRefusal {
     TooManyRows = 8,
     /// No link joins the two switches.
     NoLink = 9,
-    /// Events of this kind cannot be played yet.
-    NotBuilt = 10,
 }
 
 impl ScheduleRefusal {
-    /// The refusal's number, from 1 to 10 in the order of the variants.
+    /// The refusal's number, from 1 to 9 in the order of the variants.
     pub fn code(self) -> u32
         ensures code { result ≡ code_of self }
         ensures some { 1 ≤ result }
-        ensures most { result ≤ 10 }
+        ensures most { result ≤ 9 }
     {
         self as u32
     }

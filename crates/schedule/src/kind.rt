@@ -1,5 +1,5 @@
 ghost use Rattle.std.specs.Prelude.{◌≡◌, find, bytes_eq};
-ghost use Rattle.schedule.specs.Kinds.{is_built, kind_of, word_of};
+ghost use Rattle.schedule.specs.Kinds.{kind_of, word_of};
 
 /// The kinds of a schedule's rows, each named as the step or the event that it stands for.
 #[derive(Clone, Copy, Debug, PartialEq, Eq)]
@@ -61,18 +61,6 @@ impl Kind {
             Kind::Resend => "resend",
             Kind::Flush => "flush",
             Kind::Drain => "drain",
-        }
-    }
-
-    /// Whether events of this kind can be played.
-    pub fn is_built(self) -> bool
-        ensures { result ≡ is_built self }
-    {
-        match self {
-            Kind::Packet | Kind::Hop | Kind::Lose | Kind::Drain => true,
-            Kind::Deliver | Kind::Forget | Kind::Expire | Kind::Flush => true,
-            Kind::Update | Kind::Crash | Kind::Restart | Kind::Confirm | Kind::Resend => true,
-            _ => false,
         }
     }
 }

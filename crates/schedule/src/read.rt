@@ -1,7 +1,6 @@
 ghost use Rattle.std.specs.Prelude.{◌≡◌, ◌≤◌, Ok, IfOk, IfErr, All, vec_len};
 ghost use Rattle.net_file.specs.Net.{IsNet};
 ghost use Rattle.steps.specs.Steps.{IsEvent, max_events};
-ghost use Rattle.schedule.specs.Kinds.{IsBuiltEvent};
 ghost use Rattle.schedule.specs.Reading.{IsRefusal, schedule_of};
 
 use crate::error::{ScheduleError, ScheduleRefusal};
@@ -33,7 +32,6 @@ pub fn read_schedule(
     ensures events { IfOk result (λ events.
         schedule_of net.now files bytes.now ≡ Ok events.items) }
     ensures steps { IfOk result (λ events. All (IsEvent net.now files) events.items) }
-    ensures built { IfOk result (λ events. All IsBuiltEvent events.items) }
     ensures few { IfOk result (λ events. vec_len events ≤ max_events) }
     ensures refused { IfErr result (IsRefusal (schedule_of net.now files bytes.now)) }
 {

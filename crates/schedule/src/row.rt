@@ -201,9 +201,6 @@ pub fn read_event(fields: &ByteRecord, net: &Net, files: u32) -> Result<Event, S
     ensures { result ≡ event_of net.now files (fields_of fields.now) }
 {
     let kind = read_kind(field(fields, 0)).ok_or(ScheduleRefusal::Kind)?;
-    if !kind.is_built() {
-        return Err(ScheduleRefusal::NotBuilt);
-    }
     match fields.len() {
         1 => read_word(net, files, kind),
         2 => read_one(net, files, kind, field(fields, 1)),

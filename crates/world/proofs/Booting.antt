@@ -34,7 +34,7 @@ use Rattle.update_machine.specs.Links.{is_link_up, is_usable, near}
 use Rattle.update_machine.specs.Messages.{next_message, sends, sent_from}
 use Rattle.update_machine.specs.Moves.{put}
 use Rattle.update_machine.specs.Pieces.{hello_of, nothing, piece, restart_items}
-use Rattle.world.specs.Played.{MayPlay}
+use Rattle.steps.specs.Steps.{IsStep}
 use Rattle.update_machine.specs.Setting.{Setting}
 use Rattle.update_machine.proofs.CallerLemmas.{last_told_append, messages_keep, switch_keeps}
 use Rattle.world_log.specs.Sending.{act_items, act_posts}
@@ -59,16 +59,16 @@ same_filter now before (link ∷ links) same =
 -- the switch is there
 pub boot_here : (control : Control) (setting : Setting) (journal : List Item)
     (switches : List SwitchValue) (before : Travellers) (count s : ℕ)
-    → AreTied setting journal switches before count control → MayPlay setting (Restart s)
+    → AreTied setting journal switches before count control → IsStep setting.net (length setting.policies) (Restart s)
     → s < length switches
 unfolding AreTied
 boot_here control setting journal switches before count s tied may =
-    omega (arith, may.own, tied.many)
+    omega (arith, may, tied.many)
 
 module _ (control : Control) (setting : Setting) (journal : List Item)
     (switches : List SwitchValue) (before : Travellers) (count row s : ℕ) (own : SwitchValue)
     (tied : AreTied setting journal switches before count control)
-    (may : MayPlay setting (Restart s)) (own_at : own ≡ get_or switches s own) where
+    (may : IsStep setting.net (length setting.policies) (Restart s)) (own_at : own ≡ get_or switches s own) where
   boot_there : s < length switches
   boot_there = boot_here control setting journal switches before count s tied may
 
@@ -216,7 +216,7 @@ module _ (control : Control) (setting : Setting) (journal : List Item)
       let all : HaveCauses (HasItemCause setting) []
       (journal ++ piece setting journal row (Restart s)) =
       (reached_known setting (journal ++ piece setting journal row (Restart s)) tied.sound
-      (reached_more setting journal row (Restart s) tied.reached may.own)).caused in
+      (reached_more setting journal row (Restart s) tied.reached may)).caused in
       have_first_ones (HasItemCause setting) [] rowed
       (booted ∷ item.Sent (length control.posts + 1) hello ∷ [])
       (subst (HaveCauses (HasItemCause setting) [])

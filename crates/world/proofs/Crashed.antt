@@ -43,7 +43,7 @@ use Rattle.update_machine.specs.Pieces.{crash_items, nothing, piece}
 use Rattle.update_machine.specs.Setting.{Setting, switches_of}
 use Rattle.update_machine.proofs.CallerLemmas.{count_of_append, have_append, last_told_append, links_keep, messages_keep, near_stays}
 use Rattle.usable_links.specs.Linking.{AreRelinked, all_told, near_all}
-use Rattle.world.specs.Played.{MayPlay}
+use Rattle.steps.specs.Steps.{IsStep}
 use Rattle.world_log.specs.Sending.{act_items, act_posts}
 use Rattle.world.specs.State.{AreTied, AreUp, AreUsable, Control, is_up_link, up_links}
 use Rattle.log_ties.specs.Bags.{IsBagOf}
@@ -105,11 +105,11 @@ spares_policies = record {
 -- the network has the switch
 pub crash_ready : (control : Control) (setting : Setting) (journal : List Item)
     (switches : List SwitchValue) (before : Travellers) (count s : ℕ)
-    → AreTied setting journal switches before count control → MayPlay setting (Crash s)
+    → AreTied setting journal switches before count control → IsStep setting.net (length setting.policies) (Crash s)
     → s < length switches
 unfolding AreTied
 crash_ready control setting journal switches before count s tied may =
-    omega (arith, may.own, tied.many)
+    omega (arith, may, tied.many)
 
 -- it is the one in its place
 pub same_switch : (switches : List SwitchValue) (s : ℕ) (one other : SwitchValue)
@@ -121,7 +121,7 @@ same_switch switches s one other within one_at other_at =
 -- nothing happens where it is down
 pub stays_down : (control : Control) (setting : Setting) (journal : List Item)
     (switches : List SwitchValue) (before : Travellers) (count row s : ℕ) (own : SwitchValue)
-    → AreTied setting journal switches before count control → MayPlay setting (Crash s)
+    → AreTied setting journal switches before count control → IsStep setting.net (length setting.policies) (Crash s)
     → own ≡ get_or switches s own → own.is_up ≡ false
     → (piece setting journal row (Crash s) ≡ item.Row row (Crash s) ∷ item.Nothing ∷ [])
     × AreTied setting (grown journal row (Crash s) item.Nothing) switches before count control
@@ -161,7 +161,7 @@ module _ (control : Control) (setting : Setting) (journal : List Item)
     (switches : List SwitchValue) (before : Travellers) (count row s : ℕ)
     (own changed : SwitchValue)
     (tied : AreTied setting journal switches before count control)
-    (may : MayPlay setting (Crash s)) (within : s < length switches)
+    (may : IsStep setting.net (length setting.policies) (Crash s)) (within : s < length switches)
     (own_at : own ≡ get_or switches s own) (changed_is : changed ≡ crashed own)
     (up : own.is_up ≡ true) where
   abbrev links : List ℕ
@@ -290,7 +290,7 @@ module _ (control : Control) (setting : Setting) (journal : List Item)
       let all : HaveCauses (HasItemCause setting) []
       (journal ++ piece setting journal row (Crash s)) =
       (reached_known setting (journal ++ piece setting journal row (Crash s)) tied.sound
-      (reached_more setting journal row (Crash s) tied.reached may.own)).caused in
+      (reached_more setting journal row (Crash s) tied.reached may)).caused in
       have_first_ones (HasItemCause setting) [] now (link_changes setting journal now)
       (subst (HaveCauses (HasItemCause setting) [])
       (ap (λ items. journal ++ items) piece_so

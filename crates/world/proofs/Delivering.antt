@@ -1,5 +1,5 @@
 -- What the bag says of a message, and a message that is forgotten.
-use Rattle.std.proofs.Common.{ℕ, ◌≡◌, Bool, true, false, if◌then◌else◌, Option, Some, None, List, [], ◌∷◌, ◌++◌, refl, ap, sym, subst, ◌∙◌, append_assoc}
+use Rattle.std.proofs.Common.{ℕ, ◌≡◌, Bool, true, false, if◌then◌else◌, Option, Some, None, List, [], ◌∷◌, ◌++◌, refl, ap, sym, subst, ◌∙◌, append_assoc, length}
 use Rattle.std.specs.Prelude.{IsFalse, not, ◌&&◌, is_some, option_map}
 use Rattle.std.specs.Option.{option_and_then}
 use Rattle.bag.specs.Posts.{Post, message_of as message_in, remembered, with_forgotten}
@@ -12,7 +12,7 @@ use Rattle.switch_core.specs.State.{SwitchValue}
 use Rattle.update_machine.specs.Concerns.{concerns_calls}
 use Rattle.update_machine.specs.Messages.{is_deliverable, is_forgotten, message_of, was_delivered}
 use Rattle.update_machine.specs.Pieces.{forget_items, nothing, piece}
-use Rattle.world.specs.Played.{MayPlay}
+use Rattle.steps.specs.Steps.{IsStep}
 use Rattle.update_machine.specs.Setting.{Setting}
 use Rattle.update_machine.proofs.CallerLemmas.{message_keeps}
 use Rattle.world.specs.State.{AreTied, Control}
@@ -78,7 +78,7 @@ forget_piece setting journal row n =
 
 pub nothing_tied : (control : Control) (setting : Setting) (journal : List Item)
     (switches : List SwitchValue) (before : Travellers) (count row : ℕ) (step : Step)
-    → AreTied setting journal switches before count control → MayPlay setting step
+    → AreTied setting journal switches before count control → IsStep setting.net (length setting.policies) step
     → ((q : ℕ) → IsFalse (concerns_calls q journal (item.Row row step)))
     → piece setting journal row step ≡ item.Row row step ∷ nothing
     → AreTied setting (grown journal row step item.Nothing) switches before count control
@@ -104,7 +104,7 @@ nothing_tied control setting journal switches before count row step tied may unc
 
 pub forgotten_tied : (control : Control) (setting : Setting) (journal : List Item)
     (switches : List SwitchValue) (before : Travellers) (count row n : ℕ)
-    → AreTied setting journal switches before count control → MayPlay setting (Forget n)
+    → AreTied setting journal switches before count control → IsStep setting.net (length setting.policies) (Forget n)
     → is_some (message_in control.posts n) ≡ true
     → (piece setting journal row (Forget n)
     ≡ item.Row row (Forget n) ∷ item.Forgotten n ∷ [])
@@ -142,7 +142,7 @@ forgotten_tied control setting journal switches before count row n tied may ther
 -- no such message may be forgotten
 pub unforgotten : (control : Control) (setting : Setting) (journal : List Item)
     (switches : List SwitchValue) (before : Travellers) (count row n : ℕ)
-    → AreTied setting journal switches before count control → MayPlay setting (Forget n)
+    → AreTied setting journal switches before count control → IsStep setting.net (length setting.policies) (Forget n)
     → is_some (message_in control.posts n) ≡ false
     → (piece setting journal row (Forget n) ≡ item.Row row (Forget n) ∷ nothing)
     × AreTied setting (grown journal row (Forget n) item.Nothing) switches before count control

@@ -14,7 +14,7 @@ use Rattle.switch_ties.specs.SwitchOf.{switch_of}
 use Rattle.switch_ties.proofs.Life.{expiry_is, life_ties}
 use Rattle.switch_ties.proofs.Links.{kept_is}
 use Rattle.update_machine.specs.Pieces.{piece}
-use Rattle.world.specs.Played.{MayPlay}
+use Rattle.steps.specs.Steps.{IsStep}
 use Rattle.update_machine.specs.Setting.{Setting}
 use Rattle.world.specs.State.{AreTied, Control}
 use Rattle.log_ties.specs.Bags.{IsBagOf}
@@ -111,16 +111,16 @@ expired_other setting journal row s q place (Some message) other =
 -- its switch is there
 pub expire_ready : (control : Control) (setting : Setting) (journal : List Item)
     (switches : List SwitchValue) (before : Travellers) (count s place : ℕ)
-    → AreTied setting journal switches before count control → MayPlay setting (Expire s place)
+    → AreTied setting journal switches before count control → IsStep setting.net (length setting.policies) (Expire s place)
     → s < length switches
 unfolding AreTied
 expire_ready control setting journal switches before count s place tied may =
-    omega (arith, may.own.0, tied.many)
+    omega (arith, may.0, tied.many)
 
 -- the item concerns no packet, no message and no call
 expired_writes : (control : Control) (setting : Setting) (journal : List Item)
     (switches : List SwitchValue) (row s place : ℕ) (changed : SwitchValue) (found : Option ℕ)
-    → MayPlay setting (Expire s place) → IsBagOf journal control.posts
+    → IsStep setting.net (length setting.policies) (Expire s place) → IsBagOf journal control.posts
     → piece setting journal row (Expire s place)
     ≡ item.Row row (Expire s place) ∷ expired_item s place found ∷ []
     → ((q : ℕ) (d : SwitchValue) → q < length switches → get_or (set switches s changed) q d
@@ -156,7 +156,7 @@ expired_writes control setting journal switches row s place changed (Some messag
 pub expired_tied : (control : Control) (setting : Setting) (journal : List Item)
     (switches : List SwitchValue) (before : Travellers) (count row s place : ℕ)
     (own changed : SwitchValue) (found : Option ℕ)
-    → AreTied setting journal switches before count control → MayPlay setting (Expire s place)
+    → AreTied setting journal switches before count control → IsStep setting.net (length setting.policies) (Expire s place)
     → own ≡ get_or switches s own → changed ≡ entry_expired own place
     → found ≡ option_map (λ entry. entry.message) (slice_get own.cache.entries place)
     → (piece setting journal row (Expire s place)

@@ -15,7 +15,7 @@ use Rattle.switch_ties.proofs.Links.{kept_is}
 use Rattle.update_machine.specs.Boots.{is_up}
 use Rattle.update_machine.specs.Moves.{put}
 use Rattle.update_machine.specs.Pieces.{confirm_items, nothing, piece}
-use Rattle.world.specs.Played.{MayPlay}
+use Rattle.steps.specs.Steps.{IsStep}
 use Rattle.update_machine.specs.Setting.{Setting}
 use Rattle.update_machine.specs.Settling as machine
 use Rattle.update_machine.proofs.CallerLemmas.{switch_keeps}
@@ -43,24 +43,24 @@ up_as setting journal s = refl
 -- the switch is there, and the controller knows it
 pub gone_there : (control : Control) (setting : Setting) (journal : List Item)
     (switches : List SwitchValue) (before : Travellers) (count s : ℕ)
-    → AreTied setting journal switches before count control → MayPlay setting (Confirm s)
+    → AreTied setting journal switches before count control → IsStep setting.net (length setting.policies) (Confirm s)
     → s < length switches
 unfolding AreTied
 gone_there control setting journal switches before count s tied may =
-    omega (arith, may.own, tied.many)
+    omega (arith, may, tied.many)
 
 pub gone_known : (control : Control) (setting : Setting) (journal : List Item)
     (switches : List SwitchValue) (before : Travellers) (count s : ℕ)
-    → AreTied setting journal switches before count control → MayPlay setting (Confirm s)
+    → AreTied setting journal switches before count control → IsStep setting.net (length setting.policies) (Confirm s)
     → s < length control.controller.marks.switches
 unfolding AreTied
 gone_known control setting journal switches before count s tied may =
-    omega (arith, may.own, tied.controller.marks.many)
+    omega (arith, may, tied.controller.marks.many)
 
 module _ (control : Control) (setting : Setting) (journal : List Item)
     (switches : List SwitchValue) (before : Travellers) (count row s : ℕ) (own : SwitchValue)
     (tied : AreTied setting journal switches before count control)
-    (may : MayPlay setting (Confirm s)) (own_at : own ≡ get_or switches s own) where
+    (may : IsStep setting.net (length setting.policies) (Confirm s)) (own_at : own ≡ get_or switches s own) where
   own_up : is_up journal s ≡ own.is_up
   unfolding AreTied
   own_up = sym (up_as setting journal s)
@@ -104,7 +104,7 @@ module _ (control : Control) (setting : Setting) (journal : List Item)
     unfolding AreTied
     confirms_so = confirms setting journal row s control.controller new
         (reached_known setting journal tied.sound tied.reached).caused tied.controller
-        (own_up ∙ down) (omega (arith, may.own, tied.controller.marks.many)) settles
+        (own_up ∙ down) (omega (arith, may, tied.controller.marks.many)) settles
 
     pub gone_piece : piece setting journal row (Confirm s) ≡ item.Row row (Confirm s)
         ∷ item.OverNow s ∷ act_items (length control.posts + 1) acts

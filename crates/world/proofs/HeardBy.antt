@@ -28,7 +28,7 @@ use Rattle.update_machine.specs.Deliveries.{delivery_items, to_controller}
 use Rattle.update_machine.specs.Links.{near}
 use Rattle.update_machine.specs.Messages.{is_deliverable, is_to_controller, is_to_switch, message_of, next_message, sent_from}
 use Rattle.update_machine.specs.Pieces.{deliver_items, nothing, piece}
-use Rattle.world.specs.Played.{MayPlay}
+use Rattle.steps.specs.Steps.{IsStep}
 use Rattle.update_machine.specs.Setting.{Setting}
 use Rattle.update_machine.specs.Settling.{to_switch}
 use Rattle.update_machine.proofs.CallerLemmas.{message_keeps}
@@ -78,7 +78,7 @@ none_piece setting journal row n may =
 -- no such message may be delivered
 pub undelivered : (control : Control) (setting : Setting) (journal : List Item)
     (switches : List SwitchValue) (before : Travellers) (count row n : ℕ)
-    → AreTied setting journal switches before count control → MayPlay setting (Deliver n)
+    → AreTied setting journal switches before count control → IsStep setting.net (length setting.policies) (Deliver n)
     → is_some (message_in control.posts n) ≡ false
     → (piece setting journal row (Deliver n) ≡ item.Row row (Deliver n) ∷ nothing)
     × AreTied setting (grown journal row (Deliver n) item.Nothing) switches before count control
@@ -167,7 +167,7 @@ names_known control setting journal switches before count n message tied there t
 module _ (control : Control) (setting : Setting) (journal : List Item)
     (switches : List SwitchValue) (before : Travellers) (count row n : ℕ) (message : Message)
     (new : ControllerValue) (tied : AreTied setting journal switches before count control)
-    (may : MayPlay setting (Deliver n)) (there : message_in control.posts n ≡ Some message)
+    (may : IsStep setting.net (length setting.policies) (Deliver n)) (there : message_in control.posts n ≡ Some message)
     (to : message.to ≡ receiver.Controller)
     (settles : SettlesWith (after_hearing message.body control.controller.marks)
     control.controller.plans new) where
@@ -248,7 +248,7 @@ module _ (control : Control) (setting : Setting) (journal : List Item)
     (switches : List SwitchValue) (before : Travellers) (count row n s : ℕ) (message : Message)
     (own changed : SwitchValue) (mask : ℕ)
     (tied : AreTied setting journal switches before count control)
-    (may : MayPlay setting (Deliver n)) (there : message_in control.posts n ≡ Some message)
+    (may : IsStep setting.net (length setting.policies) (Deliver n)) (there : message_in control.posts n ≡ Some message)
     (to : message.to ≡ receiver.Switch s) (within : s < length switches)
     (own_at : own ≡ get_or switches s own) (near_is : mask ≡ near setting journal s)
     (changed_is : changed ≡ heard own n message.body)

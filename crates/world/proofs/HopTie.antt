@@ -14,7 +14,7 @@ use Rattle.switch_ties.specs.SwitchOf.{switch_of}
 use Rattle.update_machine.specs.Messages.{next_message}
 use Rattle.update_machine.specs.Packets.{is_at, travels, standing as place_of}
 use Rattle.update_machine.specs.Pieces.{piece}
-use Rattle.world.specs.Played.{MayPlay}
+use Rattle.steps.specs.Steps.{IsStep}
 use Rattle.update_machine.specs.Setting.{Setting}
 use Rattle.world_log.specs.Packets.{ended_switch, hop_items, hop_posts, hop_traveller, hopped_switch}
 use Rattle.world.specs.State.{AreTied, Control}
@@ -36,7 +36,7 @@ module _ (control : Control) (setting : Setting) (journal : List Item)
     (switches : List SwitchValue) (before : Travellers) (count row i : ℕ) (t : Traveller)
     (s near : ℕ) (w : SwitchValue) (ports : Ports)
     (tied : AreTied setting journal switches before count control)
-    (may : MayPlay setting (Hop i)) (can : CanAsk setting journal i t s near w ports) where
+    (may : IsStep setting.net (length setting.policies) (Hop i)) (can : CanAsk setting journal i t s near w ports) where
   abbrev number : ℕ
   number = next_message journal
 
@@ -132,7 +132,7 @@ module _ (control : Control) (setting : Setting) (journal : List Item)
 
 pub hop_left : (control : Control) (setting : Setting) (journal : List Item)
     (switches : List SwitchValue) (before : Travellers) (count row i : ℕ)
-    → AreTied setting journal switches before count control → MayPlay setting (Hop i)
+    → AreTied setting journal switches before count control → IsStep setting.net (length setting.policies) (Hop i)
     → is_some (traveller before i) ≡ false
     → (piece setting journal row (Hop i) ≡ item.Row row (Hop i) ∷ item.Nothing ∷ [])
     × AreTied setting (journal ++ item.Row row (Hop i) ∷ item.Nothing ∷ []) switches before count

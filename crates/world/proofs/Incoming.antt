@@ -17,7 +17,7 @@ use Rattle.update_machine.specs.Folds.{count_of}
 use Rattle.update_machine.specs.Messages.{next_message}
 use Rattle.update_machine.specs.Packets.{is_packet, next_packet, targets_of}
 use Rattle.update_machine.specs.Pieces.{packet_items, piece}
-use Rattle.world.specs.Played.{MayPlay}
+use Rattle.steps.specs.Steps.{IsStep}
 use Rattle.update_machine.specs.Setting.{Setting}
 use Rattle.way_laws.specs.OnWay.{IsUnknown}
 use Rattle.way_laws.specs.Words.{words_of}
@@ -40,11 +40,11 @@ use Rattle.log_ties.proofs.Words.{same_targets}
 -- its switch is there
 pub come_ready : (control : Control) (setting : Setting) (journal : List Item)
     (switches : List SwitchValue) (before : Travellers) (count s : ℕ) (header : Header)
-    → AreTied setting journal switches before count control → MayPlay setting (PacketStep s header)
+    → AreTied setting journal switches before count control → IsStep setting.net (length setting.policies) (PacketStep s header)
     → s < length switches
 unfolding AreTied
 come_ready control setting journal switches before count s header tied may =
-    omega (arith, may.own.0, tied.many)
+    omega (arith, may.0, tied.many)
 
 -- its number has 32 bits
 pub come_fits : (control : Control) (setting : Setting) (journal : List Item)
@@ -64,7 +64,7 @@ module _ (control : Control) (setting : Setting) (journal : List Item)
     (switches : List SwitchValue) (before : Travellers) (count row s : ℕ) (header : Header)
     (ports : Ports) (own : SwitchValue)
     (tied : AreTied setting journal switches before count control)
-    (may : MayPlay setting (PacketStep s header)) (owners : AreOwners setting.net.switches ports)
+    (may : IsStep setting.net (length setting.policies) (PacketStep s header)) (owners : AreOwners setting.net.switches ports)
     (its : own ≡ get_or switches s own) where
   abbrev i : ℕ
   i = count + 1
@@ -99,10 +99,10 @@ module _ (control : Control) (setting : Setting) (journal : List Item)
   comes : ComesTo setting journal i s header own near ports
   comes = record {
     knows = knows;
-    sees = seen control setting journal switches before count s own tied may.own.0 its;
-    there = may.own.0;
+    sees = seen control setting journal switches before count s own tied may.0 its;
+    there = may.0;
     owners = owners;
-    sound = may.own.1;
+    sound = may.1;
     unmarked = unknown.found;
   }
 

@@ -49,7 +49,6 @@ use Rattle.update_machine.specs.Pieces.{link_items, nothing, piece}
 use Rattle.update_machine.specs.Setting.{Setting, switches_of}
 use Rattle.update_machine.proofs.CallerLemmas.{last_told_append, messages_keep}
 use Rattle.usable_links.specs.Linking.{AreRelinked, SetsLink, all_told, link_step, near_all}
-use Rattle.world.specs.Played.{MayPlay}
 use Rattle.world_log.specs.Sending.{act_items}
 use Rattle.world.specs.State.{AreTied, Control, comes_in, is_up_link, up_links}
 use Rattle.travelling.specs.Travelling.{Travellers}
@@ -253,12 +252,12 @@ other_items setting before journal one two up other =
 module _ (control : Control) (setting : Setting) (journal : List Item)
     (switches : List SwitchValue) (before : Travellers) (count row one two : ℕ) (up : Bool)
     (tied : AreTied setting journal switches before count control)
-    (may : MayPlay setting (link_step up one two)) where
+    (may : IsStep setting.net (length setting.policies) (link_step up one two)) where
   abbrev step : Step
   step = link_step up one two
 
   linked : HasLink setting.net one two
-  linked = row_link setting.net (length setting.policies) one two up may.own
+  linked = row_link setting.net (length setting.policies) one two up may
 
   -- its ends are switches
   pub ends_below : (one < 64) × (two < 64)
@@ -343,7 +342,7 @@ module _ (control : Control) (setting : Setting) (journal : List Item)
         let all : HaveCauses (HasItemCause setting) []
         (journal ++ piece setting journal row step) =
         (reached_known setting (journal ++ piece setting journal row step) tied.sound
-        (reached_more setting journal row step tied.reached may.own)).caused in
+        (reached_more setting journal row step tied.reached may)).caused in
         have_first_ones (HasItemCause setting) [] now (link_changes setting journal now)
         (subst (HaveCauses (HasItemCause setting) [])
         (ap (λ items. journal ++ items) piece_so

@@ -1,5 +1,5 @@
 -- A packet is lost.
-use Rattle.std.proofs.Common.{ℕ, ◌≡◌, ◌==◌, Bool, true, false, if◌then◌else◌, Some, None, List, [], ◌∷◌, ◌++◌, refl, ap, sym, ◌∙◌, eqb-true, arith}
+use Rattle.std.proofs.Common.{ℕ, ◌≡◌, ◌==◌, Bool, true, false, if◌then◌else◌, Some, None, List, [], ◌∷◌, ◌++◌, refl, ap, sym, ◌∙◌, eqb-true, arith, length}
 use Rattle.std.specs.Prelude.{is_some}
 use Rattle.std.proofs.lemmas.Bool.Decides.{nat_tests}
 use Rattle.journal.specs.declared.item.Item.{Item}
@@ -9,7 +9,7 @@ use Rattle.steps.specs.declared.step.Step.TheVariants.{Lose}
 use Rattle.switch_core.specs.State.{SwitchValue}
 use Rattle.update_machine.specs.Packets.{travels}
 use Rattle.update_machine.specs.Pieces.{lose_items, nothing, piece}
-use Rattle.world.specs.Played.{MayPlay}
+use Rattle.steps.specs.Steps.{IsStep}
 use Rattle.update_machine.specs.Setting.{Setting}
 use Rattle.way_laws.specs.Words.{words_of}
 use Rattle.way_laws.proofs.Words.{words_grow}
@@ -69,7 +69,7 @@ gone setting journal row i before q false knows is was =
 
 pub lost : (control : Control) (setting : Setting) (journal : List Item)
     (switches : List SwitchValue) (before after : Travellers) (count row i : ℕ)
-    → AreTied setting journal switches before count control → MayPlay setting (Lose i)
+    → AreTied setting journal switches before count control → IsStep setting.net (length setting.policies) (Lose i)
     → is_some (traveller before i) ≡ true → WithOne before i None after
     → (piece setting journal row (Lose i) ≡ item.Row row (Lose i) ∷ item.Lost i ∷ [])
     × AreTied setting (journal ++ item.Row row (Lose i) ∷ item.Lost i ∷ []) switches after count
@@ -119,7 +119,7 @@ stayed setting journal row i before q b knows is off was =
 
 pub not_lost : (control : Control) (setting : Setting) (journal : List Item)
     (switches : List SwitchValue) (before after : Travellers) (count row i : ℕ)
-    → AreTied setting journal switches before count control → MayPlay setting (Lose i)
+    → AreTied setting journal switches before count control → IsStep setting.net (length setting.policies) (Lose i)
     → is_some (traveller before i) ≡ false → WithOne before i None after
     → (piece setting journal row (Lose i) ≡ item.Row row (Lose i) ∷ item.Nothing ∷ [])
     × AreTied setting (journal ++ item.Row row (Lose i) ∷ item.Nothing ∷ []) switches after count

@@ -11,7 +11,7 @@ use Rattle.update_machine.specs.Concerns.{NoneConcern, concerns_controller, conc
 use Rattle.update_machine.specs.Folds.{count_of}
 use Rattle.update_machine.specs.Packets.{is_packet}
 use Rattle.update_machine.specs.Pieces.{piece}
-use Rattle.world.specs.Played.{MayPlay}
+use Rattle.steps.specs.Steps.{IsStep}
 use Rattle.update_machine.specs.Setting.{Setting}
 use Rattle.world.specs.State.{AreTied, Control}
 use Rattle.log_ties.specs.Bags.{IsBagOf}
@@ -27,7 +27,7 @@ grown journal row step one = journal ++ item.Row row step ∷ one ∷ []
 -- what the step writes, and what the switches and the messages are behind it
 pub record WritesOne (setting : Setting) (journal : List Item) (row : ℕ) (step : Step) (one : Item)
     (switches others : List SwitchValue) (posts : List Post) : Type 0 where
-  pub may : MayPlay setting step
+  pub may : IsStep setting.net (length setting.policies) step
   pub piece_is : piece setting journal row step ≡ item.Row row step ∷ one ∷ []
   -- the controller isn't told of it
   pub not_told : NoneConcern concerns_controller journal (item.Row row step ∷ one ∷ [])

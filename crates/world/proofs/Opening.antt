@@ -42,7 +42,7 @@ use Rattle.update_machine.specs.Full.{HasRoom}
 use Rattle.update_machine.specs.Links.{is_link_up, near}
 use Rattle.update_machine.specs.Messages.{is_to_controller, is_to_switch, next_message, sent_from}
 use Rattle.update_machine.specs.Pieces.{piece}
-use Rattle.world.specs.Played.{MayPlay}
+use Rattle.steps.specs.Steps.{IsStep}
 use Rattle.update_machine.specs.Setting.{Setting, switches_of}
 use Rattle.update_machine.proofs.CallerLemmas.{last_told_append, messages_keep}
 use Rattle.usable_links.specs.Linking.{AreRelinked, all_told, near_all}
@@ -115,7 +115,7 @@ module _ (control : Control) (setting : Setting) (journal : List Item)
     (switches : List SwitchValue) (before : Travellers) (count row n s stamp : ℕ)
     (message : Message) (own changed : SwitchValue)
     (tied : AreTied setting journal switches before count control)
-    (may : MayPlay setting (Deliver n)) (there : message_in control.posts n ≡ Some message)
+    (may : IsStep setting.net (length setting.policies) (Deliver n)) (there : message_in control.posts n ≡ Some message)
     (to : message.to ≡ receiver.Switch s) (within : s < length switches)
     (own_at : own ≡ get_or switches s own)
     (changed_is : changed ≡ heard own n message.body)
@@ -222,7 +222,7 @@ module _ (control : Control) (setting : Setting) (journal : List Item)
       let all : HaveCauses (HasItemCause setting) []
       (journal ++ piece setting journal row (Deliver n)) =
       (reached_known setting (journal ++ piece setting journal row (Deliver n)) tied.sound
-      (reached_more setting journal row (Deliver n) tied.reached may.own)).caused in
+      (reached_more setting journal row (Deliver n) tied.reached may)).caused in
       have_first_ones (HasItemCause setting) [] now (link_changes setting journal now)
       (subst (HaveCauses (HasItemCause setting) [])
       (ap (λ items. journal ++ items) piece_so

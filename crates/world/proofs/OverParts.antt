@@ -61,7 +61,7 @@ module _ (parts : Parts) (before : List Item) (row s : ℕ) (header : Header) (o
       (come_ready (control_in parts) (setting_in parts) before parts.switches.items
       parts.log.travelling parts.packets s header ready.tied ready.may)
       (switch_is (control_in parts) (setting_in parts) before parts.switches.items
-      parts.log.travelling parts.packets s own ready.tied ready.may.own.0 its)
+      parts.log.travelling parts.packets s own ready.tied ready.may.0 its)
       changed_is with)) posted travels
 
 -- ---- a packet that moves on

@@ -27,7 +27,7 @@ use Rattle.update_machine.specs.Pieces.{nothing, piece, resent_by_switch}
 use Rattle.update_machine.specs.Setting.{Setting}
 use Rattle.update_machine.proofs.CallerLemmas.{near_stays}
 use Rattle.usable_links.specs.Linking.{told_again}
-use Rattle.world.specs.Played.{MayPlay}
+use Rattle.steps.specs.Steps.{IsStep}
 use Rattle.world_log.specs.Sending.{act_items, act_posts}
 use Rattle.world.specs.State.{AreTied, Control}
 use Rattle.log_ties.specs.Bags.{IsBagOf}
@@ -103,24 +103,24 @@ sent_tied setting journal switches before after count control posts bag same sta
 -- the switch is there
 pub again_here : (control : Control) (setting : Setting) (journal : List Item)
     (switches : List SwitchValue) (before : Travellers) (count s : ℕ)
-    → AreTied setting journal switches before count control → MayPlay setting (Resend s)
+    → AreTied setting journal switches before count control → IsStep setting.net (length setting.policies) (Resend s)
     → (s < length switches) × (s < 64)
 unfolding AreTied
 again_here control setting journal switches before count s tied may =
-    (omega (arith, may.own, tied.many), omega (arith, may.own, tied.sound.net.few_switches))
+    (omega (arith, may, tied.many), omega (arith, may, tied.sound.net.few_switches))
 
 pub again_known : (control : Control) (setting : Setting) (journal : List Item)
     (switches : List SwitchValue) (before : Travellers) (count s : ℕ)
-    → AreTied setting journal switches before count control → MayPlay setting (Resend s)
+    → AreTied setting journal switches before count control → IsStep setting.net (length setting.policies) (Resend s)
     → s < length control.controller.marks.switches
 unfolding AreTied
 again_known control setting journal switches before count s tied may =
-    omega (arith, may.own, tied.controller.marks.many)
+    omega (arith, may, tied.controller.marks.many)
 
 module _ (control : Control) (setting : Setting) (journal : List Item)
     (switches : List SwitchValue) (before : Travellers) (count row s : ℕ) (own : SwitchValue)
     (tied : AreTied setting journal switches before count control)
-    (may : MayPlay setting (Resend s)) (own_at : own ≡ get_or switches s own) where
+    (may : IsStep setting.net (length setting.policies) (Resend s)) (own_at : own ≡ get_or switches s own) where
   abbrev rowed : List Item
   rowed = journal ++ item.Row row (Resend s) ∷ []
 

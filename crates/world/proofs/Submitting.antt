@@ -20,7 +20,7 @@ use Rattle.switch_core.specs.State.{SwitchValue}
 use Rattle.switch_ties.proofs.Links.{kept_is}
 use Rattle.update_machine.specs.Moves.{put}
 use Rattle.update_machine.specs.Pieces.{marks_code, piece, plan_code, update_code, update_items}
-use Rattle.world.specs.Played.{MayPlay}
+use Rattle.steps.specs.Steps.{IsStep}
 use Rattle.update_machine.specs.Setting.{Setting, plan_of_file, policy_of_file, setting_of}
 use Rattle.update_machine.specs.Settling.{submitted_items}
 use Rattle.update_machine.specs.Versions.{version_count}
@@ -89,7 +89,7 @@ refused_piece setting journal row file code is =
 module _ (control : Control) (setting : Setting) (journal : List Item)
     (switches : List SwitchValue) (before : Travellers) (count row file : ℕ)
     (tied : AreTied setting journal switches before count control)
-    (may : MayPlay setting (Update file)) where
+    (may : IsStep setting.net (length setting.policies) (Update file)) where
   abbrev first : Item → List Item
   first one = item.Row row (Update file) ∷ one ∷ []
 

@@ -16,7 +16,7 @@ use Rattle.update_machine.specs.Concerns.{NoneConcern, concerns_calls, concerns_
 use Rattle.update_machine.specs.Folds.{count_of}
 use Rattle.update_machine.specs.Messages.{is_sending}
 use Rattle.update_machine.specs.Pieces.{piece}
-use Rattle.world.specs.Played.{MayPlay}
+use Rattle.steps.specs.Steps.{IsStep}
 use Rattle.update_machine.specs.Setting.{Setting}
 use Rattle.update_machine.proofs.CallerLemmas.{count_of_append, have_append, near_stays, packets_keep}
 use Rattle.world_log.specs.Sending.{act_items, act_posts}
@@ -34,7 +34,7 @@ use Rattle.world.proofs.Tying.{up_stays}
 pub record IsTold (setting : Setting) (journal : List Item) (row : ℕ) (step : Step)
     (first : List Item) (acts : List Act) (switches others : List SwitchValue)
     (control later : Control) : Type 0 where
-  pub may : MayPlay setting step
+  pub may : IsStep setting.net (length setting.policies) step
   pub piece_is : piece setting journal row step
       ≡ item.Row row step ∷ first ++ act_items (length control.posts + 1) acts
   pub packet : (i : ℕ) → NoneName i (item.Row row step ∷ first)
@@ -134,7 +134,7 @@ module _ (control later : Control) (setting : Setting) (journal : List Item)
       told.usable in record {
         sound = tied.sound;
         reached = subst (λ more. IsReached setting (journal ++ more)) told.piece_is
-            (reached_more setting journal row step tied.reached told.may.own);
+            (reached_more setting journal row step tied.reached told.may);
         many = told.as_many ∙ tied.many;
         each = λ s d there. told.each s d (omega (arith, there, told.as_many))
             ∙ sym (acts_leave setting (journal ++ begun) number acts s)

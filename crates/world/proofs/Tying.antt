@@ -19,7 +19,7 @@ use Rattle.update_machine.specs.Folds.{count_of}
 use Rattle.update_machine.specs.Messages.{next_message}
 use Rattle.update_machine.specs.Packets.{is_packet, next_packet}
 use Rattle.update_machine.specs.Pieces.{piece}
-use Rattle.world.specs.Played.{MayPlay}
+use Rattle.steps.specs.Steps.{IsStep}
 use Rattle.update_machine.specs.Setting.{Setting}
 use Rattle.update_machine.proofs.CallerLemmas.{count_of_append, links_keep, near_stays}
 use Rattle.world.specs.State.{AreTied, AreUp, AreUsable, Control, is_up_link}
@@ -104,7 +104,7 @@ up_stay control setting journal switches before count items tied none =
 pub record IsTaken (setting : Setting) (journal : List Item) (row : ℕ) (step : Step)
     (items : List Item) (switches others : List SwitchValue) (after : Travellers)
     (later : Control) : Type 0 where
-  pub may : MayPlay setting step
+  pub may : IsStep setting.net (length setting.policies) step
   pub piece_is : piece setting journal row step ≡ item.Row row step ∷ items
   pub as_many : length others ≡ length switches
   pub each : (s : ℕ) (d : SwitchValue) → s < length switches
@@ -119,7 +119,7 @@ pub record IsTaken (setting : Setting) (journal : List Item) (row : ℕ) (step :
 -- what a step of packets writes, and what it makes of the switches and of the packets on their way
 pub record Steps (setting : Setting) (journal : List Item) (row : ℕ) (step : Step)
     (items : List Item) (switches others : List SwitchValue) (after : Travellers) : Type 0 where
-  pub may : MayPlay setting step
+  pub may : IsStep setting.net (length setting.policies) step
   pub piece_is : piece setting journal row step ≡ item.Row row step ∷ items
   pub not_told : IsFalse (is_for_controller journal step)
   -- the messages that it sends have the next numbers
@@ -131,12 +131,12 @@ pub record Steps (setting : Setting) (journal : List Item) (row : ℕ) (step : S
       ≡ traveller_in setting (stepped journal row step items) i
 
 reached_on : (setting : Setting) (journal : List Item) (row : ℕ) (step : Step) (items : List Item)
-    → IsReached setting journal → MayPlay setting step
+    → IsReached setting journal → IsStep setting.net (length setting.policies) step
     → piece setting journal row step ≡ item.Row row step ∷ items
     → IsReached setting (journal ++ item.Row row step ∷ items)
 reached_on setting journal row step items reached may is =
     let P : List Item → Type 0 = λ more. IsReached setting (journal ++ more) in
-    subst P is (reached_more setting journal row step reached may.own)
+    subst P is (reached_more setting journal row step reached may)
 
 next_on : (journal items : List Item) (count next : ℕ) → next_packet journal ≡ count + 1
     → next ≡ count + count_of is_packet items

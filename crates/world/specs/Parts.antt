@@ -7,7 +7,7 @@ use Rattle.net_file.specs.Owners.{AreOwners}
 use Rattle.steps.specs.declared.step.Step.{Step}
 use Rattle.update_machine.specs.Packets.{next_packet}
 use Rattle.update_machine.specs.Pieces.{piece}
-use Rattle.world.specs.Played.{MayPlay}
+use Rattle.steps.specs.Steps.{IsStep}
 use Rattle.update_machine.specs.Setting.{Setting, setting_of}
 use Rattle.world.specs.State.{AreTied, Control, WorldValue, comes_in}
 use Rattle.world_log.specs.Writing.{IsPart}
@@ -56,7 +56,7 @@ pub record IsReady (before : List Item) (step : Step) (parts : Parts) : Type 0 w
   pub sound : AreSound parts
   pub tied : AreTied (setting_in parts) before parts.switches.items parts.log.travelling
       parts.packets (control_in parts)
-  pub may : MayPlay (setting_in parts) step
+  pub may : IsStep parts.files.net (length parts.files.policies) step
   pub few : next_packet before ≤ 4_000_000_000
   pub room : length parts.log.bag < 990_000
 

@@ -53,7 +53,6 @@ impl Parts {
             Step::Restart { switch } => self.restart(alloc, *switch),
             Step::Confirm { switch } => self.confirm(alloc, *switch),
             Step::Resend { switch } => self.resend(alloc, *switch),
-            _ => unreachable!(),
         }
     }
 

@@ -8,7 +8,7 @@ ghost use Rattle.update_machine.specs.Messages.{next_waiting};
 ghost use Rattle.update_machine.specs.Packets.{next_packet, next_travelling, travels};
 ghost use Rattle.update_machine.specs.Pieces.{piece};
 ghost use Rattle.update_machine.specs.Sound.{NamesOwnPort};
-ghost use Rattle.world.specs.Played.{MayPlay};
+ghost use Rattle.steps.specs.Steps.{IsStep};
 ghost use Rattle.update_machine.specs.Setting.{setting_of};
 ghost use Rattle.world.specs.declared.error.StepError.TheVariants.{Full, NoMemory};
 ghost use Rattle.world.specs.State.{IsBegun, IsTied, comes_in, setting_at};
@@ -103,7 +103,7 @@ impl World {
     /// Otherwise want of memory alone: the journal has a part of the step's items then, and each
     /// further step is answered so at once, full or not, and changes nothing.
     pub fn step(&mut self, alloc: Global, row: u32, step: &Step) -> Result<(), StepError>
-        requires may { HasRoom self.old.journal → MayPlay (setting_at self.old) step.now }
+        requires may { HasRoom self.old.journal → IsStep self.old.net (length self.old.policies) step.now }
         requires few { next_packet self.old.journal ≤ 4_000_000_000 }
         ensures setting { setting_at self.new ≡ setting_at self.old }
         ensures written { OnOk result (self.new.journal ≡ self.old.journal

@@ -1,7 +1,7 @@
 ghost use Rattle.std.specs.Prelude.{◌≡◌, ◌≤◌, All, IfOk, length};
 ghost use Rattle.five_tuple.specs.Header.{IsHeader};
 ghost use Rattle.net_file.specs.Net.{IsNet};
-ghost use Rattle.world.specs.Played.{MayPlay};
+ghost use Rattle.steps.specs.Steps.{IsStep};
 ghost use Rattle.world.specs.State.{setting_at};
 
 use five_tuple::{Fields, Header};
@@ -70,7 +70,7 @@ const CRASH: &str = "row 1: packet a 1.2.3.4 10.2.0.1 5000 80 tcp\n\
 // A packet that comes in at a.
 fn packet(world: &World) -> Step
     requires { 1 ≤ length world.now.net.switches }
-    ensures { MayPlay (setting_at world.now) result }
+    ensures { IsStep world.now.net (length world.now.policies) result }
 {
     let header = Header::pack(&Fields {
         src: 0x0102_0304,
@@ -85,7 +85,7 @@ fn packet(world: &World) -> Step
 // The oldest cached rule of a times out.
 fn expire(world: &World) -> Step
     requires { 1 ≤ length world.now.net.switches }
-    ensures { MayPlay (setting_at world.now) result }
+    ensures { IsStep world.now.net (length world.now.policies) result }
 {
     let _ = world;
     Step::Expire {
@@ -97,7 +97,7 @@ fn expire(world: &World) -> Step
 // The switch a goes down.
 fn crash(world: &World) -> Step
     requires { 1 ≤ length world.now.net.switches }
-    ensures { MayPlay (setting_at world.now) result }
+    ensures { IsStep world.now.net (length world.now.policies) result }
 {
     let _ = world;
     Step::Crash { switch: 0 }
@@ -126,7 +126,7 @@ fn take(
     row: u32,
     step: &Step,
 ) -> Result<(), Fail>
-    requires { MayPlay (setting_at world.old) step.now }
+    requires { IsStep world.old.net (length world.old.policies) step.now }
     ensures { setting_at world.new ≡ setting_at world.old }
 {
     world.tied();

@@ -4,7 +4,7 @@ use Rattle.std.specs.Prelude.{map, string_bytes}
 use Rattle.std.proofs.lemmas.List.{length-map}
 use Rattle.difane_cli.specs.Commands.{replay_named}
 use Rattle.difane_cli.specs.Inputs.{net_reads}
-use Rattle.difane_cli.proofs.Begun.{all_may_happen, asked_for, inputs_are}
+use Rattle.difane_cli.proofs.Begun.{all_are_events, asked_for, inputs_are}
 use Rattle.difane_cli.proofs.ShelfReads.{all_reads, reads_then, schedule_read}
 use Rattle.difane_cli.proofs.inputs.read_inputs.Goals as goal
 
@@ -51,7 +51,7 @@ returns-clause-ready g c =
     let begun = c.in_ok-world.ensures.begun in record {
       begun = record { own = refl; silent = begun.silent; able = begun.able };
       net = ap (λ s. s.net) begun.own;
-      may = all_may_happen c.in_ok-net.net c.in_ok-policies.policies.items _ _
+      may = all_are_events c.in_ok-net.net c.in_ok-policies.policies.items _ _
           c.in_ok-events.events.items begun.own c.in_ok-policies.ensures.many
           c.in_ok-events.ensures.sound;
       few = c.in_ok-events.ensures.sound.few;
@@ -64,5 +64,5 @@ returns-clause-asked g c =
     c.in_ok-events.events.items (setting_at c.in_ok-world.world) c.in_ok-net.ensures.named own
     (c.in_ok-policies.ensures.many ∙ sym (length-map c.args.words.policies.now string_bytes))
     c.in_ok-world.ensures.sound
-    (all_may_happen c.in_ok-net.net c.in_ok-policies.policies.items _ _
+    (all_are_events c.in_ok-net.net c.in_ok-policies.policies.items _ _
     c.in_ok-events.events.items own c.in_ok-policies.ensures.many c.in_ok-events.ensures.sound)

@@ -29,7 +29,7 @@ enter-requires c =
     record {
       stamped = can_look_up (control_in self) (setting_in self) c.requires.before
           self.switches.items self.log.travelling self.packets c.args.switch
-          c.index_mut.result.now c.requires.begins.ready.tied c.requires.begins.ready.may.own.0
+          c.index_mut.result.now c.requires.begins.ready.tied c.requires.begins.ready.may.0
           c.index_mut.ensures.value;
       few = omega (arith, c.requires.begins.ready.room);
     }

@@ -35,7 +35,7 @@ returns-in-Refused c = λ before row begins.
     c.in_ok-code.ensures.compiled in
     let is = refused_piece (setting_in self) before row file c.in-Refused.code
     (unplanned_code net policies (before ++ item.Row row (Update file) ∷ []) file
-    c.in-Refused.code why.0 may.own.0 may.own.1 why.1 why.2) in
+    c.in-Refused.code why.0 may.0 may.1 why.1 why.2) in
     goes_one c.push.result before row (Update file) self _ begins
     (record { same_files = c.in_ok-code.ensures.same; same_ports = refl })
     (item.Refused file c.in-Refused.code) self.log.bag (search rules) refl (omega arith) (
@@ -63,7 +63,7 @@ note_acts-requires c =
     let planned = subst (IsCompiled net (get_or policies (file - 1) [])) c.in-Planned.is
     c.in_ok-code.ensures.compiled in
     let of_file : IsPlanOfFile (setting_in self) file c.in-Planned.plan =
-    planned_file net policies file c.in-Planned.plan ready.may.own.0 ready.may.own.1 planned.0
+    planned_file net policies file c.in-Planned.plan ready.may.0 ready.may.1 planned.0
     planned.1 in
     record {
       few = subst (λ (acts : List Act). length self.log.bag + length (act_posts acts) < 2 ^ 32)
@@ -90,7 +90,7 @@ returns-in_ok-push-in-Ok c = λ before row begins.
     let planned = subst (IsCompiled net (get_or policies (file - 1) [])) c.in-Planned.is
     c.in_ok-code.ensures.compiled in
     let of_file : IsPlanOfFile (setting_in self) file c.in-Planned.plan =
-    planned_file net policies file c.in-Planned.plan ready.may.own.0 ready.may.own.1 planned.0
+    planned_file net policies file c.in-Planned.plan ready.may.0 ready.may.1 planned.0
     planned.1 in
     let live : self.controller.marks.count - self.controller.marks.retired ≢ 8 =
     λ e. absurd (let no = c.in-Ok.ensures.live.1 e in cc) in
@@ -139,7 +139,7 @@ returns-in-Err-TooManyLive c = λ before row begins.
     let planned = subst (IsCompiled net (get_or policies (file - 1) [])) c.in-Planned.is
     c.in_ok-code.ensures.compiled in
     let of_file : IsPlanOfFile (setting_in self) file c.in-Planned.plan =
-    planned_file net policies file c.in-Planned.plan ready.may.own.0 ready.may.own.1 planned.0
+    planned_file net policies file c.in-Planned.plan ready.may.0 ready.may.1 planned.0
     planned.1 in
     let is = live_piece (control_in self) (setting_in self) before self.switches.items
     self.log.travelling self.packets row file c.in-Planned.plan ready.tied of_file
@@ -165,7 +165,7 @@ returns-in-Err-TooManyVersions c = λ before row begins.
     let planned = subst (IsCompiled net (get_or policies (file - 1) [])) c.in-Planned.is
     c.in_ok-code.ensures.compiled in
     let of_file : IsPlanOfFile (setting_in self) file c.in-Planned.plan =
-    planned_file net policies file c.in-Planned.plan ready.may.own.0 ready.may.own.1 planned.0
+    planned_file net policies file c.in-Planned.plan ready.may.0 ready.may.1 planned.0
     planned.1 in
     let many = c.in-Err-TooManyVersions.ensures.versions.0
     (ap Err c.in-Err-TooManyVersions.field-0-is) in

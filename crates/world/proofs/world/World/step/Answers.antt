@@ -1,7 +1,7 @@
-use Rattle.std.proofs.Common.{◌≤◌, subst, sym, arith}
+use Rattle.std.proofs.Common.{◌≤◌, subst, sym, arith, length}
 use Rattle.update_machine.specs.Full.{HasRoom, IsFull}
 use Rattle.update_machine.specs.Packets.{next_packet}
-use Rattle.world.specs.Played.{MayPlay}
+use Rattle.steps.specs.Steps.{IsStep}
 use Rattle.world.specs.State.{WorldValue, setting_at}
 use Rattle.world.proofs.Filling.{has_room, is_full, not_full}
 use Rattle.world.proofs.world.World.step.Goals as goal
@@ -14,7 +14,7 @@ play-requires c =
     record {
       sound = c.self.invariant.sound;
       tied = c.self.invariant.tied c.if-self.false;
-      may = subst (λ (w : WorldValue). MayPlay (setting_at w) c.args.step.now) (sym c.self.view_is)
+      may = subst (λ (w : WorldValue). IsStep w.net (length w.policies) c.args.step.now) (sym c.self.view_is)
           (c.requires.may room);
       few = subst (λ (w : WorldValue). next_packet w.journal ≤ 4_000_000_000) (sym c.self.view_is)
           c.requires.few;
