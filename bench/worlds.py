@@ -5,8 +5,9 @@ usage: bench/worlds.py BIN
 
 BIN is the proved program (`rt run` leaves it in crates/difane/out/difane). Port i is at switch i; two opposite switches
 are authorities. A schedule has 33,000 packets: alone, with a drain behind each, or with a drain and a flush, so that the
-cache rules that authorities send are delivered. Each case runs in a folder of its own, with its output sent to a file.
-Prints a line a case: seconds, peak memory in MiB, items and bytes of the journal written. It needs GNU time.
+cache rules that authorities send are delivered. Two more have 60 updates, each with 400 drained packets and a flush, and
+100,000 updates that are refused. Each case runs in a folder of its own, with its output sent to a file. Prints a line a
+case: seconds, peak memory in MiB, items and bytes of the journal written. It needs GNU time.
 """
 import os
 import random
@@ -44,20 +45,43 @@ def address(rng):
     return "10.%d.%d.%d" % (rng.randrange(4), rng.randrange(256), rng.randrange(256))
 
 
+def packet(rng):
+    return "packet,n%d,%s,%s,%d,%d,tcp" % (rng.randrange(SWITCHES), address(rng), address(rng), rng.randrange(1024, 65536), rng.randrange(1024))
+
+
 def schedule(rng, behind):
     lines = ["event,arguments"]
     for _ in range(PACKETS):
-        lines.append("packet,n%d,%s,%s,%d,%d,tcp" % (rng.randrange(SWITCHES), address(rng), address(rng), rng.randrange(1024, 65536), rng.randrange(1024)))
+        lines.append(packet(rng))
         lines += behind
     return "\n".join(lines) + "\n"
 
 
-def run(program, folder, name):
+def updates(rng):
+    lines = ["event,arguments"]
+    for k in range(60):
+        lines.append("update,%d" % (2 - k % 2))
+        for _ in range(400):
+            lines += [packet(rng), "drain"]
+        lines.append("flush")
+    return "\n".join(lines) + "\n"
+
+
+def run(program, name, files):
+    with tempfile.TemporaryDirectory() as folder:
+        for file, content in files.items():
+            with open(os.path.join(folder, file), "w") as out:
+                out.write(content)
+        policies = [file for file in files if file.startswith("p")]
+        time_in(program, folder, name, ["replay", "s.csv", *policies, "--net", "n.toml"])
+
+
+def time_in(program, folder, name, words):
     # GNU time, a small process, measures the memory: what a child of this script inherits would count as its own.
     with open(os.path.join(folder, "out"), "wb") as out:
-        words = ["/usr/bin/time", "-f", "%M", "-o", "memory", program, "replay", "s.csv", "p.csv", "--net", "n.toml"]
+        timed = ["/usr/bin/time", "-f", "%M", "-o", "memory", program, *words]
         begun = time.monotonic()
-        status = subprocess.run(words, cwd=folder, stdout=out).returncode
+        status = subprocess.run(timed, cwd=folder, stdout=out).returncode
         seconds = time.monotonic() - begun
     if status != 0:
         sys.exit("status %d" % status)
@@ -73,11 +97,13 @@ def main():
     rng = random.Random(2010)
     for rows in (100, 2000):
         for name_of_case, behind in CASES:
-            with tempfile.TemporaryDirectory() as folder:
-                for name, content in (("n.toml", network()), ("p.csv", policy(rng, rows)), ("s.csv", schedule(rng, behind))):
-                    with open(os.path.join(folder, name), "w") as file:
-                        file.write(content)
-                run(program, folder, "%d packets%s, %4d rows" % (PACKETS, name_of_case, rows))
+            files = {"n.toml": network(), "p.csv": policy(rng, rows), "s.csv": schedule(rng, behind)}
+            run(program, "%d packets%s, %4d rows" % (PACKETS, name_of_case, rows), files)
+    two = {"n.toml": network(), "p1.csv": policy(rng, 2000), "p2.csv": policy(rng, 2000)}
+    run(program, "60 updates, 24000 packets, 2000 rows", {**two, "s.csv": updates(rng)})
+    wide = policy(rng, 1) + "".join("%d,any,any,1-65534,1-65534,any,drop\n" % k for k in range(2, 7))
+    refused = "event,arguments\n" + "update,2\n" * 100_000
+    run(program, "100000 refused updates", {**two, "p2.csv": wide, "s.csv": refused})
 
 
 main()

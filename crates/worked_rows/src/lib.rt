@@ -2,11 +2,17 @@
 #![tactic(auto)]
 
 #[cfg(test)]
+mod files;
+#[cfg(test)]
 mod networks;
 #[cfg(test)]
 mod plans;
 #[cfg(test)]
 mod policies;
+#[cfg(test)]
+mod refusals;
 mod runs;
 #[cfg(test)]
 mod tests;
+#[cfg(test)]
+mod updates;

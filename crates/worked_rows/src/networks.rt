@@ -1,14 +1,10 @@
 //! Worked runs of `replay` over several switches.
+use crate::files::{ONE_ROW, PAIR};
 use crate::runs::{Ran, ended, ran, shelf_of, sink};
 use std::alloc::{AllocError, Global};
 use std::test::Fail;
 
-/// Two switches and the link between them, of which b decides.
-const PAIR: &str = "leaf_rules = 8\ncache = 4\n\
-    switch = [{ name = \"a\", ports = [1] }, { name = \"b\", ports = [2], authority = 100 }]\n\
-    link = [{ ends = [\"a\", \"b\"] }]\n";
-
-/// The same with caches of one entry.
+/// The network of `PAIR` with caches of one entry.
 const SMALL_CACHES: &str = "leaf_rules = 8\ncache = 1\n\
     switch = [{ name = \"a\", ports = [1] }, { name = \"b\", ports = [2], authority = 100 }]\n\
     link = [{ ends = [\"a\", \"b\"] }]\n";
@@ -29,9 +25,6 @@ const PORT_APART: &str = "switch = [{ name = \"a\", ports = [1] }, \
 const TWO_ROWS: &str = "priority,src,dst,sport,dport,proto,action\n\
     200,any,10.1.0.0/16,any,80,tcp,drop\n\
     100,any,10.0.0.0/8,any,any,tcp,out:2\n";
-
-const ONE_ROW: &str = "priority,src,dst,sport,dport,proto,action\n\
-    100,any,any,any,any,any,out:2\n";
 
 const ONE_PACKET: &str = "event,arguments\npacket,a,1.2.3.4,10.2.0.1,5000,80,tcp\n";
 
@@ -151,7 +144,7 @@ fn replays_over_switches(rt: HostRuntime) -> Result<(), Fail> {
     Ok(())
 }
 
-const CRASH: &str = "event,arguments\ncrash,a\n";
+const HOP_01: &str = "event,arguments\nhop,01\n";
 
 const OTHER_PORT: &str = "priority,src,dst,sport,dport,proto,action\n7,any,any,any,any,any,out:3\n";
 
@@ -160,12 +153,17 @@ const NO_ROOM: &str = "switch = [{ name = \"a\", ports = [1, 2] }]\n";
 /// Schedules, policies and networks, of which one file is refused before the next one is looked at:
 /// the network, the schedule, the policy's ports and its plan.
 const REFUSED: [(&str, &str, &str, &str); 4] = [
-    (CRASH, OTHER_PORT, "", "difane: input n.toml code 2 row 0\n"),
     (
-        CRASH,
+        HOP_01,
+        OTHER_PORT,
+        "",
+        "difane: input n.toml code 2 row 0\n",
+    ),
+    (
+        HOP_01,
         OTHER_PORT,
         PAIR,
-        "difane: input s.csv code 10 row 1\n",
+        "difane: input s.csv code 5 row 1\n",
     ),
     (
         ONE_PACKET,

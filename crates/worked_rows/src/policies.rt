@@ -1,13 +1,10 @@
 //! Worked runs of `replay` with several policies.
-use difane_cli::run;
-use shelf::{MemShelf, MemSink};
+use crate::files::{ONE_ROW, SAME_PRIORITY, WIDE};
+use crate::runs::{Ran, ended, ran, shelf_with_fault, sink};
 use std::alloc::{AllocError, Global};
 use std::test::Fail;
 
 const ONE_PACKET: &str = "event,arguments\npacket,s0,10.1.1.1,9.9.9.9,5000,80,tcp\n";
-
-const ONE_ROW: &str = "priority,src,dst,sport,dport,proto,action\n\
-    100,any,any,any,any,any,out:2\n";
 
 /// The first policy decides, whatever the others say.
 const DECIDED: &str = "row 1: packet s0 10.1.1.1 9.9.9.9 5000 80 tcp\n\
@@ -15,94 +12,85 @@ const DECIDED: &str = "row 1: packet s0 10.1.1.1 9.9.9.9 5000 80 tcp\n\
     \x20 decided 1 v1 rule 100 out:2 authority s0 part 0\n\
     \x20 out 1 port 2\n";
 
-const SAME_PRIORITY: &str = "priority,src,dst,sport,dport,proto,action\n\
-    7,any,any,any,any,any,drop\n7,any,any,any,any,any,drop\n";
+const FILES: [(&str, &str); 4] = [
+    ("s.csv", ONE_PACKET),
+    ("row.csv", ONE_ROW),
+    ("same.csv", SAME_PRIORITY),
+    ("wide.csv", WIDE),
+];
 
-/// Five rows of 900 words each.
-const WIDE: &str = "priority,src,dst,sport,dport,proto,action\n\
-    1,any,any,1-65534,1-65534,any,drop\n2,any,any,1-65534,1-65534,any,drop\n\
-    3,any,any,1-65534,1-65534,any,drop\n4,any,any,1-65534,1-65534,any,drop\n\
-    5,any,any,1-65534,1-65534,any,drop\n";
-
-/// The status, the output and the line of errors of `replay s.csv`, with a policy of each of these
-/// names and, where a number isn't 0, a fault at the read of that number.
-fn played(
-    alloc: Global,
-    policies: &[&str],
-    failing_read: u64,
-) -> Result<(u8, MemSink, MemSink), AllocError> {
-    let mut files = Vec::new(alloc);
-    for (name, content) in [
-        ("s.csv", ONE_PACKET),
-        ("row.csv", ONE_ROW),
-        ("same.csv", SAME_PRIORITY),
-        ("wide.csv", WIDE),
-    ] {
-        files.push((
-            String::from_str(alloc, name)?,
-            Vec::from_slice(alloc, content.as_bytes())?,
-        ))?;
-    }
-    let mut words = Vec::new(alloc);
-    words.push(String::from_str(alloc, "replay")?)?;
-    words.push(String::from_str(alloc, "s.csv")?)?;
-    for policy in policies {
-        words.push(String::from_str(alloc, policy)?)?;
-    }
-    let mut failing = Vec::new(alloc);
-    if failing_read > 0 {
-        failing.push(failing_read)?;
-    }
-    let mut shelf = MemShelf::new(alloc, files, failing);
-    let mut out = MemSink::new(alloc, u64::MAX, Vec::new(alloc));
-    let mut errs = MemSink::new(alloc, u64::MAX, Vec::new(alloc));
-    let finished = run(alloc, &words, &mut shelf, &mut out, &mut errs);
-    Ok((finished.status.number(), out, errs))
+/// A run with these words; where a number isn't 0, the read of that number fails.
+fn played(alloc: Global, words: &[&str], failing_read: u64) -> Result<Ran, AllocError> {
+    let shelf = shelf_with_fault(alloc, &FILES, failing_read)?;
+    ran(alloc, words, shelf, sink(alloc), sink(alloc))
 }
 
-// Each policy is read and checked before the next one is read, and the first one is planned last; a
-// later one may have no plan.
+/// Words, the read that fails, and how the run ends: its status, its output and its line of errors.
+/// Each policy is read and checked before the next one is read, and the first one is planned last;
+/// a later one may have no plan.
+const READ: [(&[&str], u64, u8, &str, &str); 5] = [
+    (
+        &["replay", "s.csv", "row.csv", "wide.csv"],
+        0,
+        0,
+        DECIDED,
+        "",
+    ),
+    (
+        &["replay", "s.csv", "row.csv", "same.csv", "none.csv"],
+        4,
+        3,
+        "",
+        "difane: input same.csv code 10 row 2\n",
+    ),
+    (
+        &["replay", "s.csv", "wide.csv", "row.csv", "none.csv"],
+        0,
+        3,
+        "",
+        "difane: input none.csv code 0 row 0\n",
+    ),
+    (
+        &["replay", "s.csv", "wide.csv", "row.csv"],
+        3,
+        4,
+        "",
+        "difane: read fault\n",
+    ),
+    (
+        &["replay", "s.csv", "wide.csv", "row.csv"],
+        0,
+        3,
+        "",
+        "difane: input wide.csv code 12 row 0\n",
+    ),
+];
+
 #[test]
 fn reads_policies_in_order(rt: HostRuntime) -> Result<(), Fail> {
-    let many = ["row.csv"; 64];
-    let too_many = ["row.csv"; 65];
-    for (policies, failing_read, status, out, line) in [
-        (["row.csv", "wide.csv"].as_slice(), 0, 0, DECIDED, ""),
-        (many.as_slice(), 0, 0, DECIDED, ""),
-        (too_many.as_slice(), 0, 2, "", "difane: words\n"),
-        (
-            ["row.csv", "same.csv", "none.csv"].as_slice(),
-            4,
-            3,
-            "",
-            "difane: input same.csv code 10 row 2\n",
-        ),
-        (
-            ["wide.csv", "row.csv", "none.csv"].as_slice(),
-            0,
-            3,
-            "",
-            "difane: input none.csv code 0 row 0\n",
-        ),
-        (
-            ["wide.csv", "row.csv"].as_slice(),
-            3,
-            4,
-            "",
-            "difane: read fault\n",
-        ),
-        (
-            ["wide.csv", "row.csv"].as_slice(),
-            0,
-            3,
-            "",
-            "difane: input wide.csv code 12 row 0\n",
-        ),
-    ] {
-        let (number, written, told) = played(rt.alloc(), policies, failing_read)?;
-        assert_eq!(rt; number, status, "{line}");
-        assert_eq!(rt; written.bytes(), out.as_bytes(), "{line}");
-        assert_eq!(rt; told.bytes(), line.as_bytes());
+    for (words, failing_read, status, out, line) in &READ {
+        let ran = played(rt.alloc(), words, *failing_read)?;
+        assert!(rt; ended(&ran, *status, out, line), "{line}");
     }
+    Ok(())
+}
+
+/// The words of a replay with so many policies.
+fn many(alloc: Global, count: u32) -> Result<Vec<&'static str>, AllocError> {
+    let mut words = Vec::new(alloc);
+    words.push("replay")?;
+    words.push("s.csv")?;
+    for _ in 0..count {
+        words.push("row.csv")?;
+    }
+    Ok(words)
+}
+
+#[test]
+fn takes_64_policies(rt: HostRuntime) -> Result<(), Fail> {
+    let most = played(rt.alloc(), &many(rt.alloc(), 64)?, 0)?;
+    assert!(rt; ended(&most, 0, DECIDED, ""));
+    let too_many = played(rt.alloc(), &many(rt.alloc(), 65)?, 0)?;
+    assert!(rt; ended(&too_many, 2, "", "difane: words\n"));
     Ok(())
 }

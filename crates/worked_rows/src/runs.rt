@@ -27,14 +27,33 @@ pub fn ran(
     Ok((finished.status.number(), out, errs))
 }
 
-/// A shelf of files with these names and texts.
-pub fn shelf_of(alloc: Global, files: &[(&str, &str)]) -> Result<MemShelf, AllocError> {
+/// A shelf of files with these names and texts; where a number isn't 0, the read of that number
+/// fails.
+pub fn shelf_with_fault(
+    alloc: Global,
+    files: &[(&str, &str)],
+    failing_read: u64,
+) -> Result<MemShelf, AllocError> {
     let mut all = Vec::new(alloc);
     for (name, text) in files {
         let name = String::from_str(alloc, name)?;
         all.push((name, Vec::from_slice(alloc, text.as_bytes())?))?;
     }
-    Ok(MemShelf::new(alloc, all, Vec::new(alloc)))
+    Ok(MemShelf::new(alloc, all, calls(alloc, failing_read)?))
+}
+
+/// A shelf of files with these names and texts.
+pub fn shelf_of(alloc: Global, files: &[(&str, &str)]) -> Result<MemShelf, AllocError> {
+    shelf_with_fault(alloc, files, 0)
+}
+
+/// The number of the call that fails, counted from 1; none fails at 0.
+pub fn calls(alloc: Global, number: u64) -> Result<Vec<u64>, AllocError> {
+    let mut all = Vec::new(alloc);
+    if number > 0 {
+        all.push(number)?;
+    }
+    Ok(all)
 }
 
 /// A sink that takes all.

@@ -1,10 +1,9 @@
-use crate::runs::{Ran, ended, ran};
+use crate::files::{NO_ROW, SAME_PRIORITY, WIDE};
+use crate::runs::{Ran, calls, ended, ran};
 use difane_cli::{Status, tell};
 use shelf::{MemShelf, MemSink};
 use std::alloc::{AllocError, Global};
 use std::test::Fail;
-
-const HEADER: &str = "priority,src,dst,sport,dport,proto,action\n";
 
 const ONE_PACKET: &str = "event,arguments\npacket,s0,10.1.1.1,9.9.9.9,5000,80,tcp\n";
 
@@ -48,14 +47,6 @@ const PLAIN: Case<'static> = Case {
     failing_line: 0,
 };
 
-fn calls(alloc: Global, number: u64) -> Result<Vec<u64>, AllocError> {
-    let mut all = Vec::new(alloc);
-    if number > 0 {
-        all.push(number)?;
-    }
-    Ok(all)
-}
-
 fn files(alloc: Global, case: &Case<'_>) -> Result<Vec<(String, Vec<u8>)>, AllocError> {
     let mut policy = Vec::from_slice(alloc, case.policy.as_bytes())?;
     policy.resize(case.policy.len().saturating_add(case.padding), b'a')?;
@@ -82,10 +73,10 @@ const DROPPED: &str = "row 1: packet s0 10.1.1.1 9.9.9.9 5000 80 tcp\n\
 /// Schedules, policies and the journals of their runs.
 const REPLAYED: [(&str, &str, &str); 5] = [
     (ONE_PACKET, TWO_ROWS, MATCHED),
-    (ONE_PACKET, HEADER, DROPPED),
+    (ONE_PACKET, NO_ROW, DROPPED),
     (ONE_PACKET, QUOTED, MATCHED),
-    ("event,arguments\n", HEADER, ""),
-    ("event,arguments", HEADER, ""),
+    ("event,arguments\n", NO_ROW, ""),
+    ("event,arguments", NO_ROW, ""),
 ];
 
 #[test]
@@ -102,15 +93,7 @@ fn replays_on_one_switch(rt: HostRuntime) -> Result<(), Fail> {
     Ok(())
 }
 
-const SAME_PRIORITY: &str = "priority,src,dst,sport,dport,proto,action\n\
-    7,any,any,any,any,any,drop\n7,any,any,any,any,any,drop\n";
-
 const NO_PORT: &str = "priority,src,dst,sport,dport,proto,action\n7,any,any,any,any,any,out:64\n";
-
-const WIDE: &str = "priority,src,dst,sport,dport,proto,action\n\
-    1,any,any,1-65534,1-65534,any,drop\n2,any,any,1-65534,1-65534,any,drop\n\
-    3,any,any,1-65534,1-65534,any,drop\n4,any,any,1-65534,1-65534,any,drop\n\
-    5,any,any,1-65534,1-65534,any,drop\n";
 
 /// Schedules and policies, the read that fails, and the line of errors. The schedule is checked
 /// before the policy is read, so that a read which fails there doesn't show.
@@ -199,8 +182,8 @@ fn answers_wrong_words(rt: HostRuntime) -> Result<(), Fail> {
 #[test]
 fn refuses_a_policy_too_long(rt: HostRuntime) -> Result<(), Fail> {
     let case = Case {
-        policy: HEADER,
-        padding: 16_777_217 - HEADER.len(),
+        policy: NO_ROW,
+        padding: 16_777_217 - NO_ROW.len(),
         ..PLAIN
     };
     let ran = played(rt.alloc(), &case)?;
