@@ -9,7 +9,7 @@ use std::test::Fail;
 const NETWORK: &[u8] = b"switch = [{ name = 'a', ports = [1] }, { name = 'b' }, { name = 'c' }]
 link = [{ ends = ['b', 'a'] }]";
 
-// The rows of a whole run, of which the sixth cannot be played yet.
+// The rows of a run over other switches: the sixth names one that the network lacks.
 const DAY: &str = "packet,a,10.0.1.5,10.0.2.10,40000,443,tcp
 drain
 flush
@@ -32,7 +32,7 @@ fn refusal(outcome: Result<Vec<Event>, ScheduleError>) -> Option<(u32, u32)> {
     }
 }
 
-// Each kind of event that is played.
+// Each kind of event.
 const EVENTS: &[u8] = b"\xef\xbb\xbf\"event\",arguments\r\n
 packet,b,10.0.1.5,10.0.2.10,40000,443,tcp
 \"hop\",1
@@ -42,7 +42,14 @@ deliver,2
 forget,0
 expire,c,65536
 flush
-drain";
+drain
+update,1
+linkdown,a,b
+linkup,b,a
+crash,a
+restart,b
+confirm,c
+resend,a";
 
 fn header() -> Header {
     Header::pack(&Fields {
@@ -72,7 +79,14 @@ fn is_event(place: usize, event: &Event) -> bool {
             place: 65536,
         }),
         6 => Event::Flush,
-        _ => Event::Drain,
+        7 => Event::Drain,
+        8 => Event::One(Step::Update { file: 1 }),
+        9 => Event::One(Step::LinkDown { one: 0, two: 1 }),
+        10 => Event::One(Step::LinkUp { one: 1, two: 0 }),
+        11 => Event::One(Step::Crash { switch: 0 }),
+        12 => Event::One(Step::Restart { switch: 1 }),
+        13 => Event::One(Step::Confirm { switch: 2 }),
+        _ => Event::One(Step::Resend { switch: 0 }),
     };
     *event == wanted
 }
@@ -82,7 +96,7 @@ fn reads_events(rt: HostRuntime) -> Result<(), Fail> {
     let alloc = rt.alloc();
     let net = read_net(alloc, NETWORK)?;
     let events = read_schedule(alloc, EVENTS, &net, 1)?;
-    assert!(rt; events.len() == 8);
+    assert!(rt; events.len() == 15);
     for (place, event) in events.iter().enumerate() {
         assert!(rt; is_event(place, event), "{place}");
     }
@@ -113,14 +127,14 @@ fn refused(alloc: Global, text: &[u8], files: u32) -> Result<Option<(u32, u32)>,
 fn refuses_days_and_headings(rt: HostRuntime) -> Result<(), Fail> {
     let alloc = rt.alloc();
     let day = under_heading(alloc, DAY)?;
-    assert!(rt; refused(alloc, &day, 2)? == Some((10, 6)));
+    assert!(rt; refused(alloc, &day, 2)? == Some((4, 6)));
     assert!(rt; refused(alloc, b"", 1)? == Some((1, 0)));
     assert!(rt; refused(alloc, b"event,arguments,\n", 1)? == Some((1, 0)));
     Ok(())
 }
 
 // Second rows, each with the code of its refusal.
-const REFUSED: [(&str, u32); 15] = [
+const REFUSED: [(&str, u32); 19] = [
     ("drain,now", 2),
     ("packet,z,1.2.3.4,10.2.0.1,any,80", 2),
     ("skip,1,2,3", 3),
@@ -135,7 +149,11 @@ const REFUSED: [(&str, u32); 15] = [
     ("flush,1", 2),
     ("packet,a,1.2.3.4,10.2.0.1,any,80,tcp", 6),
     ("packet,a,1.2.3.4/32,10.2.0.1,5000,80,tcp", 6),
-    ("linkdown,a,z,a", 10),
+    ("linkdown,a,z,a", 2),
+    ("linkdown,c,z", 4),
+    ("linkup,a,c", 9),
+    ("crash,z", 4),
+    ("update,2", 7),
 ];
 
 // The code and the row of the refusal of a schedule with this second row.

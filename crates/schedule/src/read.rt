@@ -19,8 +19,7 @@ use steps::{Event, MAX_EVENTS};
 ///
 /// # Errors
 /// The first refusal in the text, or want of memory. The rows are checked in order: first a row's
-/// kind, then its width, then its fields from left to right. Kinds that cannot be played yet are
-/// refused.
+/// kind, then its width, then its fields from left to right.
 #[tactic(auto, unfolding(crate::specs::Reading::schedule_of))]
 pub fn read_schedule(
     alloc: Global,

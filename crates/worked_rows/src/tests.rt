@@ -191,7 +191,7 @@ fn refuses_a_policy_too_long(rt: HostRuntime) -> Result<(), Fail> {
     Ok(())
 }
 
-// No schedule of the kinds that are played today sends so many messages.
+// The status alone: a play that sends so many messages is long.
 #[test]
 fn tells_a_full_play(rt: HostRuntime) -> Result<(), Fail> {
     let status = Status::Full { row: 247 };
