@@ -5,14 +5,14 @@ use Rattle.std.specs.Option.{ForSome}
 use Rattle.boot_laws.specs.Always.{HoldsReached}
 use Rattle.journal.specs.declared.item.Item.{Item}
 use Rattle.journal_text.specs.Lines.{journal_text}
-use Rattle.steps.specs.Steps.{IsEvent}
 use Rattle.update_machine.specs.Answers.{BeginsAnswer}
-use Rattle.update_machine.specs.Causes.{EndsHaveCauses}
+use Rattle.update_machine.specs.Causes.{EndsHaveCauses, HaveCauses}
 use Rattle.update_machine.specs.Full.{IsPlay}
 use Rattle.update_machine.specs.Machine.{IsRun}
 use Rattle.update_machine.specs.Sound.{IsSetting}
 use Rattle.update_machine.specs.Setting.{Setting}
 use Rattle.update_machine.proofs.CallerLemmas.{answers_so_far, begins_itself, stop_begins}
+use Rattle.way_laws.specs.StrongCauses.{StrongCause}
 use Rattle.difane_cli.specs.Inputs.{Inputs, Play, Print, Printing}
 use Rattle.shelf.specs.Sink.{gained, GainedPart, SinkState}
 use Rattle.shelf.specs.declared.output.SinkError.{SinkError}
@@ -26,6 +26,8 @@ pub record AnswerLaws : Type 0 where
   pub run : HoldsReached (λ setting journal. IsSetting setting → IsRun setting journal)
   pub causes : HoldsReached (λ setting journal.
       IsSetting setting → EndsHaveCauses setting journal)
+  pub strong : HoldsReached (λ setting journal.
+      IsSetting setting → HaveCauses (StrongCause setting) [] journal)
 
 begins : (inputs : Inputs) (journal : List Item) (full : Option ℕ)
     → IsPlay inputs.setting inputs.events journal full
@@ -50,6 +52,9 @@ played laws command known inputs journal full asked accepted play = record {
   causes = laws.causes.begun inputs.setting inputs.events journal
       asked.events (begins inputs journal full play)
       asked.setting;
+  strong = laws.strong.begun inputs.setting inputs.events journal
+      asked.events (begins inputs journal full play)
+      asked.setting;
 }
 
 -- what a play leaves begins an answer, so that some of its text may be written
@@ -64,6 +69,7 @@ begun command known inputs journal full before now answer written = record {
   begins = begins inputs journal full answer.play;
   run = answer.run;
   causes = answer.causes;
+  strong = answer.strong;
   written = written;
 }
 

@@ -11,11 +11,12 @@ use Rattle.switch_table.specs.Tables.{tables_of}
 use Rattle.shelf.specs.Sink.{gained, GainedPart, SinkState}
 use Rattle.journal.specs.declared.item.Item.{Item}
 use Rattle.update_machine.specs.Answers.{BeginsAnswer}
-use Rattle.update_machine.specs.Causes.{EndsHaveCauses}
+use Rattle.update_machine.specs.Causes.{EndsHaveCauses, HaveCauses}
 use Rattle.update_machine.specs.Full.{IsPlay}
 use Rattle.update_machine.specs.Machine.{IsRun}
 use Rattle.update_machine.specs.Sound.{IsSetting}
 use Rattle.steps.specs.Steps.{IsEvent}
+use Rattle.way_laws.specs.StrongCauses.{StrongCause}
 use Rattle.difane_cli.specs.Inputs.{Inputs, Play, Print, Printing, Task}
 use Rattle.difane_cli.specs.Words.{Command, PrintCommand, ReplayCommand}
 use Rattle.difane_cli.specs.Words as asked
@@ -65,7 +66,8 @@ pub record IsReplayOf (command : ReplayCommand) (inputs : Inputs) : Type 0 where
 
 -- the journal is that of the play of these inputs, which are the known ones where the task is
 -- known: it answers them, or it answers them up to a row at which the play stopped full; so it is a
--- run of the machine, and its ends have their causes
+-- run of the machine, its ends have their causes, and its items have the strong ones, with which a
+-- run keeps the promise
 pub record IsAnswer (command : ReplayCommand) (known : Known) (inputs : Inputs)
     (journal : List Item) (full : Option ℕ) : Type 0 where
   pub asked : IsReplayOf command inputs
@@ -73,6 +75,7 @@ pub record IsAnswer (command : ReplayCommand) (known : Known) (inputs : Inputs)
   pub play : IsPlay inputs.setting inputs.events journal full
   pub run : IsRun inputs.setting journal
   pub causes : EndsHaveCauses inputs.setting journal
+  pub strong : HaveCauses (StrongCause inputs.setting) [] journal
 
 -- there are inputs such that the journal is that of their play, to its end or to a row at which it
 -- stopped full, and the output gained its text
@@ -100,6 +103,7 @@ pub record Begun (command : ReplayCommand) (known : Known) (journal : List Item)
   pub begins : BeginsAnswer inputs.setting inputs.events journal
   pub run : IsRun inputs.setting journal
   pub causes : EndsHaveCauses inputs.setting journal
+  pub strong : HaveCauses (StrongCause inputs.setting) [] journal
   pub written : WroteSome (journal_text inputs.setting.net journal) before now
 
 -- the journal and the output that a status of a replay comes with

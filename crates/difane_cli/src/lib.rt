@@ -2,7 +2,7 @@
 //! a policy for it, and writes the journal, the plan or a switch's tables.
 //!
 //! `run` carries the headline. Where a replay answers `Ok` there are inputs that its journal
-//! answers, is a run of the abstract machine for, and whose ends have their causes; where files are
+//! answers, is a run of the abstract machine for, and whose items have their causes; where files are
 //! known, these are the inputs that the files state. The output gained the journal's text and
 //! nothing else. Where it answers `Full`, the same holds up to the row that it names. A plan and
 //! tables are the defined ones, and so are their lines. Each status but want of memory has its

@@ -19,7 +19,7 @@ use journal_text::lines;
 use net_file::Net;
 use shelf::{Sink, SinkError, write_whole};
 use std::alloc::Global;
-use way_laws::{answers_are_runs, ends_have_causes};
+use way_laws::{answers_are_runs, causes_are_strong, ends_have_causes};
 
 /// How many items are printed before they are written: their lines have about 50,000 bytes.
 const BLOCK: usize = 1_024;
@@ -41,6 +41,7 @@ pub fn play<K: Sink>(alloc: Global, inputs: ReplayInputs, out: &mut K) -> Finish
     let ReplayInputs { events, net, world } = inputs;
     answers_are_runs();
     ends_have_causes();
+    causes_are_strong();
     let Ok(played) = replay::play(alloc, world, &events) else {
         return Finished {
             status: Status::NoMemory,

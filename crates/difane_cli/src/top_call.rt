@@ -34,7 +34,7 @@ pub fn run<F: Shelf, K: Sink, E: Sink>(
     errs: &mut E,
 ) -> Finished
     // By its status: what was played, that it answers the inputs, is a run of the abstract machine
-    // whose ends have their causes, and what the output gained.
+    // whose ends and items have their causes, and what the output gained.
     ensures outcome { Outcome (command_of (texts words.now))
         (known_task (F.state shelf.old).files (command_of (texts words.now)))
         result.status result.journal (K.state out.old) (K.state out.new) }

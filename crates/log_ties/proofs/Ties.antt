@@ -1,16 +1,15 @@
 -- The laws of this crate, of what is known within a step.
-use Rattle.std.proofs.Common.{ℕ, ◌≡◌, ◌<◌, ◌==◌, Bool, true, false, if◌then◌else◌, Some, List, [], ◌∷◌, ◌++◌, refl, ap, sym, subst, ◌∙◌, length, eq-eqb, arith}
+use Rattle.std.proofs.Common.{ℕ, ◌≡◌, ◌<◌, ◌==◌, Bool, true, false, if◌then◌else◌, List, [], ◌∷◌, ◌++◌, refl, ap, sym, ◌∙◌, length, eq-eqb, arith}
 use Rattle.five_tuple.specs.Header.{IsHeader}
 use Rattle.five_tuple.specs.declared.header.Header.{Header}
 use Rattle.journal.specs.declared.item.Item.{Item}
 use Rattle.journal.specs.declared.item.Item.TheVariants as item
 use Rattle.net_file.specs.declared.ports.Ports.{Ports}
 use Rattle.steps.specs.declared.step.Step.{Step}
-use Rattle.steps.specs.declared.step.Step.TheVariants.{Packet, Hop}
+use Rattle.steps.specs.declared.step.Step.TheVariants.{Packet}
 use Rattle.switch_core.specs.State.{SwitchValue}
 use Rattle.switch_core.specs.declared.answers.Entered.{Entered}
 use Rattle.switch_ties.specs.SwitchOf.{switch_of}
-use Rattle.travelling.specs.declared.travelling.Traveller.{Traveller}
 use Rattle.tunnel.specs.Moves.{here}
 use Rattle.update_machine.specs.Links.{near}
 use Rattle.update_machine.specs.Messages.{next_message}
@@ -21,7 +20,7 @@ use Rattle.way_laws.specs.OnWay.{IsUnknown}
 use Rattle.way_laws.specs.Words.{words_of}
 use Rattle.world_log.specs.Packets.{coming_in}
 use Rattle.world_log.specs.Writing.{entered_items, entered_traveller}
-use Rattle.log_ties.specs.Ties.{BagTies, ComeTies, Comes, GoesOn, HopTies, IsOfNet, entry_at}
+use Rattle.log_ties.specs.Ties.{BagTies, ComeTies, Comes, HopTies, IsOfNet, entry_at}
 use Rattle.log_ties.specs.Travellers.{traveller_in}
 use Rattle.log_ties.proofs.CanAsk.{CanAsk, can_be_asked, looks_up_as}
 use Rattle.log_ties.proofs.ComePieces.{come_along}

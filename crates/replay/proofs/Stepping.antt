@@ -9,7 +9,7 @@ use Rattle.update_machine.specs.Full.{HasRoom, HaveRoom, IsFull}
 use Rattle.update_machine.specs.Pieces.{piece}
 use Rattle.update_machine.specs.Setting.{Setting}
 use Rattle.update_machine.proofs.CallerLemmas.{after_append, rooms_append}
-use Rattle.world.specs.Writing.{IsPart}
+use Rattle.world_log.specs.Writing.{IsPart}
 use Rattle.replay.specs.Playing.{Begins, Happens, StopsWithin, next_step}
 
 abbrev pub is_some_step : List StepOfRow → Bool

@@ -35,8 +35,9 @@ use world_log::Log;
 /// A network of switches with its controller, the packets on their way in it, and the journal of
 /// what happened.
 ///
-/// Contracts see the network, the policies, the journal, the switches, the packets on their way, the messages,
-/// how many packets there were, the controller, and whether memory ran out within a step.
+/// Contracts see the network, the policies, the journal, the switches, the packets on their way,
+/// the messages, how many packets there were, the controller, and whether memory ran out within a
+/// step.
 #[derive(Drop)]
 pub struct World {
     parts: Parts,
@@ -103,7 +104,8 @@ impl World {
     /// Otherwise want of memory alone: the journal has a part of the step's items then, and each
     /// further step is answered so at once, full or not, and changes nothing.
     pub fn step(&mut self, alloc: Global, row: u32, step: &Step) -> Result<(), StepError>
-        requires may { HasRoom self.old.journal → IsStep self.old.net (length self.old.policies) step.now }
+        requires may { HasRoom self.old.journal
+            → IsStep self.old.net (length self.old.policies) step.now }
         requires few { next_packet self.old.journal ≤ 4_000_000_000 }
         ensures setting { setting_at self.new ≡ setting_at self.old }
         ensures written { OnOk result (self.new.journal ≡ self.old.journal

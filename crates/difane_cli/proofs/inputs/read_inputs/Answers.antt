@@ -1,6 +1,6 @@
 use Rattle.world.specs.State.{setting_at}
-use Rattle.std.proofs.Common.{ℕ, ◌≡◌, ◌∙◌, ap, length, refl, sym}
-use Rattle.std.specs.Prelude.{map, string_bytes}
+use Rattle.std.proofs.Common.{◌∙◌, ap, refl, sym}
+use Rattle.std.specs.Prelude.{string_bytes}
 use Rattle.std.proofs.lemmas.List.{length-map}
 use Rattle.difane_cli.specs.Commands.{replay_named}
 use Rattle.difane_cli.specs.Inputs.{net_reads}

@@ -1,5 +1,5 @@
 use Rattle.std.specs.Prelude.{IsTrue, string_bytes}
-use Rattle.std.proofs.Common.{ℕ, ◌≡◌, ◌∙◌, ◌+◌, All, List, [], ◌∷◌, ◌++◌, ap, arith, drop, length, length-append, map, subst, sym}
+use Rattle.std.proofs.Common.{◌≡◌, ◌∙◌, ◌+◌, All, List, [], ◌∷◌, ◌++◌, ap, arith, drop, length, length-append, map, subst, sym}
 use Rattle.std.proofs.lemmas.List.Elements.{All-push}
 use Rattle.policy_file.specs.Ports.{has_port}
 use Rattle.policy_rules.specs.Policy.{IsPolicy}

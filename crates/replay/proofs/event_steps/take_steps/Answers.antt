@@ -1,4 +1,6 @@
-use Rattle.std.proofs.Common.{◌∙◌, ap, Err, refl, subst, sym, arith}
+use Rattle.std.proofs.Common.{◌∙◌, ap, Err, length, refl, subst, sym, arith}
+use Rattle.steps.specs.Steps.{IsEvent}
+use Rattle.update_machine.specs.Setting.{Setting}
 use Rattle.world.specs.State.{WorldValue, setting_at}
 use Rattle.world.specs.declared.error.StepError.TheVariants.{Full}
 use Rattle.replay.specs.Playing.{StopsWithin}
@@ -32,7 +34,9 @@ step-requires-clause-may c =
     let tied = c.tied.ensures so_far.able in
     let next = asked c.drains_end.ensures.fewer c.deliveries_rise.ensures world c.args.row
     c.args.event.now c.loop-next.is_begun c.in-Some.next tied (sym c.in-Some.ensures) in
-    next.may (rw so_far.setting c.requires.may)
+    next.may
+    (subst (λ (s : Setting). IsEvent s.net (length s.policies) c.args.event.now)
+    (sym so_far.setting) c.requires.may)
     (omega (arith, (tie_of world tied).counted, so_far.packets, next.none, c.requires.few))
 
 pub loop-next-smaller : goal.loop-next-smaller
