@@ -1,0 +1,263 @@
+-- So of links that end where it reaches a switch knows exactly those that can be used.
+use Rattle.std.proofs.Common.{ℕ, ◌≡◌, ◌≢◌, ◌<◌, ◌⊎◌, ◌==◌, ◌&&◌, Bool, true, false, not, if◌then◌else◌, Option, None, List, [], ◌∷◌, ◌++◌, map, length, get_or, set, refl, ap, sym, subst, ◌∙◌, arith, inl, inr, get_or-set_other, get_or-set_same, length-set}
+use Rattle.std.specs.Prelude.{All, IsTrue, slice_index}
+use Rattle.std.specs.List.{AllByRecursion}
+use Rattle.std.proofs.lemmas.Bool.{cases_eq, cases_lt}
+use Rattle.std.proofs.lemmas.Bool.Decides.{nat_tests}
+use Rattle.std.proofs.lemmas.List.{get_or-map, get_or_past, length-map}
+use Rattle.std.proofs.lemmas.List.Elements.{All-from_recursion}
+use Rattle.failover.specs.Adverts.{AreByOrigin, after_hearing, after_hearing_all, first_adverts, held, no_adverts}
+use Rattle.failover.specs.DownSet.{has_link}
+use Rattle.failover.specs.Links.{is_link, neighbours_told, told_links}
+use Rattle.failover.specs.Paths.{AreJoined, IsReachable, IsRoute, Leads}
+use Rattle.failover.specs.declared.advert.Advert.{Advert}
+use Rattle.failover.proofs.Adverts.{by_origin-first, by_origin-hearing, by_origin-none}
+use Rattle.failover.proofs.Rows.{has_known}
+use Rattle.failover.proofs.Searching.{length-known_links, straight_path}
+use Rattle.masks.specs.Masks.{has}
+use Rattle.net_file.specs.Net.{are_linked, links_of}
+use Rattle.net_file.proofs.Places.{links}
+use Rattle.journal.specs.declared.item.Item.{Item}
+use Rattle.steps.specs.Steps.{HasSwitch}
+use Rattle.update_machine.specs.Adverts.{adverts_begun, adverts_heard, adverts_known, links_known, own_advert, own_if_told, route_from}
+use Rattle.update_machine.specs.Boots.{is_in_first_boot}
+use Rattle.update_machine.specs.Links.{near}
+use Rattle.update_machine.specs.Setting.{Setting, switches_of}
+use Rattle.update_machine.proofs.CallerLemmas.{known_link_laws}
+use Rattle.advert_laws.proofs.NetLinks.{near_linked, second}
+use Rattle.quiet_laws.specs.Converged.{AreUnusable, HasConverged, LeadsOver, Reaches}
+use Rattle.quiet_laws.proofs.Changed.{ends_there}
+use Rattle.quiet_laws.proofs.Converged.{AreQuiet, HoldsOwn, IsThere, adverts_reach, reached_holds, small_of}
+use Rattle.quiet_laws.proofs.Near.{near_both}
+
+-- ---- there are places for 64 adverts
+
+begun_by_origin : (setting : Setting) (journal : List Item) (s : ℕ)
+    → AreByOrigin (adverts_begun setting journal s)
+begun_by_origin setting journal s = by_test (is_in_first_boot journal s)
+  where
+    by_test : (b : Bool) → AreByOrigin
+        (if b then first_adverts (map (links_of setting.net.links) (switches_of setting))
+        (length setting.net.switches) else no_adverts)
+    by_test true = by_origin-first (map (links_of setting.net.links) (switches_of setting))
+        (length setting.net.switches)
+    by_test false = by_origin-none
+
+all_by_origin : (adverts : List (Option Advert)) (heard : List Advert) → AreByOrigin adverts
+    → AreByOrigin (after_hearing_all adverts heard)
+all_by_origin adverts [] sound = sound
+all_by_origin adverts (advert ∷ heard) sound = all_by_origin (after_hearing adverts advert) heard
+    (by_origin-hearing adverts advert sound)
+
+known_places : (setting : Setting) (journal : List Item) (s : ℕ)
+    → length (adverts_known setting journal s) ≡ 64
+unfolding adverts_known
+known_places setting journal s =
+    length-set (after_hearing_all (adverts_begun setting journal s) (adverts_heard journal s)) s
+    (own_if_told (own_advert setting journal s))
+    ∙ (all_by_origin (adverts_begun setting journal s) (adverts_heard journal s)
+    (begun_by_origin setting journal s)).places
+
+-- ---- what a switch is told of one that it reaches
+
+told_row : (adverts : List (Option Advert)) (one : ℕ)
+    → get_or (map neighbours_told adverts) one 0 ≡ neighbours_told (held adverts one)
+told_row adverts one = elim (cases_lt one (length adverts)) [
+  | inl within ↦ get_or-map neighbours_told adverts one None 0 within
+  | inr past ↦
+      get_or_past (map neighbours_told adverts) one 0
+      (omega (arith, past, length-map adverts neighbours_told))
+      ∙ ap neighbours_told (sym (get_or_past adverts one None past))
+]
+
+row_known : (setting : Setting) (journal : List Item) (s z : ℕ) → s < 64
+    → HoldsOwn setting journal s z
+    → slice_index (told_links (adverts_known setting journal s) s (near setting journal s)) z
+    ≡ near setting journal z
+unfolding told_links own_advert
+row_known setting journal s z small holds = by_place (cases_eq z s) holds
+  where
+    rows : List ℕ
+    rows = map neighbours_told (adverts_known setting journal s)
+
+    within : s < length rows
+    within = omega (
+      arith,
+      small,
+      known_places setting journal s,
+      length-map (adverts_known setting journal s) neighbours_told,
+    )
+
+    by_place : (z ≡ s) ⊎ (z ≢ s) → HoldsOwn setting journal s z
+        → get_or (set rows s (near setting journal s)) z 0 ≡ near setting journal z
+    by_place (inl same) holds =
+        ap (λ x. get_or (set rows s (near setting journal s)) x 0) same
+        ∙ get_or-set_same rows s (near setting journal s) 0 within
+        ∙ ap (near setting journal) (sym same)
+    by_place (inr apart) (inl same) = absurd (apart (sym same))
+    by_place (inr apart) (inr known) =
+        get_or-set_other rows s z (near setting journal s) 0 apart
+        ∙ told_row (adverts_known setting journal s) z
+        ∙ ap neighbours_told known
+
+-- ---- known links
+
+reach_more : (setting : Setting) (journal : List Item) (from at next : ℕ)
+    → Reaches setting journal from at → IsTrue (has (near setting journal at) next)
+    → Reaches setting journal from next
+reach_more setting journal from at next reaches linked = record {
+  rest = reaches.rest ++ next ∷ [];
+  leads = longer from reaches.rest reaches.leads;
+}
+  where
+    longer : (start : ℕ) (rest : List ℕ) → LeadsOver setting journal at start rest
+        → LeadsOver setting journal next start (rest ++ next ∷ [])
+    longer start [] leads =
+        (subst (λ x. IsTrue (has (near setting journal x) next)) (sym leads) linked, refl)
+    longer start (step ∷ rest) leads = (leads.0, longer step rest leads.1)
+
+four : (w x y z : Bool) → w ≡ false → x ≡ true → y ≡ true → z ≡ false
+    → (not w && x && y && not z) ≡ true
+four w x y z p q r t = rw (p, q, r, t) refl
+
+known_usable : (setting : Setting) (journal : List Item) → AreQuiet setting journal
+    → (s one other : ℕ) (down : List ℕ) → IsThere setting journal s
+    → Reaches setting journal s one → one < 64 → other < 64
+    → AreJoined (links_known setting journal s down) one other
+    → IsTrue (has (near setting journal one) other)
+unfolding is_link
+known_usable setting journal are s one other down is reaches small fits joined =
+    let rows : List ℕ =
+    told_links (adverts_known setting journal s) s (near setting journal s) in
+    let told : is_link rows down one other ≡ true =
+    sym (has_known (adverts_known setting journal s) s (near setting journal s) down one other
+    small fits) ∙ joined in
+    let named : has (slice_index rows one) other ≡ true = second _ _ _ _ told in
+    subst (λ mask. IsTrue (has mask other))
+    (row_known setting journal s one (small_of setting are.net s is.there)
+    (reached_holds setting journal are s one is reaches)) named
+
+usable_known : (setting : Setting) (journal : List Item) → AreQuiet setting journal
+    → (s one other : ℕ) (down : List ℕ) → IsThere setting journal s
+    → Reaches setting journal s one → AreUnusable setting journal down
+    → IsTrue (has (near setting journal one) other)
+    → AreJoined (links_known setting journal s down) one other
+unfolding is_link
+usable_known setting journal are s one other down is reaches unusable linked =
+    has_known (adverts_known setting journal s) s (near setting journal s) down one other small
+    fits
+    ∙ four (one == other) (has (slice_index rows one) other) (has (slice_index rows other) one)
+    (has_link down one other) apart named back (unusable one other linked)
+  where
+    rows : List ℕ
+    rows = told_links (adverts_known setting journal s) s (near setting journal s)
+
+    s_small : s < 64
+    s_small = small_of setting are.net s is.there
+
+    small : one < 64
+    small = small_of setting are.net one
+        (ends_there setting journal one other are.net linked).one
+
+    fits : other < 64
+    fits = small_of setting are.net other
+        (ends_there setting journal one other are.net linked).other
+
+    apart : (one == other) ≡ false
+    apart = by_test (one == other) refl
+      where
+        by_test : (b : Bool) → (one == other) ≡ b → (one == other) ≡ false
+        by_test false e = e
+        by_test true e =
+            let same : one ≡ other = grind (arith, nat_tests) in
+            let clash : true ≡ false =
+            sym (near_linked setting journal one other linked)
+            ∙ ap (are_linked setting.net.links one) (sym same)
+            ∙ links.not_itself setting.net one are.net in
+            absurd cc
+
+    named : has (slice_index rows one) other ≡ true
+    named = ap (λ mask. has mask other)
+        (row_known setting journal s one s_small
+        (reached_holds setting journal are s one is reaches)) ∙ linked
+
+    back : has (slice_index rows other) one ≡ true
+    back = ap (λ mask. has mask one)
+        (row_known setting journal s other s_small
+        (reached_holds setting journal are s other is
+        (reach_more setting journal s one other reaches linked)))
+        ∙ near_both setting journal one other small linked
+
+-- where links lead is a switch with a number below 64
+reached_small : (setting : Setting) (journal : List Item) → AreQuiet setting journal
+    → (s target : ℕ) → HasSwitch setting.net s → (rest : List ℕ)
+    → LeadsOver setting journal target s rest → target < 64
+reached_small setting journal are s target there [] leads =
+    omega (arith, leads, small_of setting are.net s there)
+reached_small setting journal are s target there (next ∷ rest) leads =
+    reached_small setting journal are next target
+    (ends_there setting journal s next are.net leads.0).other rest leads.1
+
+-- ---- routes
+
+leads_known : (setting : Setting) (journal : List Item) → AreQuiet setting journal
+    → (s target : ℕ) (down : List ℕ) → IsThere setting journal s
+    → AreUnusable setting journal down → (at : ℕ) (rest : List ℕ) → Reaches setting journal s at
+    → LeadsOver setting journal target at rest
+    → Leads (links_known setting journal s down) target at rest
+leads_known setting journal are s target down is unusable at [] reaches leads = leads
+leads_known setting journal are s target down is unusable at (next ∷ rest) reaches leads = (
+  small_of setting are.net next (ends_there setting journal at next are.net leads.0).other,
+  usable_known setting journal are s at next down is reaches unusable leads.0,
+  leads_known setting journal are s target down is unusable next rest
+      (reach_more setting journal s at next reaches leads.0) leads.1,
+)
+
+none_reached : (rows : List ℕ) (from : ℕ) (targets : List ℕ) → IsRoute rows from targets None
+    → AllByRecursion (λ target. IsReachable rows from target → ⊥) targets
+unfolding IsRoute
+none_reached rows from [] is = tt
+none_reached rows from (target ∷ targets) (inl some) = absurd some
+none_reached rows from (target ∷ targets) (inr rest) =
+    (rest.0, none_reached rows from targets rest.1)
+
+each_unreached : (P Q : ℕ → Type 0) → ((x : ℕ) → P x → Q x) → (xs : List ℕ)
+    → AllByRecursion P xs → AllByRecursion Q xs
+each_unreached P Q f [] all = tt
+each_unreached P Q f (x ∷ xs) all = (f x all.0, each_unreached P Q f xs all.1)
+
+stuck_apart : (setting : Setting) (journal : List Item) → AreQuiet setting journal
+    → (s : ℕ) (targets down : List ℕ) → IsThere setting journal s
+    → AreUnusable setting journal down → route_from setting journal s targets down ≡ None
+    → All (λ target. Reaches setting journal s target → ⊥) targets
+stuck_apart setting journal are s targets down is unusable none =
+    All-from_recursion (λ target. Reaches setting journal s target → ⊥) targets
+    (each_unreached
+    (λ target. IsReachable (links_known setting journal s down) s target → ⊥)
+    (λ target. Reaches setting journal s target → ⊥)
+    (λ target unreached reaches. unreached
+    (straight_path (links_known setting journal s down) s target reaches.rest
+    (length-known_links (adverts_known setting journal s) s (near setting journal s) down)
+    (small_of setting are.net s is.there)
+    (leads_known setting journal are s target down is unusable s reaches.rest
+    (record { rest = []; leads = refl }) reaches.leads))) targets
+    (none_reached (links_known setting journal s down) s targets
+    (subst (IsRoute (links_known setting journal s down) s targets) none
+    (known_link_laws.route setting journal s targets down))))
+
+-- ---- together
+
+pub quiet_converged : (setting : Setting) (journal : List Item) → AreQuiet setting journal
+    → HasConverged setting journal
+quiet_converged setting journal are = record {
+  adverts = λ s origin apart reaches. adverts_reach setting journal are s origin apart reaches;
+  links = λ s one other down there up reaches fits unusable. (
+    known_usable setting journal are s one other down (record { there = there; up = up }) reaches
+        (reached_small setting journal are s one there reaches.rest reaches.leads) fits,
+    usable_known setting journal are s one other down (record { there = there; up = up }) reaches
+        unusable,
+  );
+  stuck = λ s targets down there up unusable none.
+      stuck_apart setting journal are s targets down (record { there = there; up = up }) unusable
+      none;
+}

@@ -1,0 +1,14 @@
+-- A network in which nothing is left to do.
+use Rattle.std.specs.Prelude.{ℕ, ◌≡◌, not, ◌||◌, None, List, All, IsTrue, IsFalse}
+use Rattle.journal.specs.declared.item.Item.{Item}
+use Rattle.update_machine.specs.Boots.{is_up}
+use Rattle.update_machine.specs.Messages.{is_forgotten, next_waiting}
+use Rattle.update_machine.specs.Quiet.{is_waited_for}
+use Rattle.update_machine.specs.Setting.{Setting, switches_of}
+
+-- no message waits, none was forgotten, and each switch is up, or the controller doesn't wait for it
+pub record IsFinished (setting : Setting) (journal : List Item) : Type 0 where
+  pub waiting : next_waiting journal ≡ None
+  pub forgotten : (number : ℕ) → IsFalse (is_forgotten journal number)
+  pub switches : All (λ s. IsTrue (is_up journal s || not (is_waited_for journal s)))
+      (switches_of setting)

@@ -1,0 +1,4 @@
+pub mod Updated
+pub mod Finished
+pub mod News
+pub mod Converged

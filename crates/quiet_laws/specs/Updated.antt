@@ -1,0 +1,19 @@
+-- What a finished update leaves: all switches that are up stamp with the newest version, and no
+-- other version is needed (Reitblatt, Foster, Rexford, Schlesinger and Walker, "Abstractions for
+-- Network Update").
+use Rattle.std.specs.Prelude.{◌≡◌, ◌-◌, List, All, IsTrue}
+use Rattle.journal.specs.declared.item.Item.{Item}
+use Rattle.update_machine.specs.Boots.{is_up, serves}
+use Rattle.update_machine.specs.Marks.{current_mark, retired_mark}
+use Rattle.update_machine.specs.Setting.{Setting, switches_of}
+use Rattle.update_machine.specs.Versions.{stamp_of, version_count}
+
+-- each switch that is up serves and stamps with the newest version; that one is current, and all
+-- before it are retired
+pub record IsUpdated (setting : Setting) (journal : List Item) : Type 0 where
+  pub serving : All (λ s. IsTrue (is_up journal s) → IsTrue (serves journal s))
+      (switches_of setting)
+  pub stamps : All (λ s. IsTrue (is_up journal s) → stamp_of journal s ≡ version_count journal)
+      (switches_of setting)
+  pub current : current_mark journal ≡ version_count journal
+  pub retired : retired_mark journal ≡ version_count journal - 1

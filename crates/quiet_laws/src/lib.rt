@@ -1,0 +1,11 @@
+//! What holds of a quiet network: laws over journals of any steps.
+//!
+//! No code: each function stands for the law that it ensures.
+#![tactic(auto)]
+
+mod laws;
+
+pub use laws::{
+    finished_networks_are_quiet, news_spreads, quiet_networks_are_updated,
+    quiet_networks_have_converged,
+};
