@@ -362,7 +362,8 @@ booted_owed here s boot are = record { each = λ t up. by_test t (s == t) refl u
         ⊎ IsSent (here ++ next ∷ []) (to_controller (Hello t (boot_of (here ++ next ∷ []) t))))
     by_test t true e up = inl (sym (eqb-true s t e))
     by_test t false e up =
-        let same : boot_of (here ++ next ∷ []) t ≡ boot_of here t = rw (boot_more here next t, e) refl in
+        let same : boot_of (here ++ next ∷ []) t ≡ boot_of here t =
+        rw (boot_more here next t, e) refl in
         elim (are.each t (rw (up_more here next t, e) at up)) [
           | inl owed ↦ absurd owed
           | inr known ↦ elim known [

@@ -209,9 +209,10 @@ pub record AreQuiet (setting : Setting) (journal : List Item) : Type 0 where
 
 abbrev pub HoldsOwn : Setting → List Item → ℕ → ℕ → Type 0
 HoldsOwn setting journal s origin =
-    (s ≡ origin) ⊎ (advert_known setting journal s origin ≡ Some (own_advert setting journal origin))
+    (s ≡ origin)
+    ⊎ (advert_known setting journal s origin ≡ Some (own_advert setting journal origin))
 
-serving_up : (setting : Setting) (journal : List Item) → AreQuiet setting journal → (s : ℕ)
+pub serving_up : (setting : Setting) (journal : List Item) → AreQuiet setting journal → (s : ℕ)
     → serves journal s ≡ true → IsTrue (is_up journal s)
 serving_up setting journal are s serving =
     (are.order.traced.known.serving s).up serving

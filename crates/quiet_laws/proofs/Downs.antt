@@ -1,5 +1,5 @@
--- Of a switch that is down, for which the controller doesn't wait though it doesn't count it as over,
--- nothing is known in its known boot; and what stands behind openings and acknowledgements.
+-- Of a switch that is down, for which the controller doesn't wait though it doesn't count it as
+-- over, nothing is known in its known boot; and what stands behind openings and acknowledgements.
 use Rattle.std.proofs.Common.{ℕ, ◌≡◌, ◌≤◌, ◌⊎◌, ◌==◌, ◌||◌, Bool, true, false, if◌then◌else◌, Option, Some, None, List, [], ◌∷◌, ◌++◌, refl, ap, sym, subst, ◌∙◌, arith, inl, inr}
 use Rattle.std.specs.Prelude.{IsTrue, IsFalse, filter_map, nat_eq, option_to_list, unwrap_or}
 use Rattle.std.specs.List.{cons_option, list_any}
@@ -497,7 +497,8 @@ silent_now : (setting : Setting) (before : List Item) (next : Item)
     (to_controller (Installed s (known_boot (before ++ next ∷ []) s) version)) → ⊥
 silent_now setting before next cause are s version known idle sent =
     elim (sent_either before next (to_controller (Installed s (known_boot before s) version))
-    (subst (λ b. IsSent (before ++ next ∷ []) (to_controller (Installed s b version))) known sent)) [
+    (subst (λ b. IsSent (before ++ next ∷ []) (to_controller (Installed s b version))) known
+    sent)) [
       | inl earlier ↦ are.silent s version idle earlier
       | inr new ↦
           let right : IsRightInstalled before s (known_boot before s) version =

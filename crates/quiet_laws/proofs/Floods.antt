@@ -1,5 +1,5 @@
--- News that is delivered floods, so what a switch has each neighbour has as new, or was sent, behind
--- each step.
+-- News that is delivered floods, so what a switch has each neighbour has as new, or was sent,
+-- behind each step.
 use Rattle.std.proofs.Common.{ℕ, ◌≡◌, ◌≢◌, ◌<◌, ◌⊎◌, ◌==◌, ◌&&◌, Bool, true, false, not, if◌then◌else◌, Option, Some, None, List, [], ◌∷◌, ◌++◌, map, length, refl, ap, sym, subst, ◌∙◌, append_assoc, append-nil, arith, inl, inr}
 use Rattle.std.specs.Prelude.{IsTrue, IsFalse, filter_map, nat_lt, option_to_list, slice_index}
 use Rattle.std.specs.Option.{option_map_or}
@@ -233,7 +233,8 @@ open_spread : (setting : Setting) (before : List Item) (row number : ℕ) (step 
     (boot version : ℕ) → IsNet setting.net → let here = before ++ item.Row row step ∷ [] in
     let now = here ++ item.Delivered number ∷ [] in
     Has setting now (switch_items setting before t (OpenAt boot version) now) → IsKnown now
-    → Spread setting now → Spread setting (now ++ switch_items setting before t (OpenAt boot version) now)
+    → Spread setting now
+    → Spread setting (now ++ switch_items setting before t (OpenAt boot version) now)
 unfolding switch_items
 open_spread setting before row number step t boot version net =
     by_serving (serves before t)
@@ -549,7 +550,8 @@ first_spread setting net = record {
             (begun_first setting neighbour ∙ sym (begun_first setting s)) ∙ begun))
         by_given (inr told) =
             let none : IsIn a [] =
-            subst (λ bodies. IsIn a (filter_map (other_advert s) bodies)) (start_laws.heard s) told in
+            subst (λ bodies. IsIn a (filter_map (other_advert s) bodies)) (start_laws.heard s)
+            told in
             absurd none
 
 pub spread_at_ends : (setting : Setting) (steps : List StepOfRow) → IsNet setting.net

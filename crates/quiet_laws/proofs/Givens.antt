@@ -1,5 +1,5 @@
--- The adverts that switches have: those with which they began, those that they heard, and those that
--- were sent to them in their present boot.
+-- The adverts that switches have: those with which they began, those that they heard, and those
+-- that were sent to them in their present boot.
 use Rattle.std.proofs.Common.{ℕ, ◌≡◌, ◌≢◌, ◌+◌, ◌<◌, ◌⊎◌, ◌==◌, ◌&&◌, ◌||◌, Bool, true, false, if◌then◌else◌, Option, Some, None, List, [], ◌∷◌, ◌++◌, refl, ap, sym, subst, ◌∙◌, append_assoc, append-nil, arith, inl, inr}
 use Rattle.std.specs.Prelude.{⊤, IsTrue, nat_lt}
 use Rattle.std.specs.Option.{option_map_or}

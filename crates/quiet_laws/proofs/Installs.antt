@@ -1,5 +1,5 @@
--- At the end of each step each switch that isn't over was sent, in its known boot, the tables of each
--- version from the current one to the last.
+-- At the end of each step each switch that isn't over was sent, in its known boot, the tables of
+-- each version from the current one to the last.
 use Rattle.std.proofs.Common.{ℕ, ◌≡◌, ◌+◌, ◌-◌, ◌≤◌, ◌<◌, ◌⊎◌, ◌==◌, Bool, true, false, not, if◌then◌else◌, Option, Some, None, List, [], ◌∷◌, ◌++◌, length, refl, ap, sym, subst, ◌∙◌, append-nil, append_assoc, arith, inl, inr}
 use Rattle.std.specs.Prelude.{IsTrue, IsFalse, nat_lt, option_and_then}
 use Rattle.std.specs.Option.{option_map_or}
@@ -48,8 +48,8 @@ pub record TablesSent (journal : List Item) (s boot version : ℕ) : Type 0 wher
   pub of : tables.version ≡ version
   pub sent : IsSent journal (to_switch s (Install boot tables))
 
--- each switch that isn't over has those of each version from the current one to the last of these, or
--- began with them; but those that are still owed
+-- each switch that isn't over has those of each version from the current one to the last of these,
+-- or began with them; but those that are still owed
 pub record HaveInstalls (setting : Setting) (Owed : ℕ → Type 0) (last : ℕ) (journal : List Item)
     : Type 0 where
   pub each : (s version : ℕ) → s < length setting.net.switches → IsFalse (is_over journal s)
@@ -205,7 +205,8 @@ raises_by : (before : List Item) (number s : ℕ) → raises_known before s numb
 raises_by before number s raises =
     by_hello (option_and_then (hello_boot s) (said_to_controller before number)) refl raises
   where
-    by_hello : (o : Option ℕ) → option_and_then (hello_boot s) (said_to_controller before number) ≡ o
+    by_hello : (o : Option ℕ)
+        → option_and_then (hello_boot s) (said_to_controller before number) ≡ o
         → option_map_or (λ boot. nat_lt (known_boot before s) boot) o false ≡ true
         → IsHello before number s
     by_hello None e raises = absurd cc

@@ -27,8 +27,8 @@ use Rattle.update_machine.proofs.CallerLemmas.{known_link_laws}
 use Rattle.advert_laws.proofs.NetLinks.{near_linked, second}
 use Rattle.quiet_laws.specs.Converged.{AreUnusable, HasConverged, LeadsOver, Reaches}
 use Rattle.quiet_laws.proofs.Changed.{ends_there}
-use Rattle.quiet_laws.proofs.Converged.{AreQuiet, HoldsOwn, IsThere, adverts_reach, reached_holds, small_of}
-use Rattle.quiet_laws.proofs.Near.{near_both}
+use Rattle.quiet_laws.proofs.Converged.{AreQuiet, HoldsOwn, IsThere, adverts_reach, reached_holds, small_of, serving_up}
+use Rattle.quiet_laws.proofs.Near.{ends_serve, near_both}
 
 -- ---- there are places for 64 adverts
 
@@ -226,11 +226,23 @@ each_unreached : (P Q : ℕ → Type 0) → ((x : ℕ) → P x → Q x) → (xs 
 each_unreached P Q f [] all = tt
 each_unreached P Q f (x ∷ xs) all = (f x all.0, each_unreached P Q f xs all.1)
 
+-- a way over links that can be used is one over known links
+way_known : (setting : Setting) (journal : List Item) → AreQuiet setting journal
+    → (s target : ℕ) (down : List ℕ) → AreUnusable setting journal down → (rest : List ℕ)
+    → LeadsOver setting journal target s rest
+    → Leads (links_known setting journal s down) target s rest
+way_known setting journal are s target down unusable [] leads = leads
+way_known setting journal are s target down unusable (next ∷ rest) leads =
+    leads_known setting journal are s target down (record {
+      there = (ends_there setting journal s next are.net leads.0).one;
+      up = serving_up setting journal are s (ends_serve setting journal s next leads.0).0;
+    }) unusable s (next ∷ rest) (record { rest = []; leads = refl }) leads
+
 stuck_apart : (setting : Setting) (journal : List Item) → AreQuiet setting journal
-    → (s : ℕ) (targets down : List ℕ) → IsThere setting journal s
+    → (s : ℕ) (targets down : List ℕ) → HasSwitch setting.net s
     → AreUnusable setting journal down → route_from setting journal s targets down ≡ None
     → All (λ target. Reaches setting journal s target → ⊥) targets
-stuck_apart setting journal are s targets down is unusable none =
+stuck_apart setting journal are s targets down there unusable none =
     All-from_recursion (λ target. Reaches setting journal s target → ⊥) targets
     (each_unreached
     (λ target. IsReachable (links_known setting journal s down) s target → ⊥)
@@ -238,9 +250,8 @@ stuck_apart setting journal are s targets down is unusable none =
     (λ target unreached reaches. unreached
     (straight_path (links_known setting journal s down) s target reaches.rest
     (length-known_links (adverts_known setting journal s) s (near setting journal s) down)
-    (small_of setting are.net s is.there)
-    (leads_known setting journal are s target down is unusable s reaches.rest
-    (record { rest = []; leads = refl }) reaches.leads))) targets
+    (small_of setting are.net s there)
+    (way_known setting journal are s target down unusable reaches.rest reaches.leads))) targets
     (none_reached (links_known setting journal s down) s targets
     (subst (IsRoute (links_known setting journal s down) s targets) none
     (known_link_laws.route setting journal s targets down))))
@@ -257,7 +268,6 @@ quiet_converged setting journal are = record {
     usable_known setting journal are s one other down (record { there = there; up = up }) reaches
         unusable,
   );
-  stuck = λ s targets down there up unusable none.
-      stuck_apart setting journal are s targets down (record { there = there; up = up }) unusable
-      none;
+  stuck = λ s targets down there unusable none.
+      stuck_apart setting journal are s targets down there unusable none;
 }

@@ -15,4 +15,7 @@ pub mod News
 pub mod Floods
 pub mod Converged
 pub mod KnownLinks
+pub mod Walks
+pub mod Stuck
 pub mod Told
+mod Trials

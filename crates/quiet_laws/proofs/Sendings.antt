@@ -160,8 +160,8 @@ delivered_more before next n = by_test (is_delivery n next) refl
 
 -- ---- what becomes of a message
 
--- the boot in which it was sent to the switch isn't above the switch's, nor is that of its body above
--- it; delivered in that boot it was heard
+-- the boot in which it was sent to the switch isn't above the switch's, nor is that of its body
+-- above it; delivered in that boot it was heard
 pub record SwitchCourse (journal : List Item) (s : ℕ) (x : Sending) : Type 0 where
   pub own : x.boot ≤ boot_of journal s
   pub past : IfSome (body_boot x.message.body) (λ boot. boot ≤ x.boot)
@@ -362,7 +362,11 @@ new_course : (before : List Item) (number : ℕ) (to : Receiver) (body : Body)
     → IsKnown (before ++ item.Sent number (record { to = to; body = body }) ∷ [])
     → IsFalse (was_delivered before number)
     → Course (before ++ item.Sent number (record { to = to; body = body }) ∷ []) to
-    (record { number = number; message = record { to = to; body = body }; boot = boot_at before to })
+    (record {
+      number = number;
+      message = record { to = to; body = body };
+      boot = boot_at before to;
+    })
 new_course before number (receiver.Switch s) body known fresh =
     let next : Item = item.Sent number (to_switch s body) in
     let here : (number == number) ≡ true = eq-eqb number number refl in

@@ -332,7 +332,8 @@ current_stamps setting now have = by_test (nat_lt (current_mark now) (next_curre
 -- the causes of the second part are those behind the first
 pub have_rest : (cause : List Item → Item → Type 0) (before xs ys : List Item)
     → HaveCauses cause before (xs ++ ys) → HaveCauses cause (before ++ xs) ys
-have_rest cause before [] ys have = subst (λ j. HaveCauses cause j ys) (sym (append-nil before)) have
+have_rest cause before [] ys have =
+    subst (λ j. HaveCauses cause j ys) (sym (append-nil before)) have
 have_rest cause before (x ∷ xs) ys have =
     subst (λ j. HaveCauses cause j ys) (append_assoc before (x ∷ []) xs)
     (have_rest cause (before ++ x ∷ []) xs ys have.1)
@@ -392,7 +393,8 @@ still_stamps setting before next known over none current have = record {
 
 deliver_stamps : (setting : Setting) (before here : List Item) (number : ℕ)
     → StampsAreCurrent here → IsTrue (is_message_to_controller before number)
-    → HaveStamps setting here → HaveStamps setting (here ++ deliver_items setting before number here)
+    → HaveStamps setting here
+    → HaveStamps setting (here ++ deliver_items setting before number here)
 unfolding deliver_items
 deliver_stamps setting before here number are is have = by_test (is_deliverable before number)
   where

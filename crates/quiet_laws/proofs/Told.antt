@@ -30,9 +30,11 @@ use Rattle.advert_laws.proofs.NetLinks.{own_origin}
 use Rattle.advert_laws.proofs.Newest.{own_newest, own_on}
 use Rattle.advert_laws.proofs.OwnAdverts.{same_near, same_seq}
 use Rattle.quiet_laws.specs.Converged.{HasConverged}
+use Rattle.quiet_laws.specs.Stuck.{GetStuckApart}
 use Rattle.quiet_laws.specs.News.{HoldsAsNew, IsSentAsNew, NewsSpreads}
 use Rattle.quiet_laws.proofs.Changed.{AreEnds, ends_there, newest_held, own_held, serving_turns}
-use Rattle.quiet_laws.proofs.Converged.{InOrder, order_kept}
+use Rattle.quiet_laws.proofs.Converged.{AreQuiet, InOrder, order_kept}
+use Rattle.quiet_laws.proofs.Stuck.{stuck_reaches_none}
 use Rattle.quiet_laws.proofs.Floods.{known_given, spread_at_ends}
 use Rattle.quiet_laws.proofs.Givens.{HasNews, IsGiven, IsHad, IsToldTo, as_new_itself, as_new_through}
 use Rattle.quiet_laws.proofs.KnownLinks.{quiet_converged}
@@ -213,13 +215,12 @@ order_at_first = record {
       let none : IsIn x [] = subst (λ xs. IsIn x xs) start_laws.sent first in absurd none;
 }
 
-pub converged_at_ends : HoldsAtEnds (λ setting journal.
-    IsNet setting.net → IsQuiet setting journal → HasConverged setting journal)
-converged_at_ends = at_ends (λ setting journal.
-    IsNet setting.net → IsQuiet setting journal → HasConverged setting journal)
-    (λ setting steps net quiet.
+ends_quiet : (setting : Setting) (steps : List StepOfRow) → IsNet setting.net
+    → IsQuiet setting (after_steps setting [] steps)
+    → AreQuiet setting (after_steps setting [] steps)
+ends_quiet setting steps net quiet =
     let journal : List Item = after_steps setting [] steps in
-    quiet_converged setting journal (record {
+    record {
       net = net;
       quiet = quiet;
       order = fact_on (IsInOrder setting) InOrder (order_kept setting) [] journal
@@ -227,4 +228,18 @@ converged_at_ends = at_ends (λ setting journal.
           order_at_first;
       spread = spread_at_ends setting steps net;
       newest = newest_stepped setting steps;
-    }))
+    }
+
+pub converged_at_ends : HoldsAtEnds (λ setting journal.
+    IsNet setting.net → IsQuiet setting journal → HasConverged setting journal)
+converged_at_ends = at_ends (λ setting journal.
+    IsNet setting.net → IsQuiet setting journal → HasConverged setting journal)
+    (λ setting steps net quiet.
+    quiet_converged setting (after_steps setting [] steps) (ends_quiet setting steps net quiet))
+
+pub apart_at_ends : HoldsAtEnds (λ setting journal.
+    IsNet setting.net → IsQuiet setting journal → GetStuckApart setting journal)
+apart_at_ends = at_ends (λ setting journal.
+    IsNet setting.net → IsQuiet setting journal → GetStuckApart setting journal)
+    (λ setting steps net quiet.
+    stuck_reaches_none setting (after_steps setting [] steps) (ends_quiet setting steps net quiet))

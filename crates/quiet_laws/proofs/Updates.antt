@@ -202,8 +202,8 @@ known_own setting journal are quiet s up =
       | inr said ↦ elim said [
         | inl first ↦ omega (arith, below, first, known_first journal s)
         | inr sent ↦
-            let heard = told_of setting journal s (Hello s (boot_of journal s)) quiet are.traced sent
-            up refl refl in
+            let heard = told_of setting journal s (Hello s (boot_of journal s)) quiet are.traced
+            sent up refl refl in
             let told : boot_of journal s ≤ known_boot journal s =
             hello_known journal s (boot_of journal s)
             (was_itself (controller_heard journal) (Hello s (boot_of journal s)) refl heard) in

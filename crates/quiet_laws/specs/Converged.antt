@@ -1,6 +1,6 @@
--- A network has converged where each switch knows the links that can be used, as far as these reach.
--- Link-state databases that agree are those of OSPF (RFC 2328, section 13); a link counts where both
--- its ends name it (section 16.1).
+-- A network has converged where each switch knows the links that can be used, as far as these
+-- reach. Link-state databases that agree are those of OSPF (RFC 2328, section 13); a link counts
+-- where both its ends name it (section 16.1).
 use Rattle.std.specs.Prelude.{ℕ, ◌≡◌, ◌≢◌, ◌<◌, ◌↔◌, Some, None, List, [], ◌∷◌, All, IsTrue, IsFalse}
 use Rattle.failover.specs.DownSet.{has_link}
 use Rattle.failover.specs.Paths.{AreJoined}
@@ -40,6 +40,6 @@ pub record HasConverged (setting : Setting) (journal : List Item) : Type 0 where
       ↔ IsTrue (has (near setting journal one) other)
   -- so it finds no route only where it reaches no target, whatever down links were found
   pub stuck : (s : ℕ) (targets down : List ℕ) → HasSwitch setting.net s →
-      IsTrue (is_up journal s) → AreUnusable setting journal down →
+      AreUnusable setting journal down →
       route_from setting journal s targets down ≡ None →
       All (λ target. Reaches setting journal s target → ⊥) targets

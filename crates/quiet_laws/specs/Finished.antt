@@ -6,7 +6,8 @@ use Rattle.update_machine.specs.Messages.{is_forgotten, next_waiting}
 use Rattle.update_machine.specs.Quiet.{is_waited_for}
 use Rattle.update_machine.specs.Setting.{Setting, switches_of}
 
--- no message waits, none was forgotten, and each switch is up, or the controller doesn't wait for it
+-- no message waits, none was forgotten, and each switch is up, or the controller doesn't wait for
+-- it
 pub record IsFinished (setting : Setting) (journal : List Item) : Type 0 where
   pub waiting : next_waiting journal ≡ None
   pub forgotten : (number : ℕ) → IsFalse (is_forgotten journal number)

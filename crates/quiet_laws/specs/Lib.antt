@@ -2,3 +2,4 @@ pub mod Updated
 pub mod Finished
 pub mod News
 pub mod Converged
+pub mod Stuck

@@ -1,6 +1,6 @@
--- What switches that can use a link between them tell each other. That adverts reach all switches is
--- the reliable flooding of OSPF (RFC 2328, section 13); acknowledgements are not needed here, as a
--- quiet network lost nothing that matters.
+-- What switches that can use a link between them tell each other. That adverts reach all switches
+-- is the reliable flooding of OSPF (RFC 2328, section 13); acknowledgements are not needed here, as
+-- a quiet network lost nothing that matters.
 use Rattle.std.specs.Prelude.{ℕ, ◌≡◌, ◌<◌, ◌⊎◌, Some, List, Contains, IsTrue, IsFalse}
 use Rattle.failover.specs.Adverts.{is_newer}
 use Rattle.failover.specs.declared.advert.Advert.{Advert}

@@ -5,6 +5,7 @@ ghost use Rattle.boot_laws.specs.Always.{HoldsAtEnds, HoldsBehindItems};
 ghost use Rattle.quiet_laws.specs.Converged.{HasConverged};
 ghost use Rattle.quiet_laws.specs.Finished.{IsFinished};
 ghost use Rattle.quiet_laws.specs.News.{NewsSpreads};
+ghost use Rattle.quiet_laws.specs.Stuck.{GetStuckApart};
 ghost use Rattle.quiet_laws.specs.Updated.{IsUpdated};
 
 /// Over each link that can be used, each end holds adverts at least as new as those of the other
@@ -19,6 +20,13 @@ pub fn news_spreads()
 pub fn quiet_networks_have_converged()
     ensures { HoldsAtEnds (λ setting journal.
         IsNet setting.net → IsQuiet setting journal → HasConverged setting journal) }
+{}
+
+/// In a quiet network a step makes a packet that had found no link down stuck only where no target
+/// of its leg is reached over links that can be used.
+pub fn packets_get_stuck_apart()
+    ensures { HoldsAtEnds (λ setting journal.
+        IsNet setting.net → IsQuiet setting journal → GetStuckApart setting journal) }
 {}
 
 /// In a quiet network every switch that is up serves and stamps with the newest version, which is

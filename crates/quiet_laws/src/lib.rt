@@ -6,6 +6,6 @@
 mod laws;
 
 pub use laws::{
-    finished_networks_are_quiet, news_spreads, quiet_networks_are_updated,
+    finished_networks_are_quiet, news_spreads, packets_get_stuck_apart, quiet_networks_are_updated,
     quiet_networks_have_converged,
 };

@@ -1,0 +1,430 @@
+-- In a quiet journal a step makes a packet stuck only where it reaches no target.
+use Rattle.std.proofs.Common.{ℕ, ◌≡◌, ◌≢◌, ◌<◌, ◌≤◌, ◌⊎◌, ◌==◌, ◌||◌, ◌^◌, Bool, true, false, if◌then◌else◌, Option, Some, None, List, [], ◌∷◌, ◌++◌, length, map, min, max, get_or, set, refl, ap, sym, subst, ◌∙◌, arith, inl, inr, get_or-set_other, get_or-set_same, length-set, bit_or}
+use Rattle.std.specs.Prelude.{⊤, All, IsTrue, IsFalse}
+use Rattle.std.proofs.lemmas.Bool.{cases_eq, cases_lt}
+use Rattle.std.proofs.lemmas.List.{get_or_past}
+use Rattle.ctrl_msg.specs.declared.message.Body.{Body}
+use Rattle.ctrl_msg.specs.declared.message.Body.TheVariants.{Install, OpenAt, Stamp, Advertise, Hello}
+use Rattle.ctrl_msg.specs.declared.message.Message.{Message}
+use Rattle.ctrl_msg.specs.declared.message.Receiver.{Receiver}
+use Rattle.ctrl_msg.specs.declared.message.Receiver.TheVariants as receiver
+use Rattle.failover.specs.DownSet.{has_link, no_links, with_link}
+use Rattle.failover.proofs.LinkSets.{has_link-none}
+use Rattle.masks.specs.Masks.{has}
+use Rattle.masks.proofs.CallerLemmas.{has-or, has-pow_other, has-zero}
+use Rattle.policy_rules.specs.declared.packet.Cause.{Cause}
+use Rattle.policy_rules.specs.declared.packet.Leg.{Leg}
+use Rattle.policy_rules.specs.declared.packet.Leg.TheVariants.{Seek, Exit}
+use Rattle.journal.specs.declared.item.Item.{Item}
+use Rattle.journal.specs.declared.item.Item.TheVariants as item
+use Rattle.steps.specs.Steps.{HasSwitch}
+use Rattle.steps.specs.declared.step.Step.{Step}
+use Rattle.steps.specs.declared.step.Step.TheVariants.{Packet, Hop, Lose, Deliver, Forget, Expire, Update, LinkDown, LinkUp, Crash, Restart, Confirm, Resend}
+use Rattle.update_machine.specs.Adverts.{route_from}
+use Rattle.update_machine.specs.Causes.{HaveCauses}
+use Rattle.update_machine.specs.Concerns.{concerns_known, concerns_links, concerns_policies}
+use Rattle.update_machine.specs.Deliveries.{after_hello, controller_items, delivery_items, link_changes, received_items, switch_items}
+use Rattle.update_machine.specs.Links.{near}
+use Rattle.update_machine.specs.Messages.{message_of, sends}
+use Rattle.update_machine.specs.Moves.{put}
+use Rattle.update_machine.specs.Packets.{changes_found, found_down, next_packet, targets_in, targets_of}
+use Rattle.update_machine.specs.Pieces.{confirm_items, crash_items, deliver_items, expire_items, forget_items, link_items, lose_items, piece, resend_items, restart_items, sends_or_nothing, step_items, update_items}
+use Rattle.update_machine.specs.Setting.{Setting}
+use Rattle.update_machine.specs.Settling.{installs_to, installs_to_all, settling, submitted_items}
+use Rattle.update_machine.specs.Versions.{plan_at}
+use Rattle.update_machine.proofs.CallerLemmas.{folded_append, have_first, have_in_turn, have_put, known_keeps, links_keep, policies_keep}
+use Rattle.boot_laws.proofs.Facts.{AreKept, fact_on, have_front, have_weaker}
+use Rattle.boot_laws.proofs.SwitchBlocks.{IsOfSettling, settling_settles}
+use Rattle.quiet_laws.specs.Converged.{AreUnusable, Reaches}
+use Rattle.quiet_laws.specs.Stuck.{GetStuckApart}
+use Rattle.quiet_laws.proofs.Changed.{ends_there}
+use Rattle.quiet_laws.proofs.Converged.{AreQuiet, small_of}
+use Rattle.quiet_laws.proofs.KnownLinks.{quiet_converged}
+use Rattle.quiet_laws.proofs.Near.{near_both}
+use Rattle.quiet_laws.proofs.Plain.{IsSending, all_sendings}
+use Rattle.quiet_laws.proofs.Stamps.{have_rest}
+use Rattle.quiet_laws.proofs.Walks.{KnowsNoRoute, Walk, Walks, hop_walk, packet_walk}
+
+-- ---- steps of other kinds make no packet stuck
+
+abbrev IsNoEnd : List Item → Item → Type 0
+IsNoEnd before (item.Stuck i s cause leg down) = ⊥
+IsNoEnd before _ = ⊤
+
+abbrev NoEnd : List Item → List Item → Type 0
+NoEnd journal items = HaveCauses IsNoEnd journal items
+
+sends_end : (journal : List Item) (messages : List Message)
+    → NoEnd journal (sends journal messages)
+sends_end journal messages =
+    have_weaker IsSending IsNoEnd is journal _ (all_sendings journal messages)
+  where
+    is : (before : List Item) (next : Item) → IsSending before next → IsNoEnd before next
+    is before (item.Sent n message) sending = tt
+    is before _ sending = absurd sending
+
+settling_end : (setting : Setting) (journal : List Item)
+    → NoEnd journal (settling setting journal)
+settling_end setting journal =
+    have_weaker IsOfSettling IsNoEnd is journal _ (settling_settles setting journal)
+  where
+    is : (before : List Item) (next : Item) → IsOfSettling before next → IsNoEnd before next
+    is before (item.Stuck i s cause leg down) of = absurd of
+    is before _ of = tt
+
+links_end : (setting : Setting) (before journal : List Item)
+    → NoEnd journal (link_changes setting before journal)
+unfolding link_changes
+links_end setting before journal = sends_end journal _
+
+switch_end : (setting : Setting) (before : List Item) (s : ℕ) (body : Body) (now : List Item)
+    → NoEnd now (switch_items setting before s body now)
+unfolding switch_items
+switch_end setting before s (Install boot tables) now = sends_end now _
+switch_end setting before s (Stamp boot version) now = sends_end now _
+switch_end setting before s (OpenAt boot version) now = grind (arith, links_end)
+switch_end setting before s (Advertise advert) now = grind (arith, sends_end)
+switch_end setting before s _ now = tt
+
+installs_end : (setting : Setting) (s : ℕ) (journal : List Item)
+    → NoEnd journal (installs_to setting s journal)
+unfolding installs_to
+installs_end setting s journal = sends_end journal _
+
+hello_end : (setting : Setting) (before : List Item) (body : Body) (journal : List Item)
+    → NoEnd journal (after_hello setting before body journal)
+hello_end setting before (Hello s boot) journal = grind (arith, installs_end)
+hello_end setting before _ journal = tt
+
+controller_end : (setting : Setting) (before : List Item) (body : Body) (now : List Item)
+    → NoEnd now (controller_items setting before body now)
+unfolding controller_items
+controller_end setting before body now =
+    have_in_turn IsNoEnd (settling setting ∷ after_hello setting before body ∷ [])
+    (settling_end setting, (hello_end setting before body, tt)) now
+
+delivery_end : (setting : Setting) (before : List Item) (number : ℕ) (now : List Item)
+    → NoEnd now (delivery_items setting before number now)
+unfolding delivery_items
+delivery_end setting before number now = by_message (message_of before number)
+  where
+    by_receiver : (to : Receiver) (body : Body) → NoEnd now
+        (received_items setting before number (record { to = to; body = body }) now)
+    by_receiver receiver.Controller body = controller_end setting before body now
+    by_receiver (receiver.Switch s) body = grind (arith, switch_end)
+
+    by_message : (o : Option Message) → NoEnd now (elim o [
+      | None ↦ []
+      | Some message ↦ received_items setting before number message now
+    ])
+    by_message None = tt
+    by_message (Some message) = by_receiver message.to message.body
+
+deliver_end : (setting : Setting) (before : List Item) (number : ℕ) (journal : List Item)
+    → NoEnd journal (deliver_items setting before number journal)
+unfolding deliver_items
+deliver_end setting before number journal = grind (arith, have_first, delivery_end)
+
+all_end : (setting : Setting) (journal : List Item)
+    → NoEnd journal (installs_to_all setting journal)
+unfolding installs_to_all
+all_end setting journal = sends_end journal _
+
+submitted_end : (setting : Setting) (journal : List Item)
+    → NoEnd journal (submitted_items setting journal)
+submitted_end setting journal =
+    have_in_turn IsNoEnd (installs_to_all setting ∷ settling setting ∷ [])
+    (all_end setting, (settling_end setting, tt)) journal
+
+update_end : (setting : Setting) (file : ℕ) (journal : List Item)
+    → NoEnd journal (update_items setting file journal)
+unfolding update_items
+update_end setting file journal = grind (arith, submitted_end)
+
+link_end : (setting : Setting) (before : List Item) (one two : ℕ) (up : Bool)
+    (journal : List Item) → NoEnd journal (link_items setting before one two up journal)
+unfolding link_items
+link_end setting before one two up journal = grind (arith, links_end)
+
+losts_end : (packets : List ℕ) (journal : List Item) → NoEnd journal (map item.Lost packets)
+losts_end [] journal = tt
+losts_end (i ∷ packets) journal = (tt, losts_end packets (journal ++ item.Lost i ∷ []))
+
+down_end : (setting : Setting) (before : List Item) (s : ℕ) (packets : List ℕ)
+    (journal : List Item) → NoEnd journal
+    (put (item.Down s ∷ map item.Lost packets) (link_changes setting before) journal)
+down_end setting before s packets journal =
+    let down : List Item = item.Down s ∷ map item.Lost packets in
+    have_put IsNoEnd down (link_changes setting before) journal
+    (tt, losts_end packets (journal ++ item.Down s ∷ []))
+    (links_end setting before (journal ++ down))
+
+crash_end : (setting : Setting) (before : List Item) (s : ℕ) (journal : List Item)
+    → NoEnd journal (crash_items setting before s journal)
+unfolding crash_items
+crash_end setting before s journal = grind (arith, down_end)
+
+restart_end : (s : ℕ) (journal : List Item) → NoEnd journal (restart_items s journal)
+unfolding restart_items
+restart_end s journal = grind (arith, have_first, sends_end)
+
+confirm_end : (setting : Setting) (s : ℕ) (journal : List Item)
+    → NoEnd journal (confirm_items setting s journal)
+unfolding confirm_items
+confirm_end setting s journal = grind (arith, settling_end)
+
+resend_end : (setting : Setting) (s : ℕ) (journal : List Item)
+    → NoEnd journal (resend_items setting s journal)
+unfolding resend_items
+resend_end setting s journal = by_messages _
+  where
+    by_messages : (messages : List Message) → NoEnd journal (sends_or_nothing journal messages)
+    by_messages [] = (tt, tt)
+    by_messages (message ∷ messages) = sends_end journal (message ∷ messages)
+
+lose_end : (i : ℕ) (journal : List Item) → NoEnd journal (lose_items i journal)
+unfolding lose_items
+lose_end i journal = grind arith
+
+forget_end : (number : ℕ) (journal : List Item) → NoEnd journal (forget_items number journal)
+unfolding forget_items
+forget_end number journal = grind arith
+
+expire_end : (setting : Setting) (s place : ℕ) (journal : List Item)
+    → NoEnd journal (expire_items setting s place journal)
+unfolding expire_items
+expire_end setting s place journal = grind arith
+
+-- ---- a set of links that were found down
+
+-- a link of a set with one more is of the set, or that one
+more_links : (down : List ℕ) (x y a b : ℕ) → IsTrue (has_link (with_link down x y) a b)
+    → IsTrue (has_link down a b) ⊎ ((min a b ≡ min x y) × (max a b ≡ max x y))
+unfolding has_link with_link
+more_links down x y a b is = by_row (cases_eq (min a b) low)
+  where
+    low : ℕ
+    low = min x y
+
+    high : ℕ
+    high = max x y
+
+    row : ℕ
+    row = bit_or (get_or down low 0) (2 ^ high)
+
+    by_high : min a b ≡ low → (max a b ≡ high) ⊎ (max a b ≢ high)
+        → IsTrue (has row (max a b))
+        → IsTrue (has (get_or down (min a b) 0) (max a b))
+        ⊎ ((min a b ≡ low) × (max a b ≡ high))
+    by_high same (inl top) here = inr (same, top)
+    by_high same (inr apart) here =
+        inl (subst (λ k. IsTrue (has (get_or down k 0) (max a b))) (sym same)
+        (by_or (has (get_or down low 0) (max a b)) (has (2 ^ high) (max a b))
+        (has-pow_other high (max a b) apart)
+        (sym (has-or (get_or down low 0) (2 ^ high) (max a b)) ∙ here)))
+      where
+        by_or : (p q : Bool) → q ≡ false → (p || q) ≡ true → p ≡ true
+        by_or true q none is = refl
+        by_or false q none is = let clash : false ≡ true = sym none ∙ is in absurd cc
+
+    by_within : min a b ≡ low → (low < length down) ⊎ (length down ≤ low)
+        → IsTrue (has (get_or down (min a b) 0) (max a b))
+        ⊎ ((min a b ≡ low) × (max a b ≡ high))
+    by_within same (inl within) =
+        by_high same (cases_eq (max a b) high)
+        (subst (λ mask. IsTrue (has mask (max a b)))
+        (ap (λ k. get_or (set down low row) k 0) same ∙ get_or-set_same down low row 0 within) is)
+    by_within same (inr past) =
+        let none : get_or (set down low row) (min a b) 0 ≡ 0 =
+        get_or_past (set down low row) (min a b) 0
+        (omega (arith, same, past, length-set down low row)) in
+        let clash : false ≡ true =
+        sym (has-zero (max a b)) ∙ ap (λ mask. has mask (max a b)) (sym none) ∙ is in
+        absurd cc
+
+    by_row : (min a b ≡ low) ⊎ (min a b ≢ low)
+        → IsTrue (has (get_or down (min a b) 0) (max a b))
+        ⊎ ((min a b ≡ low) × (max a b ≡ high))
+    by_row (inl same) = by_within same (cases_lt low (length down))
+    by_row (inr apart) =
+        inl (subst (λ mask. IsTrue (has mask (max a b)))
+        (get_or-set_other down low (min a b) row 0 apart) is)
+
+unusable_more : (setting : Setting) (journal : List Item) → AreQuiet setting journal
+    → (down : List ℕ) (x y : ℕ) → AreUnusable setting journal down
+    → IsFalse (has (near setting journal x) y) → AreUnusable setting journal (with_link down x y)
+unusable_more setting journal are down x y unusable none a b linked =
+    by_link (has_link (with_link down x y) a b) refl
+  where
+    same_ends : (min a b ≡ min x y) × (max a b ≡ max x y)
+        → ((a ≡ x) × (b ≡ y)) ⊎ ((a ≡ y) × (b ≡ x))
+    same_ends ends =
+        let low = ends.0 in
+        let high = ends.1 in
+        elim (cases_eq a x) [
+          | inl same ↦ inl (same, omega (arith, low, high, same))
+          | inr apart ↦ inr (omega (arith, low, high, apart), omega (arith, low, high, apart))
+        ]
+
+    clashes : IsTrue (has (near setting journal x) y) → ⊥
+    clashes is = let clash : false ≡ true = sym none ∙ is in absurd cc
+
+    not_it : ((a ≡ x) × (b ≡ y)) ⊎ ((a ≡ y) × (b ≡ x)) → ⊥
+    not_it (inl ends) =
+        clashes (subst (λ k. IsTrue (has (near setting journal x) k)) ends.1
+        (subst (λ k. IsTrue (has (near setting journal k) b)) ends.0 linked))
+    not_it (inr ends) =
+        clashes (subst (λ k. IsTrue (has (near setting journal x) k)) ends.0
+        (subst (λ k. IsTrue (has (near setting journal k) a)) ends.1
+        (near_both setting journal a b
+        (small_of setting are.net a (ends_there setting journal a b are.net linked).one) linked)))
+
+    by_link : (c : Bool) → has_link (with_link down x y) a b ≡ c
+        → IsFalse (has_link (with_link down x y) a b)
+    by_link false e = e
+    by_link true e = elim (more_links down x y a b e) [
+      | inl old ↦ let clash : false ≡ true = sym (unusable a b linked) ∙ old in absurd cc
+      | inr ends ↦ absurd (not_it (same_ends ends))
+    ]
+
+-- ---- what stays as it was within the step
+
+record StaysSo (setting : Setting) (journal now : List Item) (i : ℕ) : Type 0 where
+  links : (s : ℕ) → near setting now s ≡ near setting journal s
+  routes : (s : ℕ) (targets down : List ℕ)
+      → route_from setting now s targets down ≡ route_from setting journal s targets down
+  targets : (leg : Leg) → targets_of setting now leg ≡ targets_of setting journal leg
+  found : AreUnusable setting journal (found_down now i)
+
+walks_known : (setting : Setting) (before : List Item) (next : Item) (s : ℕ)
+    → Walks setting before next → IsFalse (concerns_known s before next)
+walks_known setting before (item.Delivered number) s walks = absurd walks
+walks_known setting before (item.Expired t place message) s walks = absurd walks
+walks_known setting before (item.LinkIs one two up) s walks = absurd walks
+walks_known setting before (item.Down t) s walks = absurd walks
+walks_known setting before (item.Booted t boot) s walks = absurd walks
+walks_known setting before (item.Opened t version) s walks = absurd walks
+walks_known setting before _ s walks = refl
+
+walks_links : (setting : Setting) (before : List Item) (next : Item)
+    → Walks setting before next → IsFalse (concerns_links before next)
+walks_links setting before (item.LinkIs one two up) walks = absurd walks
+walks_links setting before (item.Down t) walks = absurd walks
+walks_links setting before (item.Booted t boot) walks = absurd walks
+walks_links setting before (item.Opened t version) walks = absurd walks
+walks_links setting before _ walks = refl
+
+walks_policies : (setting : Setting) (before : List Item) (next : Item)
+    → Walks setting before next → IsFalse (concerns_policies before next)
+walks_policies setting before (item.Submitted file version) walks = absurd walks
+walks_policies setting before _ walks = refl
+
+found_more : (before : List Item) (next : Item) (i : ℕ)
+    → found_down (before ++ next ∷ []) i ≡ changes_found i before (found_down before i) next
+unfolding found_down
+found_more before next i = folded_append (changes_found i) no_links before (next ∷ [])
+
+found_on : (setting : Setting) (journal : List Item) → AreQuiet setting journal
+    → (before : List Item) (next : Item) (i : ℕ) → Walks setting before next
+    → StaysSo setting journal before i
+    → AreUnusable setting journal (found_down (before ++ next ∷ []) i)
+found_on setting journal are before (item.FoundDown p x y) i walks stays =
+    subst (AreUnusable setting journal) (sym (found_more before (item.FoundDown p x y) i))
+    (by_test (p == i))
+  where
+    by_test : (b : Bool) → AreUnusable setting journal
+        (if b then with_link (found_down before i) x y else found_down before i)
+    by_test true = unusable_more setting journal are (found_down before i) x y stays.found
+        (ap (λ mask. has mask y) (sym (stays.links x)) ∙ walks)
+    by_test false = stays.found
+found_on setting journal are before next i walks stays =
+    subst (AreUnusable setting journal) (sym (found_more before next i)) stays.found
+
+stays_on : (setting : Setting) (journal : List Item) → AreQuiet setting journal → (i : ℕ)
+    → AreKept (Walks setting) (λ now. StaysSo setting journal now i)
+stays_on setting journal are i before next walks stays =
+    let links = links_keep setting before (next ∷ []) (walks_links setting before next walks, tt) in
+    let known = λ (s : ℕ).
+    known_keeps setting s before (next ∷ []) (walks_known setting before next s walks, tt) in
+    let plans = policies_keep before (next ∷ []) (walks_policies setting before next walks, tt) in
+    record {
+      links = λ s. links.near s ∙ stays.links s;
+      routes = λ s targets down. (known s).route targets down ∙ stays.routes s targets down;
+      targets = λ leg. by_leg leg (λ v. plans.plan setting v) ∙ stays.targets leg;
+      found = found_on setting journal are before next i walks stays;
+    }
+  where
+    by_leg : (leg : Leg)
+        → ((v : ℕ) → plan_at setting (before ++ next ∷ []) v ≡ plan_at setting before v)
+        → targets_of setting (before ++ next ∷ []) leg ≡ targets_of setting before leg
+    by_leg (Seek version partition) same = ap (λ plan. targets_in plan partition) (same version)
+    by_leg (Exit port) same = refl
+
+-- ---- steps
+
+walk_apart : (setting : Setting) (journal : List Item) → AreQuiet setting journal
+    → (items front rest : List Item) (i s : ℕ) (cause : Cause) (leg : Leg) (down : List ℕ)
+    → Walk setting journal items → items ≡ front ++ item.Stuck i s cause leg down ∷ rest
+    → found_down journal i ≡ no_links → HasSwitch setting.net s
+    → All (λ target. Reaches setting journal s target → ⊥) (targets_of setting journal leg)
+walk_apart setting journal are items front rest i s cause leg down walk is none there =
+    let whole : Walk setting journal (front ++ item.Stuck i s cause leg down ∷ rest) =
+    subst (Walk setting journal) is walk in
+    let stays : StaysSo setting journal (journal ++ front) i =
+    fact_on (Walks setting) (λ now. StaysSo setting journal now i) (stays_on setting journal are i)
+    journal front (have_front (Walks setting) journal front _ whole) (record {
+      links = λ t. refl;
+      routes = λ t targets found. refl;
+      targets = λ of. refl;
+      found = λ one other linked.
+          ap (λ links. has_link links one other) none ∙ has_link-none one other;
+    }) in
+    let knows : KnowsNoRoute setting (journal ++ front) i s leg down =
+    (have_rest (Walks setting) journal front _ whole).0 in
+    (quiet_converged setting journal are).stuck s (targets_of setting journal leg) down there
+    (subst (AreUnusable setting journal) (sym knows.found) stays.found)
+    (sym (stays.routes s (targets_of setting journal leg) down)
+    ∙ ap (λ targets. route_from setting (journal ++ front) s targets down) (sym (stays.targets leg))
+    ∙ knows.none)
+
+end_apart : (setting : Setting) (journal items front rest : List Item) (i s : ℕ) (cause : Cause)
+    (leg : Leg) (down : List ℕ) → NoEnd journal items
+    → items ≡ front ++ item.Stuck i s cause leg down ∷ rest → ⊥
+end_apart setting journal items front rest i s cause leg down ends is =
+    (have_rest IsNoEnd journal front _ (subst (NoEnd journal) is ends)).0
+
+-- the step writes what a packet's step writes, or makes no packet stuck
+step_kinds : (setting : Setting) (before : List Item) (step : Step) (here : List Item)
+    → Walk setting here (step_items setting before step here)
+    ⊎ NoEnd here (step_items setting before step here)
+step_kinds setting before (Packet s header) here =
+    inl (packet_walk setting (next_packet before) s header here)
+step_kinds setting before (Hop i) here = inl (hop_walk setting i here)
+step_kinds setting before (Lose i) here = inr (lose_end i here)
+step_kinds setting before (Deliver number) here = inr (deliver_end setting before number here)
+step_kinds setting before (Forget number) here = inr (forget_end number here)
+step_kinds setting before (Expire s place) here = inr (expire_end setting s place here)
+step_kinds setting before (Update file) here = inr (update_end setting file here)
+step_kinds setting before (LinkDown one two) here = inr (link_end setting before one two false here)
+step_kinds setting before (LinkUp one two) here = inr (link_end setting before one two true here)
+step_kinds setting before (Crash s) here = inr (crash_end setting before s here)
+step_kinds setting before (Restart s) here = inr (restart_end s here)
+step_kinds setting before (Confirm s) here = inr (confirm_end setting s here)
+step_kinds setting before (Resend s) here = inr (resend_end setting s here)
+
+pub stuck_reaches_none : (setting : Setting) (journal : List Item) → AreQuiet setting journal
+    → GetStuckApart setting journal
+unfolding piece
+stuck_reaches_none setting journal are row step front rest i s cause leg down is none there =
+    elim (step_kinds setting journal step (journal ++ next ∷ [])) [
+      | inl walk ↦ walk_apart setting journal are
+          (put (next ∷ []) (step_items setting journal step) journal) front rest i s cause leg down
+          (have_first (Walks setting) next (step_items setting journal step) journal tt walk) is
+          none there
+      | inr ends ↦ absurd (end_apart setting journal
+          (put (next ∷ []) (step_items setting journal step) journal) front rest i s cause leg down
+          (have_first IsNoEnd next (step_items setting journal step) journal tt ends) is)
+    ]
+  where
+    next : Item
+    next = item.Row row step
