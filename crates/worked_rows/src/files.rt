@@ -12,6 +12,10 @@ pub const NO_ROW: &str = "priority,src,dst,sport,dport,proto,action\n";
 pub const ONE_ROW: &str = "priority,src,dst,sport,dport,proto,action\n\
     100,any,any,any,any,any,out:2\n";
 
+/// Each packet is dropped.
+pub const DROP: &str = "priority,src,dst,sport,dport,proto,action\n\
+    100,any,any,any,any,any,drop\n";
+
 /// Two rows of one priority.
 pub const SAME_PRIORITY: &str = "priority,src,dst,sport,dport,proto,action\n\
     7,any,any,any,any,any,drop\n7,any,any,any,any,any,drop\n";

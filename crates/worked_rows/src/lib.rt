@@ -1,8 +1,8 @@
-//! Worked runs of the program, over files and outputs in memory. This crate has tests alone.
+//! Worked runs of the program, over files and outputs in memory. This crate has tests alone, and
+//! what other tests of runs need: [`runs`] and [`files`].
 #![tactic(auto)]
 
-#[cfg(test)]
-mod files;
+pub mod files;
 #[cfg(test)]
 mod networks;
 #[cfg(test)]
@@ -11,7 +11,7 @@ mod plans;
 mod policies;
 #[cfg(test)]
 mod refusals;
-mod runs;
+pub mod runs;
 #[cfg(test)]
 mod tests;
 #[cfg(test)]

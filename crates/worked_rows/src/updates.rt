@@ -1,11 +1,8 @@
 //! Worked runs of `replay` in which the policy is updated.
-use crate::files::{ONE_ROW, PAIR};
+use crate::files::{DROP, ONE_ROW, PAIR};
 use crate::runs::{Ran, ended, ran, shelf_of, sink};
 use std::alloc::{AllocError, Global};
 use std::test::Fail;
-
-const DROP: &str = "priority,src,dst,sport,dport,proto,action\n\
-    100,any,any,any,any,any,drop\n";
 
 /// A cache rule of version 1 comes when a stamps with version 2, and isn't taken in.
 const LATE_RULE: &str = "event,arguments\npacket,a,1.2.3.4,10.2.0.1,5000,80,tcp\ndrain\nupdate,2\n\

@@ -1,0 +1,91 @@
+//! Worked runs of `replay` in which rows have nothing to do, and messages are sent again.
+use crate::plays::{ON_NET, Play, SOLO, plays};
+use std::alloc::{AllocError, Global};
+use std::fmt::Write;
+use std::test::Fail;
+use worked_rows::files::{DROP, ONE_ROW, PAIR};
+use worked_rows::runs::{ran, shelf_of, sink};
+
+/// Rows that find nothing to do.
+const NOTHING: &str =
+    "event,arguments\npacket,s0,10.1.1.1,9.9.9.9,5000,80,tcp\ndeliver,7\nupdate,1\n\
+    forget,1\ndeliver,1\nlose,1\nexpire,s0,0\nconfirm,s0\n";
+
+const NOTHING_JOURNAL: &str = "row 1: packet s0 10.1.1.1 9.9.9.9 5000 80 tcp\n\
+    \x20 entered 1 s0\n\
+    \x20 decided 1 v1 rule 100 drop authority s0 part 0\n\
+    \x20 dropped 1\n\
+    row 2: deliver 7\n\
+    \x20 nothing\n\
+    row 3: update 1\n\
+    \x20 submitted file 1 version 2\n\
+    \x20 sent 1 s0 install boot 1 version 2\n\
+    row 4: forget 1\n\
+    \x20 forgotten 1\n\
+    row 5: deliver 1\n\
+    \x20 nothing\n\
+    row 6: lose 1\n\
+    \x20 nothing\n\
+    row 7: expire s0 0\n\
+    \x20 nothing\n\
+    row 8: confirm s0\n\
+    \x20 nothing\n";
+
+/// A switch says Hello and tells all adverts again, and is opened again.
+const AGAIN: &str = "event,arguments\nresend,b\n";
+
+const AGAIN_JOURNAL: &str = "row 1: resend b\n\
+    \x20 sent 1 controller hello b boot 1\n\
+    \x20 sent 2 a advert a boot 1 seq 1 up b\n\
+    \x20 sent 3 a advert b boot 1 seq 1 up a\n\
+    \x20 sent 4 b open boot 1 version 1\n";
+
+const PLAYS: [Play<'static>; 2] = [
+    (&SOLO, NOTHING, DROP, "", NOTHING_JOURNAL),
+    (&ON_NET, AGAIN, ONE_ROW, PAIR, AGAIN_JOURNAL),
+];
+
+#[test]
+fn replays_messages(rt: HostRuntime) -> Result<(), Fail> {
+    for play in &PLAYS {
+        let as_told = plays(rt.alloc(), play)?;
+        assert!(rt; as_told, "{}", play.4);
+    }
+    Ok(())
+}
+
+/// A hub that decides, with a link to each of 63 other switches.
+fn star(alloc: Global) -> Result<String, Fail> {
+    let mut switches = String::new(alloc);
+    let mut links = String::new(alloc);
+    for k in 1..64u32 {
+        write!(switches, ", {{ name = \"s{k}\" }}")?;
+        write!(links, "{{ ends = [\"hub\", \"s{k}\"] }}, ")?;
+    }
+    Ok(format!(in alloc;
+        "switch = [{{ name = \"hub\", authority = 8192 }}{switches}]\nlink = [{links}]\n"
+    )?)
+}
+
+/// The hub's Hello, 64 adverts to each of 63 switches, and its Open.
+#[test]
+fn sends_all_again(rt: HostRuntime) -> Result<(), Fail> {
+    let alloc = rt.alloc();
+    let net = star(alloc)?;
+    let files = [
+        ("s.csv", "event,arguments\nresend,hub\n"),
+        ("p.csv", DROP),
+        ("n.toml", net.as_str()),
+    ];
+    let shelf = shelf_of(alloc, &files)?;
+    let (status, out, _) = ran(alloc, &ON_NET, shelf, sink(alloc), sink(alloc))?;
+    assert!(rt; status == 0);
+    assert!(rt;
+        out.bytes().starts_with(b"row 1: resend hub\n  sent 1 controller hello hub boot 1\n")
+    );
+    assert!(rt;
+        out.bytes()
+            .ends_with(b"  sent 4034 hub open boot 1 version 1\n")
+    );
+    Ok(())
+}
