@@ -1,12 +1,8 @@
-//! Worked values of the crates below `world`: each public call once with ample memory, and lists,
-//! words and texts that are given from outside. This crate has tests alone, so that none of those
-//! crates is proved a second time together with its tests.
+//! Worked values of the crates below `world` but its switches: each public call once with ample
+//! memory, and lists and texts that are given from outside. This crate has tests alone, so that none
+//! of those crates is proved a second time together with its tests.
 #![tactic(auto)]
 
-#[cfg(test)]
-mod cache_words;
-#[cfg(test)]
-mod caches;
 #[cfg(test)]
 mod lines;
 #[cfg(test)]
@@ -17,5 +13,3 @@ mod messages;
 mod routes;
 #[cfg(test)]
 mod sends;
-#[cfg(test)]
-mod switches;

@@ -1,5 +1,5 @@
 use Rattle.std.proofs.Common.{arith}
-use Rattle.core_rows.proofs.switches.chain.Goals as goal
+use Rattle.switch_rows.proofs.switches.chain.Goals as goal
 
 pub returns-clause-a : goal.returns-clause-a
 returns-clause-a c = rw c.begin.ensures (c.switch_laws.ensures.first _ 3 0 (omega arith))

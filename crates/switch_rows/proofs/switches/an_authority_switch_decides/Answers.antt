@@ -1,4 +1,4 @@
-use Rattle.core_rows.proofs.switches.an_authority_switch_decides.Goals as goal
+use Rattle.switch_rows.proofs.switches.an_authority_switch_decides.Goals as goal
 
 pub arrive-arrived-requires-clause-authority : goal.arrive-arrived-requires-clause-authority
 arrive-arrived-requires-clause-authority g c =

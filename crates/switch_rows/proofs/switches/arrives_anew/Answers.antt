@@ -1,6 +1,6 @@
 use Rattle.std.proofs.Common.{ap, sym, rules}
-use Rattle.core_rows.proofs.TestTables.{not_held}
-use Rattle.core_rows.proofs.switches.arrives_anew.Goals as goal
+use Rattle.switch_rows.proofs.TestTables.{not_held}
+use Rattle.switch_rows.proofs.switches.arrives_anew.Goals as goal
 
 -- version 1 isn't held, as the test before says
 pub arrive-arrived-requires-clause-authority : goal.arrive-arrived-requires-clause-authority

@@ -1,0 +1,14 @@
+//! Worked files: networks, policies and schedules that are read, refused and printed, and the
+//! shelves and sinks that hold them. This crate has tests alone.
+#![tactic(auto)]
+
+#[cfg(test)]
+mod networks;
+#[cfg(test)]
+mod policies;
+#[cfg(test)]
+mod records;
+#[cfg(test)]
+mod schedules;
+#[cfg(test)]
+mod shelves;
