@@ -46,27 +46,6 @@ const JOURNAL: &str = "row 1: packet a 1.2.3.4 10.2.0.1 5000 80 tcp\n\
     row 9: forget 1\n\
     \x20 forgotten 1\n";
 
-/// The packets that stand at a are lost with it, and that at b isn't.
-const CRASH: &str = "row 1: packet a 1.2.3.4 10.2.0.1 5000 80 tcp\n\
-    \x20 entered 1 a\n\
-    \x20 tunnelled 1 v1 part 0 via a b\n\
-    row 2: hop 1\n\
-    \x20 hopped 1 b\n\
-    row 3: packet a 1.2.3.4 10.2.0.1 5000 80 tcp\n\
-    \x20 entered 2 a\n\
-    \x20 tunnelled 2 v1 part 0 via a b\n\
-    row 4: packet a 1.2.3.4 10.2.0.1 5000 80 tcp\n\
-    \x20 entered 3 a\n\
-    \x20 tunnelled 3 v1 part 0 via a b\n\
-    row 5: crash a\n\
-    \x20 down a\n\
-    \x20 lost 2\n\
-    \x20 lost 3\n\
-    row 6: crash a\n\
-    \x20 nothing\n\
-    row 7: packet a 1.2.3.4 10.2.0.1 5000 80 tcp\n\
-    \x20 closed 4 a\n";
-
 // A packet that comes in at a.
 fn packet(world: &World) -> Step
     requires { 1 ≤ length world.now.net.switches }
@@ -92,15 +71,6 @@ fn expire(world: &World) -> Step
         switch: 0,
         place: 0,
     }
-}
-
-// The switch a goes down.
-fn crash(world: &World) -> Step
-    requires { 1 ≤ length world.now.net.switches }
-    ensures { IsStep world.now.net (length world.now.policies) result }
-{
-    let _ = world;
-    Step::Crash { switch: 0 }
 }
 
 fn pair(alloc: Global) -> Result<Net, Fail>
@@ -180,7 +150,7 @@ fn loses_a_packet(rt: &impl Abort, alloc: Global, world: &mut World) -> Result<(
 }
 
 #[test]
-fn takes_each_kind_of_step(rt: HostRuntime) -> Result<(), Fail> {
+fn takes_steps_of_packets_and_messages(rt: HostRuntime) -> Result<(), Fail> {
     let alloc = rt.alloc();
     let net = pair(alloc)?;
     let mut world = begun(alloc, &net)?;
@@ -192,36 +162,5 @@ fn takes_each_kind_of_step(rt: HostRuntime) -> Result<(), Fail> {
     assert_eq!(rt; world.journal().items().len(), 24);
     let text = text(alloc, &world.into_journal(), &net)?;
     assert_eq!(rt; text.as_slice(), JOURNAL.as_bytes());
-    Ok(())
-}
-
-// A packet comes in and hops to b, and two more come in.
-fn brings_packets(rt: &impl Abort, alloc: Global, world: &mut World) -> Result<(), Fail>
-    requires { 1 ≤ length world.old.net.switches }
-    ensures { setting_at world.new ≡ setting_at world.old }
-{
-    let packet = packet(world);
-    take(rt, alloc, world, 1, &packet)?;
-    take(rt, alloc, world, 2, &Step::Hop { packet: 1 })?;
-    take(rt, alloc, world, 3, &packet)?;
-    take(rt, alloc, world, 4, &packet)?;
-    Ok(())
-}
-
-#[test]
-fn loses_the_packets_of_a_switch_that_crashes(rt: HostRuntime) -> Result<(), Fail> {
-    let alloc = rt.alloc();
-    let net = pair(alloc)?;
-    let mut world = begun(alloc, &net)?;
-    let crash = crash(&world);
-    let packet = packet(&world);
-    brings_packets(&rt, alloc, &mut world)?;
-    take(&rt, alloc, &mut world, 5, &crash)?;
-    assert!(rt; world.travels(1));
-    assert!(rt; !world.travels(2));
-    take(&rt, alloc, &mut world, 6, &crash)?;
-    take(&rt, alloc, &mut world, 7, &packet)?;
-    let text = text(alloc, &world.into_journal(), &net)?;
-    assert_eq!(rt; text.as_slice(), CRASH.as_bytes());
     Ok(())
 }
