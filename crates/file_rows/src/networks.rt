@@ -165,7 +165,9 @@ fn three(alloc: Global) -> Result<Net, NetError>
 }
 
 // The names of switches 2 and 0 and of one that isn't there.
-fn names(alloc: Global, net: &Net) -> Result<String, AllocError> {
+fn names(alloc: Global, net: &Net) -> Result<String, AllocError>
+    requires { IsNet net.now }
+{
     let mut names = String::new(alloc);
     net.push_names(&mut names, &[2, 0, 3])?;
     Ok(names)
