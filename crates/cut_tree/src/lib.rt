@@ -3,7 +3,8 @@
 //!
 //! `build` promises the one defined tree: each cut is at the free bit that costs least, and the
 //! rules of a half are those of the whole narrowed to it. It refuses exactly the trees of more than
-//! 512 leaves, and never goes deeper than the 104 bits. `narrow_laws` and `tree_laws` say of the
+//! 512 leaves, and never goes deeper than the 104 bits. A `Node` is a region with its narrowed rules,
+//! and answers its least cut, for trees of other kinds. `narrow_laws` and `tree_laws` say of the
 //! definitions alone that narrowing keeps the first rule of each header, and that each list has
 //! exactly one tree.
 //!
@@ -20,5 +21,7 @@ mod narrowing;
 mod node;
 mod tree;
 
+pub use choice::Cost;
 pub use laws::{narrow_laws, tree_laws};
+pub use node::Node;
 pub use tree::{BuildError, Tree, build};

@@ -1,7 +1,8 @@
-ghost use Rattle.std.specs.Prelude.{Bool, ◌≡◌, ◌<◌, ◌≤◌, ◌^◌, IfOk, IsSome, Some, length};
-ghost use Rattle.ternary.specs.Word.{fix_of};
+ghost use Rattle.std.specs.Prelude.{◌≡◌, ◌<◌, ◌≤◌, ◌^◌, IfOk, IsSome, Some, length};
+ghost use Rattle.ternary.specs.Word.{IsWord, fix_of};
 ghost use Rattle.cut_tree.specs.Cuts.{IsFreeBit, least_below, side_of};
-ghost use Rattle.cut_tree.specs.Nodes.{AreNodeRules};
+ghost use Rattle.cut_tree.specs.Narrow.{narrow};
+ghost use Rattle.cut_tree.specs.Nodes.{AreNodeRules, AreWords};
 
 use crate::choice::{Cost, least_cut};
 use crate::narrowing::narrow;
@@ -19,6 +20,24 @@ pub struct Node {
 }
 
 impl Node {
+    /// The rules that decide the headers of this region.
+    ///
+    /// # Errors
+    /// Want of memory alone.
+    pub fn new(alloc: Global, rules: &[Rule], region: &Word) -> Result<Node, AllocError>
+        requires few { length rules.now < 2 ^ 32 }
+        requires words { AreWords rules.now }
+        ensures rules { IfOk result (λ node. node.rules.items ≡ narrow rules.now region.now) }
+        ensures region { IfOk result (λ node. node.region ≡ region.now) }
+    {
+        let _ = region.mask();
+        let rules = narrow(alloc, rules, region)?;
+        Ok(Node {
+            rules,
+            region: *region,
+        })
+    }
+
     /// The least cut. More rules than one leave a bit to cut at.
     pub fn least_cut(&self) -> Cost
         requires { 1 < length self.now.rules.items }
@@ -32,6 +51,9 @@ impl Node {
     }
 
     /// The side of a cut at this bit on which it is 1, or 0.
+    ///
+    /// # Errors
+    /// Want of memory alone.
     pub fn half(&self, alloc: Global, bit: u32, one: bool) -> Result<Node, AllocError>
         requires { IsFreeBit self.now.region bit }
         ensures rules { IfOk result (λ half.
@@ -39,7 +61,6 @@ impl Node {
         ensures region { IfOk result (λ half. half.region ≡ fix_of self.now.region bit one) }
     {
         let region = self.region.fix(bit, one);
-        let rules = narrow(alloc, &self.rules, &region)?;
-        Ok(Node { rules, region })
+        Node::new(alloc, &self.rules, &region)
     }
 }
