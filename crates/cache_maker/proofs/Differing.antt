@@ -1,22 +1,23 @@
 -- A rule that is told apart from a word by one bit alone: of the bits by which it differs from the
 -- header, that one is the highest, since the word has not freed the bits above.
-use Rattle.std.proofs.Common.{ℕ, suc, zero, ◌≡◌, ◌≢◌, ◌+◌, ◌*◌, ◌/◌, ◌%◌, ◌^◌, ◌<◌, ◌≤◌, min, Bool, true, false, ◌&&◌, ◌||◌, ◌⊎◌, List, All, get_or, length, take, cond, refl, ap, sym, ◌∙◌, subst, arith, inl, inr}
-use Rattle.std.specs.Prelude.{IsTrue, IsSomeAnd, not, ◌==◌, bit_or, bit_and, bit_xor, is_some, is_none}
-use Rattle.std.specs.Int.{bit_at}
+use Rattle.std.proofs.Common.{ℕ, suc, zero, ◌≡◌, ◌≢◌, ◌+◌, ◌-◌, ◌*◌, ◌/◌, ◌%◌, ◌^◌, ◌<◌, ◌≤◌, min, Bool, true, false, ◌&&◌, ◌||◌, ◌⊎◌, List, [], ◌∷◌, All, get_or, length, take, cond, refl, ap, sym, ◌∙◌, subst, arith, inl, inr}
+use Rattle.std.specs.Prelude.{IsTrue, IsNone, IsSomeAnd, not, ◌==◌, bit_or, bit_and, bit_xor, is_some, is_none}
+use Rattle.std.specs.Int.{bit_at, w128}
 use Rattle.std.proofs.Math.Nat.{div-eq_of_lt-le, mod-eq_of_lt}
 use Rattle.std.proofs.Math.Pow.{pow-lt}
-use Rattle.std.proofs.lemmas.Bool.{cases_lt, cases_eq, eqb-true}
+use Rattle.std.specs.List.{list_all}
+use Rattle.std.proofs.lemmas.Bool.{both_ways, cases_Bool, cases_lt, cases_eq, eq-eqb, eqb-true}
 use Rattle.std.proofs.lemmas.Option.{slice_get-get_or}
 use Rattle.std.proofs.lemmas.List.{take_more}
-use Rattle.std.proofs.lemmas.List.Elements.{All-take, All-push}
+use Rattle.std.proofs.lemmas.List.Elements.{All-head, All-push, All-tail, All-take}
 use Rattle.std.proofs.lemmas.List.Sums.{list_all-from_AllPass}
-use Rattle.std.proofs.lemmas.Nat.Bits.{bit_at_and, bit_at_xor, bit_at-lt, bit_at_above, bit_at-pow_same}
+use Rattle.std.proofs.lemmas.Nat.Bits.{bit_at_and, bit_at_not, bit_at_xor, bit_at-lt, bit_at_above, bit_at-pow_other, bit_at-pow_same, same_from_bits}
 use Rattle.ternary.specs.Word.{WordValue, IsWord, covers_of, meets, meet_of, is_fixed_of, free_of, agrees_at, exact_word}
 use Rattle.ternary.specs.Laws.{CoversLaws, MeetLaws, ExactLaws, FreeLaws}
 use Rattle.ternary.proofs.CallerLemmas.{or_left, or_right}
 use Rattle.policy_rules.specs.declared.rules.Rule.{Rule}
 use Rattle.cache_maker.specs.Independent.{IsIndependent, is_apart, is_independent, widened}
-use Rattle.cache_maker.specs.Differing.{differing, IsHighest, HaveHighest}
+use Rattle.cache_maker.specs.Differing.{differing, is_told, IsHighest, HaveHighest}
 use Rattle.cache_maker.proofs.Independence.{true_not, is_independent_at}
 use Rattle.cache_maker.proofs.Widening.{widened_wider}
 
@@ -135,14 +136,53 @@ last_bit covers exact free h region rules index n rule bound is apart met =
 
 -- ---- the rules that are to be looked at
 
+-- a word that differs from the header in this bit alone, of those that are fixed, differs in bits
+-- alone that the region and the rule leave free
+pub differs_freely : CoversLaws → ExactLaws → FreeLaws → (h : ℕ) (region : WordValue)
+    (rules : List Rule) (index n : ℕ) (free_bits : ℕ) (rule : WordValue) → IsWord rule
+    → ((j : ℕ) → j < 104 → j ≢ n → bit_at (widened h region rules index n).mask j ≢ 1
+    → bit_at free_bits j ≡ 1) → bit_at free_bits n ≡ 1
+    → IsTrue (meets (free_of (widened h region rules index n) n) rule)
+    → bit_and (differing h rule) free_bits ≡ differing h rule
+unfolding is_fixed_of
+differs_freely covers exact free h region rules index n free_bits rule is frees at_n met =
+    same_from_bits _ _ (λ j. bit_at_and (differing h rule) free_bits j ∙ by_place j)
+  where
+    kept : (a b : ℕ) → a < 2 → b ≡ 1 → min a b ≡ a
+    kept a b small one = omega (arith, small, one)
+
+    gone : (a b : ℕ) → a ≡ 0 → min a b ≡ a
+    gone a b none = omega (arith, none)
+
+    by_place : (j : ℕ) → min (bit_at (differing h rule) j) (bit_at free_bits j)
+        ≡ bit_at (differing h rule) j
+    by_place j = elim (cases_eq j n) [
+      | inl here ↦ kept _ _ (bit_at-lt (differing h rule) j)
+          (ap (λ k. bit_at free_bits k) here ∙ at_n)
+      | inr other ↦ elim (cases_lt j 104) [
+        | inl within ↦ elim (cases_eq (bit_at (widened h region rules index n).mask j) 1) [
+          | inl fixed ↦
+              let is_fixed = eq-eqb _ _ fixed in
+              gone _ _ (same_at (widened h region rules index n) rule h j is_fixed
+              (as_header covers free h region rules index n j is_fixed)
+              ((free.meets_others (widened h region rules index n) rule n).0 met j other))
+          | inr unfixed ↦ kept _ _ (bit_at-lt (differing h rule) j) (frees j within other unfixed)
+        ]
+        | inr beyond ↦ gone _ _ (past_header h j rule is beyond)
+      ]
+    ]
+
 pub apart_unless : CoversLaws → MeetLaws → ExactLaws → FreeLaws
-    → (h : ℕ) (region : WordValue) (rules : List Rule) (index n highest : ℕ) → n < 104
-    → All (λ rule. IsWord rule.word) rules → HaveHighest highest h (take index rules)
-    → IsIndependent region rules index (widened h region rules index n) → bit_at highest n ≢ 1
+    → (h : ℕ) (region : WordValue) (rules : List Rule) (index n free_bits highest : ℕ) → n < 104
+    → All (λ rule. IsWord rule.word) rules → HaveHighest highest h free_bits (take index rules)
+    → ((j : ℕ) → j < 104 → j ≢ n → bit_at (widened h region rules index n).mask j ≢ 1
+    → bit_at free_bits j ≡ 1)
+    → IsIndependent region rules index (widened h region rules index n) → bit_at free_bits n ≡ 1
+    → bit_at highest n ≢ 1
     → IsTrue (is_apart (free_of (widened h region rules index n) n) (take index rules))
 unfolding is_apart
-apart_unless covers meet exact free h region rules index n highest bound words have independent
-    unset =
+apart_unless covers meet exact free h region rules index n free_bits highest bound words have frees
+    independent at_n unset =
     let words_before = All-take (λ (rule : Rule). IsWord rule.word) index rules words in
     list_all-from_AllPass (λ rule.
     is_none (meet_of (free_of (widened h region rules index n) n) rule.word)) (take index rules)
@@ -151,7 +191,9 @@ apart_unless covers meet exact free h region rules index n highest bound words h
     (independent.earlier k d within)))
   where
     by_test : (rule : Rule) → IsWord rule.word
-        → ((k : ℕ) → IsHighest (differing h rule.word) k → bit_at highest k ≡ 1)
+        → ((k : ℕ) → IsHighest (differing h rule.word) k
+        → bit_and (differing h rule.word) free_bits ≡ differing h rule.word
+        → bit_at highest k ≡ 1)
         → is_some (meet_of (widened h region rules index n) rule.word) ≡ false
         → is_some (meet_of (free_of (widened h region rules index n) n) rule.word) ≡ false
     by_test rule is has apart =
@@ -161,8 +203,123 @@ apart_unless covers meet exact free h region rules index n highest bound words h
             → is_some (meet_of (free_of (widened h region rules index n) n) rule.word) ≡ false
         by_bool true met = absurd
             (unset (has n (last_bit covers exact free h region rules index n rule.word bound is
-            (sym (meet.some _ _) ∙ apart) met)))
+            (sym (meet.some _ _) ∙ apart) met)
+            (differs_freely covers exact free h region rules index n free_bits rule.word is frees
+            at_n met)))
         by_bool false none = meet.some _ _ ∙ none
+
+-- ---- the rules that are told apart by one bit alone
+
+-- among the bits that are still fixed, the rule differs in this bit alone, where the freed word
+-- meets it
+told_one : CoversLaws → ExactLaws → FreeLaws → (h : ℕ) (region : WordValue) (rules : List Rule)
+    (index n : ℕ) (rule : WordValue) → n < 104 → IsWord rule
+    → meets (widened h region rules index n) rule ≡ false
+    → (bit_and (differing h rule) (widened h region rules index n).mask == 2 ^ n)
+    ≡ meets (free_of (widened h region rules index n) n) rule
+unfolding is_fixed_of agrees_at
+told_one covers exact free h region rules index n rule bound is apart =
+    by_meet (meets (free_of (widened h region rules index n) n) rule) refl
+  where
+    both_one : (a b : ℕ) → a ≡ 1 → b ≡ 1 → min a b ≡ 1
+    both_one a b p q = omega (arith, p, q)
+
+    first_none : (a b : ℕ) → a ≡ 0 → min a b ≡ 0
+    first_none a b p = omega (arith, p)
+
+    second_none : (a b : ℕ) → b < 2 → b ≢ 1 → min a b ≡ 0
+    second_none a b small other = omega (arith, small, other)
+
+    from_none : (a b : ℕ) → b ≡ 1 → min a b ≡ 0 → a ≡ 0
+    from_none a b one none = omega (arith, one, none)
+
+    by_meet : (b : Bool) → meets (free_of (widened h region rules index n) n) rule ≡ b
+        → (bit_and (differing h rule) (widened h region rules index n).mask == 2 ^ n) ≡ b
+    by_meet true met = eq-eqb _ _ (same_from_bits _ _ (λ j.
+        bit_at_and (differing h rule) (widened h region rules index n).mask j ∙ by_place j))
+      where
+        here : IsTrue (is_fixed_of (widened h region rules index n) n)
+        here = still_fixed exact free h region rules index n n (omega arith) bound
+
+        by_place : (j : ℕ) → min (bit_at (differing h rule) j) (bit_at (widened h region rules index n).mask j)
+            ≡ bit_at (2 ^ n) j
+        by_place j = elim (cases_eq j n) [
+          | inl same ↦
+              let highest = last_bit covers exact free h region rules index n rule bound is apart
+              met in
+              both_one _ _ (ap (λ k. bit_at (differing h rule) k) same ∙ highest.set)
+              (ap (λ k. bit_at (widened h region rules index n).mask k) same ∙ eqb-true _ _ here)
+              ∙ sym (ap (λ k. bit_at (2 ^ n) k) same ∙ bit_at-pow_same n)
+          | inr other ↦ none_at j other ∙ sym (bit_at-pow_other n j other)
+        ]
+          where
+            none_at : (j : ℕ) → j ≢ n
+                → min (bit_at (differing h rule) j) (bit_at (widened h region rules index n).mask j) ≡ 0
+            none_at j other = elim (cases_eq (bit_at (widened h region rules index n).mask j) 1) [
+              | inl fixed ↦
+                  let is_fixed = eq-eqb _ _ fixed in
+                  first_none _ _ (same_at (widened h region rules index n) rule h j is_fixed
+                  (as_header covers free h region rules index n j is_fixed)
+                  ((free.meets_others (widened h region rules index n) rule n).0 met j other))
+              | inr unfixed ↦ second_none _ _ (bit_at-lt (widened h region rules index n).mask j) unfixed
+            ]
+    by_meet false not_met = by_test (bit_and (differing h rule) (widened h region rules index n).mask == 2 ^ n) refl
+      where
+        agrees : bit_and (differing h rule) (widened h region rules index n).mask ≡ 2 ^ n → (j : ℕ) → j ≢ n
+            → IsTrue (agrees_at (widened h region rules index n) rule j)
+        agrees same j other = elim (cases_Bool (agrees_at (widened h region rules index n) rule j)) [
+          | inl agree ↦ agree
+          | inr apart_at ↦ elim (cases_Bool (is_fixed_of (widened h region rules index n) j)) [
+            | inl fixed ↦
+                let one = differs_at (widened h region rules index n) rule h j fixed
+                (as_header covers free h region rules index n j fixed) apart_at in
+                let none : min (bit_at (differing h rule) j) (bit_at (widened h region rules index n).mask j) ≡ 0 =
+                sym (bit_at_and (differing h rule) (widened h region rules index n).mask j) ∙ ap (λ m. bit_at m j) same
+                ∙ bit_at-pow_other n j other in
+                absurd (omega (arith, one, from_none _ _ (eqb-true _ _ fixed) none))
+            | inr unfixed ↦
+                absurd (both_ways _ apart_at (ap (λ f. not (f && (bit_at rule.mask j == 1))
+                || (bit_at (widened h region rules index n).value j == bit_at rule.value j)) unfixed))
+          ]
+        ]
+
+        by_test : (b : Bool) → (bit_and (differing h rule) (widened h region rules index n).mask == 2 ^ n) ≡ b → b ≡ false
+        by_test true equal = absurd (both_ways _ not_met
+            ((free.meets_others (widened h region rules index n) rule n).1 (agrees (eqb-true _ _ equal))))
+        by_test false unequal = refl
+
+-- no rule is told apart from the word by this bit alone, where the freed word is apart from all
+pub told_by_none : CoversLaws → MeetLaws → ExactLaws → FreeLaws → (h : ℕ) (region : WordValue)
+    (rules : List Rule) (index n : ℕ) → n < 104 → All (λ rule. IsWord rule.word) rules
+    → IsIndependent region rules index (widened h region rules index n)
+    → not (is_told h (widened h region rules index n).mask (2 ^ n) (take index rules))
+    ≡ is_apart (free_of (widened h region rules index n) n) (take index rules)
+unfolding is_apart
+told_by_none covers meet exact free h region rules index n bound words independent =
+    all_of (take index rules) (All-take (λ (rule : Rule). IsWord rule.word) index rules words)
+    independent.earlier
+  where
+    neither : (a b : Bool) → not (a || b) ≡ (not a && not b)
+    neither true b = refl
+    neither false b = refl
+
+    all_of : (list : List Rule) → All (λ rule. IsWord rule.word) list
+        → All (λ rule. IsNone (meet_of (widened h region rules index n) rule.word)) list
+        → not (is_told h (widened h region rules index n).mask (2 ^ n) list)
+        ≡ list_all (λ rule. is_none (meet_of (free_of (widened h region rules index n) n) rule.word)) list
+    all_of [] sound apart = refl
+    all_of (rule ∷ list) sound apart =
+        let P : Rule → Type 0 = λ r. IsWord r.word in
+        let Q : Rule → Type 0 = λ r. IsNone (meet_of (widened h region rules index n) r.word) in
+        let here = told_one covers exact free h region rules index n rule.word bound
+        (All-head P rule list sound)
+        (sym (meet.some (widened h region rules index n) rule.word) ∙ All-head Q rule list apart) in
+        let rest = all_of list (All-tail P rule list sound) (All-tail Q rule list apart) in
+        neither (bit_and (differing h rule.word) (widened h region rules index n).mask == 2 ^ n)
+        (is_told h (widened h region rules index n).mask (2 ^ n) list)
+        ∙ ap (λ t. not t && not (is_told h (widened h region rules index n).mask (2 ^ n) list))
+        (here ∙ sym (meet.some (free_of (widened h region rules index n) n) rule.word))
+        ∙ ap (λ t. is_none (meet_of (free_of (widened h region rules index n) n) rule.word) && t) rest
 
 -- ---- the test
 
@@ -189,6 +346,52 @@ test_parts free region rules index bit word d within is =
     ∙ ap (λ b. (not (is_fixed_of region bit) && b)
     && is_apart (free_of word bit) (take index rules))
     (freed_cover free (get_or rules index d).word word bit in_rule))
+
+-- the bits that neither of two masks has
+pub neither_fixes : (region rule : WordValue) (m n bit : ℕ) → m ≡ region.mask → n ≡ rule.mask
+    → m < 2 ^ 104 → n < 2 ^ 104 → bit < 104
+    → (bit_at (bit_and (2 ^ 128 - 1 - m) (2 ^ 128 - 1 - n)) bit == 1)
+    ≡ (not (is_fixed_of region bit) && not (is_fixed_of rule bit))
+unfolding is_fixed_of
+neither_fixes region rule m n bit same also small few within =
+    let clear : (x : ℕ) → x < 2 ^ 104 → bit_at (2 ^ 128 - 1 - x) bit ≡ 1 - bit_at x bit =
+    λ x below. bit_at_not w128 x bit (omega arith) (omega arith) in
+    ap (λ b. b == 1) (bit_at_and (2 ^ 128 - 1 - m) (2 ^ 128 - 1 - n) bit
+    ∙ ap (λ a. min a (bit_at (2 ^ 128 - 1 - n) bit)) (clear m small)
+    ∙ ap (min (1 - bit_at m bit)) (clear n few))
+    ∙ digits (bit_at m bit) (bit_at n bit) (bit_at-lt m bit) (bit_at-lt n bit)
+    ∙ ap (λ x. not (bit_at x bit == 1) && not (bit_at n bit == 1)) same
+    ∙ ap (λ x. not (bit_at region.mask bit == 1) && not (bit_at x bit == 1)) also
+  where
+    digits : (a b : ℕ) → a < 2 → b < 2
+        → (min (1 - a) (1 - b) == 1) ≡ (not (a == 1) && not (b == 1))
+    digits zero zero p q = refl
+    digits zero (suc zero) p q = refl
+    digits (suc zero) zero p q = refl
+    digits (suc zero) (suc zero) p q = refl
+    digits (suc (suc a)) b p q = absurd (omega arith)
+    digits a (suc (suc b)) p q = absurd (omega arith)
+
+-- a bit that a word which both cover leaves free, both leave free
+pub free_in_both : CoversLaws → (region rule word : WordValue) (free_bits j : ℕ)
+    → IsTrue (covers_of region word) → IsTrue (covers_of rule word)
+    → (bit_at free_bits j == 1) ≡ (not (is_fixed_of region j) && not (is_fixed_of rule j))
+    → bit_at word.mask j ≢ 1 → bit_at free_bits j ≡ 1
+unfolding is_fixed_of
+free_in_both covers region rule word free_bits j in_region in_rule is unfixed =
+    eqb-true _ _ (is ∙ both (bit_at region.mask j == 1) (bit_at rule.mask j == 1)
+    (free_in region in_region) (free_in rule in_rule))
+  where
+    both : (a b : Bool) → a ≡ false → b ≡ false → (not a && not b) ≡ true
+    both a b p q = rw (p, q) refl
+
+    free_in : (outer : WordValue) → IsTrue (covers_of outer word)
+        → (bit_at outer.mask j == 1) ≡ false
+    free_in outer covered = elim (cases_Bool (bit_at outer.mask j == 1)) [
+      | inl fixed ↦ absurd
+          (unfixed (((covers.bitwise outer word).0 covered j (eqb-true _ _ fixed)).0))
+      | inr free ↦ free
+    ]
 
 -- ---- highest bits as a mask
 
@@ -223,20 +426,27 @@ highest_set n bit k small low high is = by_order (cases_eq k bit)
 pub no_highest : (n k : ℕ) → n ≡ 0 → IsHighest n k → bit_at 0 k ≡ 1
 no_highest n k e is = subst (λ x. bit_at x k ≡ 1) e is.set
 
-pub differing_is : (h value mask : ℕ) (item rule : Rule) → item ≡ rule → value ≡ item.word.value
-    → mask ≡ item.word.mask → differing h rule.word ≡ bit_and (bit_xor h value) mask
-differing_is h value mask item rule same value_is mask_is =
-    ap (λ (r : Rule). differing h r.word) (sym same)
-    ∙ ap (λ m. bit_and (bit_xor h item.word.value) m) (sym mask_is)
-    ∙ ap (λ v. bit_and (bit_xor h v) mask) (sym value_is)
-
-pub have_more : (mask bit h : ℕ) (rules : List Rule) (i : ℕ) (d : Rule) → i < length rules
-    → HaveHighest mask h (take i rules)
+-- one rule more: with its highest bit, or where it differs in other bits too
+pub have_more : (mask bit h free_bits : ℕ) (rules : List Rule) (i : ℕ) (d : Rule)
+    → i < length rules → HaveHighest mask h free_bits (take i rules)
     → ((k : ℕ) → IsHighest (differing h (get_or rules i d).word) k → bit_at bit k ≡ 1)
-    → HaveHighest (bit_or mask bit) h (take (i + 1) rules)
-have_more mask bit h rules i d within have next =
-    subst (λ rs. HaveHighest (bit_or mask bit) h rs) (sym (take_more rules i d within))
+    → HaveHighest (bit_or mask bit) h free_bits (take (i + 1) rules)
+have_more mask bit h free_bits rules i d within have next =
+    subst (λ rs. HaveHighest (bit_or mask bit) h free_bits rs) (sym (take_more rules i d within))
     (All-push (λ (rule : Rule). (k : ℕ) → IsHighest (differing h rule.word) k
+    → bit_and (differing h rule.word) free_bits ≡ differing h rule.word
     → bit_at (bit_or mask bit) k ≡ 1) (take i rules) (get_or rules i d)
-    (λ j e below k is. or_left mask bit k (have j e below k is))
-    (λ k is. or_right mask bit k (next k is)))
+    (λ j e below k is freely. or_left mask bit k (have j e below k is freely))
+    (λ k is freely. or_right mask bit k (next k is)))
+
+pub have_same : (mask h free_bits : ℕ) (rules : List Rule) (i : ℕ) (d : Rule)
+    → i < length rules → HaveHighest mask h free_bits (take i rules)
+    → (bit_and (differing h (get_or rules i d).word) free_bits
+    ≡ differing h (get_or rules i d).word → ⊥)
+    → HaveHighest mask h free_bits (take (i + 1) rules)
+have_same mask h free_bits rules i d within have not_freely =
+    subst (λ rs. HaveHighest mask h free_bits rs) (sym (take_more rules i d within))
+    (All-push (λ (rule : Rule). (k : ℕ) → IsHighest (differing h rule.word) k
+    → bit_and (differing h rule.word) free_bits ≡ differing h rule.word → bit_at mask k ≡ 1)
+    (take i rules) (get_or rules i d) have
+    (λ k is freely. absurd (not_freely freely)))

@@ -1,5 +1,6 @@
 -- The bits by which rules differ from a header.
-use Rattle.std.specs.Prelude.{ℕ, ◌≡◌, ◌<◌, bit_and, bit_xor, List, All}
+use Rattle.std.specs.Prelude.{ℕ, ◌≡◌, ◌==◌, ◌<◌, Bool, bit_and, bit_xor, List, All}
+use Rattle.std.specs.List.{list_any}
 use Rattle.std.specs.Int.{bit_at}
 use Rattle.ternary.specs.Word.{WordValue}
 use Rattle.policy_rules.specs.declared.rules.Rule.{Rule}
@@ -13,7 +14,13 @@ pub record IsHighest (n k : ℕ) : Type 0 where
   pub set : bit_at n k ≡ 1
   pub above : (j : ℕ) → k < j → bit_at n j ≡ 0
 
--- the mask has the highest bit by which each of the rules differs from h
-abbrev pub HaveHighest : ℕ → ℕ → List Rule → Type 0
-HaveHighest mask h rules =
-    All (λ rule. (k : ℕ) → IsHighest (differing h rule.word) k → bit_at mask k ≡ 1) rules
+-- among the fixed bits, some rule differs from h in these alone
+abbrev pub is_told : ℕ → ℕ → ℕ → List Rule → Bool
+is_told h fixed alone rules =
+    list_any (λ (rule : Rule). bit_and (differing h rule.word) fixed == alone) rules
+
+-- the mask has the highest bit by which each of the rules differs from h, if it does in open bits
+-- alone
+abbrev pub HaveHighest : ℕ → ℕ → ℕ → List Rule → Type 0
+HaveHighest mask h open_bits rules = All (λ rule. (k : ℕ) → IsHighest (differing h rule.word) k
+    → bit_and (differing h rule.word) open_bits ≡ differing h rule.word → bit_at mask k ≡ 1) rules

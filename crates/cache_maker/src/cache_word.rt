@@ -1,11 +1,11 @@
-ghost use Rattle.std.specs.Prelude.{ℕ, ◌≡◌, ◌≢◌, ◌<◌, ◌&&◌, not, Some, All, length, take, position, IsTrue};
+ghost use Rattle.std.specs.Prelude.{ℕ, ◌≡◌, ◌≢◌, ◌^◌, ◌<◌, ◌==◌, ◌&&◌, not, Some, All, position, IsTrue};
 ghost use Rattle.std.specs.Int.{bit_at};
 ghost use Rattle.five_tuple.specs.Header.{number_of};
 ghost use Rattle.ternary.specs.Word.{IsWord, holds, is_fixed_of, free_of};
 ghost use Rattle.policy_rules.specs.Rules.{is_held};
 ghost use Rattle.policy_rules.specs.declared.rules.Rule.{Rule};
-ghost use Rattle.cache_maker.specs.Independent.{IsIndependent, is_apart, is_independent, widen};
-ghost use Rattle.cache_maker.specs.Differing.{HaveHighest, IsHighest};
+ghost use Rattle.cache_maker.specs.Independent.{IsIndependent, is_apart, widen};
+ghost use Rattle.cache_maker.specs.Differing.{HaveHighest, IsHighest, differing, is_told};
 
 use five_tuple::Header;
 use policy_rules::Rule;
@@ -18,7 +18,8 @@ const HEADER_BITS: u32 = 104;
 /// hold.
 ///
 /// From the header's own word each bit is freed in turn, from the lowest, where the freed word is
-/// still covered by the region and by the rule and meets no earlier rule.
+/// still covered by the region and by the rule and meets no earlier rule: where both leave it free,
+/// and among the bits that are still fixed no earlier rule differs from the header in it alone.
 pub fn widen(h: &Header, region: &Word, rules: &[Rule], index: u32) -> Word
     requires region { IsTrue (holds region.now (number_of h.now)) }
     requires first_hit { position (is_held (number_of h.now)) rules.now ≡ Some index }
@@ -34,69 +35,76 @@ pub fn widen(h: &Header, region: &Word, rules: &[Rule], index: u32) -> Word
     meet_laws();
     exact_laws();
     free_laws();
+    let number = h.number();
     let index = index as usize;
-    let highest = highest_differences(h.number(), &rules[..index]);
-    let mut word = Word::exact(h.number());
+    let free = free_bits(region, &rules[index].word);
+    let earlier = &rules[..index];
+    let last = last_differences(number, free, earlier);
+    let mut word = Word::exact(number);
     for bit in 0..HEADER_BITS {
-        let freed = word.free(bit);
-        if stays_independent(&word, bit, region, rules, index, highest) {
-            word = freed;
+        if can_free(&word, bit, number, free, earlier, last) {
+            word = word.free(bit);
         }
     }
     word
 }
 
-// Whether the word stays independent with the bit freed. Each bit above is still fixed, so an
-// earlier rule that differs in this bit alone has it as the highest in which it differs from the
-// header: the rules are looked at only where one has.
-fn stays_independent(
-    word: &Word,
-    bit: u32,
-    region: &Word,
-    rules: &[Rule],
-    index: usize,
-    highest: u128,
-) -> bool
-    requires bound { bit < 104 }
-    requires independent { IsIndependent region.now rules.now index word.now }
-    requires apart { bit_at highest bit ≢ 1
-        → IsTrue (is_apart (free_of word.now bit) (take index rules.now)) }
-    requires within { index < length rules.now }
-    ensures { result ≡ is_independent region.now rules.now index (free_of word.now bit) }
+// The bits that both words leave free.
+fn free_bits(region: &Word, rule: &Word) -> u128
+    ensures { (bit : ℕ) → bit < 104 → (bit_at result bit == 1)
+        ≡ (not (is_fixed_of region.now bit) && not (is_fixed_of rule.now bit)) }
 {
-    free_laws();
-    is_open(region, &rules[index].word, bit) && stays_apart(word, bit, &rules[..index], highest)
+    !region.mask() & !rule.mask()
 }
 
-fn is_open(region: &Word, rule: &Word, bit: u32) -> bool
+// Whether the bit can be freed: it is free in both, and no earlier rule differs from the header in
+// it alone among the bits that are still fixed. Each bit above is, so the rules are looked at only
+// where one has it as the last in which it differs.
+fn can_free(word: &Word, bit: u32, h: u128, free: u128, rules: &[Rule], last: u128) -> bool
+    requires bound { bit < 104 }
+    requires apart { bit_at free bit ≡ 1 → bit_at last bit ≢ 1
+        → IsTrue (is_apart (free_of word.now bit) rules.now) }
+    requires told { not (is_told h word.now.mask (2 ^ bit) rules.now)
+        ≡ is_apart (free_of word.now bit) rules.now }
+    ensures { result ≡ ((bit_at free bit == 1) && is_apart (free_of word.now bit) rules.now) }
+{
+    (free >> bit) & 1 == 1
+        && ((last >> bit) & 1 == 0 || !is_told(h, word.mask(), alone(bit), rules))
+}
+
+fn alone(bit: u32) -> u128
     requires { bit < 104 }
-    ensures { result ≡ (not (is_fixed_of region.now bit) && not (is_fixed_of rule.now bit)) }
+    ensures { result ≡ 2 ^ bit }
 {
-    !region.is_fixed(bit) && !rule.is_fixed(bit)
+    1 << bit
 }
 
-fn stays_apart(word: &Word, bit: u32, rules: &[Rule], highest: u128) -> bool
-    requires bound { bit < 104 }
-    requires apart { bit_at highest bit ≢ 1 → IsTrue (is_apart (free_of word.now bit) rules.now) }
-    ensures { result ≡ is_apart (free_of word.now bit) rules.now }
+// Whether some rule differs from the header, among these fixed bits, in this one alone.
+fn is_told(h: u128, fixed: u128, alone: u128, rules: &[Rule]) -> bool
+    ensures { result ≡ is_told h fixed alone rules.now }
 {
-    (highest >> bit) & 1 == 0 || is_apart(&word.free(bit), rules)
+    rules
+        .iter()
+        .any(|rule| differing(h, &rule.word) & fixed == alone)
 }
 
-#[tactic(auto, unfolding(crate::specs::Independent::is_apart))]
-fn is_apart(word: &Word, rules: &[Rule]) -> bool
-    ensures { result ≡ is_apart word.now rules.now }
+// The bits that the word fixes to another value than that of h.
+fn differing(h: u128, word: &Word) -> u128
+    ensures { result ≡ differing h word.now }
 {
-    rules.iter().all(|rule| word.meet(&rule.word).is_none())
+    (h ^ word.value()) & word.mask()
 }
 
-// For each rule, the highest bit that it fixes to another value than this header's.
-fn highest_differences(h: u128, rules: &[Rule]) -> u128
-    ensures { HaveHighest result h rules.now }
+// For each rule that differs from the header in free bits alone, the highest of them.
+fn last_differences(h: u128, free: u128, rules: &[Rule]) -> u128
+    ensures { HaveHighest result h free rules.now }
 {
     let mut bits = 0;
     for rule in rules {
-        bits |= highest_bit((h ^ rule.word.value()) & rule.word.mask());
+        let differing = differing(h, &rule.word);
+        if differing & free == differing {
+            bits |= highest_bit(differing);
+        }
     }
     bits
 }
