@@ -3,25 +3,30 @@ use Rattle.std.proofs.Common.{◌≡◌, ℕ, zero, suc, ◌+◌, ◌^◌, ◌<�
 use Rattle.std.specs.Bool.{IsTrue, IsFalse, ◌==◌}
 use Rattle.std.specs.Int.{bit_at, from_bool}
 use Rattle.std.specs.List.{position_or_len}
-use Rattle.std.specs.Option.{option_and_then, option_map, option_map_or}
-use Rattle.std.proofs.lemmas.Bool.{cases_eq, both_ways, eqb-true, eq-eqb, lt-ltb}
+use Rattle.std.specs.Option.{IfSome, IsSomeAnd, option_and_then, option_map, option_map_or}
+use Rattle.std.proofs.lemmas.Bool.{cases_eq, cases_lt, both_ways, eqb-true, eq-eqb, lt-ltb}
+use Rattle.std.proofs.lemmas.List.{length-map}
 use Rattle.std.proofs.lemmas.List.Elements.{All-nil, All-cons, All-head, All-tail, All-contains, All-weaker}
 use Rattle.std.proofs.lemmas.Nat.Bits.{bit_at-lt}
-use Rattle.std.proofs.lemmas.Option.{none-some, same_Some, slice_get-map}
+use Rattle.std.proofs.lemmas.List.Quantifiers.{position-Some}
+use Rattle.std.proofs.lemmas.Option.{none-some, same_Some, slice_get-get_or, slice_get-map, slice_get_past}
 use Rattle.five_tuple.specs.Header.{IsHeader, number_of}
 use Rattle.five_tuple.specs.declared.header.Header.{Header}
 use Rattle.ternary.specs.Word.{WordValue, any_word, fix_of, holds, is_fixed_of}
 use Rattle.ternary.proofs.CallerLemmas.{any_holds, fix_holds}
 use Rattle.policy_rules.specs.Partitions.{is_in}
+use Rattle.policy_rules.specs.Rules.{is_held}
 use Rattle.policy_rules.specs.declared.rules.Partition.{Partition}
 use Rattle.policy_rules.proofs.CallerLemmas.{find-position}
 use Rattle.switch_table.specs.Tables.{AreSoundTables, row_has}
 use Rattle.switch_table.specs.Lookup.{authority_of, redirect_of, table_lookup}
-use Rattle.switch_table.specs.declared.search.Found.TheVariants.{Redirect}
+use Rattle.switch_table.specs.declared.search.Found.TheVariants.{Authority, Redirect}
 use Rattle.switch_table.specs.declared.tables.PartRow.{PartRow}
 use Rattle.switch_table.specs.declared.tables.Tables.{Tables}
 use Rattle.switch_table.proofs.TableLemmas.{count_by-map, find-there, row_at}
 use Rattle.table_tree.specs.Regions.{IsCutBit, has, side_of, spots_from, spots_of}
+use Rattle.table_tree.specs.Ruling.{RegionTree, part_tree, rule_shape, rule_tree, seen_tree}
+use Rattle.table_tree.specs.declared.rule_tree.RuleTree.{RuleTree}
 use Rattle.table_tree.specs.Finding.{Shape, Place, Sides, CutsHeaderBits, IsEnd, IsFinderTree, IsTreeOf, place_at}
 use Rattle.table_tree.specs.declared.node.Spot.{Spot}
 use Rattle.table_tree.proofs.NodeLemmas.{count-cons, cut_is_free, found_from_count, side_finds, spot_at, spots_count, weight}
@@ -74,7 +79,7 @@ tree_of_root spots region items rows tree is whole same p =
 -- ---- down the tree
 
 -- a header with this bit is in the half that has it
-in_half : (region : WordValue) (bit number : ℕ) (one : Bool) → IsFalse (is_fixed_of region bit)
+pub in_half : (region : WordValue) (bit number : ℕ) (one : Bool) → IsFalse (is_fixed_of region bit)
     → IsTrue (holds region number) → bit_at number bit ≡ from_bool one
     → IsTrue (holds (fix_of region bit one) number)
 in_half region bit number one free held is =
@@ -208,7 +213,7 @@ row_found header rows one =
     by_case None none some = absurd (both_ways false refl some)
     by_case (Some row) is some = (row, is)
 
-find_agree : {X : Type 0} (p q : X → Bool) (xs : List X) → All (λ x. p x ≡ q x) xs
+pub find_agree : {X : Type 0} (p q : X → Bool) (xs : List X) → All (λ x. p x ≡ q x) xs
     → find p xs ≡ find q xs
 find_agree p q [] agree = refl
 find_agree {X} p q (x ∷ xs) agree =
@@ -261,24 +266,138 @@ own_numbered tables header place sound is at =
     (λ part numbered. in_numbered tables.parts header place part (sound.one header is) at numbered)
     tables.auth sound.numbers)
 
--- the partition of a number is one of them
-pub own_fits : (parts : List Partition) (number : ℕ) (part : Partition)
-    → Some part ≡ find (λ p. p.number == number) parts
-    → All (λ p. length p.rules < 2 ^ 32) parts → length part.rules < 2 ^ 32
-own_fits parts number part is few = All-contains (λ (p : Partition). length p.rules < 2 ^ 32)
-    parts part few (find-there (λ p. p.number == number) parts part (sym is)).0
-
 -- ---- what the tables say
 
+-- the place of a header's first rule in a partition
+abbrev pub first_in : Header → Partition → Option ℕ
+first_in header part = position (is_held (number_of header)) part.rules
+
+-- an element that is there
+pub there_at : {X : Type 0} (P : X → Type 0) (xs : List X) (k : ℕ) (d : X)
+    → IsSomeAnd (slice_get xs k) P
+    → (k < length xs) × (slice_get xs k ≡ Some (get_or xs k d)) × P (get_or xs k d)
+there_at P xs k d is = elim (cases_lt k (length xs)) [
+  | inl within ↦
+      let at = slice_get-get_or xs k d within in
+      (within, at, subst (λ o. IsSomeAnd o P) at is)
+  | inr past ↦ absurd (subst (λ o. IsSomeAnd o P) (slice_get_past xs k past) is)
+]
+
+-- the tree at a partition's place is the partition's
+pub tree_there : (auth : List Partition) (trees : List RuleTree) (own : ℕ) (tree : RuleTree)
+    (part : Partition) → map seen_tree trees ≡ map part_tree auth → own < length auth
+    → own < length trees → tree ≡ get_or trees own tree → part ≡ get_or auth own part
+    → seen_tree tree ≡ part_tree part
+tree_there auth trees own tree part all within inside tree_is part_is =
+    let at_tree : slice_get trees own ≡ Some tree =
+    slice_get-get_or trees own tree inside ∙ ap Some (sym tree_is) in
+    let at_part : slice_get auth own ≡ Some part =
+    slice_get-get_or auth own part within ∙ ap Some (sym part_is) in
+    same_Some (seen_tree tree) (part_tree part)
+    (sym (slice_get-map seen_tree trees own ∙ ap (option_map seen_tree) at_tree)
+    ∙ ap (λ (ts : List RegionTree). slice_get ts own) all
+    ∙ slice_get-map part_tree auth own ∙ ap (option_map part_tree) at_part)
+
+pub trees_reach : (auth : List Partition) (trees : List RuleTree) (own : ℕ)
+    → map seen_tree trees ≡ map part_tree auth → own < length auth → own < length trees
+trees_reach auth trees own all within = omega (
+  arith,
+  within,
+  sym (length-map trees seen_tree) ∙ ap length all ∙ length-map auth part_tree,
+)
+
+-- the partition at a place of the list, and its tree, as they are read
+pub record IsThere (tables : Tables) (header : Header) (own : ℕ) (part : Partition)
+    (tree : RuleTree) : Type 0 where
+  pub at : slice_get tables.auth own ≡ Some part
+  pub shape : rule_shape tree.root ≡ rule_tree part.rules tree.region
+  pub region : IsTrue (holds tree.region (number_of header))
+
+pub is_there : (tables : Tables) (value : Tables) (header : Header) (own : ℕ) (part : Partition)
+    (tree : RuleTree) (auth : List Partition) (trees : List RuleTree) → tables ≡ value
+    → IsSomeAnd (slice_get value.auth own) (λ p. IsTrue (is_in header p))
+    → auth ≡ tables.auth → map seen_tree trees ≡ map part_tree tables.auth
+    → part ≡ get_or auth own part → tree ≡ get_or trees own tree
+    → IsThere tables header own part tree
+is_there tables value header own part tree auth trees same has read all part_is tree_is =
+    let there = there_at (λ p. IsTrue (is_in header p)) tables.auth own part
+    (subst (λ (t : Tables). IsSomeAnd (slice_get t.auth own) (λ p. IsTrue (is_in header p)))
+    (sym same) has) in
+    let here : part ≡ get_or tables.auth own part =
+    part_is ∙ ap (λ (ps : List Partition). get_or ps own part) read in
+    let is = tree_there tables.auth trees own tree part all there.0
+    (trees_reach tables.auth trees own all there.0) tree_is here in
+    let region : tree.region ≡ part.region = ap (λ (t : RegionTree). t.region) is in
+    record {
+      at = there.1 ∙ ap Some (sym here);
+      shape = ap (λ (t : RegionTree). t.shape) is ∙ ap (rule_tree part.rules) (sym region);
+      region = subst (λ r. IsTrue (holds r (number_of header))) (sym region)
+          (subst (λ (p : Partition). IsTrue (is_in header p)) (sym here) there.2);
+    }
+
+-- the partition of the place has the header
+own_found : (tables : Tables) (header : Header) (place own : ℕ) → AreSoundTables tables
+    → IsHeader header → position (row_has header) tables.parts ≡ Some place
+    → position (λ part. part.number == place) tables.auth ≡ Some own
+    → (part : Partition) × (slice_get tables.auth own ≡ Some part)
+    × (find (λ p. p.number == place) tables.auth ≡ Some part)
+own_found tables header place own sound is at there =
+    let d : Partition = record { number = 0; region = any_word; rules = [] } in
+    let within = (position-Some (λ (p : Partition). p.number == place) tables.auth own d there).0 in
+    let here = slice_get-get_or tables.auth own d within in
+    let found = sym (find-position (λ (p : Partition). p.number == place) tables.auth)
+    ∙ ap (option_and_then (slice_get tables.auth)) there in
+    (get_or tables.auth own d, here, found ∙ here)
+
+pub own_has : (tables : Tables) (header : Header) (place own : ℕ) → AreSoundTables tables
+    → IsHeader header → position (row_has header) tables.parts ≡ Some place
+    → position (λ part. part.number == place) tables.auth ≡ Some own
+    → IsSomeAnd (slice_get tables.auth own) (λ part. IsTrue (is_in header part))
+own_has tables header place own sound is at there =
+    let own_part = own_found tables header place own sound is at there in
+    let found = own_numbered tables header place sound is at ∙ own_part.2 in
+    subst (λ o. IsSomeAnd o (λ (part : Partition). IsTrue (is_in header part))) (sym own_part.1)
+    (find-there (is_in header) tables.auth own_part.0 found).1
+
 -- the authority partition of the place decides
-pub own_decides : (tables : Tables) (header : Header) (place : ℕ) (part : Partition)
+pub own_decides : (tables : Tables) (header : Header) (place own : ℕ) (first : Option ℕ)
     → AreSoundTables tables → IsHeader header
     → position (row_has header) tables.parts ≡ Some place
-    → Some part ≡ find (λ p. p.number == place) tables.auth
-    → authority_of header part ≡ table_lookup tables header
-own_decides tables header place part sound is at found =
-    sym (ap (λ own. option_map_or (authority_of header) own (redirect_of header tables.parts))
-    (own_numbered tables header place sound is at ∙ sym found))
+    → position (λ part. part.number == place) tables.auth ≡ Some own
+    → first ≡ option_and_then (first_in header) (slice_get tables.auth own)
+    → Authority place (unwrap_or first 0) ≡ table_lookup tables header
+own_decides tables header place own first sound is at there first_is =
+    let own_part = own_found tables header place own sound is at there in
+    let part : Partition = own_part.0 in
+    let number : part.number ≡ place = eqb-true _ _
+    (find-there (λ (p : Partition). p.number == place) tables.auth part own_part.2).1 in
+    ap (λ o. Authority place (unwrap_or o 0))
+    (first_is ∙ ap (option_and_then (first_in header)) own_part.1)
+    ∙ ap (λ n. Authority n (unwrap_or (first_in header part) 0)) (sym number)
+    ∙ sym (ap (λ own. option_map_or (authority_of header) own (redirect_of header tables.parts))
+    (own_numbered tables header place sound is at ∙ own_part.2))
+
+pub small_place : (first : Option ℕ) → IfSome first (λ place. place < 2 ^ 32)
+    → unwrap_or first 0 < 2 ^ 32
+small_place None small = omega arith
+small_place (Some place) small = small
+
+-- no partition has the number
+pub none_there : (parts : List Partition) (number : ℕ)
+    → None ≡ position (λ part. part.number == number) parts
+    → None ≡ find (λ part. part.number == number) parts
+none_there parts number none =
+    ap (option_and_then (slice_get parts)) none
+    ∙ find-position (λ (p : Partition). p.number == number) parts
+
+pub one_read : (parts auth : List Partition) (number own : ℕ) → parts ≡ auth
+    → Some own ≡ position (λ part. part.number == number) parts
+    → slice_get auth own ≡ find (λ part. part.number == number) auth
+one_read parts auth number own same there =
+    subst (λ (ps : List Partition). slice_get ps own
+    ≡ find (λ (p : Partition). p.number == number) ps) same
+    (ap (option_and_then (slice_get parts)) there
+    ∙ find-position (λ (p : Partition). p.number == number) parts)
 
 -- where there is none, its targets do
 pub row_decides : (tables : Tables) (header : Header) (place : ℕ) (d : PartRow)

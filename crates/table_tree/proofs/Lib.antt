@@ -1,3 +1,4 @@
 pub mod BitLemmas
 pub mod NodeLemmas
 pub mod FindLemmas
+pub mod RuleLemmas

@@ -1,13 +1,15 @@
 -- A decision tree that finds the partition rule of a header: the tree is that of Yu, Rexford,
 -- Freedman and Wang, "Scalable Flow-Based Networking with DIFANE", SIGCOMM 2010; the order of the
 -- bits is this project's own.
-use Rattle.std.specs.Prelude.{⊤, ℕ, ◌≡◌, ◌<◌, ◌==◌, if◌then◌else◌, true, false, List, All, length}
+use Rattle.std.specs.Prelude.{⊤, ℕ, ◌≡◌, ◌<◌, ◌==◌, if◌then◌else◌, true, false, List, All, length, map}
 use Rattle.std.specs.Int.{bit_at}
 use Rattle.ternary.specs.Word.{WordValue, any_word, fix_of}
 use Rattle.switch_table.specs.Tables.{AreSoundTables}
 use Rattle.switch_table.specs.declared.tables.PartRow.{PartRow}
 use Rattle.switch_table.specs.declared.tables.Tables.{Tables}
 use Rattle.table_tree.specs.Regions.{IsCutBit, side_of, spots_of}
+use Rattle.table_tree.specs.Ruling.{part_tree, seen_tree}
+use Rattle.table_tree.specs.declared.rule_tree.RuleTree.{RuleTree}
 use Rattle.table_tree.specs.declared.node.Spot.{Spot}
 use Rattle.table_tree.specs.declared.tree.Tree.{Tree, At, Cut'}
 
@@ -54,6 +56,8 @@ pub record FinderValue : Type 0 where
   pub tables : Tables
   pub tree : Tree
 
-pub record IsFinder (finder : FinderValue) : Type 0 where
+-- the tables are sound, the tree is theirs, and these are the trees of the authority partitions
+pub record IsFinder (finder : FinderValue) (rule_trees : List RuleTree) : Type 0 where
   pub sound : AreSoundTables finder.tables
   pub tree : IsFinderTree finder.tables.parts (shape_of finder.tree)
+  pub rules : map seen_tree rule_trees ≡ map part_tree finder.tables.auth

@@ -1,3 +1,4 @@
 pub mod Cutting
 pub mod Regions
 pub mod Finding
+pub mod Ruling

@@ -1,25 +1,31 @@
-ghost use Rattle.std.specs.Prelude.{◌≡◌, ◌<◌, ◌^◌, ◌==◌, IfOk, find, length};
-ghost use Rattle.std.specs.Option.{option_copied};
+ghost use Rattle.std.specs.Prelude.{◌≡◌, ◌<◌, ◌^◌, ◌==◌, All, IfOk, IfSome, IsSomeAnd, IsTrue, find, length, map, position, slice_get};
+ghost use Rattle.std.specs.Option.{option_and_then};
+ghost use Rattle.five_tuple.specs.Header.{IsHeader, number_of};
+ghost use Rattle.policy_rules.specs.Partitions.{is_in};
+ghost use Rattle.policy_rules.specs.Rules.{is_held};
 ghost use Rattle.switch_table.specs.Cache.{first_entry};
-ghost use Rattle.switch_table.specs.Lookup.{authority_of, lookup_of, table_lookup};
+ghost use Rattle.switch_table.specs.Lookup.{lookup_of, table_lookup};
 ghost use Rattle.switch_table.specs.Tables.{AreSoundTables};
 ghost use Rattle.table_tree.specs.Finding.{IsFinderTree, shape_of};
+ghost use Rattle.table_tree.specs.Ruling.{part_tree, seen_tree};
 
 use crate::node::Node;
+use crate::rule_tree::RuleTree;
 use crate::tree::{Tree, grow};
 use five_tuple::Header;
-use policy_rules::{Partition, first_hit};
+use policy_rules::Partition;
 use std::alloc::{AllocError, Global};
 use std::marker::Model;
 use std::rc::Rc;
 use switch_table::{Cache, CacheEntry, Found, Tables};
 
-/// The tables of a switch for one version, with a tree over their partition rules. Contracts see
-/// the tables and the tree.
+/// The tables of a switch for one version, with a tree over their partition rules, and one over the
+/// rules of each authority partition. Contracts see the tables and the first tree.
 #[derive(Drop)]
 pub struct Finder {
     tables: Rc<Tables>,
     tree: Tree,
+    rule_trees: Vec<RuleTree>,
 }
 
 impl Model for Finder {
@@ -33,7 +39,8 @@ impl Model for Finder {
 
     ghost view = { λ f. record { tables = f.tables.value; tree = f.tree } };
 
-    ghost invariant = { λ f. IsFinder (record { tables = f.tables.value; tree = f.tree }) };
+    ghost invariant = { λ f.
+        IsFinder (record { tables = f.tables.value; tree = f.tree }) f.rule_trees.items };
 }
 
 impl Finder {
@@ -49,7 +56,12 @@ impl Finder {
     {
         let root = Node::root(alloc, tables.parts.items())?;
         let tree = grow(alloc, root)?;
-        Ok(Finder { tables, tree })
+        let rule_trees = rule_trees(alloc, tables.auth.items())?;
+        Ok(Finder {
+            tables,
+            tree,
+            rule_trees,
+        })
     }
 
     /// Looks a header up, as `switch_table::lookup` does: the first cached rule of the tables'
@@ -78,13 +90,48 @@ impl Finder {
         &self.tree
     }
 
+    /// The place of the first rule that holds the header, in the authority partition of this number.
+    /// It takes no memory.
+    pub fn first(&self, partition: u32, header: &Header) -> Option<usize>
+        requires { IsSomeAnd (find (λ part. part.number == partition) self.now.tables.auth)
+            (λ part. IsTrue (is_in header.now part)) }
+        ensures place { result ≡ option_and_then
+            (λ part. position (is_held (number_of header.now)) part.rules)
+            (find (λ part. part.number == partition) self.now.tables.auth) }
+        ensures small { IfSome result (λ place. place < 2 ^ 32) }
+        ensures sound { AreSoundTables self.now.tables }
+        ensures header { IsHeader header.now }
+    {
+        let _ = header.number();
+        match own_place(self.tables.auth.items(), partition) {
+            Some(own) => self.first_at(own, header),
+            None => None,
+        }
+    }
+
+    // The same, in the authority partition at this place of the list.
+    fn first_at(&self, own: usize, header: &Header) -> Option<usize>
+        requires { IsSomeAnd (slice_get self.now.tables.auth own)
+            (λ part. IsTrue (is_in header.now part)) }
+        ensures place { result ≡ option_and_then
+            (λ part. position (is_held (number_of header.now)) part.rules)
+            (slice_get self.now.tables.auth own) }
+        ensures small { IfSome result (λ place. place < 2 ^ 32) }
+    {
+        let part = &self.tables.auth.items()[own];
+        self.rule_trees[own].first(part.rules.items(), header)
+    }
+
     // What the tables say of the header.
     fn table_lookup(&self, header: &Header) -> Found
         ensures { result ≡ table_lookup self.now.tables header.now }
     {
         let place = self.tree.place(header.number());
-        match own_part(self.tables.auth.items(), place) {
-            Some(part) => authority(part, header),
+        match own_place(self.tables.auth.items(), place) {
+            Some(own) => Found::Authority {
+                partition: place,
+                rule: self.first_at(own, header).unwrap_or(0) as u32,
+            },
             None => Found::Redirect {
                 partition: place,
                 targets: self.tables.parts.items()[place as usize].targets,
@@ -100,21 +147,21 @@ fn cached(cache: &Cache, version: u32, number: u128) -> Option<CacheEntry>
     cache.entries().find(|entry| entry.version == version && entry.word.holds(number))
 }
 
-// The partition of this number.
-fn own_part(parts: &[Partition], number: u32) -> Option<&Partition>
-    ensures { option_copied result ≡ find (λ part. part.number == number) parts.now }
+// The place of the partition of this number.
+fn own_place(parts: &[Partition], number: u32) -> Option<usize>
+    ensures { result ≡ position (λ part. part.number == number) parts.now }
 {
-    parts.iter().find(|part| part.number == number)
+    parts.iter().position(|part| part.number == number)
 }
 
-// The first rule of the partition that holds the header.
-fn authority(part: &Partition, header: &Header) -> Found
-    requires { length part.now.rules < 2 ^ 32 }
-    ensures { result ≡ authority_of header.now part.now }
+// Of each partition the tree of its rules.
+fn rule_trees(alloc: Global, parts: &[Partition]) -> Result<Vec<RuleTree>, AllocError>
+    requires { All (λ part. length part.rules < 2 ^ 32) parts.now }
+    ensures { IfOk result (λ trees. map seen_tree trees.items ≡ map part_tree parts.now) }
 {
-    let place = first_hit(part.rules.items(), header).unwrap_or(0);
-    Found::Authority {
-        partition: part.number,
-        rule: place as u32,
+    let mut trees = Vec::with_capacity(alloc, parts.len())?;
+    for part in parts {
+        trees.push(RuleTree::build(alloc, part.rules.items(), &part.region)?)?;
     }
+    Ok(trees)
 }

@@ -1,14 +1,20 @@
 //! Lookups by trees: what the tables of a switch say of a header is found by the header's bits, in
-//! the place of a search through the partition rules.
+//! the place of a search through the partition rules and through a partition's rules.
 //!
-//! A `Finder` is built once for the tables of a version. Its `lookup` promises the answer of
-//! `switch_table::lookup` for these tables, and takes no memory.
+//! A `RuleTree` leads a header to the places of the few rules of a list that may hold it; its `first`
+//! promises what `first_hit` answers. A `Finder` is built once for the tables of a version, with a
+//! rule tree for each authority partition. Its `lookup` promises the answer of
+//! `switch_table::lookup` for these tables. Neither lookup takes memory.
 #![tactic(auto)]
 
 mod bits;
 mod finder;
 mod node;
+mod rule_node;
+mod rule_tree;
 mod tree;
 
 pub use finder::Finder;
+pub use rule_node::RuleNode;
+pub use rule_tree::RuleTree;
 pub use tree::Tree;

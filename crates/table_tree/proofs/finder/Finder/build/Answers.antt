@@ -1,5 +1,6 @@
-use Rattle.std.proofs.Common.{◌∙◌, ap}
+use Rattle.std.proofs.Common.{◌∙◌, ap, map}
 use Rattle.switch_table.specs.declared.tables.Tables.{Tables}
+use Rattle.table_tree.specs.Ruling.{part_tree}
 use Rattle.table_tree.proofs.FindLemmas.{tree_of_root}
 use Rattle.table_tree.proofs.finder.Finder.build.Goals as goal
 
@@ -8,6 +9,8 @@ invariant_of-result c = record {
   sound = c.requires;
   tree = tree_of_root _ _ _ _ _ c.in_ok-root.ensures.spots c.in_ok-root.ensures.region
       (c.items.ensures ∙ ap (λ (t : Tables). t.parts) c.deref.ensures) c.in_ok-tree.ensures;
+  rules = c.in_ok-rule_trees.ensures
+      ∙ ap (map part_tree) (c.items-2.ensures ∙ ap (λ (t : Tables). t.auth) c.deref-2.ensures);
 }
 
 pub returns-clause-tree : goal.returns-clause-tree

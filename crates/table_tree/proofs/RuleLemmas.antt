@@ -1,0 +1,329 @@
+-- Where a rule tree leads.
+use Rattle.std.proofs.Common.{◌≡◌, ℕ, zero, suc, ◌+◌, ◌-◌, ◌*◌, ◌<◌, ◌≤◌, nat_lt, nat_le, Bool, true, false, cond, not, ◌&&◌, Option, Some, None, List, [], ◌∷◌, length, find, position, slice_get, map, All, refl, sym, ◌∙◌, ap, subst, inl, inr, arith}
+use Rattle.std.specs.Bool.{IsTrue, ◌==◌}
+use Rattle.std.specs.Int.{bit_at, from_bool}
+use Rattle.std.specs.List.{position_or_len}
+use Rattle.std.specs.Option.{option_map, option_map_or}
+use Rattle.std.proofs.lemmas.Bool.{cases_Bool, cases_lt, cases_eq, both_ways, eqb-true, eq-eqb, lt-ltb, le-ltb, le-leb, lt-leb}
+use Rattle.std.proofs.lemmas.List.Elements.{All-nil, All-cons, All-head, All-tail, All-same}
+use Rattle.std.proofs.lemmas.Nat.Bits.{bit_at-lt}
+use Rattle.ternary.specs.Word.{WordValue, covers_of, fix_of, holds, joined, meets}
+use Rattle.ternary.proofs.CallerLemmas.{meet_both}
+use Rattle.policy_rules.specs.Rules.{is_held}
+use Rattle.policy_rules.specs.declared.rules.Rule.{Rule}
+use Rattle.switch_table.proofs.TableLemmas.{find-map}
+use Rattle.cut_tree.specs.Cuts.{IsFreeBit, least_below, side_of}
+use Rattle.cut_tree.specs.Narrow.{narrow, narrowed}
+use Rattle.cut_tree.specs.declared.choice.Cost.{Cost}
+use Rattle.cut_tree.proofs.CallerLemmas.{narrow_first}
+use Rattle.cut_tree.proofs.CutLemmas.{least_cuts}
+use Rattle.cut_tree.proofs.NarrowLemmas.{met_joined, narrow_apart, narrow_covered, narrow_more, narrow_none}
+use Rattle.table_tree.specs.Ruling.{CutsRuleBits, RuleShape, Places, Sides, held_at, if_pays, parted, paying_cut, pays, placed_from, places_at, rule_tree, tree_within}
+use Rattle.table_tree.proofs.FindLemmas.{find_agree, in_half}
+
+abbrev pub rank_of : Rule → ℕ
+rank_of rule = rule.rank
+
+-- ---- the tree, node by node
+
+pub within_end : (cuts : ℕ) (rules : List Rule) (region : WordValue)
+    → None ≡ paying_cut cuts rules region
+    → Places (map rank_of rules) ≡ tree_within cuts rules region
+unfolding tree_within
+within_end zero rules region none = refl
+within_end (suc cuts) rules region none = ap (parted (tree_within cuts) rules region) none
+
+pub within_cut : (cuts : ℕ) (rules : List Rule) (region : WordValue) (cost : Cost)
+    (low high : List Rule) (lower higher : WordValue) (a b : RuleShape) → 0 < cuts
+    → Some cost ≡ paying_cut cuts rules region → low ≡ side_of rules region cost.bit false
+    → lower ≡ fix_of region cost.bit false → high ≡ side_of rules region cost.bit true
+    → higher ≡ fix_of region cost.bit true → a ≡ tree_within (cuts - 1) low lower
+    → b ≡ tree_within (cuts - 1) high higher
+    → Sides cost.bit a b ≡ tree_within cuts rules region
+unfolding tree_within
+within_cut zero rules region cost low high lower higher a b some is l lr h hr p q =
+    absurd (omega arith)
+within_cut (suc cuts) rules region cost low high lower higher a b some is l lr h hr p q =
+    let less : suc cuts - 1 ≡ cuts = omega arith in
+    rw (p, q, less, l, lr, h, hr) (ap (parted (tree_within cuts) rules region) is)
+
+-- ---- the cut of a node
+
+pub none_left : (cuts : ℕ) (rules : List Rule) (region : WordValue) → cuts ≡ 0
+    → None ≡ paying_cut cuts rules region
+none_left zero rules region none = refl
+none_left (suc cuts) rules region none = absurd (omega arith)
+
+pub few_stay : (cuts : ℕ) (rules : List Rule) (region : WordValue) → length rules ≤ 16
+    → None ≡ paying_cut cuts rules region
+few_stay zero rules region few = refl
+few_stay (suc cuts) rules region few = by_cost (least_below 104 rules region)
+  where
+    by_cost : (least : Option Cost) → None ≡ if_pays (length rules) least
+    by_cost None = refl
+    by_cost (Some cost) = rw (le-ltb 16 (length rules) few) refl
+
+pub cut_pays : (cuts : ℕ) (rules : List Rule) (region : WordValue) (cost : Cost) → 0 < cuts
+    → 16 < length rules → cost.larger < length rules → 4 * cost.sum ≤ 5 * length rules
+    → least_below 104 rules region ≡ Some cost → Some cost ≡ paying_cut cuts rules region
+cut_pays zero rules region cost some many fewer both is = absurd (omega arith)
+cut_pays (suc cuts) rules region cost some many fewer both is =
+    rw (
+      is,
+      lt-ltb 16 (length rules) many,
+      lt-ltb cost.larger (length rules) fewer,
+      le-leb (4 * cost.sum) (5 * length rules) both,
+    ) refl
+
+pub large_stays : (cuts : ℕ) (rules : List Rule) (region : WordValue) (cost : Cost) → 0 < cuts
+    → 16 < length rules → length rules ≤ cost.larger
+    → least_below 104 rules region ≡ Some cost → None ≡ paying_cut cuts rules region
+large_stays zero rules region cost some many large is = absurd (omega arith)
+large_stays (suc cuts) rules region cost some many large is =
+    rw (is, lt-ltb 16 (length rules) many, le-ltb cost.larger (length rules) large) refl
+
+pub spread_stays : (cuts : ℕ) (rules : List Rule) (region : WordValue) (cost : Cost) → 0 < cuts
+    → 16 < length rules → cost.larger < length rules → 5 * length rules < 4 * cost.sum
+    → least_below 104 rules region ≡ Some cost → None ≡ paying_cut cuts rules region
+spread_stays zero rules region cost some many fewer both is = absurd (omega arith)
+spread_stays (suc cuts) rules region cost some many fewer both is =
+    rw (
+      is,
+      lt-ltb 16 (length rules) many,
+      lt-ltb cost.larger (length rules) fewer,
+      lt-leb (4 * cost.sum) (5 * length rules) both,
+    ) refl
+
+paying_free : (rules : List Rule) (region : WordValue) (count : ℕ) (cost : Cost)
+    → if_pays count (least_below 104 rules region) ≡ Some cost → IsFreeBit region cost.bit
+paying_free rules region count cost is = by_least (least_below 104 rules region) refl is
+  where
+    by_least : (least : Option Cost) → least_below 104 rules region ≡ least
+        → if_pays count least ≡ Some cost → IsFreeBit region cost.bit
+    by_least None none pay = absurd (cc)
+    by_least (Some best) found pay = by_test (pays count best) pay
+      where
+        by_test : (b : Bool) → cond b (Some best) None ≡ Some cost → IsFreeBit region cost.bit
+        by_test true same =
+            let equal : best ≡ cost = cc in
+            subst (λ (c : Cost). IsFreeBit region c.bit) equal
+            (least_cuts rules region best found).cuts
+        by_test false none = absurd (cc)
+
+pub cuts_header : (cuts : ℕ) (rules : List Rule) (region : WordValue)
+    → CutsRuleBits (tree_within cuts rules region)
+unfolding tree_within
+cuts_header zero rules region = tt
+cuts_header (suc cuts) rules region = by_cut (paying_cut (suc cuts) rules region) refl
+    (λ bit one. cuts_header cuts (side_of rules region bit one) (fix_of region bit one))
+  where
+    by_cut : (cut : Option Cost) → paying_cut (suc cuts) rules region ≡ cut
+        → ((bit : ℕ) (one : Bool) → CutsRuleBits
+        (tree_within cuts (side_of rules region bit one) (fix_of region bit one)))
+        → CutsRuleBits (parted (tree_within cuts) rules region cut)
+    by_cut None none sides = tt
+    by_cut (Some cost) is sides = (
+      (paying_free rules region (length rules) cost is).bound,
+      sides cost.bit false,
+      sides cost.bit true,
+    )
+
+-- ---- narrowed rules, by their places
+
+-- the rule at the rank holds the header where the rule does
+abbrev pub Agrees : List Rule → ℕ → Rule → Type 0
+Agrees rules number rule = held_at rules number rule.rank ≡ holds rule.word number
+
+narrow_keeps : (P : Rule → Type 0) (rules : List Rule) (region : WordValue)
+    → ((rule : Rule) → meets rule.word region ≡ true → P rule → P (narrowed region rule))
+    → All P rules → All P (narrow rules region)
+narrow_keeps P [] region each all = All-same P _ _ (narrow_none region) (All-nil P)
+narrow_keeps P (rule ∷ rules) region each all =
+    let rest = narrow_keeps P rules region each (All-tail P rule rules all) in
+    let here = All-head P rule rules all in
+    elim (cases_Bool (meets rule.word region)) [
+      | inl meet ↦ elim (cases_Bool (covers_of rule.word region)) [
+        | inl covers ↦ All-same P _ _ (narrow_covered region rule rules meet covers)
+            (All-cons P (narrowed region rule) [] (each rule meet here) (All-nil P))
+        | inr past ↦ All-same P _ _ (narrow_more region rule rules meet past)
+            (All-cons P (narrowed region rule) (narrow rules region) (each rule meet here) rest)
+      ]
+      | inr apart ↦ All-same P _ _ (narrow_apart region rule rules apart) rest
+    ]
+
+and_true : (t : Bool) → (t && true) ≡ t
+and_true true = refl
+and_true false = refl
+
+narrowed_agrees : (list : List Rule) (region : WordValue) (number : ℕ) (rule : Rule)
+    → IsTrue (holds region number) → meets rule.word region ≡ true → Agrees list number rule
+    → Agrees list number (narrowed region rule)
+unfolding narrowed
+narrowed_agrees list region number rule inside meet agrees =
+    agrees
+    ∙ sym (meet_both rule.word region (joined rule.word region)
+    (met_joined rule.word region meet) number
+    ∙ ap (λ t. holds rule.word number && t) inside
+    ∙ and_true (holds rule.word number))
+
+side_agrees : (list rules : List Rule) (region : WordValue) (number : ℕ)
+    → IsTrue (holds region number) → All (Agrees list number) rules
+    → All (Agrees list number) (narrow rules region)
+side_agrees list rules region number inside all = narrow_keeps (Agrees list number) rules region
+    (λ rule meet agrees. narrowed_agrees list region number rule inside meet agrees) all
+
+rank_kept : (region : WordValue) (found : Option Rule)
+    → option_map rank_of (option_map (narrowed region) found) ≡ option_map rank_of found
+unfolding narrowed
+rank_kept region None = refl
+rank_kept region (Some rule) = refl
+
+-- narrowing keeps the place of the first rule that holds a header of the region
+first_kept : (rules : List Rule) (region : WordValue) (number : ℕ) → IsTrue (holds region number)
+    → option_map rank_of (find (is_held number) (narrow rules region))
+    ≡ option_map rank_of (find (is_held number) rules)
+first_kept rules region number inside =
+    ap (option_map rank_of) (narrow_first rules region number inside)
+    ∙ rank_kept region (find (is_held number) rules)
+
+-- ---- down the tree
+
+end_finds : (list rules : List Rule) (number : ℕ) → All (Agrees list number) rules
+    → find (held_at list number) (map rank_of rules) ≡ option_map rank_of
+    (find (is_held number) rules)
+end_finds list rules number all =
+    find-map (held_at list number) rank_of rules
+    ∙ ap (option_map rank_of)
+    (find_agree (λ (rule : Rule). held_at list number rule.rank) (is_held number) rules all)
+
+-- the bits of a header lead to the place of the first rule that holds it
+leads : (cuts : ℕ) (list rules : List Rule) (region : WordValue) (number : ℕ)
+    → IsTrue (holds region number) → All (Agrees list number) rules
+    → find (held_at list number) (places_at number (tree_within cuts rules region))
+    ≡ option_map rank_of (find (is_held number) rules)
+unfolding tree_within
+leads zero list rules region number inside all = end_finds list rules number all
+leads (suc cuts) list rules region number inside all =
+    by_cut (paying_cut (suc cuts) rules region) refl
+    (λ bit one within.
+    leads cuts list (side_of rules region bit one) (fix_of region bit one) number within
+    (side_agrees list rules (fix_of region bit one) number within all)
+    ∙ first_kept rules (fix_of region bit one) number within)
+  where
+    by_cut : (cut : Option Cost) → paying_cut (suc cuts) rules region ≡ cut
+        → ((bit : ℕ) (one : Bool) → IsTrue (holds (fix_of region bit one) number)
+        → find (held_at list number) (places_at number
+        (tree_within cuts (side_of rules region bit one) (fix_of region bit one)))
+        ≡ option_map rank_of (find (is_held number) rules))
+        → find (held_at list number) (places_at number (parted (tree_within cuts) rules region cut))
+        ≡ option_map rank_of (find (is_held number) rules)
+    by_cut None none down = end_finds list rules number all
+    by_cut (Some cost) is down = by_bit (paying_free rules region (length rules) cost is)
+        (bit_at number cost.bit == 1) refl
+      where
+        by_bit : IsFreeBit region cost.bit → (b : Bool) → (bit_at number cost.bit == 1) ≡ b
+            → find (held_at list number)
+            (cond b
+            (places_at number (tree_within cuts (side_of rules region cost.bit true)
+            (fix_of region cost.bit true)))
+            (places_at number (tree_within cuts (side_of rules region cost.bit false)
+            (fix_of region cost.bit false))))
+            ≡ option_map rank_of (find (is_held number) rules)
+        by_bit free true set = down cost.bit true
+            (in_half region cost.bit number true free.free inside (eqb-true _ _ set))
+        by_bit free false unset =
+            let zero_bit : bit_at number cost.bit ≡ 0 =
+            elim (cases_eq (bit_at number cost.bit) 1) [
+              | inl one ↦ absurd (both_ways _ unset (eq-eqb _ _ one))
+              | inr other ↦ omega (arith, bit_at-lt number cost.bit, other)
+            ] in
+            down cost.bit false
+            (in_half region cost.bit number false free.free inside zero_bit)
+
+-- ---- the root
+
+pub length_placed : (place : ℕ) (rules : List Rule)
+    → length (placed_from place rules) ≡ length rules
+length_placed place [] = refl
+length_placed place (rule ∷ rules) = ap suc (length_placed (place + 1) rules)
+
+placed_agrees : (list : List Rule) (number place : ℕ) (rules : List Rule)
+    → ((i : ℕ) → slice_get list (place + i) ≡ slice_get rules i)
+    → All (Agrees list number) (placed_from place rules)
+placed_agrees list number place [] same = All-nil (Agrees list number)
+placed_agrees list number place (rule ∷ rules) same =
+    let here : place + 0 ≡ place = omega arith in
+    let at : slice_get list place ≡ Some rule = sym (ap (slice_get list) here) ∙ same 0 in
+    All-cons (Agrees list number) (record rule { rank = place }) (placed_from (place + 1) rules)
+    (ap (λ found. option_map_or (λ (r : Rule). holds r.word number) found false) at)
+    (placed_agrees list number (place + 1) rules
+    (λ i. let next : place + 1 + i ≡ place + suc i = omega arith in
+    ap (slice_get list) next ∙ same (suc i)))
+
+placed_position : (number place : ℕ) (rules : List Rule)
+    → option_map rank_of (find (is_held number) (placed_from place rules))
+    ≡ cond (nat_lt (position_or_len (is_held number) rules) (length rules))
+    (Some (place + position_or_len (is_held number) rules)) None
+placed_position number place [] = refl
+placed_position number place (rule ∷ rules) =
+    by_case (holds rule.word number) (placed_position number (place + 1) rules)
+  where
+    by_case : (b : Bool)
+        → option_map rank_of (find (is_held number) (placed_from (place + 1) rules))
+        ≡ cond (nat_lt (position_or_len (is_held number) rules) (length rules))
+        (Some (place + 1 + position_or_len (is_held number) rules)) None
+        → option_map rank_of (cond b (Some (record rule { rank = place }))
+        (find (is_held number) (placed_from (place + 1) rules)))
+        ≡ cond (nat_lt (cond (not b) (1 + position_or_len (is_held number) rules) 0)
+        (suc (length rules)))
+        (Some (place + cond (not b) (1 + position_or_len (is_held number) rules) 0)) None
+    by_case true rest =
+        let here : place ≡ place + 0 = omega arith in
+        ap Some here
+        ∙ sym (ap (λ t. cond t (Some (place + 0)) None) (lt-ltb 0 (suc (length rules)) (omega arith)))
+    by_case false rest =
+        let n = position_or_len (is_held number) rules in
+        let next : place + 1 + n ≡ place + (1 + n) = omega arith in
+        rest
+        ∙ ap (λ k. cond (nat_lt n (length rules)) (Some k) None) next
+        ∙ ap (λ t. cond t (Some (place + (1 + n))) None) (same_lt n (length rules))
+      where
+        same_lt : (a b : ℕ) → nat_lt a b ≡ nat_lt (1 + a) (suc b)
+        same_lt a b = elim (cases_lt a b) [
+          | inl within ↦ lt-ltb a b within ∙ sym (lt-ltb (1 + a) (suc b) (omega arith))
+          | inr past ↦ le-ltb a b past ∙ sym (le-ltb (1 + a) (suc b) (omega arith))
+        ]
+
+-- the tree of a list leads each header of the region to the first of its rules that holds it
+pub tree_first : (list : List Rule) (region : WordValue) (number : ℕ)
+    → IsTrue (holds region number)
+    → find (held_at list number) (places_at number (rule_tree list region))
+    ≡ position (is_held number) list
+unfolding rule_tree
+tree_first list region number inside =
+    let placed = placed_from 0 list in
+    let agree = placed_agrees list number 0 list (λ i. ap (slice_get list) (none_more i)) in
+    leads 12 list (narrow placed region) region number inside
+    (side_agrees list placed region number inside agree)
+    ∙ first_kept placed region number inside
+    ∙ placed_position number 0 list
+    ∙ ap (λ k. cond (nat_lt (position_or_len (is_held number) list) (length list)) (Some k) None)
+    (none_more (position_or_len (is_held number) list))
+  where
+    none_more : (n : ℕ) → 0 + n ≡ n
+    none_more n = omega arith
+
+pub root_cuts : (list : List Rule) (region : WordValue) → CutsRuleBits (rule_tree list region)
+unfolding rule_tree
+root_cuts list region = cuts_header 12 (narrow (placed_from 0 list) region) region
+
+-- as `first` reads it
+pub first_is : (list : List Rule) (region : WordValue) (shape : RuleShape) (number h : ℕ)
+    (places : List ℕ) (found : Option ℕ) → shape ≡ rule_tree list region
+    → IsTrue (holds region h) → number ≡ h → places ≡ places_at number shape
+    → found ≡ find (held_at list number) places → found ≡ position (is_held h) list
+first_is list region shape number h places found built inside same at is =
+    is
+    ∙ ap (find (held_at list number)) (at ∙ ap (places_at number) built)
+    ∙ tree_first list region number (subst (λ n. IsTrue (holds region n)) (sym same) inside)
+    ∙ ap (λ n. position (is_held n) list) same

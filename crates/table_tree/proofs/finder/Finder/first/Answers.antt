@@ -1,0 +1,37 @@
+use Rattle.std.proofs.Common.{◌≡◌, ◌==◌, ◌∙◌, find, ap, subst, sym}
+use Rattle.std.specs.Bool.{IsTrue}
+use Rattle.std.specs.Option.{IsSomeAnd, option_and_then}
+use Rattle.policy_rules.specs.Partitions.{is_in}
+use Rattle.policy_rules.specs.declared.rules.Partition.{Partition}
+use Rattle.switch_table.specs.declared.tables.Tables.{Tables}
+use Rattle.table_tree.specs.Finding.{FinderValue}
+use Rattle.table_tree.proofs.FindLemmas.{first_in, none_there, one_read}
+use Rattle.table_tree.proofs.finder.Finder.first.Goals as goal
+
+pub returns-in-None-clause-place : goal.returns-in-None-clause-place
+returns-in-None-clause-place c =
+    ap (option_and_then (first_in c.args.header.now))
+    (none_there c.items.result.now c.args.partition c.in-None.ensures
+    ∙ ap (find (λ (part : Partition). part.number == c.args.partition))
+    (c.items.ensures ∙ ap (λ (t : Tables). t.auth) c.deref.ensures
+    ∙ ap (λ (v : FinderValue). v.tables.auth) c.self.view_is))
+
+pub first_at-requires : goal.first_at-requires
+first_at-requires c =
+    let same : c.items.result.now ≡ c.args.self.now.tables.auth =
+    c.items.ensures ∙ ap (λ (t : Tables). t.auth) c.deref.ensures
+    ∙ ap (λ (v : FinderValue). v.tables.auth) c.self.view_is in
+    let at = one_read c.items.result.now c.args.self.now.tables.auth c.args.partition
+    c.in-Some.own same c.in-Some.ensures in
+    subst (λ o. IsSomeAnd o (λ (part : Partition). IsTrue (is_in c.args.header.now part)))
+    (sym at) c.requires
+
+pub returns-in-Some-clause-place : goal.returns-in-Some-clause-place
+returns-in-Some-clause-place c =
+    let same : c.items.result.now ≡ c.args.self.now.tables.auth =
+    c.items.ensures ∙ ap (λ (t : Tables). t.auth) c.deref.ensures
+    ∙ ap (λ (v : FinderValue). v.tables.auth) c.self.view_is in
+    let at = one_read c.items.result.now c.args.self.now.tables.auth c.args.partition
+    c.in-Some.own same c.in-Some.ensures in
+    c.first_at.ensures.place
+    ∙ ap (option_and_then (first_in c.args.header.now)) at

@@ -1,0 +1,36 @@
+use Rattle.std.proofs.Common.{◌≡◌, ◌∙◌, Option, ap, position, slice_get, sym}
+use Rattle.std.specs.Option.{option_and_then}
+use Rattle.five_tuple.specs.Header.{number_of}
+use Rattle.policy_rules.specs.Rules.{is_held}
+use Rattle.policy_rules.specs.declared.rules.Partition.{Partition}
+use Rattle.policy_rules.specs.declared.rules.Rule.{Rule}
+use Rattle.switch_table.specs.declared.tables.Tables.{Tables}
+use Rattle.table_tree.specs.Finding.{FinderValue}
+use Rattle.table_tree.specs.Ruling.{rule_tree}
+use Rattle.table_tree.proofs.FindLemmas.{IsThere, first_in, is_there}
+use Rattle.table_tree.proofs.finder.Finder.first_at.Goals as goal
+use Rattle.table_tree.proofs.finder.Finder.first_at.Goals.{After-items-2}
+
+there : (c : After-items-2) → IsThere c.self.inside.tables.value c.args.header.now c.args.own
+    c.index-items-own.result c.index.result.now
+there c =
+    is_there c.self.inside.tables.value c.args.self.now.tables c.args.header.now c.args.own
+    c.index-items-own.result c.index.result.now c.items.result.now c.self.inside.rule_trees.items
+    (ap (λ (v : FinderValue). v.tables) c.self.view_is) c.requires
+    (c.items.ensures ∙ ap (λ (t : Tables). t.auth) c.deref.ensures) c.self.invariant.rules
+    c.index-items-own.is c.index.ensures
+
+pub first-requires-clause-built : goal.first-requires-clause-built
+first-requires-clause-built c = (there c).shape
+    ∙ ap (λ rules. rule_tree rules c.index.result.now.region) (sym c.items-2.ensures)
+
+pub first-requires-clause-header : goal.first-requires-clause-header
+first-requires-clause-header c = (there c).region
+
+pub returns-clause-place : goal.returns-clause-place
+returns-clause-place c =
+    c.first.ensures.place
+    ∙ ap (position (is_held (number_of c.args.header.now))) c.items-2.ensures
+    ∙ sym (ap (option_and_then (first_in c.args.header.now)) (there c.before).at)
+    ∙ ap (λ (v : FinderValue). option_and_then (first_in c.args.header.now)
+    (slice_get v.tables.auth c.args.own)) c.self.view_is

@@ -1,0 +1,21 @@
+use Rattle.std.proofs.Common.{List, ap, map, sym, ◌∙◌}
+use Rattle.policy_rules.specs.declared.rules.Rule.{Rule}
+use Rattle.table_tree.specs.Ruling.{Places}
+use Rattle.table_tree.proofs.RuleLemmas.{rank_of, within_cut, within_end}
+use Rattle.table_tree.proofs.rule_node.+grow.Goals as goal
+
+pub returns-in_default : goal.returns-in_default
+returns-in_default t c =
+    let node = c.args.node in
+    ap Places (c.in_ok-places.ensures ∙ ap (map rank_of) c.deref.ensures.value)
+    ∙ within_end c.args.cuts node.rules.items node.region
+    (sym c.in_default.is ∙ c.paying_cut.ensures.cut)
+
+pub returns : goal.returns
+returns t c =
+    let node = c.args.node in
+    rw (c.in_ok-boxed.ensures, c.in_ok-boxed-2.ensures)
+    (within_cut c.args.cuts node.rules.items node.region c.in-Some.cost _ _ _ _ _ _
+    c.in-Some.ensures.left c.in-Some.ensures.cut c.in_ok-low.ensures.rules
+    c.in_ok-low.ensures.region c.in_ok-high.ensures.rules c.in_ok-high.ensures.region
+    c.in_ok-low-2.ensures c.in_ok-high-2.ensures)

@@ -1,0 +1,12 @@
+use Rattle.std.proofs.Common.{ap, arith, length}
+use Rattle.table_tree.proofs.RuleLemmas.{length_placed}
+use Rattle.table_tree.proofs.rule_tree.RuleTree.build.Goals as goal
+
+pub new-requires-clause-few : goal.new-requires-clause-few
+new-requires-clause-few c = omega (
+  arith,
+  c.requires,
+  ap length c.deref.ensures.value,
+  ap length c.in_ok-placed.ensures.rules,
+  length_placed 0 c.args.rules.now,
+)

@@ -1,0 +1,109 @@
+ghost use Rattle.std.specs.Prelude.{◌≡◌, ◌<◌, IfOk, IfSome, map};
+ghost use Rattle.policy_rules.specs.declared.rules.Rule.{Rule};
+ghost use Rattle.cut_tree.specs.Cuts.{IsFreeBit};
+ghost use Rattle.table_tree.specs.Ruling.{CutsRuleBits, paying_cut, places_at, rule_shape, tree_within};
+
+use cut_tree::{Cost, Node};
+use policy_rules::Rule;
+use std::alloc::{AllocError, Global};
+
+/// The most rules of a node that is not cut.
+const FEW_RULES: usize = 16;
+
+/// A decision tree over the bits of a header number.
+#[derive(Drop)]
+pub enum RuleNode {
+    /// The places of the rules that are left, in order.
+    End {
+        places: Vec<u32>,
+    },
+    /// The headers with a 0 at the bit are on the low side, those with a 1 on the high side.
+    Cut {
+        bit: u32,
+        low: Box<RuleNode>,
+        high: Box<RuleNode>,
+    },
+}
+
+impl RuleNode {
+    /// The places to which the bits of the number lead.
+    pub fn places(&self, number: u128) -> &[u32]
+        requires { CutsRuleBits (rule_shape self.now) }
+        ensures { result.now ≡ places_at number (rule_shape self.now) }
+    {
+        match self {
+            RuleNode::End { places } => places,
+            RuleNode::Cut { bit, low, high } => {
+                if (number >> *bit) & 1 == 1 {
+                    high.places(number)
+                } else {
+                    low.places(number)
+                }
+            }
+        }
+    }
+}
+
+/// The tree of a node with at most so many cuts one below another.
+pub fn grow(alloc: Global, node: Node, cuts: u32) -> Result<RuleNode, AllocError>
+    ensures { IfOk result (λ tree.
+        rule_shape tree ≡ tree_within cuts node.rules.items node.region) }
+{
+    let Some(cost) = paying_cut(&node, cuts) else {
+        let places = places_of(alloc, &node.rules)?;
+        return Ok(RuleNode::End { places });
+    };
+    let low = node.half(alloc, cost.bit, false)?;
+    let high = node.half(alloc, cost.bit, true)?;
+    // The way down keeps the lists of the halves alone.
+    drop(node);
+    let low = grow(alloc, low, cuts - 1)?;
+    let high = grow(alloc, high, cuts - 1)?;
+    Ok(RuleNode::Cut {
+        bit: cost.bit,
+        low: boxed(alloc, low)?,
+        high: boxed(alloc, high)?,
+    })
+}
+
+// The cut of the node that costs least, where one is left and it pays.
+#[tactic(auto, using(crate::proofs::RuleLemmas::none_left, crate::proofs::RuleLemmas::few_stay, crate::proofs::RuleLemmas::large_stays, crate::proofs::RuleLemmas::spread_stays, crate::proofs::RuleLemmas::cut_pays))]
+fn paying_cut(node: &Node, cuts: u32) -> Option<Cost>
+    ensures cut { result ≡ paying_cut cuts node.now.rules.items node.now.region }
+    ensures free { IfSome result (λ cost. IsFreeBit node.now.region cost.bit) }
+    ensures left { IfSome result (λ cost. 0 < cuts) }
+{
+    let count = node.rules.len();
+    if cuts == 0 {
+        return None;
+    }
+    if count <= FEW_RULES {
+        return None;
+    }
+    let cost = node.least_cut();
+    if cost.larger as usize >= count {
+        return None;
+    }
+    if 4 * u128::from(cost.sum) > 5 * count as u128 {
+        return None;
+    }
+    Some(cost)
+}
+
+// The places that the rules have as their ranks.
+fn places_of(alloc: Global, rules: &[Rule]) -> Result<Vec<u32>, AllocError>
+    ensures { IfOk result (λ places. places.items ≡ map (λ (rule : Rule). rule.rank) rules.now) }
+{
+    let mut places = Vec::with_capacity(alloc, rules.len())?;
+    for rule in rules {
+        places.push(rule.rank)?;
+    }
+    Ok(places)
+}
+
+fn boxed(alloc: Global, tree: RuleNode) -> Result<Box<RuleNode>, AllocError>
+    ensures { IfOk result (λ boxed. boxed.value ≡ tree) }
+{
+    let boxed = Box::new(alloc, tree)?;
+    Ok(boxed)
+}

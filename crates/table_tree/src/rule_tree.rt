@@ -1,0 +1,97 @@
+ghost use Rattle.std.specs.Prelude.{◌≡◌, ◌<◌, ◌^◌, IfOk, IfSome, IsTrue, find, length, position};
+ghost use Rattle.std.specs.Option.{option_copied};
+ghost use Rattle.five_tuple.specs.Header.{number_of};
+ghost use Rattle.ternary.specs.Word.{holds};
+ghost use Rattle.policy_rules.specs.Rules.{is_held};
+ghost use Rattle.cut_tree.specs.Nodes.{AreWords};
+ghost use Rattle.table_tree.specs.Ruling.{held_at, placed_from, rule_shape, rule_tree};
+
+use crate::rule_node::{RuleNode, grow};
+use cut_tree::Node;
+use five_tuple::Header;
+use policy_rules::Rule;
+use std::alloc::{AllocError, Global};
+use ternary::Word;
+
+/// The most cuts one below another.
+const MOST_CUTS: u32 = 12;
+
+/// A tree over the rules of a region: it leads each header to the places of the few rules that may
+/// be the first to hold it.
+#[derive(Drop)]
+pub struct RuleTree {
+    pub region: Word,
+    pub root: RuleNode,
+}
+
+impl RuleTree {
+    /// The tree of these rules in this region.
+    ///
+    /// A node is cut at its free bit that costs least, where it has more than 16 rules, lies fewer
+    /// than 12 cuts deep, its larger side has fewer rules, and both together at most five quarters.
+    ///
+    /// # Errors
+    /// Want of memory alone.
+    #[tactic(auto, unfolding(crate::specs::Ruling::rule_tree))]
+    pub fn build(alloc: Global, rules: &[Rule], region: &Word) -> Result<RuleTree, AllocError>
+        requires { length rules.now < 2 ^ 32 }
+        ensures region { IfOk result (λ tree. tree.region ≡ region.now) }
+        ensures tree { IfOk result (λ tree.
+            rule_shape tree.root ≡ rule_tree rules.now region.now) }
+    {
+        let placed = placed(alloc, rules)?;
+        let node = Node::new(alloc, &placed, region)?;
+        let root = grow(alloc, node, MOST_CUTS)?;
+        Ok(RuleTree {
+            region: *region,
+            root,
+        })
+    }
+
+    /// The place of the first of the rules that holds the header, as `first_hit` answers it, by the
+    /// tree of these rules. It takes no memory.
+    pub fn first(&self, rules: &[Rule], header: &Header) -> Option<usize>
+        requires built { rule_shape self.now.root ≡ rule_tree rules.now self.now.region }
+        requires header { IsTrue (holds self.now.region (number_of header.now)) }
+        ensures place { result ≡ position (is_held (number_of header.now)) rules.now }
+        ensures small { IfSome result (λ place. place < 2 ^ 32) }
+    {
+        let number = header.number();
+        match first_of(self.root.places(number), rules, number) {
+            Some(place) => Some(*place as usize),
+            None => None,
+        }
+    }
+}
+
+// The first of the places whose rule holds the number.
+fn first_of<'a>(places: &'a [u32], rules: &[Rule], number: u128) -> Option<&'a u32>
+    ensures { option_copied result ≡ find (held_at rules.now number) places.now }
+{
+    places.iter().find(|place| holds_at(rules, **place, number))
+}
+
+// Whether there is a rule at the place that holds the number.
+fn holds_at(rules: &[Rule], place: u32, number: u128) -> bool
+    ensures { result ≡ held_at rules.now number place }
+{
+    match rules.get(place as usize) {
+        Some(rule) => rule.word.holds(number),
+        None => false,
+    }
+}
+
+// The rules, each with its place as its rank.
+fn placed(alloc: Global, rules: &[Rule]) -> Result<Vec<Rule>, AllocError>
+    requires { length rules.now < 2 ^ 32 }
+    ensures rules { IfOk result (λ placed. placed.items ≡ placed_from 0 rules.now) }
+    ensures words { IfOk result (λ placed. AreWords placed.items) }
+{
+    let mut placed = Vec::with_capacity(alloc, rules.len())?;
+    for rule in rules {
+        let rank = placed.len() as u32;
+        let _ = rule.word.mask();
+        placed.push(Rule { rank, ..*rule })?;
+    }
+    Ok(placed)
+}
