@@ -37,6 +37,16 @@ impl SharedTables {
     {
         &self.shared
     }
+
+    /// The tables, shared once more.
+    ///
+    /// # Errors
+    /// Want of memory alone.
+    pub fn share(&self) -> Result<Rc<Tables>, AllocError>
+        ensures { IfOk result (λ shared. shared.value ≡ self.now) }
+    {
+        self.shared.clone()
+    }
 }
 
 impl Clone for SharedTables {
