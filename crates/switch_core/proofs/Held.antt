@@ -5,6 +5,7 @@ use Rattle.std.specs.Option.{IsSomeAnd, option_and_then, option_map_or}
 use Rattle.std.proofs.lemmas.Bool.{cases_lt}
 use Rattle.std.proofs.lemmas.Bool.Decides.{nat_tests}
 use Rattle.std.proofs.lemmas.List.Elements.{All-contains}
+use Rattle.std.proofs.lemmas.Option.{same_Some}
 use Rattle.five_tuple.specs.Header.{IsHeader, number_of}
 use Rattle.five_tuple.specs.declared.header.Header.{Header}
 use Rattle.policy_rules.proofs.CallerLemmas.{find-position}
@@ -19,7 +20,7 @@ use Rattle.switch_table.specs.Tables.{AreSoundTables}
 use Rattle.switch_table.specs.declared.cache.CacheEntry.{CacheEntry}
 use Rattle.switch_table.specs.declared.tables.Tables.{Tables}
 use Rattle.switch_table.specs.declared.search.Found.TheVariants.{Cached}
-use Rattle.switch_core.specs.Deciding.{IsFirstHit, IsFound, first_place, own_part}
+use Rattle.switch_core.specs.Deciding.{IsFirstHit, IsFound, first_place, no_part, own_part, part_numbered}
 
 -- tables that are found are sound, as all of them are
 pub sound_found : (list : List Tables) (version : ℕ) (tables : Tables) → All AreSoundTables list →
@@ -118,8 +119,32 @@ lookup_is_found entries tables header sound is =
     by_entry (Some entry) = tt
     by_entry None = by_part (find (is_in header) tables.auth) refl
 
-pub own_few : (tables : Tables) (number : ℕ) (part : Partition) → AreSoundTables tables →
-    own_part tables number ≡ Some part → length part.rules < 2 ^ 32
-own_few tables number part sound found =
-    All-contains (λ (p : Partition). length p.rules < 2 ^ 32) tables.auth part sound.few_rules
-    (find-there (λ (p : Partition). p.number == number) tables.auth part found).0
+-- what a search in the own partition of a number finds for a header of its region
+pub record IsOwnFirst (tables : Tables) (number : ℕ) (header : Header) (found : Option ℕ)
+    : Type 0 where
+  pub place : found ≡ Some (first_place header (part_numbered tables number))
+  pub first : IsFirstHit header (part_numbered tables number)
+      (first_place header (part_numbered tables number))
+
+pub own_first : (tables : Tables) (number : ℕ) (header : Header) (found : Option ℕ) →
+    AreSoundTables tables → IsHeader header →
+    IsSomeAnd (own_part tables number) (λ part. IsTrue (is_in header part)) →
+    found ≡ option_and_then (λ part. position (is_held (number_of header)) part.rules)
+    (own_part tables number) → IsOwnFirst tables number header found
+own_first tables number header found sound is own searched =
+    let both = by_part (own_part tables number) refl own searched in
+    record { place = both.0; first = both.1 }
+  where
+    by_part : (o : Option Partition) → own_part tables number ≡ o →
+        IsSomeAnd o (λ part. IsTrue (is_in header part)) →
+        found ≡ option_and_then (λ part. position (is_held (number_of header)) part.rules) o →
+        (found ≡ Some (first_place header (unwrap_or o no_part)))
+        × IsFirstHit header (unwrap_or o no_part) (first_place header (unwrap_or o no_part))
+    by_part None none own searched = absurd own
+    by_part (Some part) there held searched =
+        let hit = own_hit tables number part header sound is there held in
+        (searched ∙ hit.first, hit)
+
+pub same_place : (place : ℕ) (found : Option ℕ) (first : ℕ) → found ≡ Some place →
+    found ≡ Some first → place ≡ first
+same_place place found first p q = same_Some place first (sym p ∙ q)

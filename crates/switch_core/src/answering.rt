@@ -1,6 +1,5 @@
 ghost use Rattle.std.specs.Prelude.{◌≡◌, IsSomeAnd, IsTrue};
 ghost use Rattle.policy_rules.specs.Partitions.{is_in};
-ghost use Rattle.switch_table.specs.Tables.{AreSoundTables};
 ghost use Rattle.switch_core.specs.Answering.{CanLookUp, IsAtAuthority, IsUncached, answer_by, arrived, decided_at, decided_in, entered, incoming, looked_up, packet_of};
 ghost use Rattle.switch_core.specs.Deciding.{IsFirstHit, IsFound, own_part};
 ghost use Rattle.switch_core.specs.Ends.{around};
@@ -8,12 +7,13 @@ ghost use Rattle.switch_core.specs.State.{counted, holds_version, serves};
 
 use crate::answers::{Answer, Arrived, Decision, Entered};
 use crate::deciding::{cache_rule, found_in, own_part, rule_in};
+use crate::kept::KeptTables;
 use crate::packet::Packet;
 use crate::switch::Switch;
 use failover::DownSet;
 use five_tuple::Header;
 use net_file::Ports;
-use policy_rules::{Leg, Partition, first_hit};
+use policy_rules::{Leg, Partition};
 use switch_table::{Found, Tables};
 use tunnel::Tunnel;
 
@@ -83,7 +83,7 @@ impl Switch {
     {
         let tables = self.stamp_tables();
         let found = found_in(&self.cache, tables, &packet.header);
-        self.answer(near, ports, packet, tables, &found)
+        self.answer(near, ports, packet, tables.tables(), &found)
     }
 
     // By what was found in these tables.
@@ -131,17 +131,17 @@ impl Switch {
         ports: &Ports,
         packet: &Packet,
         partition: u32,
-        tables: &Tables,
+        tables: &KeptTables,
     ) -> Answer
-        requires sound { AreSoundTables tables.now }
-        requires own { IsSomeAnd (own_part tables.now partition)
+        requires { IsSomeAnd (own_part tables.now partition)
             (λ part. IsTrue (is_in packet.now.header part)) }
         ensures { result
             ≡ decided_in self.now (around near ports.now) packet.now partition tables.now }
     {
+        let place = tables.first_place(partition, &packet.header);
+        let tables = tables.tables();
         let part = own_part(tables, partition).unwrap();
-        let place = first_hit(part.rules.items(), &packet.header).unwrap();
-        self.decide_at(near, ports, packet, tables.version, part, place as u32)
+        self.decide_at(near, ports, packet, tables.version, part, place)
     }
 
     // The rule at this place decides.

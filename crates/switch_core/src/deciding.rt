@@ -6,12 +6,13 @@ ghost use Rattle.switch_table.specs.Tables.{AreSoundTables};
 ghost use Rattle.switch_core.specs.Deciding.{IsFirstHit, IsFound, by_entry, by_rule, cache_rule, own_part, rule_in};
 
 use crate::answers::Decision;
+use crate::kept::KeptTables;
 use crate::packet::Packet;
 use cache_maker::widen;
 use ctrl_msg::Body;
 use five_tuple::Header;
 use policy_rules::{How, Partition, Rule};
-use switch_table::{Cache, CacheEntry, Found, Tables, lookup};
+use switch_table::{Cache, CacheEntry, Found, Tables};
 
 impl Decision {
     /// By a cached rule.
@@ -42,14 +43,14 @@ impl Decision {
 }
 
 /// What a lookup finds. An authority rule that is found is the first hit of its partition.
-pub fn found_in(cache: &Cache, tables: &Tables, header: &Header) -> Found
+pub fn found_in(cache: &Cache, tables: &KeptTables, header: &Header) -> Found
     requires { AreSoundTables tables.now }
     ensures found { result ≡ lookup_of cache.now.entries tables.now header.now }
     ensures first_hit { IsFound tables.now header.now result }
     ensures header { IsHeader header.now }
 {
     let _ = header.number();
-    lookup(cache, tables, header)
+    tables.lookup(cache, header)
 }
 
 /// A switch's own partition of this number.

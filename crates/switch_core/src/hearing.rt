@@ -4,6 +4,7 @@ ghost use Rattle.ctrl_msg.specs.declared.message.Body.TheVariants.{Advertise};
 ghost use Rattle.switch_core.specs.Hearing.{IsSoundBody, collected_to, flood, heard, informed, installed, is_news_to, learnt, obeys, opened, opened_at, opened_by, raised_to, replies, replies_to, to_controller};
 
 use crate::answers::{Heard, Replies};
+use crate::kept::KeptTables;
 use crate::switch::Switch;
 use ctrl_msg::{Body, Message, Receiver, SharedTables};
 use failover::Advert;
@@ -42,7 +43,7 @@ impl Switch {
         let replies = self.replies_to(alloc, body, near)?;
         let opened = self.opened_by(body);
         match body {
-            Body::Install { tables, .. } => self.install(tables)?,
+            Body::Install { tables, .. } => self.install(alloc, tables)?,
             Body::OpenAt { version, .. } => self.open_at(*version),
             Body::Stamp { version, .. } => self.raise(*version),
             Body::Collect { version, .. } => self.collect(*version),
@@ -113,9 +114,9 @@ impl Switch {
         }
     }
 
-    // Keeps the tables, unless it has that version or has dropped it.
+    // Keeps the tables, with trees for them, unless it has that version or has dropped it.
     #[tactic(auto, unfolding(crate::specs::Hearing::installed))]
-    fn install(&mut self, tables: &SharedTables) -> Result<(), AllocError>
+    fn install(&mut self, alloc: Global, tables: &SharedTables) -> Result<(), AllocError>
         requires { AreSoundTables tables.now }
         ensures after { OnOk result (self.new ≡ installed self.old tables.now) }
         ensures err { OnErr result (self.new ≡ self.old) }
@@ -124,7 +125,7 @@ impl Switch {
         if version <= self.collected || self.holds_version(version) {
             return Ok(());
         }
-        self.tables.push(tables.clone()?)?;
+        self.tables.push(KeptTables::new(alloc, tables)?)?;
         Ok(())
     }
 
@@ -154,7 +155,7 @@ impl Switch {
     {
         self.collected = self.collected.max(version);
         let mark = self.collected;
-        self.tables.retain(|shared| shared.tables().version > mark);
+        self.tables.retain(|kept| kept.tables().version > mark);
     }
 
     // Takes a rule into the cache.

@@ -22,6 +22,7 @@ mod deciding;
 mod ends;
 mod hearing;
 mod hopping;
+mod kept;
 mod laws;
 mod life;
 mod packet;

@@ -4,11 +4,12 @@ ghost use Rattle.failover.specs.Adverts.{held};
 ghost use Rattle.switch_table.specs.Tables.{AreSoundTables};
 ghost use Rattle.switch_core.specs.State.{HasOwnUpTo, IsSwitch, begun, counted, held_tables, holds_version, serves, stamp_tables};
 
+use crate::kept::KeptTables;
 use ctrl_msg::SharedTables;
 use failover::{Advert, Database};
 use std::alloc::{AllocError, Global};
 use std::marker::Model;
-use switch_table::{Cache, Tables};
+use switch_table::Cache;
 
 /// One switch. Contracts see the record of its number, boot, whether it is up and open, stamp,
 /// collect mark, tables, cache, adverts, own seq, and how many packet calls it answered.
@@ -20,7 +21,7 @@ pub struct Switch {
     pub(crate) is_open: bool,
     pub(crate) stamp: u32,
     pub(crate) collected: u32,
-    pub(crate) tables: Vec<SharedTables>,
+    pub(crate) tables: Vec<KeptTables>,
     pub(crate) cache: Cache,
     pub(crate) database: Database,
     pub(crate) seq: u32,
@@ -59,7 +60,7 @@ impl Switch {
         ensures { IfOk result (λ switch. switch ≡ begun number cache tables base) }
     {
         let mut list = Vec::new(alloc);
-        list.push(tables)?;
+        list.push(KeptTables::new(alloc, &tables)?)?;
         Ok(Switch {
             number,
             boot: 1,
@@ -135,18 +136,18 @@ impl Switch {
     }
 
     /// The tables of this version, where it has them.
-    pub(crate) fn held_tables(&self, version: u32) -> Option<&Tables>
+    pub(crate) fn held_tables(&self, version: u32) -> Option<&KeptTables>
         ensures tables { option_copied result ≡ held_tables self.now version }
         ensures sound { IfSome result (λ tables. AreSoundTables tables.now) }
     {
         match find_tables(&self.tables, version) {
-            Some(shared) => Some(shared.tables()),
+            Some(kept) => Some(kept),
             None => None,
         }
     }
 
     /// The tables of its stamp.
-    pub(crate) fn stamp_tables(&self) -> &Tables
+    pub(crate) fn stamp_tables(&self) -> &KeptTables
         requires { IsTrue (holds_version self.now self.now.stamp) }
         ensures tables { result.now ≡ stamp_tables self.now }
         ensures sound { AreSoundTables result.now }
@@ -163,9 +164,8 @@ impl Switch {
 }
 
 // The first tables of this version.
-fn find_tables(list: &[SharedTables], version: u32) -> Option<&SharedTables>
+fn find_tables(list: &[KeptTables], version: u32) -> Option<&KeptTables>
     ensures { option_copied result ≡ find (λ tables. tables.version == version) list.now }
 {
-    list.iter()
-        .find(|shared| shared.tables().version == version)
+    list.iter().find(|kept| kept.tables().version == version)
 }

@@ -1,0 +1,20 @@
+use Rattle.std.proofs.Common.{◌≡◌, ◌∙◌, Some, ap, subst, sym}
+use Rattle.std.specs.Bool.{IsTrue}
+use Rattle.std.specs.Option.{IsSomeAnd, option_and_then}
+use Rattle.switch_core.specs.Deciding.{IsFirstHit, first_place, part_numbered}
+use Rattle.switch_core.proofs.Held.{IsOwnFirst, own_first, same_place}
+use Rattle.switch_core.proofs.kept.KeptTables.first_place.Goals as goal
+use Rattle.switch_core.proofs.kept.KeptTables.first_place.Goals.{After-first}
+
+found : (c : After-first) → IsOwnFirst c.args.self.now c.args.partition c.args.header.now
+    c.first.result
+found c = rw (← c.self.view_is) (own_first c.self.inside.finder.tables c.args.partition
+    c.args.header.now c.first.result c.first.ensures.sound c.first.ensures.header
+    (rw c.self.view_is c.requires) c.first.ensures.place)
+
+pub unwrap-place-requires : goal.unwrap-place-requires
+unwrap-place-requires c = rw ((found c).place)
+
+pub returns-clause-place : goal.returns-clause-place
+returns-clause-place c =
+    same_place c.unwrap-place.result c.first.result _ c.unwrap-place.ensures (found c.before).place

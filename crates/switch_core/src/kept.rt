@@ -1,0 +1,66 @@
+ghost use Rattle.std.specs.Prelude.{◌≡◌, IfOk, IsSomeAnd, IsTrue};
+ghost use Rattle.five_tuple.specs.Header.{IsHeader};
+ghost use Rattle.policy_rules.specs.Partitions.{is_in};
+ghost use Rattle.switch_table.specs.Lookup.{lookup_of};
+ghost use Rattle.switch_table.specs.Tables.{AreSoundTables};
+ghost use Rattle.switch_core.specs.Deciding.{IsFirstHit, first_place, own_part, part_numbered};
+
+use ctrl_msg::SharedTables;
+use five_tuple::Header;
+use std::alloc::{AllocError, Global};
+use std::marker::Model;
+use switch_table::{Cache, Found, Tables};
+use table_tree::Finder;
+
+/// The tables of one version, with the trees that lead to a header's rules in them. Contracts see
+/// the tables.
+#[derive(Drop)]
+pub struct KeptTables {
+    finder: Finder,
+}
+
+impl Model for KeptTables {
+    ghost use Rattle.switch_table.specs.declared.tables.Tables.{Tables};
+
+    ghost Value = { Tables };
+
+    ghost view = { λ k. k.finder.tables };
+}
+
+impl KeptTables {
+    /// These tables, with trees for them.
+    ///
+    /// # Errors
+    /// Want of memory alone.
+    pub fn new(alloc: Global, tables: &SharedTables) -> Result<KeptTables, AllocError>
+        requires { AreSoundTables tables.now }
+        ensures { IfOk result (λ kept. kept ≡ tables.now) }
+    {
+        let finder = Finder::build(alloc, tables.share()?)?;
+        Ok(KeptTables { finder })
+    }
+
+    /// The tables.
+    pub fn tables(&self) -> &Tables
+        ensures { result.now ≡ self.now }
+    {
+        self.finder.tables()
+    }
+
+    /// Looks a header up, as `switch_table::lookup` does.
+    pub fn lookup(&self, cache: &Cache, header: &Header) -> Found
+        ensures { result ≡ lookup_of cache.now.entries self.now header.now }
+    {
+        self.finder.lookup(cache, header)
+    }
+
+    /// The place of the first rule that holds the header, in the own partition of this number.
+    pub fn first_place(&self, partition: u32, header: &Header) -> u32
+        requires { IsSomeAnd (own_part self.now partition) (λ part. IsTrue (is_in header.now part)) }
+        ensures place { result ≡ first_place header.now (part_numbered self.now partition) }
+        ensures first { IsFirstHit header.now (part_numbered self.now partition) result }
+    {
+        let place = self.finder.first(partition, header).unwrap();
+        place as u32
+    }
+}
