@@ -1,0 +1,56 @@
+-- The tables of the tests are sound: of three regions, one has each header.
+use Rattle.std.proofs.Common.{◌≡◌, ◌+◌, ◌<◌, ◌==◌, ◌&&◌, ◌∙◌, ap, ℕ, zero, suc, false, true, cond, List, [], ◌∷◌, refl, arith, lit<}
+use Rattle.std.specs.Bool.{IsFalse}
+use Rattle.std.specs.Int.{bit_at}
+use Rattle.std.specs.List.{count_by}
+use Rattle.std.proofs.lemmas.Nat.Bits.{bit_at-lt}
+use Rattle.five_tuple.specs.Header.{number_of}
+use Rattle.ternary.specs.Word.{any_word, fix_of, holds, is_fixed_of}
+use Rattle.ternary.proofs.CallerLemmas.{any_holds, any_unfixed, fix_holds}
+use Rattle.switch_table.specs.Tables.{AreSoundTables}
+use Rattle.switch_table.specs.declared.tables.PartRow.{PartRow}
+use Rattle.switch_table.specs.declared.tables.Tables.{Tables}
+
+-- of three regions by two bits, one has each header
+abbrev pub thirds : List PartRow
+thirds = record { region = fix_of (fix_of any_word 71 false) 103 false; targets = 1 ∷ [] }
+    ∷ record { region = fix_of (fix_of any_word 71 false) 103 true; targets = 1 ∷ [] }
+    ∷ record { region = fix_of any_word 71 true; targets = 1 ∷ [] } ∷ []
+
+one_third : (a b : ℕ) → a < 2 → b < 2
+    → 0 + cond ((a == 0) && (b == 0)) 1 0 + cond ((a == 0) && (b == 1)) 1 0 + cond (a == 1) 1 0
+    ≡ 1
+one_third zero zero p q = refl
+one_third zero (suc zero) p q = refl
+one_third (suc zero) zero p q = refl
+one_third (suc zero) (suc zero) p q = refl
+one_third (suc (suc a)) b p q = absurd (omega arith)
+one_third a (suc (suc b)) p q = absurd (omega arith)
+
+free_high : IsFalse (is_fixed_of (fix_of any_word 71 false) 103)
+unfolding fix_of is_fixed_of
+free_high = refl
+
+third_has : (number : ℕ) → count_by (λ (row : PartRow). holds row.region number) thirds ≡ 1
+third_has number =
+    let low = fix_holds any_word 71 false (any_unfixed 71) number
+    ∙ ap (λ t. t && (bit_at number 71 == 0)) (any_holds number) in
+    let high = fix_holds any_word 71 true (any_unfixed 71) number
+    ∙ ap (λ t. t && (bit_at number 71 == 1)) (any_holds number) in
+    let half = fix_of any_word 71 false in
+    let lower = fix_holds half 103 false free_high number
+    ∙ ap (λ t. t && (bit_at number 103 == 0)) low in
+    let upper = fix_holds half 103 true free_high number
+    ∙ ap (λ t. t && (bit_at number 103 == 1)) low in
+    rw (lower, upper, high)
+    (one_third (bit_at number 71) (bit_at number 103) (bit_at-lt number 71) (bit_at-lt number 103))
+
+pub sound_thirds : (t : Tables) → t.parts ≡ thirds → t.auth ≡ [] → AreSoundTables t
+sound_thirds t parts auth = record {
+  one = λ header is. rw parts (third_has (number_of header));
+  numbers = rw auth (λ k d within. absurd (omega arith));
+  distinct = rw auth (λ i j d less within. absurd (omega arith));
+  covers = rw auth (λ k d within. absurd (omega arith));
+  few_rows = rw parts (lit< tt);
+  few_rules = rw auth (λ k d within. absurd (omega arith));
+}

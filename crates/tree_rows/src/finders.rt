@@ -1,0 +1,99 @@
+//! A finder over the regions of a tree that is cut at bit 71, and on the low side at bit 103.
+ghost use Rattle.std.specs.Prelude.{◌≡◌, [], ◌∷◌, false, true, IfOk};
+ghost use Rattle.ternary.specs.Word.{any_word, fix_of};
+ghost use Rattle.switch_table.specs.Tables.{AreSoundTables};
+
+use five_tuple::{Fields, Header};
+use policy_rules::Targets;
+use std::alloc::Global;
+use std::rc::Rc;
+use std::test::Fail;
+use switch_table::{Cache, Found, PartRow, PartRows, Partitions, Tables, lookup};
+use table_tree::{Finder, Tree};
+use ternary::{Word, any_laws, fix_laws};
+
+// Tables of three regions, of a switch that is no authority.
+fn tables(alloc: Global) -> Result<Tables, Fail>
+    ensures parts { IfOk result (λ t. t.parts
+        ≡ record { region = fix_of (fix_of any_word 71 false) 103 false; targets = 1 ∷ [] }
+        ∷ record { region = fix_of (fix_of any_word 71 false) 103 true; targets = 1 ∷ [] }
+        ∷ record { region = fix_of any_word 71 true; targets = 1 ∷ [] } ∷ []) }
+    ensures auth { IfOk result (λ t. t.auth ≡ []) }
+{
+    any_laws();
+    fix_laws();
+    let low = Word::any().fix(71, false);
+    let targets = Targets::new(&[1]).ok_or("targets")?;
+    let mut rows = Vec::new(alloc);
+    rows.push(PartRow {
+        region: low.fix(103, false),
+        targets,
+    })?;
+    rows.push(PartRow {
+        region: low.fix(103, true),
+        targets,
+    })?;
+    rows.push(PartRow {
+        region: Word::any().fix(71, true),
+        targets,
+    })?;
+    Ok(Tables {
+        version: 1,
+        parts: PartRows::new(rows)?,
+        auth: Partitions::new(Vec::new(alloc)),
+    })
+}
+
+#[tactic(auto, using(crate::proofs::TestTables::sound_thirds))]
+fn shared(alloc: Global) -> Result<Rc<Tables>, Fail>
+    ensures { IfOk result (λ t. AreSoundTables t.value) }
+{
+    let tables = tables(alloc)?;
+    Ok(Rc::new(alloc, tables)?)
+}
+
+fn header(src: u32, dst: u32) -> Header {
+    Header::pack(&Fields {
+        src,
+        dst,
+        sport: 3,
+        dport: 4,
+        proto: 6,
+    })
+}
+
+// The bit of the tree's first cut, and of the first one on its low side.
+fn first_cuts(tree: &Tree) -> Option<(u32, u32)> {
+    match tree {
+        Tree::At { .. } => None,
+        Tree::Cut { bit, low, .. } => match low.as_ref() {
+            Tree::At { .. } => None,
+            Tree::Cut { bit: next, .. } => Some((*bit, *next)),
+        },
+    }
+}
+
+#[test]
+fn regions_are_found_by_two_bits(rt: HostRuntime) -> Result<(), Fail> {
+    let alloc = rt.alloc();
+    let tables = shared(alloc)?;
+    let finder = Finder::build(alloc, tables.clone()?)?;
+    assert_eq!(rt; first_cuts(finder.tree()), Some((71, 103)));
+    let cache = Cache::new(alloc, 4);
+    for (header, place) in [
+        (header(1, 2), 0),
+        (header(0x80000001, 2), 1),
+        (header(1, 0x80000002), 2),
+    ] {
+        assert_eq!(rt; part_of(&finder.lookup(&cache, &header)), Some(place));
+        assert_eq!(rt; part_of(&lookup(&cache, &tables, &header)), Some(place));
+    }
+    Ok(())
+}
+
+fn part_of(found: &Found) -> Option<u32> {
+    match found {
+        Found::Redirect { partition, .. } => Some(*partition),
+        _ => None,
+    }
+}

@@ -1,0 +1,10 @@
+//! Lookups by trees and words by differing bits, beside the plain ones: each on the same headers.
+//! This crate has tests alone.
+#![tactic(auto)]
+
+#[cfg(test)]
+mod finders;
+#[cfg(test)]
+mod rule_trees;
+#[cfg(test)]
+mod words;
