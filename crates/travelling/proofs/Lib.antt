@@ -1,3 +1,3 @@
 pub mod Tables
-pub mod Counted
+pub mod Marked
 pub mod Numbers

@@ -1,8 +1,9 @@
 -- The packets on their way, by their numbers.
-use Rattle.std.specs.Prelude.{ℕ, ◌≡◌, ◌<◌, ◌≤◌, ◌==◌, Bool, true, false, if◌then◌else◌, Option, Some, None, List, IsSome, IsSomeAnd, MatchOption, count_by, filter, length, slice_index, slice_index_or, unwrap_or}
+use Rattle.std.specs.Prelude.{ℕ, ◌≡◌, ◌+◌, ◌<◌, ◌≤◌, ◌==◌, Bool, true, false, if◌then◌else◌, Option, Some, None, List, IsSome, IsSomeAnd, MatchOption, filter, length, slice_index_or, unwrap_or}
 use Rattle.std.specs.List.{range_with_len}
 use Rattle.failover.specs.DownSet.{no_links}
 use Rattle.tunnel.specs.Moves.{here}
+use Rattle.travelling.specs.Marks.{is_marked}
 use Rattle.travelling.specs.declared.kept.Kept.TheInside.{Inside}
 use Rattle.travelling.specs.declared.travelling.Traveller.{Traveller}
 
@@ -86,14 +87,21 @@ traveller_kept kept = record {
   rule = kept.rule;
 }
 
--- so many packets stand at each switch
-abbrev pub AreCounted : Travellers → List ℕ → Type 0
-AreCounted travellers standing =
-    (s : ℕ) → s < 64 → slice_index standing s ≡ count_by (stands_at s) travellers
+-- each packet is marked where it stands, and nowhere else
+abbrev pub AreMarked : Travellers → List ℕ → Type 0
+AreMarked travellers marks =
+    (i s : ℕ) → s < 64 → is_marked marks i s ≡ stands_at s (traveller travellers i)
 
--- numbers have 32 bits, no packet below the first one travels, and packets are counted where they
+-- at switches below 64 alone
+abbrev pub StandBelow : Travellers → Type 0
+StandBelow travellers =
+    (i s : ℕ) → 64 ≤ s → stands_at s (traveller travellers i) ≡ false
+
+-- numbers have 32 bits, no packet below the first one travels, and packets are marked where they
 -- stand
-pub record IsTable (travellers : Travellers) (first : ℕ) (standing : List ℕ) : Type 0 where
+pub record IsTable (travellers : Travellers) (first : ℕ) (marks : List ℕ) : Type 0 where
   pub few : length travellers ≤ 4_294_967_296
   pub none : (i : ℕ) → i < first → traveller travellers i ≡ None
-  pub counted : AreCounted travellers standing
+  pub room : (i : ℕ) → i < length travellers → i + 64 ≤ length marks
+  pub marked : AreMarked travellers marks
+  pub places : StandBelow travellers

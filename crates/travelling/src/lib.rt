@@ -15,6 +15,7 @@
 #![tactic(auto)]
 
 mod kept;
+mod marks;
 mod travelling;
 
 pub use journal::SharedRoute;

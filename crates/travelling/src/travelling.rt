@@ -4,15 +4,15 @@
 //! n packets take O(n) in all. The packet's route is that of the journal's item, and a hop writes
 //! the place on it alone, so a hop takes no memory. The first number moves on over the slots of
 //! packets that ended, so that a drain behind each of n packets passes each slot once, O(n) in all.
-//! Packets are counted where they stand, so that a search for those at a switch ends with the last
-//! of them, and passes no slot where none is there.
+//! Packets are marked where they stand, so that a search for those at a switch looks at no other
+//! packet's slot.
 //! No slot is given back before the end, as in a journal.
-ghost use Rattle.std.specs.Prelude.{◌≡◌, ◌+◌, ◌<◌, ◌≤◌, ℕ, max, [], Some, None, is_some, option_map, length, IsSome, OnOk};
+ghost use Rattle.std.specs.Prelude.{◌≡◌, ◌+◌, ◌<◌, ◌≤◌, ℕ, max, [], Some, None, is_some, option_map, length, slice_set, IsSome, OnOk};
 ghost use Rattle.std.specs.Option.{IsSomeAnd};
-ghost use Rattle.std.specs.Prelude.{true, false, if◌then◌else◌, count_by, slice_index, slice_set};
-ghost use Rattle.travelling.specs.Travelling.{AreCounted, HasPlace, IsNextAt, IsNextFrom, WithOne, placed_at, stands_at, traveller};
+ghost use Rattle.travelling.specs.Travelling.{AreMarked, HasPlace, IsNextAt, IsNextFrom, StandBelow, WithOne, placed_at, traveller};
 
 use crate::kept::Kept;
+use crate::marks::{make_marks, mark_slot, next_marked};
 use std::alloc::{AllocError, Global};
 use std::marker::Model;
 use tunnel::Tunnel;
@@ -34,8 +34,8 @@ pub struct Travelling {
     slots: Vec<Option<Kept>>,
     // No packet below it travels.
     first: usize,
-    // How many packets stand at each switch.
-    standing: [usize; 64],
+    // Where packets stand.
+    marks: Vec<u64>,
 }
 
 impl Model for Travelling {
@@ -45,7 +45,7 @@ impl Model for Travelling {
 
     ghost view = { λ t. t.slots.items };
 
-    ghost invariant = { λ t. IsTable t.slots.items t.first t.standing };
+    ghost invariant = { λ t. IsTable t.slots.items t.first t.marks.items };
 }
 
 impl Travelling {
@@ -56,7 +56,7 @@ impl Travelling {
         Travelling {
             slots: Vec::new(alloc),
             first: 0,
-            standing: [0; 64],
+            marks: Vec::new(alloc),
         }
     }
 
@@ -90,8 +90,9 @@ impl Travelling {
         } else {
             number
         };
+        make_marks(&mut self.marks, number)?;
         make_room(&mut self.slots, number)?;
-        set_slot(&mut self.slots, &mut self.standing, number, Some(kept));
+        set_slot(&mut self.slots, &mut self.marks, number, Some(kept));
         self.first = first;
         Ok(())
     }
@@ -102,7 +103,7 @@ impl Travelling {
         ensures { WithOne self.old packet
             (option_map (placed_at place) (traveller self.old packet)) self.new }
     {
-        move_slot(&mut self.slots, &mut self.standing, packet as usize, place);
+        move_slot(&mut self.slots, &mut self.marks, packet as usize, place);
     }
 
     /// The packet doesn't travel from now on. Answers whether it did.
@@ -113,7 +114,7 @@ impl Travelling {
         if !self.has(packet) {
             return false;
         }
-        set_slot(&mut self.slots, &mut self.standing, packet as usize, None);
+        set_slot(&mut self.slots, &mut self.marks, packet as usize, None);
         self.first = first_held(&self.slots, self.first);
         true
     }
@@ -134,26 +135,23 @@ impl Travelling {
     pub fn next_at(&self, from: usize, switch: u32) -> Option<u32>
         ensures { IsNextAt self.now switch from result }
     {
-        if switch < 64 && self.standing[switch as usize] == 0 {
+        let marks = &self.marks;
+        if switch >= 64 {
             return None;
         }
-        let number = first_at(&self.slots, self.first.max(from), switch);
-        if number < self.slots.len() {
-            Some(number as u32)
-        } else {
-            None
+        match next_marked(marks, from, switch) {
+            Some(number) => Some(number as u32),
+            None => None,
         }
     }
 }
 
 // There is a slot of this number. Each new one is pushed, so that n of them take O(n) in all.
-#[tactic(auto, using(crate::proofs::Tables::pushed_same, crate::proofs::Counted::pushed_count))]
+#[tactic(auto, using(crate::proofs::Tables::pushed_same))]
 fn make_room(slots: &mut Vec<Option<Kept>>, number: usize) -> Result<(), AllocError>
     ensures room { OnOk result (number < length slots.new.items) }
     ensures few { length slots.new.items ≤ max (length slots.old.items) (number + 1) }
     ensures same { (i : ℕ) → traveller slots.new.items i ≡ traveller slots.old.items i }
-    ensures counts { (s : ℕ) → count_by (stands_at s) slots.new.items
-        ≡ count_by (stands_at s) slots.old.items }
 {
     while slots.len() <= number {
         slots.push(None)?;
@@ -175,84 +173,37 @@ fn first_held(slots: &[Option<Kept>], from: usize) -> usize
     number
 }
 
-// The slot holds this from now on, and its packet is counted where it stands.
-fn set_slot(
-    slots: &mut Vec<Option<Kept>>,
-    standing: &mut [usize; 64],
-    number: usize,
-    slot: Option<Kept>,
-)
+// The slot holds this from now on, and its packet is marked where it stands.
+fn set_slot(slots: &mut Vec<Option<Kept>>, marks: &mut Vec<u64>, number: usize, slot: Option<Kept>)
     requires within { number < length slots.old.items }
-    requires few { length slots.old.items ≤ 4_294_967_296 }
-    requires counted { AreCounted slots.old.items standing.old }
+    requires room { number + 64 ≤ length marks.old.items }
+    requires marked { AreMarked slots.old.items marks.old.items }
+    requires places { StandBelow slots.old.items }
     ensures slots { slots.new.items ≡ slice_set slots.old.items number slot }
-    ensures counted { AreCounted slots.new.items standing.new }
+    ensures room { length marks.new.items ≡ length marks.old.items }
+    ensures marked { AreMarked slots.new.items marks.new.items }
+    ensures places { StandBelow slots.new.items }
 {
-    count_out(standing, &slots[number]);
-    count_in(standing, &slot);
+    mark_slot(marks, number, &slots[number]);
+    mark_slot(marks, number, &slot);
     slots[number] = slot;
 }
 
-// The packet of the slot stands at this place of its route, and is counted there.
-fn move_slot(slots: &mut Vec<Option<Kept>>, standing: &mut [usize; 64], number: usize, place: u32)
+// The packet of the slot stands at this place of its route, and is marked there.
+fn move_slot(slots: &mut Vec<Option<Kept>>, marks: &mut Vec<u64>, number: usize, place: u32)
     requires held { IsSomeAnd (traveller slots.old.items number) (HasPlace place) }
-    requires few { length slots.old.items ≤ 4_294_967_296 }
-    requires counted { AreCounted slots.old.items standing.old }
+    requires room { number + 64 ≤ length marks.old.items }
+    requires marked { AreMarked slots.old.items marks.old.items }
+    requires places { StandBelow slots.old.items }
     ensures slots { slots.new.items ≡ slice_set slots.old.items number
         (option_map (placed_at place) (traveller slots.old.items number)) }
-    ensures counted { AreCounted slots.new.items standing.new }
+    ensures room { length marks.new.items ≡ length marks.old.items }
+    ensures marked { AreMarked slots.new.items marks.new.items }
+    ensures places { StandBelow slots.new.items }
 {
-    count_out(standing, &slots[number]);
+    mark_slot(marks, number, &slots[number]);
     if let Some(kept) = &mut slots[number] {
         kept.move_to(place);
     }
-    count_in(standing, &slots[number]);
-}
-
-// A packet that stands somewhere is no longer counted there.
-fn count_out(standing: &mut [usize; 64], slot: &Option<Kept>)
-    requires { (s : ℕ) → s < 64 → stands_at s slot.now ≡ true → 1 ≤ slice_index standing.old s }
-    ensures { (s : ℕ) → s < 64 → slice_index standing.new s
-        + (if stands_at s slot.now then 1 else 0) ≡ slice_index standing.old s }
-{
-    if let Some(kept) = slot {
-        standing[kept.here() as usize] -= 1;
-    }
-}
-
-// It is counted there.
-fn count_in(standing: &mut [usize; 64], slot: &Option<Kept>)
-    requires { (s : ℕ) → s < 64 → slice_index standing.old s ≤ 4_294_967_296 }
-    ensures { (s : ℕ) → s < 64 → slice_index standing.new s
-        ≡ slice_index standing.old s + (if stands_at s slot.now then 1 else 0) }
-{
-    if let Some(kept) = slot {
-        standing[kept.here() as usize] += 1;
-    }
-}
-
-// The least number at or above `from` of a slot whose packet stands at the switch; where there is
-// none, one of no slot.
-fn first_at(slots: &[Option<Kept>], from: usize, switch: u32) -> usize
-    ensures from { from ≤ result }
-    ensures away { (i : ℕ) → from ≤ i → i < result
-        → stands_at switch (traveller slots.now i) ≡ false }
-    ensures here { result < length slots.now
-        → stands_at switch (traveller slots.now result) ≡ true }
-{
-    let mut number = from;
-    while number < slots.len() && !stands_at(&slots[number], switch) {
-        number += 1;
-    }
-    number
-}
-
-// Whether a packet is there, and stands at the switch.
-fn stands_at(slot: &Option<Kept>, switch: u32) -> bool
-    ensures { result ≡ stands_at switch slot.now }
-{
-    match slot {
-        Some(kept) => kept.here() == switch,
-        None => false,
-    }
+    mark_slot(marks, number, &slots[number]);
 }

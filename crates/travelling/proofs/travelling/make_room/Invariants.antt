@@ -1,13 +1,10 @@
 use Rattle.std.proofs.Common.{ℕ, ◌≡◌, ◌+◌, ◌-◌, ◌≤◌, length, max}
-use Rattle.std.specs.Prelude.{count_by}
-use Rattle.travelling.specs.Travelling.{stands_at, traveller}
+use Rattle.travelling.specs.Travelling.{traveller}
 use Rattle.travelling.proofs.travelling.make_room.Given as goal
 
 abbrev pub invariant-loop-slots : goal.invariant-loop-slots
 invariant-loop-slots l = record {
   few : length l.slots.items ≤ max (length l.initial.slots.items) (l.number + 1);
-  counts : (s : ℕ) → count_by (stands_at s) l.slots.items
-      ≡ count_by (stands_at s) l.initial.slots.items;
   same : (i : ℕ) → traveller l.slots.items i ≡ traveller l.initial.slots.items i;
 }
 

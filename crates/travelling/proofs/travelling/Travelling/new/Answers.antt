@@ -1,13 +1,16 @@
 use Rattle.std.proofs.Common.{length, sym, ◌∙◌, ap, arith}
-use Rattle.std.specs.Prelude.{count_by}
-use Rattle.travelling.specs.Travelling.{stands_at}
-use Rattle.travelling.proofs.Counted.{none_counted}
+use Rattle.travelling.specs.Marks.{is_marked}
+use Rattle.travelling.specs.Travelling.{Travellers, stands_at, traveller}
+use Rattle.travelling.proofs.Marked.{none_marked}
 use Rattle.travelling.proofs.travelling.Travelling.new.Goals as goal
 
 pub invariant_of-result : goal.invariant_of-result
 invariant_of-result c = record {
   few = omega (arith, ap length c.new.ensures.items);
   none = λ i below. absurd (omega (arith, below));
-  counted = λ s below. none_counted 64 s
-      ∙ sym (ap (count_by (stands_at s)) c.new.ensures.items);
+  room = λ i below. absurd (omega (arith, below, ap length c.new.ensures.items));
+  marked = λ i s below. ap (λ marks. is_marked marks i s) c.new-2.ensures.items ∙ none_marked i s
+      ∙ sym (ap (λ (slots : Travellers). stands_at s (traveller slots i)) c.new.ensures.items);
+  places = λ i s past.
+      ap (λ (slots : Travellers). stands_at s (traveller slots i)) c.new.ensures.items;
 }

@@ -1,16 +1,86 @@
-use Rattle.std.proofs.Common.{◌∙◌, arith}
-use Rattle.travelling.proofs.Counted.{counted_on}
+use Rattle.std.proofs.Common.{ℕ, ◌≡◌, ◌+◌, ◌<◌, ◌≤◌, ◌∙◌, inl, inr, None, refl, ap, arith, length, length-set, get_or-set_other}
+use Rattle.std.proofs.lemmas.Bool.{cases_lt}
+use Rattle.std.proofs.lemmas.List.{get_or_past}
+use Rattle.travelling.specs.Travelling.{Travellers, stands_at, traveller}
+use Rattle.travelling.proofs.Marked.{marked_on, room_on}
+use Rattle.travelling.proofs.travelling.Travelling.put.Goals.{then-self-len, else-self-len}
 use Rattle.travelling.proofs.travelling.Travelling.put.Goals as goal
 
 pub invariant_of-self : goal.invariant_of-self
 invariant_of-self c = record {
-  few = omega (arith, c.make_room.ensures.few, c.self.invariant.few, c.ranges.packet.fits);
-  none = λ i below. c.make_room.ensures.same i ∙ c.self.invariant.none i below;
-  counted = counted_on c.self.inside.slots.items c.make_room.new.slots.items
-      c.self.inside.standing c.self.invariant.counted c.make_room.ensures.counts;
+  few = c.self.invariant.few;
+  none = c.self.invariant.none;
+  room = λ i below. omega (arith, c.self.invariant.room i below, c.make_marks.ensures.grown);
+  marked = marked_on c.self.inside.slots.items c.self.inside.slots.items
+      c.self.inside.marks.items c.make_marks.new.masks.items c.self.invariant.marked (λ i. refl)
+      c.make_marks.ensures.same;
+  places = c.self.invariant.places;
 }
 
-pub set_slot-requires-clause-counted : goal.set_slot-requires-clause-counted
-set_slot-requires-clause-counted c =
-    counted_on c.self.inside.slots.items c.make_room.new.slots.items c.self.inside.standing
-    c.self.invariant.counted c.make_room.ensures.counts
+pub invariant_of-self-in_err-make_room : goal.invariant_of-self-in_err-make_room
+invariant_of-self-in_err-make_room c = record {
+  few = omega (arith, c.make_room.ensures.few, c.self.invariant.few, c.ranges.packet.fits);
+  none = λ i below. c.make_room.ensures.same i ∙ c.self.invariant.none i below;
+  room = room_on c.self.inside.slots.items c.make_room.new.slots.items
+      c.self.inside.marks.items c.make_marks.new.masks.items c.args.packet c.self.invariant.room
+      c.make_room.ensures.few c.make_marks.ensures.grown c.in_ok-make_marks.ensures.room;
+  marked = marked_on c.self.inside.slots.items c.make_room.new.slots.items
+      c.self.inside.marks.items c.make_marks.new.masks.items c.self.invariant.marked
+      c.make_room.ensures.same c.make_marks.ensures.same;
+  places = λ i s past. ap (stands_at s) (c.make_room.ensures.same i)
+      ∙ c.self.invariant.places i s past;
+}
+
+pub set_slot-requires-clause-marked : goal.set_slot-requires-clause-marked
+set_slot-requires-clause-marked c =
+    marked_on c.self.inside.slots.items c.make_room.new.slots.items c.self.inside.marks.items
+    c.make_marks.new.masks.items c.self.invariant.marked c.make_room.ensures.same
+    c.make_marks.ensures.same
+
+pub set_slot-requires-clause-places : goal.set_slot-requires-clause-places
+set_slot-requires-clause-places c = λ i s past.
+    ap (stands_at s) (c.make_room.ensures.same i) ∙ c.self.invariant.places i s past
+
+pub invariant_of-self-2 : goal.invariant_of-self-2
+invariant_of-self-2 c =
+    let long : length c.set_slot.new.slots.items ≡ length c.make_room.new.slots.items =
+    ap length c.set_slot.ensures.slots ∙ length-set c.make_room.new.slots.items c.args.packet _ in
+    let low : c.if-self-len.first ≤ c.args.packet =
+    elim c.if-self-len.branch [
+      | then-self-len w ↦ omega (arith, w.first-is, w.min-first.ensures)
+      | else-self-len w ↦ omega (arith, w.first-is)
+    ] in
+    let before : (i : ℕ) → i < c.if-self-len.first
+    → traveller c.self.inside.slots.items i ≡ None =
+    λ i below. elim c.if-self-len.branch [
+      | then-self-len w ↦ c.self.invariant.none i
+          (omega (arith, below, w.first-is, w.min-first.ensures))
+      | else-self-len w ↦ elim (cases_lt i (length c.self.inside.slots.items)) [
+        | inl there ↦ c.self.invariant.none i
+            (omega (arith, there, w.if-self-len.false, c.len.ensures))
+        | inr past ↦ get_or_past c.self.inside.slots.items i None past
+      ]
+    ] in
+    let all = room_on c.self.inside.slots.items c.make_room.new.slots.items
+    c.self.inside.marks.items c.make_marks.new.masks.items c.args.packet c.self.invariant.room
+    c.make_room.ensures.few c.make_marks.ensures.grown c.in_ok-make_marks.ensures.room in
+    record {
+      few = omega (
+        arith,
+        long,
+        c.make_room.ensures.few,
+        c.self.invariant.few,
+        c.ranges.packet.fits,
+      );
+      none = λ i below. ap (λ (slots : Travellers). traveller slots i) c.set_slot.ensures.slots
+          ∙ get_or-set_other c.make_room.new.slots.items c.args.packet i _ None
+          (λ e. absurd (omega (arith, e, below, low))) ∙ c.make_room.ensures.same i
+          ∙ before i below;
+      room = λ i below. omega (
+        arith,
+        all i (omega (arith, below, long)),
+        c.set_slot.ensures.room,
+      );
+      marked = c.set_slot.ensures.marked;
+      places = c.set_slot.ensures.places;
+    }

@@ -1,0 +1,11 @@
+use Rattle.std.proofs.Common.{ℕ, ◌≡◌, ◌+◌, ◌-◌, ◌≤◌, length, get_or}
+use Rattle.travelling.proofs.marks.make_marks.Given as goal
+
+abbrev pub invariant-loop-masks : goal.invariant-loop-masks
+invariant-loop-masks l = record {
+  grown : length l.initial.masks.items ≤ length l.masks.items;
+  same : (j : ℕ) → get_or l.masks.items j 0 ≡ get_or l.initial.masks.items j 0;
+}
+
+abbrev pub decreases-loop-masks : goal.decreases-loop-masks
+decreases-loop-masks l = l.number + 64 - length l.masks.items
