@@ -8,11 +8,11 @@ take_front zero xs ys = refl
 take_front (suc n) [] ys = refl
 take_front (suc n) (x ∷ xs) ys = ap (λ zs. x ∷ zs) (take_front n xs ys)
 
--- two pieces are put one after the other
-pub pushed_append : (line a b : List ℕ) → pushed line (a ++ b) ≡ pushed (pushed line a) b
+-- two pieces put one after the other are one
+pub pushed_append : (line a b : List ℕ) → pushed (pushed line a) b ≡ pushed line (a ++ b)
 unfolding pushed
 pushed_append line a b =
-    ap (take 2048) (sym (append_assoc line a b)) ∙ sym (take_front 2048 (line ++ a) b)
+    take_front 2048 (line ++ a) b ∙ ap (take 2048) (append_assoc line a b)
 
 -- a text that fits is held whole
 pub pushed_whole : (text : List ℕ) → length text ≤ 2048 → pushed [] text ≡ text

@@ -1,0 +1,7 @@
+use Rattle.std.proofs.Common.{◌≡◌, take}
+use Rattle.net_file.specs.Names.{names_text}
+use Rattle.text_line.specs.Pushes.{pushed}
+use Rattle.line_fields.proofs.names.push_names.Given as goal
+
+abbrev pub invariant-loop-s : goal.invariant-loop-s
+invariant-loop-s l = l.line ≡ pushed l.initial.line (names_text l.net (take l.s-index l.switches))

@@ -1,0 +1,15 @@
+-- What fields hold by their types: numbers of 32 bits.
+use Rattle.std.specs.Prelude.{⊤, ℕ, ◌<◌, ◌^◌, Option, Some, None}
+use Rattle.policy_rules.specs.declared.policy.Action.{Action}
+use Rattle.policy_rules.specs.declared.policy.Action.TheVariants.{Drop, Out}
+
+abbrev pub IsNumber : ℕ → Type 0
+IsNumber n = n < 2 ^ 32
+
+abbrev pub IsRule : Option ℕ → Type 0
+IsRule (Some priority) = IsNumber priority
+IsRule None = ⊤
+
+abbrev pub IsAction : Action → Type 0
+IsAction (Out port) = IsNumber port
+IsAction Drop = ⊤
