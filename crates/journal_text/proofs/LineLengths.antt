@@ -1,131 +1,37 @@
 -- How long lines are: each part has a bound, and the bounds of parts in a row are added.
-use Rattle.std.proofs.Common.{ℕ, zero, suc, ◌≡◌, ◌+◌, ◌*◌, ◌/◌, ◌%◌, ◌^◌, ◌<◌, ◌≤◌, ◌==◌, Bool, true, false, List, [], ◌∷◌, ◌++◌, length, get_or, subst, inl, inr, arith}
-use Rattle.std.specs.Prelude.{◌⊎◌, Option, Some, None, codes, decimal, filter, if◌then◌else◌, slice_get, min, max}
-use Rattle.std.specs.Fmt.{digit_glyph}
+use Rattle.std.proofs.Common.{ℕ, ◌≡◌, ◌+◌, ◌≤◌, ◌==◌, Bool, true, false, List, [], ◌∷◌, ◌++◌, length, arith}
+use Rattle.std.specs.Prelude.{Option, codes, filter, if◌then◌else◌, min, max}
 use Rattle.std.specs.List.{range_with_len}
-use Rattle.std.proofs.lemmas.Fmt.{length-decimal-le}
-use Rattle.std.proofs.lemmas.List.{length-append}
-use Rattle.std.proofs.lemmas.List.Elements.{All-get_or}
 use Rattle.std.proofs.lemmas.List.Sums.{count_by-le-length, length-filter}
-use Rattle.std.proofs.lemmas.Option.{slice_get_cases}
 use Rattle.ctrl_msg.specs.declared.message.Body.{Body}
 use Rattle.ctrl_msg.specs.declared.message.Body.TheVariants.{Install, OpenAt, Stamp, Collect, CacheRule, Advertise, Hello, Installed, Stamped}
 use Rattle.ctrl_msg.specs.declared.message.Receiver.{Receiver}
 use Rattle.ctrl_msg.specs.declared.message.Receiver.TheVariants as receiver
 use Rattle.masks.specs.Masks.{has, switches}
 use Rattle.failover.specs.declared.advert.Advert.{Advert}
-use Rattle.five_tuple.specs.Header.{IsHeader}
-use Rattle.five_tuple.specs.Printing.{address_text, fields_text, proto_number_text}
-use Rattle.five_tuple.specs.declared.header.Header.{Header}
 use Rattle.net_file.specs.Laws.{NameLaws}
-use Rattle.net_file.specs.Names.{name_of, names_text}
-use Rattle.net_file.specs.Net.{IsNet, IsSwitch}
+use Rattle.net_file.specs.Names.{names_text}
+use Rattle.net_file.specs.Net.{IsNet}
 use Rattle.net_file.specs.declared.net.Net.{Net}
-use Rattle.net_file.specs.declared.net.SwitchRow.{SwitchRow}
-use Rattle.policy_rules.specs.Print.{action_text, rule_text}
 use Rattle.policy_rules.specs.declared.packet.Cause.{Cause}
 use Rattle.policy_rules.specs.declared.packet.Cause.TheVariants.{NoAuthority, NoRoute}
 use Rattle.policy_rules.specs.declared.packet.How.{How}
 use Rattle.policy_rules.specs.declared.packet.How.TheVariants.{Cached, Authority}
 use Rattle.policy_rules.specs.declared.policy.Action.{Action}
-use Rattle.policy_rules.specs.declared.policy.Action.TheVariants.{Drop, Out}
-use Rattle.ternary.specs.Word.{WordValue, hex_digits, word_text}
+use Rattle.ternary.specs.Word.{WordValue}
 use Rattle.journal.specs.declared.item.Item.{Item}
 use Rattle.journal.specs.declared.item.Item.TheVariants as item
 use Rattle.journal_text.specs.Lines.{advert_text, body_text, boot_text, cache_text, cause_text, decided_text, how_text, item_line, mask_text, named, numbered, packet_at, pair_text, receiver_text, state_text, step_text, submitted_text, tunnel_text, version_text}
-use Rattle.journal_text.specs.Sizes.{IsAction, IsBodyOfType, IsHow, IsItemOfType, IsNumber, IsShortRoute, IsRule, IsStepOfType, LinesFit}
+use Rattle.journal_text.specs.Sizes.{IsBodyOfType, IsHow, IsItemOfType, IsShortRoute, IsStepOfType, LinesFit}
+use Rattle.line_fields.proofs.Lengths.{IsWithin, all_of, row_of, with_word, widened, number, rule_within, action_within, fields_within, word_within, name_within, names_within}
+use Rattle.line_fields.specs.Sizes.{IsAction, IsNumber, IsRule}
 use Rattle.steps.specs.declared.step.Step.{Step}
 use Rattle.steps.specs.declared.step.Step.TheVariants.{Packet, Hop, Lose, Deliver, Forget, Expire, Update, LinkDown, LinkUp, Crash, Restart, Confirm, Resend}
-
--- at most so many bytes
-record IsWithin (most : ℕ) (text : List ℕ) : Type 0 where
-  size : length text ≤ most
-
-all_of : (text : List ℕ) → IsWithin (length text) text
-all_of text = record { size = omega arith }
-
-row_of : {m n : ℕ} {xs ys : List ℕ} → IsWithin m xs → IsWithin n ys → IsWithin (m + n) (xs ++ ys)
-row_of {xs = xs} {ys = ys} a b =
-    record { size = omega (arith, a.size, b.size, length-append xs ys) }
-
-with_word : {m : ℕ} {xs : List ℕ} → IsWithin m xs → (word : List ℕ)
-    → IsWithin (m + length word) (xs ++ word)
-with_word a word = row_of a (all_of word)
-
-widened : {m : ℕ} {xs : List ℕ} → IsWithin m xs → (n : ℕ) → m ≤ n → IsWithin n xs
-widened a n le = record { size = omega (arith, a.size, le) }
-
--- ---- numbers, rules, actions
-
-number : (n : ℕ) → IsNumber n → IsWithin 10 (decimal n)
-number n small = record {
-  size = length-decimal-le 10 n (omega arith) (omega (arith, small)) (omega (arith, small));
-}
-
-rule_within : (rule : Option ℕ) → IsRule rule → IsWithin 10 (rule_text rule)
-rule_within (Some priority) is = number priority is
-rule_within None is = widened (all_of (codes "default")) 10 (omega arith)
-
-action_within : (action : Action) → IsAction action → IsWithin 14 (action_text action)
-action_within (Out port) is =
-    row_of (all_of (codes "out:")) (number port is)
-action_within Drop is = widened (all_of (codes "drop")) 14 (omega arith)
 
 numbered_within : {m : ℕ} {word : List ℕ} → IsWithin m word → (n : ℕ) → IsNumber n
     → IsWithin (m + 1 + 10) (numbered word n)
 numbered_within w n small =
     row_of (with_word w (codes " ")) (number n small)
-
--- ---- headers and words
-
-address_within : (a : ℕ) → a < 2 ^ 32 → IsWithin 43 (address_text a)
-unfolding address_text
-address_within a small =
-    row_of (number (a / 2 ^ 24) (omega (arith, small))) (row_of (all_of (46 ∷ []))
-    (row_of (number (a / 2 ^ 16 % 2 ^ 8) (omega arith)) (row_of (all_of (46 ∷ []))
-    (row_of (number (a / 2 ^ 8 % 2 ^ 8) (omega arith)) (row_of (all_of (46 ∷ []))
-    (number (a % 2 ^ 8) (omega arith)))))))
-
-proto_within : (n : ℕ) → n < 2 ^ 8 → IsWithin 10 (proto_number_text n)
-unfolding proto_number_text
-proto_within n small =
-    elim (n == 1) as (λ b. IsWithin 10 (if b then codes "icmp" else
-    (if n == 6 then codes "tcp" else (if n == 17 then codes "udp" else decimal n)))) [
-      | true ↦ widened (all_of (codes "icmp")) 10 (omega arith)
-      | false ↦ elim (n == 6) as (λ b. IsWithin 10 (if b then codes "tcp" else
-          (if n == 17 then codes "udp" else decimal n))) [
-            | true ↦ widened (all_of (codes "tcp")) 10 (omega arith)
-            | false ↦ elim (n == 17) as (λ b. IsWithin 10 (if b then codes "udp" else decimal n)) [
-              | true ↦ widened (all_of (codes "udp")) 10 (omega arith)
-              | false ↦ number n (omega (arith, small))
-            ]
-          ]
-    ]
-
-fields_within : (header : Header) → IsHeader header → IsWithin 200 (fields_text header.fields)
-unfolding fields_text
-fields_within header is =
-    widened (row_of (address_within header.fields.src is.src) (row_of (all_of (32 ∷ []))
-    (row_of (address_within header.fields.dst is.dst) (row_of (all_of (32 ∷ []))
-    (row_of (number header.fields.sport (omega (arith, is.sport))) (row_of (all_of (32 ∷ []))
-    (row_of (number header.fields.dport (omega (arith, is.dport))) (row_of (all_of (32 ∷ []))
-    (proto_within header.fields.proto is.proto))))))))) 200 (omega arith)
-
-one_byte : (byte : ℕ) → IsWithin 1 (byte ∷ [])
-one_byte byte = record { size = omega arith }
-
-digits_within : (count n : ℕ) → IsWithin count (hex_digits count n)
-unfolding hex_digits
-digits_within zero n = record { size = omega arith }
-digits_within (suc count) n =
-    widened (row_of (digits_within count (n / 16)) (one_byte (digit_glyph false (n % 16))))
-    (suc count) (omega arith)
-
-word_within : (w : WordValue) → IsWithin 53 (word_text w)
-unfolding word_text
-word_within w =
-    row_of (digits_within 26 w.value)
-    (row_of (all_of (47 ∷ [])) (digits_within 26 w.mask))
 
 -- ---- names
 
@@ -138,33 +44,13 @@ few_switches mask = omega (
 )
 
 module _ (laws : NameLaws) (net : Net) (sound : IsNet net) where
-  name_within : (s : ℕ) → IsWithin 16 (name_of net s)
-  name_within s = by (slice_get_cases net.switches s).1
-    where
-      by : ((row : SwitchRow) × (s < length net.switches) × (slice_get net.switches s ≡ Some row)
-          × (get_or net.switches s row ≡ row))
-          ⊎ ((length net.switches ≤ s) × (slice_get net.switches s ≡ None))
-          → IsWithin 16 (name_of net s)
-      by (inl w) =
-          let is : IsSwitch w.0 = subst IsSwitch w.3
-          (All-get_or IsSwitch net.switches s w.0 w.1 sound.switches) in
-          rw w.2 (record { size = (laws.size w.0.name is.name).1 })
-      by (inr w) = rw w.1 (record { size = omega arith })
-
   named_within : {m : ℕ} {word : List ℕ} → IsWithin m word → (s : ℕ)
       → IsWithin (m + 1 + 16) (named net word s)
   named_within w s =
-      row_of (with_word w (codes " ")) (name_within s)
-
-  -- each name takes 17 bytes with its blank
-  names_within : (list : List ℕ) → IsWithin (length list * 17) (names_text net list)
-  names_within [] = record { size = omega arith }
-  names_within (s ∷ list) =
-      widened (row_of (row_of (all_of (codes " ")) (name_within s)) (names_within list))
-      (length (s ∷ list) * 17) (omega arith)
+      row_of (with_word w (codes " ")) (name_within laws net sound s)
 
   route_within : (route : List ℕ) → IsShortRoute route → IsWithin 1088 (names_text net route)
-  route_within route is = widened (names_within route) 1088 (omega (arith, is))
+  route_within route is = widened (names_within laws net sound route) 1088 (omega (arith, is))
 
   mask_within : (mask : ℕ) → IsWithin 1088 (mask_text net mask)
   mask_within mask =
@@ -177,12 +63,12 @@ module _ (laws : NameLaws) (net : Net) (sound : IsNet net) where
   at_within : {m : ℕ} {word : List ℕ} → IsWithin m word → (packet s : ℕ) → IsNumber packet
       → IsWithin (m + 1 + 10 + 1 + 16) (packet_at net word packet s)
   at_within w packet s is =
-      row_of (with_word (numbered_within w packet is) (codes " ")) (name_within s)
+      row_of (with_word (numbered_within w packet is) (codes " ")) (name_within laws net sound s)
 
   pair_within : {m : ℕ} {word : List ℕ} → IsWithin m word → (one two : ℕ)
       → IsWithin (m + 1 + 16 + 1 + 16) (pair_text net word one two)
   pair_within w one two =
-      row_of (with_word (named_within w one) (codes " ")) (name_within two)
+      row_of (with_word (named_within w one) (codes " ")) (name_within laws net sound two)
 
   -- ---- steps and messages
 
@@ -230,7 +116,7 @@ module _ (laws : NameLaws) (net : Net) (sound : IsNet net) where
       widened (named_within (all_of (codes "resend")) switch) 300 (omega arith)
 
   receiver_within : (to : Receiver) → IsWithin 16 (receiver_text net to)
-  receiver_within (receiver.Switch s) = name_within s
+  receiver_within (receiver.Switch s) = name_within laws net sound s
   receiver_within receiver.Controller = widened (all_of (codes "controller")) 16 (omega arith)
 
   cache_within : (version : ℕ) (word : WordValue) (rule : Option ℕ) (action : Action)

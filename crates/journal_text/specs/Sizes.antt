@@ -7,29 +7,17 @@ use Rattle.net_file.specs.Net.{IsNet}
 use Rattle.net_file.specs.declared.net.Net.{Net}
 use Rattle.policy_rules.specs.declared.packet.How.{How}
 use Rattle.policy_rules.specs.declared.packet.How.TheVariants.{Cached, Authority}
-use Rattle.policy_rules.specs.declared.policy.Action.{Action}
-use Rattle.policy_rules.specs.declared.policy.Action.TheVariants.{Drop, Out}
 use Rattle.journal.specs.declared.item.Item.{Item}
 use Rattle.journal.specs.declared.item.Item.TheVariants as item
 use Rattle.journal_text.specs.Lines.{item_line}
+use Rattle.line_fields.specs.Sizes.{IsAction, IsNumber, IsRule}
 use Rattle.steps.specs.declared.step.Step.{Step}
 use Rattle.steps.specs.declared.step.Step.TheVariants.{Packet, Hop, Lose, Deliver, Forget, Expire, Update}
 
 -- ---- what an item's type holds: numbers of 32 bits, and routes that visit no switch twice
 
-abbrev pub IsNumber : ℕ → Type 0
-IsNumber n = n < 2 ^ 32
-
 abbrev pub IsShortRoute : List ℕ → Type 0
 IsShortRoute route = length route ≤ 64
-
-abbrev pub IsRule : Option ℕ → Type 0
-IsRule (Some priority) = IsNumber priority
-IsRule None = ⊤
-
-abbrev pub IsAction : Action → Type 0
-IsAction (Out port) = IsNumber port
-IsAction Drop = ⊤
 
 abbrev pub IsHow : How → Type 0
 IsHow (Cached message) = IsNumber message

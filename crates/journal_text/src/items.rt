@@ -1,17 +1,19 @@
-ghost use Rattle.std.specs.Prelude.{◌≡◌, ◌++◌, IfOk, OnOk, codes, decimal};
-ghost use Rattle.std.specs.String.{string_bytes};
+ghost use Rattle.std.specs.Prelude.{◌≡◌, ◌++◌, ◌∷◌, [], IfOk, codes, decimal};
 ghost use Rattle.net_file.specs.Names.{names_text};
 ghost use Rattle.net_file.specs.Net.{IsNet};
 ghost use Rattle.journal.specs.declared.item.Item.TheVariants as item;
 ghost use Rattle.journal_text.specs.Lines.{cause_text, decided_text, how_text, item_line, journal_text, numbered, packet_at, submitted_text, tunnel_text};
+ghost use Rattle.journal_text.specs.Sizes.{IsBodyOfType, IsItemOfType, IsShortRoute};
+ghost use Rattle.line_fields.specs.Sizes.{IsAction, IsRule};
+ghost use Rattle.text_line.specs.Pushes.{pushed};
 
+use crate::laws::lines_fit;
 use crate::messages::{push_body, push_receiver};
-use crate::rows::{push_name, push_number, push_pair, push_step};
+use crate::rows::{push_named, push_numbered, push_pair, push_step};
 use journal::{Action, Cause, How, Item, Journal, SharedMessage, SharedRoute};
+use line_fields::{Line, push_action, push_name, push_names, push_rule};
 use net_file::Net;
-use policy_rules::RuleName;
 use std::alloc::{AllocError, Global};
-use std::fmt::Write;
 use steps::Step;
 
 /// The text of a journal: one line for each item.
@@ -33,153 +35,159 @@ pub fn lines(alloc: Global, items: &[Item], net: &Net) -> Result<Vec<u8>, AllocE
     requires { IsNet net.now }
     ensures { IfOk result (λ bytes. bytes.items ≡ journal_text net.now items.now) }
 {
-    let mut text = String::new(alloc);
+    let mut text = Vec::new(alloc);
+    let mut line = Line::new();
     for item in items {
-        push_item(&mut text, net, item)?;
-        text.push_str("\n")?;
+        set_line(&mut line, net, item);
+        text.extend_from_slice(line.bytes())?;
     }
-    Ok(text.into_bytes())
+    Ok(text)
 }
 
-fn push_row(text: &mut String, net: &Net, row: u32, step: &Step) -> Result<(), AllocError>
+/// Makes the line that of the item, with its line feed.
+#[tactic(auto, using(text_line::proofs::CallerLemmas::pushed_append, text_line::proofs::CallerLemmas::pushed_whole))]
+pub(crate) fn set_line(line: &mut Line, net: &Net, item: &Item)
     requires { IsNet net.now }
-    ensures { OnOk result (string_bytes text.new
-        ≡ string_bytes text.old ++ item_line net.now (item.Row row step.now)) }
+    ensures { line.new ≡ item_line net.now item.now ++ 10 ∷ [] }
 {
-    write!(text, "row {row}: ")?;
-    push_step(text, net, step)
+    lines_fit();
+    line.clear();
+    push_item(line, net, item);
+    line.push("\n");
+}
+
+#[tactic(auto, using(text_line::proofs::CallerLemmas::pushed_append))]
+fn push_row(line: &mut Line, net: &Net, row: u32, step: &Step)
+    ensures text { line.new ≡ pushed line.old (item_line net.now (item.Row row step.now)) }
+    ensures of_type { IsItemOfType (item.Row row step.now) }
+{
+    push_numbered(line, "row", row);
+    line.push(": ");
+    push_step(line, net, step);
 }
 
 // A packet and a switch behind a word.
-fn push_at(text: &mut String, net: &Net, word: &str, packet: u32, s: u32) -> Result<(), AllocError>
-    requires { IsNet net.now }
-    ensures { OnOk result (string_bytes text.new
-        ≡ string_bytes text.old ++ packet_at net.now word.now packet s) }
+#[tactic(auto, using(text_line::proofs::CallerLemmas::pushed_append))]
+fn push_at(line: &mut Line, net: &Net, word: &str, packet: u32, s: u32)
+    ensures { line.new ≡ pushed line.old (packet_at net.now word.now packet s) }
 {
-    let name = net.name(s);
-    write!(text, "{word} {packet} {name}")?;
-    Ok(())
+    push_numbered(line, word, packet);
+    line.push(" ");
+    push_name(line, net, s);
 }
 
-fn push_tunnel(
-    text: &mut String,
-    packet: u32,
-    version: u32,
-    partition: u32,
-) -> Result<(), AllocError>
-    ensures { OnOk result (string_bytes text.new
-        ≡ string_bytes text.old ++ tunnel_text packet version partition) }
+fn push_tunnel(line: &mut Line, packet: u32, version: u32, partition: u32)
+    ensures { line.new ≡ pushed line.old (tunnel_text packet version partition) }
 {
-    write!(text, "  tunnelled {packet} v{version} part {partition} via")?;
-    Ok(())
+    line.push("  tunnelled ");
+    line.push_number(u64::from(packet));
+    line.push(" v");
+    line.push_number(u64::from(version));
+    line.push(" part ");
+    line.push_number(u64::from(partition));
+    line.push(" via");
 }
 
+// The names of a route's switches.
+fn push_switches(line: &mut Line, net: &Net, route: &SharedRoute)
+    ensures text { line.new ≡ pushed line.old (names_text net.now route.now) }
+    ensures of_type { IsShortRoute route.now }
+{
+    push_names(line, net, route.route().items());
+}
+
+#[tactic(auto, using(text_line::proofs::CallerLemmas::pushed_append))]
 fn push_seeking(
-    text: &mut String,
+    line: &mut Line,
     net: &Net,
     packet: u32,
     version: u32,
     partition: u32,
     route: &SharedRoute,
-) -> Result<(), AllocError>
-    requires { IsNet net.now }
-    ensures { OnOk result (string_bytes text.new
-        ≡ string_bytes text.old
-        ++ (tunnel_text packet version partition ++ names_text net.now route.now)) }
+)
+    ensures text { line.new ≡ pushed line.old
+        (item_line net.now (item.Seeking packet version partition route.now)) }
+    ensures of_type { IsItemOfType (item.Seeking packet version partition route.now) }
 {
-    push_tunnel(text, packet, version, partition)?;
-    net.push_names(text, route.route().items())
+    push_tunnel(line, packet, version, partition);
+    push_switches(line, net, route);
 }
 
 // A packet's route behind a word.
-fn push_route(
-    text: &mut String,
-    net: &Net,
-    word: &str,
-    packet: u32,
-    route: &SharedRoute,
-) -> Result<(), AllocError>
-    requires { IsNet net.now }
-    ensures { OnOk result (string_bytes text.new
-        ≡ string_bytes text.old
-        ++ (numbered word.now packet ++ codes " via" ++ names_text net.now route.now)) }
+#[tactic(auto, using(text_line::proofs::CallerLemmas::pushed_append))]
+fn push_route(line: &mut Line, net: &Net, word: &str, packet: u32, route: &SharedRoute)
+    ensures text { line.new ≡ pushed line.old
+        (numbered word.now packet ++ codes " via" ++ names_text net.now route.now) }
+    ensures of_type { IsShortRoute route.now }
 {
-    write!(text, "{word} {packet} via")?;
-    net.push_names(text, route.route().items())
+    push_numbered(line, word, packet);
+    line.push(" via");
+    push_switches(line, net, route);
 }
 
-fn push_found(
-    text: &mut String,
-    net: &Net,
-    packet: u32,
-    one: u32,
-    two: u32,
-) -> Result<(), AllocError>
-    requires { IsNet net.now }
-    ensures { OnOk result (string_bytes text.new
-        ≡ string_bytes text.old ++ item_line net.now (item.FoundDown packet one two)) }
+#[tactic(auto, using(text_line::proofs::CallerLemmas::pushed_append))]
+fn push_found(line: &mut Line, net: &Net, packet: u32, one: u32, two: u32)
+    ensures { line.new ≡ pushed line.old (item_line net.now (item.FoundDown packet one two)) }
 {
-    let one = net.name(one);
-    let two = net.name(two);
-    write!(text, "  found {packet} {one} {two}")?;
-    Ok(())
+    push_at(line, net, "  found", packet, one);
+    line.push(" ");
+    push_name(line, net, two);
 }
 
-fn push_how(text: &mut String, net: &Net, how: How) -> Result<(), AllocError>
-    requires { IsNet net.now }
-    ensures { OnOk result (string_bytes text.new ≡ string_bytes text.old ++ how_text net.now how) }
+#[tactic(auto, using(text_line::proofs::CallerLemmas::pushed_append))]
+fn push_how(line: &mut Line, net: &Net, how: How)
+    ensures { line.new ≡ pushed line.old (how_text net.now how) }
 {
     match how {
-        How::Cached { message } => push_number(text, "cache", message),
+        How::Cached { message } => push_numbered(line, "cache", message),
         How::Authority { switch, partition } => {
-            let name = net.name(switch);
-            write!(text, "authority {name} part {partition}")?;
-            Ok(())
+            push_named(line, net, "authority", switch);
+            line.push(" part ");
+            line.push_number(u64::from(partition));
         }
     }
 }
 
-fn push_hit(
-    text: &mut String,
-    packet: u32,
-    version: u32,
-    rule: Option<u32>,
-    action: Action,
-) -> Result<(), AllocError>
-    ensures { OnOk result (string_bytes text.new
-        ≡ string_bytes text.old ++ decided_text packet version rule action) }
+fn push_hit(line: &mut Line, packet: u32, version: u32, rule: Option<u32>, action: Action)
+    ensures text { line.new ≡ pushed line.old (decided_text packet version rule action) }
+    ensures of_type { IsRule rule × IsAction action }
 {
-    let rule = RuleName(rule);
-    write!(text, "  decided {packet} v{version} rule {rule} {action}")?;
-    Ok(())
+    push_numbered(line, "  decided", packet);
+    line.push(" v");
+    line.push_number(u64::from(version));
+    line.push(" rule ");
+    push_rule(line, rule);
+    line.push(" ");
+    push_action(line, action);
 }
 
+#[tactic(auto, using(text_line::proofs::CallerLemmas::pushed_append))]
 fn push_decided(
-    text: &mut String,
+    line: &mut Line,
     net: &Net,
     packet: u32,
     version: u32,
     rule: Option<u32>,
     action: Action,
     how: How,
-) -> Result<(), AllocError>
-    requires { IsNet net.now }
-    ensures { OnOk result (string_bytes text.new
-        ≡ string_bytes text.old
-        ++ (decided_text packet version rule action ++ codes " " ++ how_text net.now how)) }
+)
+    ensures text { line.new ≡ pushed line.old
+        (decided_text packet version rule action ++ codes " " ++ how_text net.now how) }
+    ensures of_type { IsItemOfType (item.Decided packet version rule action how) }
 {
-    push_hit(text, packet, version, rule, action)?;
-    text.push_str(" ")?;
-    push_how(text, net, how)
+    push_hit(line, packet, version, rule, action);
+    line.push(" ");
+    push_how(line, net, how);
 }
 
-fn push_left(text: &mut String, packet: u32, port: u32) -> Result<(), AllocError>
-    ensures { OnOk result (string_bytes text.new
-        ≡ string_bytes text.old
-        ++ (numbered (codes "  out") packet ++ codes " port " ++ decimal port)) }
+// Two numbers, each behind a word.
+#[tactic(auto, using(text_line::proofs::CallerLemmas::pushed_append))]
+fn push_two(line: &mut Line, word: &str, n: u32, next: &str, m: u32)
+    ensures { line.new ≡ pushed line.old (numbered word.now n ++ next.now ++ decimal m) }
 {
-    write!(text, "  out {packet} port {port}")?;
-    Ok(())
+    push_numbered(line, word, n);
+    line.push(next);
+    line.push_number(u64::from(m));
 }
 
 fn cause_word(cause: Cause) -> &'static str
@@ -191,169 +199,135 @@ fn cause_word(cause: Cause) -> &'static str
     }
 }
 
-fn push_stuck(
-    text: &mut String,
-    net: &Net,
-    packet: u32,
-    switch: u32,
-    cause: Cause,
-) -> Result<(), AllocError>
-    requires { IsNet net.now }
-    ensures { OnOk result (string_bytes text.new
-        ≡ string_bytes text.old
-        ++ (packet_at net.now (codes "  stuck") packet switch ++ codes " " ++ cause_text cause)) }
+#[tactic(auto, using(text_line::proofs::CallerLemmas::pushed_append))]
+fn push_stuck(line: &mut Line, net: &Net, packet: u32, switch: u32, cause: Cause)
+    ensures { line.new ≡ pushed line.old
+        (packet_at net.now (codes "  stuck") packet switch ++ codes " " ++ cause_text cause) }
 {
-    let name = net.name(switch);
-    let cause = cause_word(cause);
-    write!(text, "  stuck {packet} {name} {cause}")?;
-    Ok(())
+    push_at(line, net, "  stuck", packet, switch);
+    line.push(" ");
+    line.push(cause_word(cause));
 }
 
-fn push_sent(
-    text: &mut String,
-    net: &Net,
-    number: u32,
-    message: &SharedMessage,
-) -> Result<(), AllocError>
-    requires { IsNet net.now }
-    ensures { OnOk result (string_bytes text.new
-        ≡ string_bytes text.old ++ item_line net.now (item.Sent number message.now)) }
+#[tactic(auto, using(text_line::proofs::CallerLemmas::pushed_append))]
+fn push_sent(line: &mut Line, net: &Net, number: u32, message: &SharedMessage)
+    ensures text { line.new ≡ pushed line.old (item_line net.now (item.Sent number message.now)) }
+    ensures of_type { IsBodyOfType message.now.body }
 {
     let message = message.message();
-    write!(text, "  sent {number} ")?;
-    push_receiver(text, net, message.to)?;
-    text.push_str(" ")?;
-    push_body(text, net, &message.body)
+    push_numbered(line, "  sent", number);
+    line.push(" ");
+    push_receiver(line, net, message.to);
+    line.push(" ");
+    push_body(line, net, &message.body);
 }
 
-fn push_expired(
-    text: &mut String,
-    net: &Net,
-    switch: u32,
-    place: u32,
-    message: u32,
-) -> Result<(), AllocError>
-    requires { IsNet net.now }
-    ensures { OnOk result (string_bytes text.new
-        ≡ string_bytes text.old ++ item_line net.now (item.Expired switch place message)) }
+fn push_expired(line: &mut Line, net: &Net, switch: u32, place: u32, message: u32)
+    ensures { line.new
+        ≡ pushed line.old (item_line net.now (item.Expired switch place message)) }
 {
-    let name = net.name(switch);
-    write!(text, "  expired {name} {place} message {message}")?;
-    Ok(())
+    push_named(line, net, "  expired", switch);
+    line.push(" ");
+    line.push_number(u64::from(place));
+    line.push(" message ");
+    line.push_number(u64::from(message));
 }
 
-fn push_submitted(text: &mut String, file: u32, version: u32) -> Result<(), AllocError>
-    ensures { OnOk result (string_bytes text.new
-        ≡ string_bytes text.old ++ submitted_text file version) }
+fn push_submitted(line: &mut Line, file: u32, version: u32)
+    ensures { line.new ≡ pushed line.old (submitted_text file version) }
 {
-    write!(text, "  submitted file {file} version {version}")?;
-    Ok(())
+    line.push("  submitted file ");
+    line.push_number(u64::from(file));
+    line.push(" version ");
+    line.push_number(u64::from(version));
 }
 
-fn push_refused(text: &mut String, file: u32, code: u32) -> Result<(), AllocError>
-    ensures { OnOk result (string_bytes text.new ≡ string_bytes text.old
-        ++ (numbered (codes "  refused file") file ++ codes " code " ++ decimal code)) }
+// A switch's name and a number, each behind a word.
+#[tactic(auto, using(text_line::proofs::CallerLemmas::pushed_append))]
+fn push_booted(line: &mut Line, net: &Net, switch: u32, boot: u32)
+    ensures { line.new ≡ pushed line.old (item_line net.now (item.Booted switch boot)) }
 {
-    write!(text, "  refused file {file} code {code}")?;
-    Ok(())
+    push_named(line, net, "  booted", switch);
+    line.push(" ");
+    line.push_number(u64::from(boot));
 }
 
-fn push_booted(text: &mut String, net: &Net, switch: u32, boot: u32) -> Result<(), AllocError>
-    requires { IsNet net.now }
-    ensures { OnOk result (string_bytes text.new
-        ≡ string_bytes text.old ++ item_line net.now (item.Booted switch boot)) }
+#[tactic(auto, using(text_line::proofs::CallerLemmas::pushed_append))]
+fn push_opened(line: &mut Line, net: &Net, switch: u32, version: u32)
+    ensures { line.new ≡ pushed line.old (item_line net.now (item.Opened switch version)) }
 {
-    let name = net.name(switch);
-    write!(text, "  booted {name} {boot}")?;
-    Ok(())
+    push_named(line, net, "  opened", switch);
+    line.push(" version ");
+    line.push_number(u64::from(version));
 }
 
-fn push_opened(text: &mut String, net: &Net, switch: u32, version: u32) -> Result<(), AllocError>
-    requires { IsNet net.now }
-    ensures { OnOk result (string_bytes text.new
-        ≡ string_bytes text.old ++ item_line net.now (item.Opened switch version)) }
+#[tactic(auto, using(text_line::proofs::CallerLemmas::pushed_append))]
+fn push_link(line: &mut Line, net: &Net, one: u32, two: u32, up: bool)
+    ensures { line.new ≡ pushed line.old (item_line net.now (item.LinkIs one two up)) }
 {
-    let name = net.name(switch);
-    write!(text, "  opened {name} version {version}")?;
-    Ok(())
-}
-
-fn push_link(text: &mut String, net: &Net, one: u32, two: u32, up: bool) -> Result<(), AllocError>
-    requires { IsNet net.now }
-    ensures { OnOk result (string_bytes text.new
-        ≡ string_bytes text.old ++ item_line net.now (item.LinkIs one two up)) }
-{
-    push_pair(text, net, "  link", one, two)?;
+    push_pair(line, net, "  link", one, two);
+    line.push(" ");
     if up {
-        text.push_str(" up")?;
+        line.push("up");
     } else {
-        text.push_str(" down")?;
+        line.push("down");
     }
-    Ok(())
-}
-
-fn push_word(text: &mut String, word: &str) -> Result<(), AllocError>
-    ensures { OnOk result (string_bytes text.new ≡ string_bytes text.old ++ word.now) }
-{
-    text.push_str(word)?;
-    Ok(())
 }
 
 // An item's line, without its line feed.
-fn push_item(text: &mut String, net: &Net, item: &Item) -> Result<(), AllocError>
-    requires { IsNet net.now }
-    ensures { OnOk result (string_bytes text.new
-        ≡ string_bytes text.old ++ item_line net.now item.now) }
+fn push_item(line: &mut Line, net: &Net, item: &Item)
+    ensures text { line.new ≡ pushed line.old (item_line net.now item.now) }
+    ensures of_type { IsItemOfType item.now }
 {
     match item {
-        Item::Row { row, step } => push_row(text, net, *row, step),
+        Item::Row { row, step } => push_row(line, net, *row, step),
         Item::Entered { packet, switch, .. } => {
-            push_at(text, net, "  entered", *packet, *switch)
+            push_at(line, net, "  entered", *packet, *switch)
         }
-        Item::Closed { packet, switch } => push_at(text, net, "  closed", *packet, *switch),
-        Item::Hopped { packet, switch } => push_at(text, net, "  hopped", *packet, *switch),
+        Item::Closed { packet, switch } => push_at(line, net, "  closed", *packet, *switch),
+        Item::Hopped { packet, switch } => push_at(line, net, "  hopped", *packet, *switch),
         Item::Seeking {
             packet,
             version,
             partition,
             route,
-        } => push_seeking(text, net, *packet, *version, *partition, route),
-        Item::Exiting { packet, route } => push_route(text, net, "  exit", *packet, route),
-        Item::Rerouted { packet, route } => push_route(text, net, "  rerouted", *packet, route),
-        Item::FoundDown { packet, one, two } => push_found(text, net, *packet, *one, *two),
+        } => push_seeking(line, net, *packet, *version, *partition, route),
+        Item::Exiting { packet, route } => push_route(line, net, "  exit", *packet, route),
+        Item::Rerouted { packet, route } => push_route(line, net, "  rerouted", *packet, route),
+        Item::FoundDown { packet, one, two } => push_found(line, net, *packet, *one, *two),
         Item::Decided {
             packet,
             version,
             rule,
             action,
             how,
-        } => push_decided(text, net, *packet, *version, *rule, *action, *how),
-        Item::Left { packet, port, .. } => push_left(text, *packet, *port),
-        Item::Dropped { packet } => push_number(text, "  dropped", *packet),
-        Item::Lost { packet } => push_number(text, "  lost", *packet),
+        } => push_decided(line, net, *packet, *version, *rule, *action, *how),
+        Item::Left { packet, port, .. } => push_two(line, "  out", *packet, " port ", *port),
+        Item::Dropped { packet } => push_numbered(line, "  dropped", *packet),
+        Item::Lost { packet } => push_numbered(line, "  lost", *packet),
         Item::Stuck {
             packet,
             switch,
             cause,
             ..
-        } => push_stuck(text, net, *packet, *switch, *cause),
-        Item::Sent { number, message } => push_sent(text, net, *number, message),
-        Item::Delivered { number } => push_number(text, "  delivered", *number),
-        Item::Forgotten { number } => push_number(text, "  forgotten", *number),
+        } => push_stuck(line, net, *packet, *switch, *cause),
+        Item::Sent { number, message } => push_sent(line, net, *number, message),
+        Item::Delivered { number } => push_numbered(line, "  delivered", *number),
+        Item::Forgotten { number } => push_numbered(line, "  forgotten", *number),
         Item::Expired {
             switch,
             place,
             message,
-        } => push_expired(text, net, *switch, *place, *message),
-        Item::Submitted { file, version } => push_submitted(text, *file, *version),
-        Item::Refused { file, code } => push_refused(text, *file, *code),
-        Item::Current { version } => push_number(text, "  current", *version),
-        Item::Retired { version } => push_number(text, "  retired", *version),
-        Item::Booted { switch, boot } => push_booted(text, net, *switch, *boot),
-        Item::Opened { switch, version } => push_opened(text, net, *switch, *version),
-        Item::Down { switch } => push_name(text, net, "  down", *switch),
-        Item::OverNow { switch } => push_name(text, net, "  over", *switch),
-        Item::LinkIs { one, two, up } => push_link(text, net, *one, *two, *up),
-        Item::Nothing => push_word(text, "  nothing"),
+        } => push_expired(line, net, *switch, *place, *message),
+        Item::Submitted { file, version } => push_submitted(line, *file, *version),
+        Item::Refused { file, code } => push_two(line, "  refused file", *file, " code ", *code),
+        Item::Current { version } => push_numbered(line, "  current", *version),
+        Item::Retired { version } => push_numbered(line, "  retired", *version),
+        Item::Booted { switch, boot } => push_booted(line, net, *switch, *boot),
+        Item::Opened { switch, version } => push_opened(line, net, *switch, *version),
+        Item::Down { switch } => push_named(line, net, "  down", *switch),
+        Item::OverNow { switch } => push_named(line, net, "  over", *switch),
+        Item::LinkIs { one, two, up } => push_link(line, net, *one, *two, *up),
+        Item::Nothing => line.push("  nothing"),
     }
 }

@@ -9,6 +9,8 @@ mod laws;
 mod messages;
 mod names;
 mod rows;
+mod write;
 
 pub use items::{lines, text};
 pub use laws::lines_fit;
+pub use write::write_text;

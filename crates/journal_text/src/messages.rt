@@ -1,126 +1,127 @@
-ghost use Rattle.std.specs.Prelude.{◌≡◌, ◌++◌, OnOk, codes};
-ghost use Rattle.std.specs.String.{string_bytes};
-ghost use Rattle.net_file.specs.Net.{IsNet};
+ghost use Rattle.std.specs.Prelude.{◌≡◌};
+ghost use Rattle.ctrl_msg.specs.declared.message.Body.TheVariants.{CacheRule};
 ghost use Rattle.journal_text.specs.Lines.{advert_text, body_text, boot_text, cache_text, named, receiver_text, version_text};
+ghost use Rattle.journal_text.specs.Sizes.{IsBodyOfType};
+ghost use Rattle.line_fields.specs.Sizes.{IsNumber};
+ghost use Rattle.text_line.specs.Pushes.{pushed};
 
 use crate::names::push_mask;
+use crate::rows::push_named;
 use ctrl_msg::{Body, Receiver};
 use failover::Advert;
+use line_fields::{Line, push_action, push_name, push_rule, push_word};
 use net_file::Net;
-use policy_rules::{Action, RuleName};
-use std::alloc::AllocError;
-use std::fmt::Write;
+use policy_rules::Action;
 use ternary::Word;
 
 /// Adds the receiver of a message.
-pub(crate) fn push_receiver(text: &mut String, net: &Net, to: Receiver) -> Result<(), AllocError>
-    requires { IsNet net.now }
-    ensures { OnOk result (string_bytes text.new
-        ≡ string_bytes text.old ++ receiver_text net.now to) }
+pub(crate) fn push_receiver(line: &mut Line, net: &Net, to: Receiver)
+    ensures { line.new ≡ pushed line.old (receiver_text net.now to) }
 {
     match to {
-        Receiver::Switch(s) => text.push_str(net.name(s))?,
-        Receiver::Controller => text.push_str("controller")?,
+        Receiver::Switch(s) => push_name(line, net, s),
+        Receiver::Controller => line.push("controller"),
     }
-    Ok(())
 }
 
-fn push_version(text: &mut String, word: &str, boot: u32, version: u32) -> Result<(), AllocError>
-    ensures { OnOk result (string_bytes text.new
-        ≡ string_bytes text.old ++ version_text word.now boot version) }
+// Adds a boot, behind what was said before it.
+#[tactic(auto, using(text_line::proofs::CallerLemmas::pushed_append))]
+fn push_boot(line: &mut Line, word: &str, boot: u32)
+    ensures { line.new ≡ pushed line.old (boot_text word.now boot) }
 {
-    write!(text, "{word} boot {boot} version {version}")?;
-    Ok(())
+    line.push(word);
+    line.push(" boot ");
+    line.push_number(u64::from(boot));
 }
 
-fn push_hello(text: &mut String, net: &Net, switch: u32, boot: u32) -> Result<(), AllocError>
-    requires { IsNet net.now }
-    ensures { OnOk result (string_bytes text.new
-        ≡ string_bytes text.old ++ boot_text (named net.now (codes "hello") switch) boot) }
+#[tactic(auto, using(text_line::proofs::CallerLemmas::pushed_append))]
+fn push_version(line: &mut Line, word: &str, boot: u32, version: u32)
+    ensures { line.new ≡ pushed line.old (version_text word.now boot version) }
 {
-    let name = net.name(switch);
-    write!(text, "hello {name} boot {boot}")?;
-    Ok(())
+    push_boot(line, word, boot);
+    line.push(" version ");
+    line.push_number(u64::from(version));
 }
 
-fn push_answer(
-    text: &mut String,
-    net: &Net,
-    word: &str,
-    switch: u32,
-    boot: u32,
-    version: u32,
-) -> Result<(), AllocError>
-    requires { IsNet net.now }
-    ensures { OnOk result (string_bytes text.new
-        ≡ string_bytes text.old ++ version_text (named net.now word.now switch) boot version) }
+#[tactic(auto, using(text_line::proofs::CallerLemmas::pushed_append))]
+fn push_booted(line: &mut Line, net: &Net, word: &str, switch: u32, boot: u32)
+    ensures { line.new ≡ pushed line.old (boot_text (named net.now word.now switch) boot) }
 {
-    let name = net.name(switch);
-    write!(text, "{word} {name} boot {boot} version {version}")?;
-    Ok(())
+    push_named(line, net, word, switch);
+    line.push(" boot ");
+    line.push_number(u64::from(boot));
 }
 
-fn push_rule(
-    text: &mut String,
-    version: u32,
-    word: &Word,
-    rule: Option<u32>,
-    action: Action,
-) -> Result<(), AllocError>
-    ensures { OnOk result (string_bytes text.new
-        ≡ string_bytes text.old ++ cache_text version word.now rule action) }
+#[tactic(auto, using(text_line::proofs::CallerLemmas::pushed_append))]
+fn push_answer(line: &mut Line, net: &Net, word: &str, switch: u32, boot: u32, version: u32)
+    ensures { line.new
+        ≡ pushed line.old (version_text (named net.now word.now switch) boot version) }
 {
-    let word = *word;
-    let rule = RuleName(rule);
-    write!(
-        text,
-        "cache version {version} word {word} rule {rule} {action}"
-    )?;
-    Ok(())
+    push_booted(line, net, word, switch, boot);
+    line.push(" version ");
+    line.push_number(u64::from(version));
 }
 
-fn push_advert(text: &mut String, net: &Net, advert: &Advert) -> Result<(), AllocError>
-    requires { IsNet net.now }
-    ensures { OnOk result (string_bytes text.new
-        ≡ string_bytes text.old ++ advert_text net.now advert.now) }
+fn push_cache(line: &mut Line, version: u32, word: &Word, rule: Option<u32>, action: Action)
+    ensures text { line.new ≡ pushed line.old (cache_text version word.now rule action) }
+    ensures of_type { IsBodyOfType (CacheRule version word.now rule action) }
 {
-    let name = net.name(advert.origin);
-    let boot = advert.boot;
-    let seq = advert.seq;
-    write!(text, "advert {name} boot {boot} seq {seq} up")?;
-    push_mask(text, net, advert.up)
+    line.push("cache version ");
+    line.push_number(u64::from(version));
+    line.push(" word ");
+    push_word(line, word);
+    line.push(" rule ");
+    push_rule(line, rule);
+    line.push(" ");
+    push_action(line, action);
+}
+
+fn push_advert(line: &mut Line, net: &Net, advert: &Advert)
+    ensures text { line.new ≡ pushed line.old (advert_text net.now advert.now) }
+    ensures of_type { IsNumber advert.now.boot × IsNumber advert.now.seq }
+{
+    let Advert {
+        origin,
+        boot,
+        seq,
+        up,
+    } = *advert;
+    push_booted(line, net, "advert", origin, boot);
+    line.push(" seq ");
+    line.push_number(u64::from(seq));
+    line.push(" up");
+    push_mask(line, net, up);
 }
 
 /// Adds what a message says.
-pub(crate) fn push_body(text: &mut String, net: &Net, body: &Body) -> Result<(), AllocError>
-    requires { IsNet net.now }
-    ensures { OnOk result (string_bytes text.new
-        ≡ string_bytes text.old ++ body_text net.now body.now) }
+pub(crate) fn push_body(line: &mut Line, net: &Net, body: &Body)
+    ensures text { line.new ≡ pushed line.old (body_text net.now body.now) }
+    ensures of_type { IsBodyOfType body.now }
 {
     match body {
         Body::Install { boot, tables } => {
-            push_version(text, "install", *boot, tables.tables().version)
+            push_version(line, "install", *boot, tables.tables().version)
         }
-        Body::OpenAt { boot, version } => push_version(text, "open", *boot, *version),
-        Body::Stamp { boot, version } => push_version(text, "stamp", *boot, *version),
-        Body::Collect { boot, version } => push_version(text, "collect", *boot, *version),
+        Body::OpenAt { boot, version } => push_version(line, "open", *boot, *version),
+        Body::Stamp { boot, version } => push_version(line, "stamp", *boot, *version),
+        Body::Collect { boot, version } => push_version(line, "collect", *boot, *version),
         Body::CacheRule {
             version,
             word,
             rule,
             action,
-        } => push_rule(text, *version, word, *rule, *action),
-        Body::Advertise { advert } => push_advert(text, net, advert),
-        Body::Hello { switch, boot } => push_hello(text, net, *switch, *boot),
+        } => push_cache(line, *version, word, *rule, *action),
+        Body::Advertise { advert } => push_advert(line, net, advert),
+        Body::Hello { switch, boot } => push_booted(line, net, "hello", *switch, *boot),
         Body::Installed {
             switch,
             boot,
             version,
-        } => push_answer(text, net, "installed", *switch, *boot, *version),
+        } => push_answer(line, net, "installed", *switch, *boot, *version),
         Body::Stamped {
             switch,
             boot,
             version,
-        } => push_answer(text, net, "stamped", *switch, *boot, *version),
+        } => push_answer(line, net, "stamped", *switch, *boot, *version),
     }
 }

@@ -1,49 +1,44 @@
-ghost use Rattle.std.specs.Prelude.{◌≡◌, ◌<◌, ◌++◌, [], if◌then◌else◌, filter, OnOk, codes};
-ghost use Rattle.std.specs.String.{string_bytes};
+ghost use Rattle.std.specs.Prelude.{◌≡◌, ◌++◌, [], if◌then◌else◌, filter, codes};
 ghost use Rattle.masks.specs.Masks.{has, switches};
 ghost use Rattle.net_file.specs.Names.{name_of, names_text};
-ghost use Rattle.net_file.specs.Net.{IsNet};
 ghost use Rattle.journal_text.specs.Lines.{mask_text};
+ghost use Rattle.text_line.specs.Pushes.{pushed};
 
+use line_fields::{Line, push_name};
 use masks::has;
 use net_file::Net;
-use std::alloc::AllocError;
-use std::fmt::Write;
 
 /// Adds the names of a mask's switches, ascending, each behind a blank, or a dash for none.
-pub(crate) fn push_mask(text: &mut String, net: &Net, mask: u64) -> Result<(), AllocError>
-    requires { IsNet net.now }
-    ensures { OnOk result (string_bytes text.new
-        ≡ string_bytes text.old ++ mask_text net.now mask) }
+pub(crate) fn push_mask(line: &mut Line, net: &Net, mask: u64)
+    ensures { line.new ≡ pushed line.old (mask_text net.now mask) }
 {
     if mask == 0 {
-        text.push_str(" -")?;
-        return Ok(());
+        line.push(" -");
+    } else {
+        push_switches(line, net, mask);
     }
-    push_switches(text, net, mask)
 }
 
-#[tactic(auto, using(crate::proofs::MaskLemmas::names_more, crate::proofs::MaskLemmas::names_all))]
-fn push_switches(text: &mut String, net: &Net, mask: u64) -> Result<(), AllocError>
-    requires { IsNet net.now }
-    ensures { OnOk result (string_bytes text.new
-        ≡ string_bytes text.old ++ names_text net.now (filter (has mask) switches)) }
+#[tactic(auto, using(crate::proofs::MaskLemmas::names_more, crate::proofs::MaskLemmas::names_all, text_line::proofs::CallerLemmas::pushed_nothing))]
+fn push_switches(line: &mut Line, net: &Net, mask: u64)
+    ensures { line.new ≡ pushed line.old (names_text net.now (filter (has mask) switches)) }
 {
+    let _within = line.bytes();
     for s in 0..64 {
-        push_if(text, net, has(mask, s), s)?;
+        push_if(line, net, has(mask, s), s);
     }
-    Ok(())
 }
 
 // Adds the name of the switch, behind a blank, where the test holds.
-fn push_if(text: &mut String, net: &Net, test: bool, s: u32) -> Result<(), AllocError>
-    requires { IsNet net.now }
-    ensures { OnOk result (string_bytes text.new
-        ≡ string_bytes text.old ++ (if test then codes " " ++ name_of net.now s else [])) }
+#[tactic(auto, using(text_line::proofs::CallerLemmas::pushed_append))]
+fn push_if(line: &mut Line, net: &Net, test: bool, s: u32)
+    ensures { line.new
+        ≡ pushed line.old (if test then codes " " ++ name_of net.now s else []) }
 {
     if test {
-        let name = net.name(s);
-        write!(text, " {name}")?;
+        line.push(" ");
+        push_name(line, net, s);
+    } else {
+        line.push("");
     }
-    Ok(())
 }

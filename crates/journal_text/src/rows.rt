@@ -1,100 +1,86 @@
-ghost use Rattle.std.specs.Prelude.{◌≡◌, ◌++◌, OnOk};
-ghost use Rattle.std.specs.String.{string_bytes};
-ghost use Rattle.net_file.specs.Net.{IsNet};
-ghost use Rattle.steps.specs.declared.step.Step.TheVariants.{Packet, Expire};
+ghost use Rattle.std.specs.Prelude.{◌≡◌};
 ghost use Rattle.journal_text.specs.Lines.{named, numbered, pair_text, step_text};
+ghost use Rattle.journal_text.specs.Sizes.{IsStepOfType};
+ghost use Rattle.steps.specs.declared.step.Step.TheVariants.{Packet, Expire};
+ghost use Rattle.text_line.specs.Pushes.{pushed};
 
 use five_tuple::Header;
+use line_fields::{Line, push_fields, push_name};
 use net_file::Net;
-use std::alloc::AllocError;
-use std::fmt::Write;
 use steps::Step;
 
 /// Adds a number behind a word.
-pub(crate) fn push_number(text: &mut String, word: &str, n: u32) -> Result<(), AllocError>
-    ensures { OnOk result (string_bytes text.new ≡ string_bytes text.old ++ numbered word.now n) }
+#[tactic(auto, using(text_line::proofs::CallerLemmas::pushed_append))]
+pub(crate) fn push_numbered(line: &mut Line, word: &str, n: u32)
+    ensures { line.new ≡ pushed line.old (numbered word.now n) }
 {
-    write!(text, "{word} {n}")?;
-    Ok(())
+    line.push(word);
+    line.push(" ");
+    line.push_number(u64::from(n));
 }
 
 /// Adds a switch's name behind a word.
-pub(crate) fn push_name(text: &mut String, net: &Net, word: &str, s: u32) -> Result<(), AllocError>
-    requires { IsNet net.now }
-    ensures { OnOk result (string_bytes text.new
-        ≡ string_bytes text.old ++ named net.now word.now s) }
+#[tactic(auto, using(text_line::proofs::CallerLemmas::pushed_append))]
+pub(crate) fn push_named(line: &mut Line, net: &Net, word: &str, s: u32)
+    ensures { line.new ≡ pushed line.old (named net.now word.now s) }
 {
-    let name = net.name(s);
-    write!(text, "{word} {name}")?;
-    Ok(())
+    line.push(word);
+    line.push(" ");
+    push_name(line, net, s);
 }
 
 /// Adds the names of two switches behind a word.
-pub(crate) fn push_pair(
-    text: &mut String,
-    net: &Net,
-    word: &str,
-    one: u32,
-    two: u32,
-) -> Result<(), AllocError>
-    requires { IsNet net.now }
-    ensures { OnOk result (string_bytes text.new
-        ≡ string_bytes text.old ++ pair_text net.now word.now one two) }
+#[tactic(auto, using(text_line::proofs::CallerLemmas::pushed_append))]
+pub(crate) fn push_pair(line: &mut Line, net: &Net, word: &str, one: u32, two: u32)
+    ensures { line.new ≡ pushed line.old (pair_text net.now word.now one two) }
 {
-    let one = net.name(one);
-    let two = net.name(two);
-    write!(text, "{word} {one} {two}")?;
-    Ok(())
+    push_named(line, net, word, one);
+    line.push(" ");
+    push_name(line, net, two);
 }
 
-fn push_packet(text: &mut String, net: &Net, switch: u32, header: &Header) -> Result<(), AllocError>
-    requires { IsNet net.now }
-    ensures { OnOk result (string_bytes text.new
-        ≡ string_bytes text.old ++ step_text net.now (Packet switch header.now)) }
+#[tactic(auto, using(text_line::proofs::CallerLemmas::pushed_append))]
+fn push_packet(line: &mut Line, net: &Net, switch: u32, header: &Header)
+    ensures text { line.new ≡ pushed line.old (step_text net.now (Packet switch header.now)) }
+    ensures of_type { IsStepOfType (Packet switch header.now) }
 {
-    let name = net.name(switch);
-    let fields = header.fields();
-    write!(text, "packet {name} {fields}")?;
-    Ok(())
+    let _number = header.number();
+    push_named(line, net, "packet", switch);
+    line.push(" ");
+    push_fields(line, &header.fields());
 }
 
-fn push_expire(text: &mut String, net: &Net, switch: u32, place: u32) -> Result<(), AllocError>
-    requires { IsNet net.now }
-    ensures { OnOk result (string_bytes text.new
-        ≡ string_bytes text.old ++ step_text net.now (Expire switch place)) }
+#[tactic(auto, using(text_line::proofs::CallerLemmas::pushed_append))]
+fn push_expire(line: &mut Line, net: &Net, switch: u32, place: u32)
+    ensures { line.new ≡ pushed line.old (step_text net.now (Expire switch place)) }
 {
-    let name = net.name(switch);
-    write!(text, "expire {name} {place}")?;
-    Ok(())
+    push_named(line, net, "expire", switch);
+    line.push(" ");
+    line.push_number(u64::from(place));
 }
 
 /// Adds the fields of a step's row, separated by blanks.
-pub(crate) fn push_step(text: &mut String, net: &Net, step: &Step) -> Result<(), AllocError>
-    requires { IsNet net.now }
-    ensures { OnOk result (string_bytes text.new
-        ≡ string_bytes text.old ++ step_text net.now step.now) }
+pub(crate) fn push_step(line: &mut Line, net: &Net, step: &Step)
+    ensures text { line.new ≡ pushed line.old (step_text net.now step.now) }
+    ensures of_type { IsStepOfType step.now }
 {
     match step {
-        Step::Packet { switch, header } => push_packet(text, net, *switch, header),
-        Step::Hop { packet } => push_number(text, "hop", *packet),
-        Step::Lose { packet } => push_number(text, "lose", *packet),
-        Step::Deliver { message } => push_number(text, "deliver", *message),
-        Step::Forget { message } => push_number(text, "forget", *message),
-        Step::Expire { switch, place } => push_expire(text, net, *switch, *place),
-        Step::Update { file } => push_number(text, "update", *file),
+        Step::Packet { switch, header } => push_packet(line, net, *switch, header),
+        Step::Hop { packet } => push_numbered(line, "hop", *packet),
+        Step::Lose { packet } => push_numbered(line, "lose", *packet),
+        Step::Deliver { message } => push_numbered(line, "deliver", *message),
+        Step::Forget { message } => push_numbered(line, "forget", *message),
+        Step::Expire { switch, place } => push_expire(line, net, *switch, *place),
+        Step::Update { file } => push_numbered(line, "update", *file),
         Step::LinkDown { one, two } => {
-            push_pair(text, net, "linkdown", (*one).min(*two), (*one).max(*two))
+            push_pair(line, net, "linkdown", (*one).min(*two), (*one).max(*two))
         }
-        Step::LinkUp { one, two } => push_pair(
-            text,
-            net,
-            "linkup",
-            (*one).min(*two),
-            (*one).max(*two),
-        ),
-        Step::Crash { switch } => push_name(text, net, "crash", *switch),
-        Step::Restart { switch } => push_name(text, net, "restart", *switch),
-        Step::Confirm { switch } => push_name(text, net, "confirm", *switch),
-        Step::Resend { switch } => push_name(text, net, "resend", *switch),
+        Step::LinkUp { one, two } => {
+            push_pair(line, net, "linkup", (*one).min(*two), (*one).max(*two))
+        }
+        Step::Crash { switch } => push_named(line, net, "crash", *switch),
+        Step::Restart { switch } => push_named(line, net, "restart", *switch),
+        Step::Confirm { switch } => push_named(line, net, "confirm", *switch),
+        Step::Resend { switch } => push_named(line, net, "resend", *switch),
     }
 }

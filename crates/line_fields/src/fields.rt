@@ -3,8 +3,8 @@ ghost use Rattle.std.specs.List.{join_with_byte};
 ghost use Rattle.five_tuple.specs.Printing.{address_text, fields_text, proto_number_text};
 ghost use Rattle.text_line.specs.Pushes.{pushed};
 
-use text_line::Line;
 use five_tuple::Fields;
+use text_line::Line;
 
 // Adds four numbers joined by dots.
 fn push_dotted(line: &mut Line, a: u8, b: u8, c: u8, d: u8)

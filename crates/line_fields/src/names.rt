@@ -2,8 +2,8 @@ ghost use Rattle.std.specs.Prelude.{◌≡◌};
 ghost use Rattle.net_file.specs.Names.{name_of, names_text};
 ghost use Rattle.text_line.specs.Pushes.{pushed};
 
-use text_line::Line;
 use net_file::Net;
+use text_line::Line;
 
 /// Adds the name of the switch of this number, if the network has it.
 pub fn push_name(line: &mut Line, net: &Net, s: u32)

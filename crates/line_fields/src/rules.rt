@@ -5,9 +5,9 @@ ghost use Rattle.ternary.specs.Word.{hex_digits, word_text};
 ghost use Rattle.line_fields.specs.Sizes.{IsAction, IsRule};
 ghost use Rattle.text_line.specs.Pushes.{pushed};
 
-use text_line::Line;
 use policy_rules::Action;
 use ternary::Word;
+use text_line::Line;
 
 // The hexadecimal digit of a number below 16.
 #[inline]

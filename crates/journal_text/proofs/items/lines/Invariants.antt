@@ -1,7 +1,6 @@
 use Rattle.std.proofs.Common.{◌≡◌, take}
-use Rattle.std.specs.String.{string_bytes}
 use Rattle.journal_text.specs.Lines.{journal_text}
 use Rattle.journal_text.proofs.items.lines.Given as goal
 
 abbrev pub invariant-loop-item : goal.invariant-loop-item
-invariant-loop-item l = string_bytes l.text ≡ journal_text l.net (take l.item-index l.items)
+invariant-loop-item l = l.text.items ≡ journal_text l.net (take l.item-index l.items)

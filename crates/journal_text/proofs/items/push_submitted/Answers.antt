@@ -1,6 +1,17 @@
+use Rattle.std.proofs.Common.{append_assoc, refl}
 use Rattle.journal_text.specs.Lines.{submitted_text}
+use Rattle.text_line.proofs.CallerLemmas.{pushed_append}
 use Rattle.journal_text.proofs.items.push_submitted.Goals as goal
 
 pub returns : goal.returns
 unfolding submitted_text
-returns c = c.in_ok-write.ensures.bytes
+returns c = simp (
+  c.push_number-2.ensures,
+  c.push-2.ensures,
+  c.push_number.ensures,
+  c.push.ensures,
+  c.from.ensures,
+  c.from-2.ensures,
+  pushed_append,
+  append_assoc,
+) refl

@@ -1,9 +1,10 @@
-use Rattle.std.proofs.Common.{ℕ, ◌++◌, Bool, List, [], ap, sym, ◌∙◌, append_assoc}
+use Rattle.std.proofs.Common.{ℕ, ◌++◌, Bool, List, [], ap, sym, ◌∙◌}
 use Rattle.std.specs.Prelude.{codes, filter, if◌then◌else◌}
 use Rattle.std.specs.List.{range_with_len}
-use Rattle.std.specs.String.{string_bytes}
 use Rattle.masks.specs.Masks.{has}
 use Rattle.net_file.specs.Names.{name_of, names_text}
+use Rattle.text_line.proofs.CallerLemmas.{pushed_append}
+use Rattle.text_line.specs.Pushes.{pushed}
 use Rattle.journal_text.proofs.MaskLemmas.{names_more}
 use Rattle.journal_text.proofs.names.push_switches.Goals as goal
 
@@ -13,9 +14,8 @@ loop-s-preserved c =
     [] in
     let before : List ℕ = names_text c.args.net.now
     (filter (has c.args.mask) (range_with_len 0 c.loop-s.s)) in
-    c.in_ok-push_if.ensures
-    ∙ ap (λ b. string_bytes c.loop-s.text ++ named b) c.has.ensures.has
-    ∙ ap (λ t. t ++ named (has c.args.mask c.loop-s.s)) c.loop-s.invariant
-    ∙ append_assoc (string_bytes c.args.text.now) before (named (has c.args.mask c.loop-s.s))
-    ∙ ap (λ t. string_bytes c.args.text.now ++ t)
-    (sym (names_more c.args.net.now c.args.mask c.loop-s.s))
+    c.push_if.ensures
+    ∙ ap (λ b. pushed c.loop-s.line (named b)) c.has.ensures.has
+    ∙ ap (λ t. pushed t (named (has c.args.mask c.loop-s.s))) c.loop-s.invariant
+    ∙ pushed_append c.args.line.now before (named (has c.args.mask c.loop-s.s))
+    ∙ ap (pushed c.args.line.now) (sym (names_more c.args.net.now c.args.mask c.loop-s.s))

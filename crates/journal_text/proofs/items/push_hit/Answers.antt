@@ -1,0 +1,17 @@
+use Rattle.std.proofs.Common.{append_assoc, refl}
+use Rattle.text_line.proofs.CallerLemmas.{pushed_append}
+use Rattle.journal_text.proofs.items.push_hit.Goals as goal
+
+pub returns-clause-text : goal.returns-clause-text
+returns-clause-text c = simp (
+  c.push_action.ensures.text,
+  c.push-3.ensures,
+  c.push_rule.ensures.text,
+  c.push-2.ensures,
+  c.push_number.ensures,
+  c.push.ensures,
+  c.push_numbered.ensures,
+  c.from.ensures,
+  pushed_append,
+  append_assoc,
+) refl
