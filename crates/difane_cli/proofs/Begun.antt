@@ -16,7 +16,8 @@ use Rattle.steps.specs.declared.step.Event.{Event}
 use Rattle.update_machine.specs.Sound.{IsSetting, NamesOwnPort}
 use Rattle.update_machine.specs.Setting.{Setting, setting_of}
 use Rattle.replay.proofs.Events.{first_planned}
-use Rattle.world.specs.State.{AreTied, IsTied, WorldValue, setting_at}
+use Rattle.world.specs.State.{IsTied, WorldValue, setting_at}
+use Rattle.world_ties.specs.Tied.{AreTied}
 use Rattle.shelf.specs.Shelf.{Files}
 use Rattle.difane_cli.specs.Inputs.{and_then, first_plan, inputs_of, plan_from, read_net, read_policies, read_schedule}
 use Rattle.difane_cli.specs.Run.{IsNetOf, IsReplayOf}

@@ -3,7 +3,8 @@ use Rattle.std.proofs.Common.{ℕ, ◌≤◌, arith}
 use Rattle.steps.specs.Steps.{max_events}
 use Rattle.update_machine.specs.Answers.{IsReached}
 use Rattle.update_machine.specs.Packets.{next_packet}
-use Rattle.world.specs.State.{AreTied, IsTied, Tied, WorldValue, setting_at}
+use Rattle.world.specs.State.{IsTied, WorldValue, setting_at}
+use Rattle.world_ties.specs.Tied.{AreTied, Tied}
 
 pub tie_of : (world : WorldValue) → IsTied world
     → Tied (setting_at world) world.journal world.switches world.travelling world.packets

@@ -6,13 +6,20 @@ use Rattle.ctrl_msg.specs.declared.message.Body.TheVariants.{Hello}
 use Rattle.ctrl_msg.specs.declared.message.Message.{Message}
 use Rattle.failover.specs.declared.advert.Advert.{Advert}
 use Rattle.masks.specs.Masks.{has, mask_of}
-use Rattle.net_file.specs.Net.{joins}
+use Rattle.net_file.specs.Net.{joins, links_of}
+use Rattle.net_file.specs.declared.net.Net.{Net}
 use Rattle.steps.specs.declared.step.Step.{Step}
 use Rattle.steps.specs.declared.step.Step.TheVariants.{LinkDown, LinkUp}
 use Rattle.switch_core.specs.Life.{near_changed, next_advert}
 use Rattle.switch_core.specs.State.{SwitchValue, serves}
 use Rattle.switch_ties.specs.Links.{all_held}
 use Rattle.update_machine.specs.Deliveries.{advert_to, to_controller}
+
+-- ---- links that are up
+
+-- the neighbours of each switch as masks, by its number
+abbrev pub AreNear : Net → List ℕ → Type 0
+AreNear net near = (s : ℕ) → s < 64 → slice_index near s ≡ links_of net.links s
 
 -- ---- a link that fails or comes back
 

@@ -8,7 +8,7 @@ use Rattle.update_machine.specs.Setting.{Setting}
 use Rattle.update_machine.specs.declared.full.TheConstants.{FULL_AT}
 use Rattle.world.specs.declared.error.StepError.{StepError}
 use Rattle.world.specs.declared.error.StepError.TheVariants.{Full, NoMemory}
-use Rattle.world.specs.State.{AreTied, Control}
+use Rattle.world_ties.specs.Tied.{AreTied, Control}
 use Rattle.travelling.specs.Travelling.{Travellers}
 
 pub is_full : (control : Control) (setting : Setting) (journal : List Item)

@@ -1,6 +1,6 @@
 -- What a kind of step owes to the frame that all of them share: its row stands behind the journal,
 -- and it writes the rest.
-use Rattle.std.proofs.Common.{ℕ, ◌≡◌, ◌+◌, List, [], ◌∷◌, ◌++◌, refl, sym, subst, ◌∙◌}
+use Rattle.std.proofs.Common.{ℕ, ◌≡◌, ◌+◌, List, [], ◌∷◌, ◌++◌, refl, sym, subst, ◌∙◌, arith}
 use Rattle.std.specs.Prelude.{Err, IsErr, Ok, OnErr, OnOk, Result}
 use Rattle.std.proofs.lemmas.Result.{on_err_weaker, on_ok_weaker}
 use Rattle.bag.specs.Posts.{Post}
@@ -12,11 +12,17 @@ use Rattle.update_machine.specs.Pieces.{piece, step_items}
 use Rattle.update_machine.specs.Setting.{Setting, setting_of}
 use Rattle.policy_store.specs.Files.{FilesValue}
 use Rattle.world.specs.Parts.{AreTiedIn, Begins, Goes, HasBegun, IsReady, KeepNet, Plays, control_in, setting_in}
-use Rattle.world.specs.State.{AreTied, Control, comes_in}
+use Rattle.world.specs.State.{comes_in}
+use Rattle.world_ties.specs.Tied.{AreTied, Control}
 use Rattle.world_log.specs.Writing.{IsPart}
 use Rattle.world.specs.declared.parts.Parts.{Parts}
-use Rattle.world.proofs.OneItem.{grown}
+use Rattle.world_ties.proofs.OneItem.{grown}
 use Rattle.world_log.proofs.Writing.{both_ok, by_error, grown_more, part_none, step_part, step_written}
+
+-- nothing was done to the files and the ports
+pub net_stays : {old new : Parts} → new.files ≡ old.files → new.ports ≡ old.ports
+    → KeepNet old new
+net_stays files ports = record { same_files = files; same_ports = ports }
 
 -- these parts are as this journal says, by the setting from before the step
 abbrev pub AreTiedTo : Parts → List Item → Parts → Control → Type 0
@@ -35,6 +41,14 @@ pub record KeepControl (old new : Parts) : Type 0 where
   pub same_controller : new.controller ≡ old.controller
   pub same_links : new.links ≡ old.links
   pub same_near : new.near ≡ old.near
+
+pub plane_stays : {old new : Parts} → new.controller ≡ old.controller → new.links ≡ old.links
+    → new.near ≡ old.near → KeepControl old new
+plane_stays controller links near = record {
+  same_controller = controller;
+  same_links = links;
+  same_near = near;
+}
 
 -- so of the control plane only messages changed
 abbrev pub with_posts : Parts → List Post → Control
@@ -62,6 +76,14 @@ by_posts old new journal keeps tied =
       links = old.links;
       near = near;
     })) (sym keeps.same_near) tied))
+
+-- no packet comes in
+pub none_in : (n : ℕ) → n ≡ n + 0
+none_in n = omega arith
+
+-- a call that succeeded didn't fail
+pub not_err : {T E : Type 0} (x : T) (e : E) → Ok x ≡ Err e → ⊥
+not_err x e is = absurd cc
 
 pub none_ok : {T E : Type 0} (P : Type 0) (r : Result T E) → IsErr r → OnOk r P
 none_ok P (Ok x) failed = absurd cc

@@ -9,7 +9,8 @@ use Rattle.journal.specs.declared.item.Item.TheVariants as item
 use Rattle.steps.specs.declared.step.Step.{Step}
 use Rattle.update_machine.specs.Pieces.{piece}
 use Rattle.world.specs.Parts.{Begins, Goes, KeepNet, control_in, setting_in}
-use Rattle.world.specs.State.{AreTied, Control, comes_in}
+use Rattle.world.specs.State.{comes_in}
+use Rattle.world_ties.specs.Tied.{AreTied, Control}
 use Rattle.travelling.specs.Travelling.{Travellers}
 use Rattle.world_log.specs.Writing.{IsPart}
 use Rattle.world.specs.declared.parts.Parts.{Parts}

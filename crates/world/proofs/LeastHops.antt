@@ -7,7 +7,8 @@ use Rattle.journal.specs.declared.item.Item.{Item}
 use Rattle.update_machine.specs.Packets.{next_packet, next_travelling, travels}
 use Rattle.update_machine.specs.Setting.{Setting}
 use Rattle.way_laws.specs.Words.{words_of}
-use Rattle.world.specs.State.{AreTied, IsTied, WorldValue, setting_at}
+use Rattle.world.specs.State.{IsTied, WorldValue, setting_at}
+use Rattle.world_ties.specs.Tied.{AreTied}
 use Rattle.log_ties.specs.Travellers.{traveller_in, traveller_of}
 use Rattle.travelling.specs.Travelling.{IsNextFrom, Travellers, traveller}
 use Rattle.log_ties.proofs.Known.{reached_known}

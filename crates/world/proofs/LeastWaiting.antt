@@ -12,7 +12,8 @@ use Rattle.ctrl_msg.specs.declared.message.Message.{Message}
 use Rattle.journal.specs.declared.item.Item.{Item}
 use Rattle.update_machine.specs.Folds.{count_of}
 use Rattle.update_machine.specs.Messages.{is_deliverable, is_forgotten, is_sending, is_waiting, message_of, next_message, next_waiting, was_delivered}
-use Rattle.world.specs.State.{AreTied, IsTied, WorldValue}
+use Rattle.world.specs.State.{IsTied, WorldValue}
+use Rattle.world_ties.specs.Tied.{AreTied}
 use Rattle.log_ties.specs.Bags.{IsBagOf, post_in}
 
 find_same : (one other : ℕ → Bool) → ((n : ℕ) → one n ≡ other n) → (numbers : List ℕ)

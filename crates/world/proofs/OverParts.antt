@@ -11,15 +11,15 @@ use Rattle.tunnel.specs.Moves.{here}
 use Rattle.update_machine.specs.Pieces.{piece}
 use Rattle.world_log.specs.Packets.{coming_in, entry, hop_items, hop_posts, hop_traveller, hopped_switch}
 use Rattle.world.specs.Parts.{IsReady, control_in, setting_in}
-use Rattle.world.specs.State.{AreTied}
+use Rattle.world_ties.specs.Tied.{AreTied}
 use Rattle.travelling.specs.Travelling.{Travellers, WithOne, traveller}
 use Rattle.world_log.specs.Writing.{entered_items, entered_posts, entered_traveller}
 use Rattle.world.specs.declared.parts.Parts.{Parts}
 use Rattle.travelling.specs.declared.travelling.Traveller.{Traveller}
-use Rattle.world.proofs.Asking.{can_ask, switch_is, within_here, number_of_packet}
+use Rattle.world_ties.proofs.Asking.{can_ask, switch_is, within_here, number_of_packet}
 use Rattle.log_ties.proofs.CanAsk.{CanAsk}
-use Rattle.world.proofs.HopTie.{hop_piece_of, hop_tied}
-use Rattle.world.proofs.Incoming.{come_piece, come_ready, come_tied}
+use Rattle.world_ties.proofs.HopTie.{hop_piece_of, hop_tied}
+use Rattle.world_ties.proofs.Incoming.{come_piece, come_ready, come_tied}
 use Rattle.world_log.proofs.Writing.{both_ok, three_ok}
 
 -- ---- a packet that comes in
@@ -71,7 +71,9 @@ module _ (parts : Parts) (before : List Item) (row i : ℕ) (t : Traveller) (s :
     (its : traveller parts.log.travelling i ≡ Some t) (at : s ≡ here t.tunnel)
     (own : switch ≡ get_or parts.switches.items s switch) where
   can : CanAsk (setting_in parts) before i t s (slice_index parts.near s) switch parts.ports
-  can = can_ask parts before i t s switch ready its at own
+  can = can_ask (control_in parts) (setting_in parts) before parts.switches.items
+      parts.log.travelling parts.packets i t s switch parts.ports ready.tied ready.sound.owners
+      its at own
 
   pub hop_is : piece (setting_in parts) before row (Hop i) ≡ item.Row row (Hop i)
       ∷ hop_items (length parts.log.bag + 1) switch (slice_index parts.near s) parts.ports t

@@ -1,9 +1,10 @@
-ghost use Rattle.std.specs.Prelude.{◌≡◌, ◌<◌, ℕ, length, map, slice_index_or, IfOk, IfErr};
+ghost use Rattle.std.specs.Prelude.{◌≡◌, length, map, IfOk};
 ghost use Rattle.std.specs.List.{range_with_len};
 ghost use Rattle.controller.specs.Controller.{first_controller};
 ghost use Rattle.controller.specs.Plan.{PlanValue};
-ghost use Rattle.net_file.specs.Net.{IsNet, links_of};
-ghost use Rattle.world.specs.State.{AreNear, IsFirst, switch_begun};
+ghost use Rattle.net_file.specs.Net.{IsNet};
+ghost use Rattle.usable_links.specs.Linking.{AreNear};
+ghost use Rattle.world_ties.specs.Begun.{IsFirst, switch_begun};
 
 use controller::Controller;
 use failover::Database;
@@ -11,23 +12,11 @@ use net_file::Net;
 use std::alloc::{AllocError, Global};
 use switch_core::Switch;
 
-/// The neighbours of each switch, as masks.
-pub fn near_masks(net: &Net) -> [u64; 64]
-    requires { IsNet net.now }
-    ensures { AreNear net.now result }
-{
-    let mut near = [0; 64];
-    for switch in 0..64 {
-        near[switch] = net.links_of(switch as u32);
-    }
-    near
-}
-
 /// All switches in their first boot, each with the controller's tables of version 1, shared.
 ///
 /// # Errors
 /// Want of memory alone.
-#[tactic(auto, using(crate::proofs::Firsts::first_own))]
+#[tactic(auto, using(world_ties::proofs::Firsts::first_own))]
 pub fn switches_of(
     alloc: Global,
     net: &Net,

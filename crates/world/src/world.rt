@@ -15,7 +15,7 @@ ghost use Rattle.world.specs.State.{IsBegun, IsTied, comes_in, setting_at};
 ghost use Rattle.travelling.specs.Travelling.{IsNextFrom, traveller};
 ghost use Rattle.world_log.specs.Writing.{IsPart};
 
-use crate::beginning::{near_masks, switches_of};
+use crate::beginning::switches_of;
 use crate::error::StepError;
 use crate::parts::Parts;
 use bag::Bag;
@@ -30,6 +30,7 @@ use steps::Step;
 use switch_core::Switch;
 use travelling::Travelling;
 use update_machine::FULL_AT;
+use usable_links::near_masks;
 use world_log::Log;
 
 /// A network of switches with its controller, the packets on their way in it, and the journal of

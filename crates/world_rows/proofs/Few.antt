@@ -1,7 +1,8 @@
 -- What the tests know of a world that isn't spent.
 use Rattle.std.proofs.Common.{◌≡◌, ◌<◌, ◌≤◌, false, arith}
 use Rattle.update_machine.specs.Packets.{next_packet}
-use Rattle.world.specs.State.{AreTied, IsTied, WorldValue}
+use Rattle.world.specs.State.{IsTied, WorldValue}
+use Rattle.world_ties.specs.Tied.{AreTied}
 
 -- a step may be taken as long as there are few packets
 pub few_packets : (world : WorldValue) → (world.is_spent ≡ false → IsTied world)

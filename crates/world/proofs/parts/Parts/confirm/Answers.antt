@@ -1,4 +1,4 @@
-use Rattle.std.proofs.Common.{◌≡◌, ◌+◌, ◌^◌, ◌<◌, ◌++◌, List, OnOk, OnErr, length, refl, sym, subst, ◌∙◌, arith, rules}
+use Rattle.std.proofs.Common.{◌≡◌, ◌+◌, ◌^◌, ◌<◌, ◌++◌, List, OnOk, OnErr, length, refl, sym, subst, ◌∙◌, arith}
 use Rattle.std.proofs.lemmas.Result.{on_ok_weaker}
 use Rattle.controller.specs.Controller.{ControllerValue}
 use Rattle.controller.specs.Sends.{settling}
@@ -10,9 +10,9 @@ use Rattle.version_update.specs.Record.{after_over}
 use Rattle.world.specs.Parts.{control_in, setting_in}
 use Rattle.world_log.specs.Sending.{act_items, act_posts}
 use Rattle.world_log.specs.Writing.{IsPart}
-use Rattle.world.proofs.Frame.{goes_one, nothing_goes}
+use Rattle.world.proofs.Frame.{goes_one, net_stays, none_in, nothing_goes, plane_stays}
 use Rattle.world.proofs.GoesTold.{goes_told}
-use Rattle.world.proofs.GoneSwitches.{gone_few, gone_known, gone_piece, gone_there, gone_tied, still_up}
+use Rattle.world_ties.proofs.GoneSwitches.{gone_few, gone_known, gone_piece, gone_there, gone_tied, still_up}
 use Rattle.world.proofs.parts.Parts.confirm.Goals as goal
 
 pub index-requires : goal.index-requires
@@ -32,8 +32,8 @@ pub returns-then-is_up : goal.returns-then-is_up
 returns-then-is_up c = λ before row begins.
     let self = c.args.self.now in
     let s = c.args.switch in
-    goes_one c.push.result before row (Confirm s) self _ begins (search rules) item.Nothing
-    self.log.bag (search rules) refl (omega arith)
+    goes_one c.push.result before row (Confirm s) self _ begins (net_stays refl refl) item.Nothing
+    self.log.bag (plane_stays refl refl refl) refl (none_in _)
     (still_up (control_in self) (setting_in self) before self.switches.items
     self.log.travelling self.packets row s c.index.result.now begins.ready.tied begins.ready.may
     c.index.ensures (sym c.is_up.ensures ∙ c.if-is_up.true))
@@ -54,12 +54,12 @@ over-requires c =
 pub returns-in_err-sends : goal.returns-in_err-sends
 returns-in_err-sends c = λ before row begins.
     nothing_goes c.from_residual.result before row (Confirm c.args.switch) c.args.self.now _
-    begins (search rules) c.from_residual.ensures.0 refl
+    begins (net_stays refl refl) c.from_residual.ensures.0 refl
 
 pub returns-in_err-push : goal.returns-in_err-push
 returns-in_err-push c = λ before row begins.
     nothing_goes c.from_residual-in_err-push.result before row (Confirm c.args.switch)
-    c.args.self.now _ begins (search rules) c.from_residual-in_err-push.ensures.0
+    c.args.self.now _ begins (net_stays refl refl) c.from_residual-in_err-push.ensures.0
     c.in_err-push.ensures.unchanged
 
 pub note_acts-requires : goal.note_acts-requires
@@ -88,11 +88,11 @@ returns c = λ before row begins.
     let begun = c.push-2.new.self in
     goes_told c.note_acts.result before row (Confirm s) self _ (item.OverNow s)
     (λ k. act_items k acts) begun (length self.log.bag) self.log.bag (act_posts acts) begins
-    (search rules) (record {
+    (net_stays refl refl) (record {
       piece_is = gone_piece (control_in self) (setting_in self) before self.switches.items
           self.log.travelling self.packets row s c.index.result.now ready.tied ready.may
           c.index.ensures new down c.over.ensures.after;
-      counted = omega arith;
+      counted = none_in _;
       pushed = c.in_ok-push.ensures.pushed;
       number_is = refl;
       travelling = c.note_acts.ensures.travelling;

@@ -1,4 +1,4 @@
-use Rattle.std.proofs.Common.{◌≡◌, ◌+◌, ◌^◌, ◌<◌, ◌++◌, ◌∷◌, List, map, set, refl, ap, sym, subst, ◌∙◌, append_assoc, length, arith, rules}
+use Rattle.std.proofs.Common.{◌≡◌, ◌+◌, ◌^◌, ◌<◌, ◌++◌, ◌∷◌, List, map, set, refl, ap, sym, subst, ◌∙◌, append_assoc, length, arith}
 use Rattle.std.proofs.lemmas.List.{length-set}
 use Rattle.std.proofs.lemmas.Result.{on_err_weaker, on_ok_weaker}
 use Rattle.bag.specs.Posts.{posted}
@@ -10,14 +10,14 @@ use Rattle.switch_core.specs.State.{SwitchValue}
 use Rattle.update_machine.specs.Messages.{sent_from}
 use Rattle.usable_links.specs.Linking.{all_told, near_all}
 use Rattle.world.specs.Parts.{control_in, setting_in}
-use Rattle.world.specs.State.{AreTied}
+use Rattle.world_ties.specs.Tied.{AreTied}
 use Rattle.travelling.specs.Travelling.{WithoutAt, numbers_at}
 use Rattle.world_log.specs.Writing.{IsPart}
-use Rattle.world.proofs.Crashed.{crash_few, crash_next, crash_piece, crash_ready, crash_tied, same_switch, stays_down}
+use Rattle.world_ties.proofs.Crashed.{crash_few, crash_next, crash_piece, crash_ready, crash_tied, same_switch, stays_down}
 use Rattle.world_log.proofs.Writing.{by_error}
-use Rattle.world.proofs.Frame.{goes, goes_one, none_ok, nothing_goes}
+use Rattle.world.proofs.Frame.{goes, goes_one, net_stays, none_in, none_ok, nothing_goes, plane_stays}
 use Rattle.world.proofs.GoesTold.{same_control}
-use Rattle.world.proofs.HearReady.{few_switches}
+use Rattle.world_ties.proofs.HearReady.{few_switches}
 use Rattle.world_log.proofs.Writing.{part_of_first, part_of_rest, step_part, step_written, three_ok}
 use Rattle.world.proofs.parts.Parts.crash.Goals as goal
 
@@ -43,8 +43,8 @@ index_mut-requires c =
 pub returns-then-not-is_up : goal.returns-then-not-is_up
 returns-then-not-is_up c = λ before row begins.
     let self = c.args.self.now in
-    goes_one c.push.result before row (Crash c.args.switch) self _ begins (search rules)
-    item.Nothing self.log.bag (search rules) refl (omega arith)
+    goes_one c.push.result before row (Crash c.args.switch) self _ begins (net_stays refl refl)
+    item.Nothing self.log.bag (plane_stays refl refl refl) refl (none_in _)
     (stays_down (control_in self) (setting_in self) before self.switches.items
     self.log.travelling self.packets row c.args.switch c.index.result.now begins.ready.tied
     begins.ready.may c.index.ensures (sym c.is_up.ensures ∙ c.if-not-is_up.true))
@@ -55,7 +55,7 @@ returns-then-not-is_up c = λ before row begins.
 pub returns-in_err-push : goal.returns-in_err-push
 returns-in_err-push c = λ before row begins.
     nothing_goes c.from_residual.result before row (Crash c.args.switch) c.args.self.now _ begins
-    (search rules) c.from_residual.ensures.0 c.in_err-push.ensures.unchanged
+    (net_stays refl refl) c.from_residual.ensures.0 c.in_err-push.ensures.unchanged
 
 pub returns-in_err-lose_at : goal.returns-in_err-lose_at
 returns-in_err-lose_at c = λ before row begins.
@@ -71,7 +71,7 @@ returns-in_err-lose_at c = λ before row begins.
     let losses = map item.Lost (numbers_at self.log.travelling s) in
     let r = c.from_residual-in_err-lose_at.result in
     let failed = c.from_residual-in_err-lose_at.ensures.0 in
-    goes r before row (Crash s) self _ begins (search rules) (item.Down s ∷ losses ++ sends)
+    goes r before row (Crash s) self _ begins (net_stays refl refl) (item.Down s ∷ losses ++ sends)
     (crash_piece (control_in self) (setting_in self) before self.switches.items
     self.log.travelling self.packets row s own changed begins.ready.tied begins.ready.may within
     c.index_mut.ensures.value c.crash.ensures
@@ -150,7 +150,7 @@ returns c = λ before row begins.
     let down = c.push-2.new.self in
     let behind = c.lose_at.new.self in
     goes r before row (Crash s) self new begins
-    (record { same_files = rest.files; same_ports = rest.ports })
+    (net_stays rest.files rest.ports)
     (item.Down s ∷ losses ++ sends)
     (crash_piece (control_in self) (setting_in self) before self.switches.items
     self.log.travelling self.packets row s own changed ready.tied ready.may within

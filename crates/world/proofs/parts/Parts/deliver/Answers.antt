@@ -1,4 +1,4 @@
-use Rattle.std.proofs.Common.{◌≡◌, ◌+◌, ◌^◌, ◌<◌, ◌++◌, ◌∷◌, List, OnOk, OnErr, get_or, length, map, set, refl, ap, sym, subst, ◌∙◌, arith, rules}
+use Rattle.std.proofs.Common.{◌≡◌, ◌+◌, ◌^◌, ◌<◌, ◌++◌, ◌∷◌, List, OnOk, OnErr, get_or, length, map, set, refl, ap, sym, subst, ◌∙◌, arith}
 use Rattle.std.specs.Prelude.{is_some}
 use Rattle.bag.specs.Deliveries.{delivered}
 use Rattle.std.proofs.lemmas.List.{length-set}
@@ -16,13 +16,13 @@ use Rattle.update_machine.specs.Messages.{sent_from}
 use Rattle.world.specs.Parts.{control_in, setting_in}
 use Rattle.usable_links.specs.Linking.{all_told, near_all}
 use Rattle.world_log.specs.Sending.{act_items, act_posts}
-use Rattle.world.specs.State.{AreTied}
+use Rattle.world_ties.specs.Tied.{AreTied}
 use Rattle.world_log.specs.Writing.{IsPart}
 use Rattle.world.proofs.GoesTold.{first_goes, goes_told, same_control}
-use Rattle.world.proofs.HeardBy.{control_few, control_piece, control_tied, first_piece, names_known, shut_few, shut_piece, shut_tied, undelivered}
-use Rattle.world.proofs.HearReady.{few_switches, hear_ready, usable_here}
-use Rattle.world.proofs.Opening.{opening_few, opening_next, opening_piece, opening_tied}
-use Rattle.world.proofs.Frame.{goes_one, nothing_goes}
+use Rattle.world_ties.proofs.HeardBy.{control_few, control_piece, control_tied, first_piece, names_known, shut_few, shut_piece, shut_tied, undelivered}
+use Rattle.world_ties.proofs.HearReady.{few_switches, hear_ready, usable_here}
+use Rattle.world_ties.proofs.Opening.{opening_few, opening_next, opening_piece, opening_tied}
+use Rattle.world.proofs.Frame.{goes_one, net_stays, none_in, nothing_goes, plane_stays}
 use Rattle.world_log.proofs.Writing.{both_ok, step_part, step_written}
 use Rattle.world.proofs.parts.Parts.deliver.Goals as goal
 
@@ -31,13 +31,13 @@ use Rattle.world.proofs.parts.Parts.deliver.Goals as goal
 pub returns-in_err-get : goal.returns-in_err-get
 returns-in_err-get c = λ before row begins.
     nothing_goes c.from_residual.result before row (Deliver c.args.number) c.args.self.now _ begins
-    (search rules) c.from_residual.ensures.0 refl
+    (net_stays refl refl) c.from_residual.ensures.0 refl
 
 pub returns-in-None : goal.returns-in-None
 returns-in-None c = λ before row begins.
     let self = c.args.self.now in
-    goes_one c.push.result before row (Deliver c.args.number) self _ begins (search rules)
-    item.Nothing self.log.bag (search rules) refl (omega arith)
+    goes_one c.push.result before row (Deliver c.args.number) self _ begins (net_stays refl refl)
+    item.Nothing self.log.bag (plane_stays refl refl refl) refl (none_in _)
     (undelivered (control_in self) (setting_in self) before self.switches.items
     self.log.travelling self.packets row c.args.number begins.ready.tied begins.ready.may
     (ap is_some (sym c.in_ok-get.ensures ∙ c.in-None.is)))
@@ -48,7 +48,7 @@ returns-in-None c = λ before row begins.
 pub returns-in_err-push : goal.returns-in_err-push
 returns-in_err-push c = λ before row begins.
     nothing_goes c.from_residual-in_err-push.result before row (Deliver c.args.number)
-    c.args.self.now _ begins (search rules) c.from_residual-in_err-push.ensures.0
+    c.args.self.now _ begins (net_stays refl refl) c.from_residual-in_err-push.ensures.0
     c.in_err-push.ensures.unchanged
 
 pub tell_controller-requires-clause-there : goal.tell_controller-requires-clause-there
@@ -80,11 +80,11 @@ returns-in-Controller c = λ before row begins.
     let ready = begins.ready in
     goes_told c.tell_controller.result before row (Deliver n) self _ (item.Delivered n)
     (λ k. act_items k acts) c.push-2.new.self (length c.deliver.new.self)
-    (with_delivered self.log.bag n) (act_posts acts) begins (search rules) (record {
+    (with_delivered self.log.bag n) (act_posts acts) begins (net_stays refl refl) (record {
       piece_is = control_piece (control_in self) (setting_in self) before self.switches.items
           self.log.travelling self.packets row n message new ready.tied ready.may there
           c.in-Controller.is c.tell_controller.ensures.after;
-      counted = omega arith;
+      counted = none_in _;
       pushed = c.in_ok-push.ensures.pushed;
       number_is = ap length c.deliver.ensures
           ∙ length_changed (with_status delivered) self.log.bag n;
@@ -129,7 +129,7 @@ pub returns-in_err-heard : goal.returns-in_err-heard
 returns-in_err-heard c = λ before row begins.
     let self = c.args.self.now in
     first_goes c.from_residual-in_err-heard.result before row (Deliver c.args.number) self _
-    (item.Delivered c.args.number) _ begins (search rules)
+    (item.Delivered c.args.number) _ begins (net_stays refl refl)
     (first_piece (control_in self) (setting_in self) before self.switches.items
     self.log.travelling self.packets row c.args.number c.in-Some.message begins.ready.tied
     (sym c.in_ok-get.ensures ∙ c.in-Some.is)) c.from_residual-in_err-heard.ensures.0
@@ -181,12 +181,12 @@ returns-in-None-opened c = λ before row begins.
     let are : c.items.result.now ≡ messages = c.items.ensures ∙ c.in_ok-heard.ensures.replies in
     goes_told c.send_all.result before row (Deliver n) self _ (item.Delivered n)
     (λ k. sent_from k messages) c.push-2.new.self (length c.deliver.new.self)
-    (with_delivered self.log.bag n) (map posted messages) begins (search rules) (record {
+    (with_delivered self.log.bag n) (map posted messages) begins (net_stays refl refl) (record {
       piece_is = shut_piece (control_in self) (setting_in self) before self.switches.items
           self.log.travelling self.packets row n s message own c.hear.new.self near ready.tied
           ready.may there c.in-Switch.is within.0 c.index_mut.ensures.value usable
           c.in_ok-heard.ensures.after shut;
-      counted = omega arith;
+      counted = none_in _;
       pushed = c.in_ok-push.ensures.pushed;
       number_is = ap length c.deliver.ensures
           ∙ length_changed (with_status delivered) self.log.bag n;
@@ -215,7 +215,7 @@ pub returns-in_err-push-in-Some-opened : goal.returns-in_err-push-in-Some-opened
 returns-in_err-push-in-Some-opened c = λ before row begins.
     let self = c.args.self.now in
     first_goes c.from_residual-in_err-push-in-Some-opened.result before row
-    (Deliver c.args.number) self _ (item.Delivered c.args.number) _ begins (search rules)
+    (Deliver c.args.number) self _ (item.Delivered c.args.number) _ begins (net_stays refl refl)
     (first_piece (control_in self) (setting_in self) before self.switches.items
     self.log.travelling self.packets row c.args.number c.in-Some.message begins.ready.tied
     (sym c.in_ok-get.ensures ∙ c.in-Some.is))
@@ -285,7 +285,7 @@ returns c = λ before row begins.
     goes_told c.change_links.result before row (Deliver n) self new (item.Delivered n)
     (λ k. item.Opened s stamp ∷ sent_from k messages) c.push-2.new.self
     (length c.deliver.new.self) (with_delivered self.log.bag n) (map posted messages) begins
-    (record { same_files = rest.files; same_ports = rest.ports }) (record {
+    (net_stays rest.files rest.ports) (record {
       piece_is = opening_piece (control_in self) (setting_in self) before self.switches.items
           self.log.travelling self.packets row n s stamp message own c.hear.new.self ready.tied
           ready.may there c.in-Switch.is within.0 c.index_mut.ensures.value

@@ -1,9 +1,9 @@
-use Rattle.std.proofs.Common.{Some, None, refl, sym, ◌∙◌, arith, rules}
+use Rattle.std.proofs.Common.{Some, None, refl, sym, ◌∙◌, arith}
 use Rattle.journal.specs.declared.item.Item.TheVariants as item
 use Rattle.steps.specs.declared.step.Step.TheVariants.{Expire}
 use Rattle.world.specs.Parts.{control_in, setting_in}
-use Rattle.world.proofs.Expiring.{expire_ready, expired_tied}
-use Rattle.world.proofs.Frame.{goes_one}
+use Rattle.world_ties.proofs.Expiring.{expire_ready, expired_tied}
+use Rattle.world.proofs.Frame.{goes_one, net_stays, none_in, plane_stays}
 use Rattle.world.proofs.parts.Parts.expire.Goals as goal
 
 pub index_mut-requires : goal.index_mut-requires
@@ -18,7 +18,7 @@ pub returns-in-None : goal.returns-in-None
 returns-in-None c = λ before row begins.
     let self = c.args.self.now in
     goes_one c.push.result before row (Expire c.args.switch c.args.place) self _ begins
-    (search rules) item.Nothing self.log.bag (search rules) refl (omega arith)
+    (net_stays refl refl) item.Nothing self.log.bag (plane_stays refl refl refl) refl (none_in _)
     (expired_tied (control_in self) (setting_in self) before self.switches.items
     self.log.travelling self.packets row c.args.switch c.args.place c.index_mut.result.now
     c.expire.new.self None begins.ready.tied begins.ready.may c.index_mut.ensures.value
@@ -29,8 +29,8 @@ pub returns-in-Some : goal.returns-in-Some
 returns-in-Some c = λ before row begins.
     let self = c.args.self.now in
     goes_one c.push-in-Some.result before row (Expire c.args.switch c.args.place) self _ begins
-    (search rules) (item.Expired c.args.switch c.args.place c.in-Some.message) self.log.bag (search rules) refl
-    (omega arith)
+    (net_stays refl refl) (item.Expired c.args.switch c.args.place c.in-Some.message) self.log.bag (plane_stays refl refl refl) refl
+    (none_in _)
     (expired_tied (control_in self) (setting_in self) before self.switches.items
     self.log.travelling self.packets row c.args.switch c.args.place c.index_mut.result.now
     c.expire.new.self (Some c.in-Some.message) begins.ready.tied begins.ready.may

@@ -1,17 +1,17 @@
-use Rattle.std.proofs.Common.{refl, sym, ◌∙◌, arith, rules}
+use Rattle.std.proofs.Common.{refl, sym, ◌∙◌}
 use Rattle.journal.specs.declared.item.Item.TheVariants as item
 use Rattle.steps.specs.declared.step.Step.TheVariants.{Forget}
 use Rattle.bag.specs.Posts.{with_forgotten}
 use Rattle.world.specs.Parts.{control_in, setting_in}
-use Rattle.world.proofs.Delivering.{forgotten_tied, unforgotten}
-use Rattle.world.proofs.Frame.{goes_one}
+use Rattle.world_ties.proofs.Delivering.{forgotten_tied, unforgotten}
+use Rattle.world.proofs.Frame.{goes_one, net_stays, none_in, plane_stays}
 use Rattle.world.proofs.parts.Parts.forget.Goals as goal
 
 pub returns-then-not-may_be_delivered : goal.returns-then-not-may_be_delivered
 returns-then-not-may_be_delivered c = λ before row begins.
     let self = c.args.self.now in
-    goes_one c.push.result before row (Forget c.args.number) self _ begins (search rules)
-    item.Nothing self.log.bag (search rules) refl (omega arith)
+    goes_one c.push.result before row (Forget c.args.number) self _ begins (net_stays refl refl)
+    item.Nothing self.log.bag (plane_stays refl refl refl) refl (none_in _)
     (unforgotten (control_in self) (setting_in self) before self.switches.items
     self.log.travelling self.packets row c.args.number begins.ready.tied begins.ready.may
     (sym c.may_be_delivered.ensures ∙ c.if-not-may_be_delivered.true))
@@ -20,9 +20,9 @@ returns-then-not-may_be_delivered c = λ before row begins.
 pub returns : goal.returns
 returns c = λ before row begins.
     let self = c.args.self.now in
-    goes_one c.push-2.result before row (Forget c.args.number) self _ begins (search rules)
-    (item.Forgotten c.args.number) (with_forgotten self.log.bag c.args.number) (search rules) c.forget.ensures
-    (omega arith)
+    goes_one c.push-2.result before row (Forget c.args.number) self _ begins (net_stays refl refl)
+    (item.Forgotten c.args.number) (with_forgotten self.log.bag c.args.number) (plane_stays refl refl refl) c.forget.ensures
+    (none_in _)
     (forgotten_tied (control_in self) (setting_in self) before self.switches.items
     self.log.travelling self.packets row c.args.number begins.ready.tied begins.ready.may
     (sym c.may_be_delivered.ensures ∙ c.if-not-may_be_delivered.false))

@@ -1,10 +1,10 @@
-use Rattle.std.proofs.Common.{refl, arith, rules}
+use Rattle.std.proofs.Common.{refl, arith}
 use Rattle.std.proofs.lemmas.Result.{on_ok_weaker}
 use Rattle.steps.specs.declared.step.Step.TheVariants.{Packet as PacketStep}
 use Rattle.world.specs.Parts.{control_in, setting_in}
-use Rattle.world.proofs.Frame.{goes_quiet}
-use Rattle.world.proofs.Asking.{can_look_up}
-use Rattle.world.proofs.Incoming.{come_fits, come_ready}
+use Rattle.world.proofs.Frame.{goes_quiet, net_stays, plane_stays}
+use Rattle.world_ties.proofs.Asking.{can_look_up}
+use Rattle.world_ties.proofs.Incoming.{come_fits, come_ready}
 use Rattle.world.proofs.OverParts.{come_is, come_ties}
 use Rattle.world.proofs.parts.Parts.packet.Goals as goal
 
@@ -38,7 +38,7 @@ pub returns : goal.returns
 returns c = λ before row begins.
     let self = c.args.self.now in
     goes_quiet c.enter.result before row (PacketStep c.args.switch c.args.header.now) self _ begins
-    (search rules) _ (search rules)
+    (net_stays refl refl) _ (plane_stays refl refl refl)
     (come_is self before row c.args.switch c.args.header.now c.index_mut.result.now begins.ready
     c.index_mut.ensures.value)
     (on_ok_weaker c.enter.result (λ done. refl) c.enter.ensures.written)

@@ -1,4 +1,4 @@
-use Rattle.std.proofs.Common.{◌≡◌, ◌+◌, ◌^◌, ◌<◌, ◌++◌, ◌∷◌, ◌==◌, false, true, List, OnOk, OnErr, get_or, length, map, refl, sym, subst, ◌∙◌, arith, rules}
+use Rattle.std.proofs.Common.{◌≡◌, ◌+◌, ◌^◌, ◌<◌, ◌++◌, ◌∷◌, ◌==◌, false, true, List, OnOk, OnErr, get_or, length, map, refl, sym, subst, ◌∙◌, arith}
 use Rattle.std.proofs.lemmas.Result.{on_ok_weaker}
 use Rattle.controller.specs.Sends.{resending}
 use Rattle.controller.specs.declared.sends.Act.{Act}
@@ -9,9 +9,9 @@ use Rattle.usable_links.specs.Linking.{told_again}
 use Rattle.world.specs.Parts.{control_in, setting_in}
 use Rattle.world_log.specs.Sending.{act_items, act_posts}
 use Rattle.world_log.specs.Writing.{IsPart}
-use Rattle.world.proofs.Frame.{goes_one, goes_quiet, nothing_goes}
-use Rattle.world.proofs.HearReady.{few_switches}
-use Rattle.world.proofs.SentAgain.{acts_same, again_few, again_here, again_known, again_piece, again_tied, sent_tied, silent}
+use Rattle.world.proofs.Frame.{goes_one, goes_quiet, net_stays, none_in, nothing_goes, plane_stays}
+use Rattle.world_ties.proofs.HearReady.{few_switches}
+use Rattle.world_ties.proofs.SentAgain.{acts_same, again_few, again_here, again_known, again_piece, again_tied, sent_tied, silent}
 use Rattle.world.proofs.parts.Parts.resend.Goals as goal
 
 -- ---- its switch
@@ -51,15 +51,15 @@ resend-requires c =
     self.log.travelling self.packets c.args.switch c.requires.begins.ready.tied
     c.requires.begins.ready.may
 
-pub returns-in_err-messages : goal.returns-in_err-messages
-returns-in_err-messages c = λ before row begins.
+pub returns-in_err-told : goal.returns-in_err-told
+returns-in_err-told c = λ before row begins.
     nothing_goes c.from_residual.result before row (Resend c.args.switch) c.args.self.now _
-    begins (search rules) c.from_residual.ensures.0 refl
+    begins (net_stays refl refl) c.from_residual.ensures.0 refl
 
 pub returns-in_err-sends : goal.returns-in_err-sends
 returns-in_err-sends c = λ before row begins.
     nothing_goes c.from_residual-in_err-sends.result before row (Resend c.args.switch)
-    c.args.self.now _ begins (search rules) c.from_residual-in_err-sends.ensures.0 refl
+    c.args.self.now _ begins (net_stays refl refl) c.from_residual-in_err-sends.ensures.0 refl
 
 -- ---- nothing is sent
 
@@ -68,15 +68,16 @@ returns-then-are_none c = λ before row begins.
     let self = c.args.self.now in
     let s = c.args.switch in
     let own = c.index.result.now in
-    let tested = acts_same self.controller c.args.switch c.len-count.result
-    (length self.switches.items) (get_or self.near c.args.switch 0) _ own c.deref.result.now
-    c.acts.result.now (c.deref.ensures.value ∙ c.in_ok-messages.ensures) (omega arith) refl
-    (c.acts.ensures ∙ c.in_ok-sends.ensures) in
-    goes_one c.push.result before row (Resend s) self _ begins (search rules) item.Nothing
-    self.log.bag (search rules) refl (omega arith)
+    let are = acts_same self.controller c.args.switch c.len-count.result
+    (length self.switches.items) (get_or self.near c.args.switch 0) _ own
+    c.as_slice-messages.result.now c.acts-acts.result.now
+    (c.as_slice-messages.ensures.value ∙ c.in_ok-told.ensures) (omega arith) refl
+    (c.acts-acts.ensures ∙ c.in_ok-sends.ensures) in
+    goes_one c.push.result before row (Resend s) self _ begins (net_stays refl refl) item.Nothing
+    self.log.bag (plane_stays refl refl refl) refl (none_in _)
     (silent (control_in self) (setting_in self) before self.switches.items
     self.log.travelling self.packets row s c.index.result.now begins.ready.tied begins.ready.may
-    c.index.ensures (subst (λ (acts : List Act). (length acts == 0) ≡ true) tested
+    c.index.ensures (subst (λ (acts : List Act). (length acts == 0) ≡ true) are
     (sym c.are_none.ensures ∙ c.if-are_none.true)))
     c.push.ensures.pushed c.push.ensures.unchanged
 
@@ -97,21 +98,18 @@ send_and_note-requires c =
     let self = c.args.self.now in
     let ready = c.requires.begins.ready in
     let own = c.index.result.now in
-    let tested = acts_same self.controller c.args.switch c.len-count.result
-    (length self.switches.items) (get_or self.near c.args.switch 0) _ own c.deref.result.now
-    c.acts.result.now (c.deref.ensures.value ∙ c.in_ok-messages.ensures) (omega arith) refl
-    (c.acts.ensures ∙ c.in_ok-sends.ensures) in
     let are = acts_same self.controller c.args.switch c.len-count.result
-    (length self.switches.items) (get_or self.near c.args.switch 0) _ own c.deref-2.result.now
-    c.acts-2.result.now (c.deref-2.ensures.value ∙ c.in_ok-messages.ensures) (omega arith) refl
-    (c.acts-2.ensures ∙ c.in_ok-sends.ensures) in
+    (length self.switches.items) (get_or self.near c.args.switch 0) _ own
+    c.as_slice-messages.result.now c.acts-acts.result.now
+    (c.as_slice-messages.ensures.value ∙ c.in_ok-told.ensures) (omega arith) refl
+    (c.acts-acts.ensures ∙ c.in_ok-sends.ensures) in
     record {
       few = subst (λ (acts : List Act). length self.log.bag + length (act_posts acts) < 2 ^ 32)
           (sym are)
           (again_few (control_in self) (setting_in self) c.requires.before self.switches.items
           self.log.travelling self.packets c.requires.row c.args.switch own ready.tied ready.may
           c.index.ensures
-          (subst (λ (acts : List Act). (length acts == 0) ≡ false) tested
+          (subst (λ (acts : List Act). (length acts == 0) ≡ false) are
           (sym c.are_none.ensures ∙ c.if-are_none.false)) ready.room);
     }
 
@@ -121,15 +119,12 @@ returns c = λ before row begins.
     let s = c.args.switch in
     let ready = begins.ready in
     let own = c.index.result.now in
-    let tested = acts_same self.controller c.args.switch c.len-count.result
-    (length self.switches.items) (get_or self.near c.args.switch 0) _ own c.deref.result.now
-    c.acts.result.now (c.deref.ensures.value ∙ c.in_ok-messages.ensures) (omega arith) refl
-    (c.acts.ensures ∙ c.in_ok-sends.ensures) in
     let are = acts_same self.controller c.args.switch c.len-count.result
-    (length self.switches.items) (get_or self.near c.args.switch 0) _ own c.deref-2.result.now
-    c.acts-2.result.now (c.deref-2.ensures.value ∙ c.in_ok-messages.ensures) (omega arith) refl
-    (c.acts-2.ensures ∙ c.in_ok-sends.ensures) in
-    let some = subst (λ (acts : List Act). (length acts == 0) ≡ false) tested
+    (length self.switches.items) (get_or self.near c.args.switch 0) _ own
+    c.as_slice-messages.result.now c.acts-acts.result.now
+    (c.as_slice-messages.ensures.value ∙ c.in_ok-told.ensures) (omega arith) refl
+    (c.acts-acts.ensures ∙ c.in_ok-sends.ensures) in
+    let some = subst (λ (acts : List Act). (length acts == 0) ≡ false) are
     (sym c.are_none.ensures ∙ c.if-are_none.false) in
     let acts : List Act = map Post (told_again s (length self.switches.items)
     (get_or self.near s 0) own) ++ resending self.controller s in
@@ -139,11 +134,11 @@ returns c = λ before row begins.
     c.send_and_note.ensures.written in
     let posted = subst (λ all. OnOk r (c.send_and_note.new.self.bag
     ≡ self.log.bag ++ act_posts all)) are c.send_and_note.ensures.posted in
-    goes_quiet r before row (Resend s) self _ begins (search rules)
-    (act_items (length self.log.bag + 1) acts) (search rules)
+    goes_quiet r before row (Resend s) self _ begins (net_stays refl refl)
+    (act_items (length self.log.bag + 1) acts) (plane_stays refl refl refl)
     (again_piece (control_in self) (setting_in self) before self.switches.items
     self.log.travelling self.packets row s own ready.tied ready.may c.index.ensures some)
-    (on_ok_weaker r (λ done. omega arith) written) written
+    (on_ok_weaker r (λ done. none_in _) written) written
     (subst (λ all. OnErr r (IsPart self.log.journal (act_items (length self.log.bag + 1) all)
     c.send_and_note.new.self.journal)) are c.send_and_note.ensures.part)
     (on_ok_weaker r (λ post. sent_tied (setting_in self) (before ++ item.Row row (Resend s)

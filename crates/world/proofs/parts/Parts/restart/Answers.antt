@@ -1,4 +1,4 @@
-use Rattle.std.proofs.Common.{◌≡◌, ◌+◌, ◌++◌, ◌∷◌, [], OnOk, false, length, refl, ap, sym, subst, ◌∙◌, arith, rules}
+use Rattle.std.proofs.Common.{◌≡◌, ◌+◌, ◌++◌, ◌∷◌, [], OnOk, false, length, refl, ap, sym, subst, ◌∙◌, arith}
 use Rattle.std.proofs.lemmas.List.{get_or_default}
 use Rattle.std.proofs.lemmas.Result.{on_err_weaker, on_ok_weaker}
 use Rattle.bag.specs.Posts.{posted}
@@ -8,8 +8,8 @@ use Rattle.steps.specs.declared.step.Step.TheVariants.{Restart}
 use Rattle.switch_core.specs.State.{SwitchValue}
 use Rattle.update_machine.specs.Deliveries.{to_controller}
 use Rattle.world.specs.Parts.{control_in, setting_in}
-use Rattle.world.proofs.Booting.{boot_here, boot_next, boot_piece, boot_tied, up_already}
-use Rattle.world.proofs.Frame.{goes_one, nothing_goes}
+use Rattle.world_ties.proofs.Booting.{boot_here, boot_next, boot_piece, boot_tied, up_already}
+use Rattle.world.proofs.Frame.{goes_one, net_stays, none_in, nothing_goes, plane_stays}
 use Rattle.world.proofs.GoesTold.{goes_told}
 use Rattle.world_log.proofs.Writing.{part_none}
 use Rattle.world.proofs.parts.Parts.restart.Goals as goal
@@ -31,8 +31,8 @@ pub returns-then-is_up : goal.returns-then-is_up
 returns-then-is_up c = λ before row begins.
     let self = c.args.self.now in
     let s = c.args.switch in
-    goes_one c.push.result before row (Restart s) self _ begins (search rules) item.Nothing
-    self.log.bag (search rules) refl (omega arith)
+    goes_one c.push.result before row (Restart s) self _ begins (net_stays refl refl) item.Nothing
+    self.log.bag (plane_stays refl refl refl) refl (none_in _)
     (up_already (control_in self) (setting_in self) before self.switches.items
     self.log.travelling self.packets row s c.index.result.now begins.ready.tied begins.ready.may
     c.index.ensures (sym c.is_up.ensures ∙ c.if-is_up.true))
@@ -71,7 +71,7 @@ restart-boot-requires c =
 pub returns-in_err-push : goal.returns-in_err-push
 returns-in_err-push c = λ before row begins.
     nothing_goes c.from_residual.result before row (Restart c.args.switch) c.args.self.now _
-    begins (search rules) c.from_residual.ensures.0 c.in_err-push.ensures.unchanged
+    begins (net_stays refl refl) c.from_residual.ensures.0 c.in_err-push.ensures.unchanged
 
 pub send-requires : goal.send-requires
 send-requires c = omega (arith, c.requires.begins.ready.room)
@@ -100,11 +100,11 @@ returns c = λ before row begins.
     ≡ begun ++ item.Sent (length self.log.bag + 1) message ∷ [])) said c.send.ensures.written in
     goes_told c.send.result before row (Restart s) self _ (item.Booted s boot)
     (λ k. item.Sent k hello ∷ []) begun (length self.log.bag) self.log.bag (posted hello ∷ [])
-    begins (search rules) (record {
+    begins (net_stays refl refl) (record {
       piece_is = boot_piece (control_in self) (setting_in self) before self.switches.items
           self.log.travelling self.packets row s own ready.tied ready.may
           c.index_mut.ensures.value down;
-      counted = omega arith;
+      counted = none_in _;
       pushed = subst (λ b. begun ≡ self.log.journal ++ item.Booted s b ∷ []) told
           c.in_ok-push.ensures.pushed;
       number_is = refl;

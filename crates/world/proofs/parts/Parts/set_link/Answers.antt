@@ -1,4 +1,4 @@
-use Rattle.std.proofs.Common.{◌+◌, ◌++◌, ◌∷◌, [], List, length, map, max, min, refl, ap, sym, subst, ◌∙◌, arith, rules}
+use Rattle.std.proofs.Common.{ℕ, ◌≡◌, ◌+◌, ◌++◌, ◌∷◌, [], Bool, true, false, List, length, map, max, min, refl, ap, sym, subst, ◌∙◌, arith}
 use Rattle.std.specs.Bool.{beq}
 use Rattle.bag.specs.Posts.{posted}
 use Rattle.ctrl_msg.specs.declared.message.Message.{Message}
@@ -7,13 +7,20 @@ use Rattle.journal.specs.declared.item.Item.TheVariants as item
 use Rattle.update_machine.specs.Messages.{sent_from}
 use Rattle.usable_links.specs.Linking.{all_told, link_step, near_all}
 use Rattle.world.specs.Parts.{control_in, setting_in}
-use Rattle.world.specs.State.{AreTied}
-use Rattle.world.proofs.Frame.{goes_one, nothing_goes}
+use Rattle.world.specs.State.{comes_in}
+use Rattle.world_ties.specs.Tied.{AreTied}
+use Rattle.world.proofs.Frame.{goes_one, net_stays, nothing_goes, plane_stays}
 use Rattle.world.proofs.GoesTold.{goes_told, same_control}
-use Rattle.world.proofs.HearReady.{few_switches}
-use Rattle.world.proofs.LinkRows.{ends_below, none_come, numbers_left, same_tied, set_few, set_piece, set_tied}
+use Rattle.world_ties.proofs.HearReady.{few_switches}
+use Rattle.world_ties.proofs.LinksChange.{numbers_left}
+use Rattle.world_ties.proofs.LinkRows.{ends_below, same_tied, set_few, set_piece, set_tied}
 use Rattle.world_log.proofs.Writing.{both_ok}
 use Rattle.world.proofs.parts.Parts.set_link.Goals as goal
+
+-- no packet comes in
+none_come : (one two : ℕ) (up : Bool) → comes_in (link_step up one two) ≡ 0
+none_come one two true = refl
+none_come one two false = refl
 
 pub bounds-self-one : goal.bounds-self-one
 bounds-self-one c =
@@ -55,8 +62,8 @@ returns-then-has-up c = λ before row begins.
     let one = c.args.one in
     let two = c.args.two in
     let up = c.args.up in
-    goes_one c.push.result before row (link_step up one two) self _ begins (search rules)
-    item.Nothing self.log.bag (search rules) refl (omega (arith, none_come one two up))
+    goes_one c.push.result before row (link_step up one two) self _ begins (net_stays refl refl)
+    item.Nothing self.log.bag (plane_stays refl refl refl) refl (omega (arith, none_come one two up))
     (same_tied (control_in self) (setting_in self) before self.switches.items
     self.log.travelling self.packets row one two up begins.ready.tied begins.ready.may
     (ap (λ b. beq b up) (sym c.has.ensures.has) ∙ c.if-has-up.true))
@@ -67,7 +74,7 @@ returns-then-has-up c = λ before row begins.
 pub returns-in_err-push : goal.returns-in_err-push
 returns-in_err-push c = λ before row begins.
     nothing_goes c.from_residual.result before row (link_step c.args.up c.args.one c.args.two)
-    c.args.self.now _ begins (search rules) c.from_residual.ensures.0
+    c.args.self.now _ begins (net_stays refl refl) c.from_residual.ensures.0
     c.in_err-push.ensures.unchanged
 
 pub change_links-requires-clause-many : goal.change_links-requires-clause-many
@@ -81,8 +88,7 @@ change_links-requires-clause-next c =
     let self = c.args.self.now in
     let ready = c.requires.begins.ready in
     numbers_left (control_in self) (setting_in self) c.requires.before self.switches.items
-    self.log.travelling self.packets c.requires.row c.args.one c.args.two c.args.up ready.tied
-    ready.may ready.room
+    self.log.travelling self.packets ready.tied ready.room
 
 pub change_links-requires-clause-few : goal.change_links-requires-clause-few
 change_links-requires-clause-few c =
@@ -92,7 +98,7 @@ change_links-requires-clause-few c =
     self.log.travelling self.packets c.requires.row c.args.one c.args.two c.args.up ready.tied
     ready.may c.set_ends.new.links
     (ap (λ b. beq b c.args.up) (sym c.has.ensures.has) ∙ c.if-has-up.false) c.set_ends.ensures.set
-    ready.room
+    c.set_ends.ensures.fits ready.room
 
 pub returns : goal.returns
 returns c = λ before row begins.
@@ -111,10 +117,10 @@ returns c = λ before row begins.
     goes_told c.change_links.result before row (link_step up one two) self new told
     (λ k. sent_from k messages) c.push-2.new.self (length self.log.bag) self.log.bag
     (map posted messages) begins
-    (record { same_files = rest.files; same_ports = rest.ports }) (record {
+    (net_stays rest.files rest.ports) (record {
       piece_is = set_piece (control_in self) (setting_in self) before self.switches.items
           self.log.travelling self.packets row one two up ready.tied ready.may links other
-          c.set_ends.ensures.set;
+          c.set_ends.ensures.set c.set_ends.ensures.fits;
       counted = omega (arith, rest.packets, none_come one two up);
       pushed = c.in_ok-push.ensures.pushed
           ∙ ap (λ low. self.log.journal ++ item.LinkIs low c.max.result up ∷ []) c.min.ensures

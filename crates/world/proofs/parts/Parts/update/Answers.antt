@@ -1,4 +1,4 @@
-use Rattle.std.proofs.Common.{◌≡◌, ◌≢◌, ◌+◌, ◌-◌, ◌^◌, ◌<◌, ◌++◌, ◌∷◌, [], List, Err, OnOk, OnErr, get_or, length, refl, ap, sym, subst, ◌∙◌, arith, rules}
+use Rattle.std.proofs.Common.{◌≡◌, ◌≢◌, ◌+◌, ◌-◌, ◌^◌, ◌<◌, ◌++◌, ◌∷◌, [], List, Err, OnOk, OnErr, get_or, length, refl, ap, sym, subst, ◌∙◌, rules}
 use Rattle.std.proofs.lemmas.Result.{on_ok_weaker}
 use Rattle.control_ties.specs.Controller.{IsPlanOfFile}
 use Rattle.controller.specs.Controller.{ControllerValue}
@@ -11,9 +11,9 @@ use Rattle.policy_store.specs.Files.{IsCompiled}
 use Rattle.world.specs.Parts.{control_in, setting_in}
 use Rattle.world_log.specs.Sending.{act_items, act_posts}
 use Rattle.world_log.specs.Writing.{IsPart}
-use Rattle.world.proofs.Frame.{goes_one, nothing_goes}
+use Rattle.world.proofs.Frame.{goes_one, net_stays, none_in, not_err, nothing_goes, plane_stays}
 use Rattle.world.proofs.GoesTold.{goes_told}
-use Rattle.world.proofs.Submitting.{live_piece, planned_file, refused_piece, refused_tied, submitted_few, submitted_piece, submitted_tied, unplanned_code, versions_piece}
+use Rattle.world_ties.proofs.Submitting.{live_piece, planned_file, refused_piece, refused_tied, submitted_few, submitted_piece, submitted_tied, unplanned_code, versions_piece}
 use Rattle.world.proofs.parts.Parts.update.Goals as goal
 
 -- ---- the policy has no plan
@@ -21,7 +21,7 @@ use Rattle.world.proofs.parts.Parts.update.Goals as goal
 pub returns-in_err-code : goal.returns-in_err-code
 returns-in_err-code c = λ before row begins.
     nothing_goes c.from_residual.result before row (Update c.args.file) c.args.self.now _ begins
-    (record { same_files = c.in_err-code.ensures.same; same_ports = refl })
+    (net_stays c.in_err-code.ensures.same refl)
     c.from_residual.ensures.0 refl
 
 pub returns-in-Refused : goal.returns-in-Refused
@@ -37,8 +37,8 @@ returns-in-Refused c = λ before row begins.
     (unplanned_code net policies (before ++ item.Row row (Update file) ∷ []) file
     c.in-Refused.code why.0 may.0 may.1 why.1 why.2) in
     goes_one c.push.result before row (Update file) self _ begins
-    (record { same_files = c.in_ok-code.ensures.same; same_ports = refl })
-    (item.Refused file c.in-Refused.code) self.log.bag (search rules) refl (omega arith) (
+    (net_stays c.in_ok-code.ensures.same refl)
+    (item.Refused file c.in-Refused.code) self.log.bag (plane_stays refl refl refl) refl (none_in _) (
       is,
       refused_tied (control_in self) (setting_in self) before self.switches.items
           self.log.travelling self.packets row file begins.ready.tied may c.in-Refused.code is,
@@ -50,7 +50,7 @@ pub returns-in_err-push-in-Ok : goal.returns-in_err-push-in-Ok
 returns-in_err-push-in-Ok c = λ before row begins.
     nothing_goes c.from_residual-in_err-push-in-Ok.result before row (Update c.args.file)
     c.args.self.now _ begins
-    (record { same_files = c.in_ok-code.ensures.same; same_ports = refl })
+    (net_stays c.in_ok-code.ensures.same refl)
     c.from_residual-in_err-push-in-Ok.ensures.0 c.in_err-push-in-Ok.ensures.unchanged
 
 pub note_acts-requires : goal.note_acts-requires
@@ -71,12 +71,11 @@ note_acts-requires c =
           (submitted_few (control_in self) (setting_in self) c.requires.before
           self.switches.items self.log.travelling self.packets c.requires.row file ready.tied
           ready.may c.in-Planned.plan c.submit.new.self of_file
-          (λ e. absurd (let no = c.in-Ok.ensures.live.1 e in cc))
-          (λ e. absurd (let no = c.in-Ok.ensures.versions.1 (
-            λ f. absurd
-                (let no = c.in-Ok.ensures.live.1 f in cc),
+          (λ e. not_err _ _ (c.in-Ok.ensures.live.1 e))
+          (λ e. not_err _ _ (c.in-Ok.ensures.versions.1 (
+            λ f. not_err _ _ (c.in-Ok.ensures.live.1 f),
             e,
-          ) in cc))
+          )))
           c.in-Ok.ensures.after ready.room);
     }
 
@@ -93,9 +92,9 @@ returns-in_ok-push-in-Ok c = λ before row begins.
     planned_file net policies file c.in-Planned.plan ready.may.0 ready.may.1 planned.0
     planned.1 in
     let live : self.controller.marks.count - self.controller.marks.retired ≢ 8 =
-    λ e. absurd (let no = c.in-Ok.ensures.live.1 e in cc) in
+    λ e. not_err _ _ (c.in-Ok.ensures.live.1 e) in
     let versions : self.controller.marks.count ≢ 64 =
-    λ e. absurd (let no = c.in-Ok.ensures.versions.1 (live, e) in cc) in
+    λ e. not_err _ _ (c.in-Ok.ensures.versions.1 (live, e)) in
     let new : ControllerValue = c.submit.new.self in
     let acts : List Act = submitting self.controller.marks c.in-Planned.plan new.marks in
     let are : c.acts.result.now ≡ acts = c.acts.ensures ∙ c.in-Ok.ensures.sends in
@@ -103,11 +102,11 @@ returns-in_ok-push-in-Ok c = λ before row begins.
     let begun = c.push-in-Ok.new.self in
     goes_told c.note_acts.result before row (Update file) self _ one (λ k. act_items k acts) begun
     (length self.log.bag) self.log.bag (act_posts acts) begins
-    (record { same_files = c.in_ok-code.ensures.same; same_ports = refl }) (record {
+    (net_stays c.in_ok-code.ensures.same refl) (record {
       piece_is = submitted_piece (control_in self) (setting_in self) before self.switches.items
           self.log.travelling self.packets row file ready.tied ready.may c.in-Planned.plan new
           of_file live versions c.in-Ok.ensures.after;
-      counted = omega arith;
+      counted = none_in _;
       pushed = subst (λ v. begun ≡ self.log.journal ++ item.Submitted file (v + 1) ∷ [])
           (c.count-version.ensures.count ∙ ap (λ marks. marks.count) c.marks.ensures)
           c.in_ok-push-in-Ok.ensures.pushed;
@@ -147,9 +146,9 @@ returns-in-Err-TooManyLive c = λ before row begins.
     let stays = subst (IsLeft self.controller c.in-Planned.plan c.submit.new.self)
     c.in-Err-TooManyLive.field-0-is c.in-Err-TooManyLive.ensures.refused in
     goes_one c.push-in-Err-TooManyLive.result before row (Update file) self _ begins
-    (record { same_files = c.in_ok-code.ensures.same; same_ports = refl })
+    (net_stays c.in_ok-code.ensures.same refl)
     (item.Refused file 16) self.log.bag
-    (record { same_controller = stays; same_links = refl; same_near = refl }) refl (omega arith) (
+    (plane_stays stays refl refl) refl (none_in _) (
       is,
       refused_tied (control_in self) (setting_in self) before self.switches.items
           self.log.travelling self.packets row file ready.tied ready.may 16 is,
@@ -174,9 +173,9 @@ returns-in-Err-TooManyVersions c = λ before row begins.
     let stays = subst (IsLeft self.controller c.in-Planned.plan c.submit.new.self)
     c.in-Err-TooManyVersions.field-0-is c.in-Err-TooManyVersions.ensures.refused in
     goes_one c.push-in-Err-TooManyVersions.result before row (Update file) self _ begins
-    (record { same_files = c.in_ok-code.ensures.same; same_ports = refl })
+    (net_stays c.in_ok-code.ensures.same refl)
     (item.Refused file 17) self.log.bag
-    (record { same_controller = stays; same_links = refl; same_near = refl }) refl (omega arith) (
+    (plane_stays stays refl refl) refl (none_in _) (
       is,
       refused_tied (control_in self) (setting_in self) before self.switches.items
           self.log.travelling self.packets row file ready.tied ready.may 17 is,
@@ -185,4 +184,4 @@ returns-in-Err-TooManyVersions c = λ before row begins.
 pub returns-in-Err-NoMemory : goal.returns-in-Err-NoMemory
 returns-in-Err-NoMemory c = λ before row begins.
     nothing_goes (Err (record {})) before row (Update c.args.file) c.args.self.now _ begins
-    (record { same_files = c.in_ok-code.ensures.same; same_ports = refl }) (search rules) refl
+    (net_stays c.in_ok-code.ensures.same refl) (search rules) refl

@@ -2,7 +2,7 @@ use Rattle.std.proofs.Common.{◌≤◌, subst, sym, arith, length}
 use Rattle.update_machine.specs.Full.{HasRoom, IsFull}
 use Rattle.update_machine.specs.Packets.{next_packet}
 use Rattle.steps.specs.Steps.{IsStep}
-use Rattle.world.specs.State.{WorldValue, setting_at}
+use Rattle.world.specs.State.{WorldValue}
 use Rattle.world.proofs.Filling.{has_room, is_full, not_full}
 use Rattle.world.proofs.world.World.step.Goals as goal
 

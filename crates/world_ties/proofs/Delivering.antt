@@ -1,0 +1,158 @@
+-- What the bag says of a message, and a message that is forgotten.
+use Rattle.std.proofs.Common.{ℕ, ◌≡◌, Bool, true, false, if◌then◌else◌, Option, Some, None, List, [], ◌∷◌, ◌++◌, refl, ap, sym, subst, ◌∙◌, append_assoc, length}
+use Rattle.std.specs.Prelude.{IsFalse, not, ◌&&◌, is_some, option_map}
+use Rattle.std.specs.Option.{option_and_then}
+use Rattle.bag.specs.Posts.{Post, message_of as message_in, remembered, with_forgotten}
+use Rattle.ctrl_msg.specs.declared.message.Message.{Message}
+use Rattle.journal.specs.declared.item.Item.{Item}
+use Rattle.journal.specs.declared.item.Item.TheVariants as item
+use Rattle.steps.specs.declared.step.Step.{Step}
+use Rattle.steps.specs.declared.step.Step.TheVariants.{Forget}
+use Rattle.switch_core.specs.State.{SwitchValue}
+use Rattle.update_machine.specs.Concerns.{concerns_calls}
+use Rattle.update_machine.specs.Messages.{is_deliverable, is_forgotten, message_of, was_delivered}
+use Rattle.update_machine.specs.Pieces.{forget_items, nothing, piece}
+use Rattle.steps.specs.Steps.{IsStep}
+use Rattle.update_machine.specs.Setting.{Setting}
+use Rattle.update_machine.proofs.CallerLemmas.{message_keeps}
+use Rattle.world_ties.specs.Tied.{AreTied, Control}
+use Rattle.log_ties.specs.Bags.{IsBagOf, post_in}
+use Rattle.travelling.specs.Travelling.{Travellers}
+use Rattle.world_ties.proofs.OneItem.{grown, tied_one}
+use Rattle.log_ties.proofs.Posting.{bag_forgotten, bag_on, some_within}
+use Rattle.world_ties.proofs.Tying.{switches_stay}
+
+-- ---- what the bag says of a message
+
+abbrev flagged : Bool → Bool → Option Message → Option Post
+flagged was gone o =
+    option_map (λ (m : Message). (m, record { delivered = was; forgotten = gone })) o
+
+pub deliverable_as : (journal : List Item) (posts : List Post) (n : ℕ) → IsBagOf journal posts
+    → is_deliverable journal n ≡ is_some (message_in posts n)
+unfolding is_deliverable post_in
+deliverable_as journal posts n bag =
+    sym (ap (λ o. is_some (option_and_then remembered o)) (bag.each n)
+    ∙ by_flag (message_of journal n) (was_delivered journal n) (is_forgotten journal n))
+  where
+    by_flag : (o : Option Message) (was gone : Bool)
+        → is_some (option_and_then remembered (flagged was gone o)) ≡ (is_some o && not gone)
+    by_flag None was gone = refl
+    by_flag (Some m) was true = refl
+    by_flag (Some m) was false = refl
+
+pub sent_as : (journal : List Item) (posts : List Post) (n : ℕ) (message : Message)
+    → IsBagOf journal posts → message_in posts n ≡ Some message
+    → message_of journal n ≡ Some message
+unfolding post_in
+sent_as journal posts n message bag is =
+    by_flag (message_of journal n) (was_delivered journal n) (is_forgotten journal n)
+    (sym (ap (option_and_then remembered) (bag.each n)) ∙ is)
+  where
+    by_flag : (o : Option Message) (was gone : Bool)
+        → option_and_then remembered (flagged was gone o) ≡ Some message → o ≡ Some message
+    by_flag None was gone none = absurd cc
+    by_flag (Some m) was true none = absurd cc
+    by_flag (Some m) was false some = some
+
+-- ---- pieces
+
+forget_piece : (setting : Setting) (journal : List Item) (row n : ℕ)
+    → piece setting journal row (Forget n)
+    ≡ item.Row row (Forget n)
+    ∷ (if is_deliverable journal n then item.Forgotten n ∷ [] else nothing)
+unfolding piece forget_items
+forget_piece setting journal row n =
+    ap (λ b. item.Row row (Forget n)
+    ∷ elim b [ false ↦ nothing | true ↦ item.Forgotten n ∷ [] ])
+    (message_keeps n journal (item.Row row (Forget n) ∷ []) (refl, tt)).deliverable
+    ∙ by_test (is_deliverable journal n)
+  where
+    by_test : (b : Bool) → item.Row row (Forget n)
+        ∷ elim b [ false ↦ nothing | true ↦ item.Forgotten n ∷ [] ]
+        ≡ item.Row row (Forget n) ∷ (if b then item.Forgotten n ∷ [] else nothing)
+    by_test false = refl
+    by_test true = refl
+
+-- ---- a step that does nothing
+
+pub nothing_tied : (control : Control) (setting : Setting) (journal : List Item)
+    (switches : List SwitchValue) (before : Travellers) (count row : ℕ) (step : Step)
+    → AreTied setting journal switches before count control → IsStep setting.net (length setting.policies) step
+    → ((q : ℕ) → IsFalse (concerns_calls q journal (item.Row row step)))
+    → piece setting journal row step ≡ item.Row row step ∷ nothing
+    → AreTied setting (grown journal row step item.Nothing) switches before count control
+unfolding AreTied
+nothing_tied control setting journal switches before count row step tied may uncalled is =
+    tied_one control control.posts setting journal switches switches before count row step
+    item.Nothing tied (record {
+      may = may;
+      piece_is = is;
+      not_told = (refl, (refl, tt));
+      apart = λ q. (refl, (refl, tt));
+      no_links = (refl, (refl, tt));
+      as_before = refl;
+      as_many = refl;
+      each = switches_stay control setting journal switches before count
+          (item.Row row step ∷ item.Nothing ∷ []) tied (λ q. (refl, (refl, tt)))
+          (λ q. (uncalled q, (refl, tt)));
+      bag = bag_on journal (item.Row row step ∷ item.Nothing ∷ []) control.posts (refl, (refl, tt))
+          tied.bag;
+    })
+
+-- ---- a message is forgotten
+
+pub forgotten_tied : (control : Control) (setting : Setting) (journal : List Item)
+    (switches : List SwitchValue) (before : Travellers) (count row n : ℕ)
+    → AreTied setting journal switches before count control → IsStep setting.net (length setting.policies) (Forget n)
+    → is_some (message_in control.posts n) ≡ true
+    → (piece setting journal row (Forget n)
+    ≡ item.Row row (Forget n) ∷ item.Forgotten n ∷ [])
+    × AreTied setting (grown journal row (Forget n) (item.Forgotten n)) switches before count
+    (record control { posts = with_forgotten control.posts n })
+unfolding AreTied
+forgotten_tied control setting journal switches before count row n tied may there =
+    let rowed : List Item = journal ++ item.Row row (Forget n) ∷ [] in
+    let is : piece setting journal row (Forget n)
+    ≡ item.Row row (Forget n) ∷ item.Forgotten n ∷ [] =
+    forget_piece setting journal row n
+    ∙ ap (λ b. item.Row row (Forget n) ∷ (if b then item.Forgotten n ∷ [] else nothing))
+    (deliverable_as journal control.posts n tied.bag ∙ there) in (
+      is,
+      tied_one control (with_forgotten control.posts n) setting journal switches
+          switches before count row (Forget n) (item.Forgotten n) tied (record {
+            may = may;
+            piece_is = is;
+            not_told = (refl, (refl, tt));
+            apart = λ q. (refl, (refl, tt));
+            no_links = (refl, (refl, tt));
+            as_before = refl;
+            as_many = refl;
+            each = switches_stay control setting journal switches before count
+                (item.Row row (Forget n) ∷ item.Forgotten n ∷ []) tied (λ q. (refl, (refl, tt)))
+                (λ q. (refl, (refl, tt)));
+            bag = subst (λ js. IsBagOf js (with_forgotten control.posts n))
+                (append_assoc journal (item.Row row (Forget n) ∷ []) (item.Forgotten n ∷ []))
+                (bag_forgotten rowed control.posts n (some_within control.posts n there)
+                (bag_on journal (item.Row row (Forget n) ∷ []) control.posts (refl, tt)
+                tied.bag));
+          }),
+    )
+
+-- no such message may be forgotten
+pub unforgotten : (control : Control) (setting : Setting) (journal : List Item)
+    (switches : List SwitchValue) (before : Travellers) (count row n : ℕ)
+    → AreTied setting journal switches before count control → IsStep setting.net (length setting.policies) (Forget n)
+    → is_some (message_in control.posts n) ≡ false
+    → (piece setting journal row (Forget n) ≡ item.Row row (Forget n) ∷ nothing)
+    × AreTied setting (grown journal row (Forget n) item.Nothing) switches before count control
+unfolding AreTied
+unforgotten control setting journal switches before count row n tied may none =
+    let is : piece setting journal row (Forget n) ≡ item.Row row (Forget n) ∷ nothing =
+    forget_piece setting journal row n
+    ∙ ap (λ b. item.Row row (Forget n) ∷ (if b then item.Forgotten n ∷ [] else nothing))
+    (deliverable_as journal control.posts n tied.bag ∙ none) in (
+      is,
+      nothing_tied control setting journal switches before count row (Forget n) tied may
+          (λ q. refl) is,
+    )

@@ -1,0 +1,145 @@
+-- A switch that is down is confirmed to be gone: what is written then, and what the parts are
+-- behind it.
+use Rattle.std.proofs.Common.{ℕ, ◌≡◌, ◌+◌, ◌^◌, ◌<◌, true, false, List, [], ◌∷◌, ◌++◌, refl, ap, sym, ◌∙◌, length, get_or, arith}
+use Rattle.control_ties.specs.Written.{AreWritten}
+use Rattle.control_ties.proofs.CallerLemmas.{confirms}
+use Rattle.controller.specs.Controller.{ControllerValue, SettlesWith}
+use Rattle.controller.specs.Sends.{settling}
+use Rattle.controller.specs.declared.sends.Act.{Act}
+use Rattle.journal.specs.declared.item.Item.{Item}
+use Rattle.journal.specs.declared.item.Item.TheVariants as item
+use Rattle.steps.specs.declared.step.Step.TheVariants.{Confirm}
+use Rattle.switch_core.specs.State.{SwitchValue}
+use Rattle.switch_ties.specs.SwitchOf.{switch_of}
+use Rattle.switch_ties.proofs.Links.{kept_is}
+use Rattle.update_machine.specs.Boots.{is_up}
+use Rattle.update_machine.specs.Moves.{put}
+use Rattle.update_machine.specs.Pieces.{confirm_items, nothing, piece}
+use Rattle.steps.specs.Steps.{IsStep}
+use Rattle.update_machine.specs.Setting.{Setting}
+use Rattle.update_machine.specs.Settling as machine
+use Rattle.update_machine.proofs.CallerLemmas.{switch_keeps}
+use Rattle.version_update.specs.Marks.{at_switch}
+use Rattle.version_update.specs.Record.{after_over}
+use Rattle.world_log.specs.Sending.{act_items, act_posts}
+use Rattle.world_ties.specs.Tied.{AreTied, Control}
+use Rattle.log_ties.specs.Bags.{IsBagOf}
+use Rattle.travelling.specs.Travelling.{Travellers}
+use Rattle.world_ties.proofs.ActItems.{written_is}
+use Rattle.world_ties.proofs.Delivering.{nothing_tied}
+use Rattle.world_ties.proofs.HearReady.{sends_few}
+use Rattle.log_ties.proofs.Known.{reached_known}
+use Rattle.world_ties.proofs.OneItem.{grown}
+use Rattle.log_ties.proofs.Posting.{bag_on}
+use Rattle.world_ties.proofs.Told.{acts_fit, tied_told}
+use Rattle.world_ties.proofs.Tying.{links_stay, up_stay}
+
+-- a switch is up as the journal says
+pub up_as : (setting : Setting) (journal : List Item) (s : ℕ)
+    → (switch_of setting journal s).is_up ≡ is_up journal s
+unfolding switch_of
+up_as setting journal s = refl
+
+-- the switch is there, and the controller knows it
+pub gone_there : (control : Control) (setting : Setting) (journal : List Item)
+    (switches : List SwitchValue) (before : Travellers) (count s : ℕ)
+    → AreTied setting journal switches before count control → IsStep setting.net (length setting.policies) (Confirm s)
+    → s < length switches
+unfolding AreTied
+gone_there control setting journal switches before count s tied may =
+    omega (arith, may, tied.many)
+
+pub gone_known : (control : Control) (setting : Setting) (journal : List Item)
+    (switches : List SwitchValue) (before : Travellers) (count s : ℕ)
+    → AreTied setting journal switches before count control → IsStep setting.net (length setting.policies) (Confirm s)
+    → s < length control.controller.marks.switches
+unfolding AreTied
+gone_known control setting journal switches before count s tied may =
+    omega (arith, may, tied.controller.marks.many)
+
+module _ (control : Control) (setting : Setting) (journal : List Item)
+    (switches : List SwitchValue) (before : Travellers) (count row s : ℕ) (own : SwitchValue)
+    (tied : AreTied setting journal switches before count control)
+    (may : IsStep setting.net (length setting.policies) (Confirm s)) (own_at : own ≡ get_or switches s own) where
+  own_up : is_up journal s ≡ own.is_up
+  unfolding AreTied
+  own_up = sym (up_as setting journal s)
+      ∙ ap (λ (w : SwitchValue). w.is_up) (sym (own_at ∙ tied.each s own
+      (gone_there control setting journal switches before count s tied may)))
+
+  pub still_up : own.is_up ≡ true
+      → (piece setting journal row (Confirm s) ≡ item.Row row (Confirm s) ∷ nothing)
+      × AreTied setting (grown journal row (Confirm s) item.Nothing) switches before count control
+  unfolding piece confirm_items
+  still_up up =
+      let rowed : List Item = journal ++ item.Row row (Confirm s) ∷ [] in
+      let here : is_up rowed s ≡ true =
+      (switch_keeps setting s journal (item.Row row (Confirm s) ∷ []) (refl, tt)).up
+      ∙ own_up ∙ up in
+      let is : piece setting journal row (Confirm s) ≡ item.Row row (Confirm s) ∷ nothing =
+      ap (λ b. item.Row row (Confirm s) ∷ elim b [
+        | true ↦ nothing
+        | false ↦ put (item.OverNow s ∷ []) (machine.settling setting) rowed
+      ]) here in (
+        is,
+        nothing_tied control setting journal switches before count row (Confirm s) tied may
+            (λ q. refl) is,
+      )
+
+  module _ (new : ControllerValue) (down : own.is_up ≡ false)
+      (settles : SettlesWith (at_switch s after_over control.controller.marks)
+      control.controller.plans new) where
+    abbrev acts : List Act
+    acts = settling (at_switch s after_over control.controller.marks) new.marks
+
+    abbrev first : List Item
+    first = item.Row row (Confirm s) ∷ item.OverNow s ∷ []
+
+    bag_behind : IsBagOf (journal ++ first) control.posts
+    unfolding AreTied
+    bag_behind = bag_on journal first control.posts (refl, (refl, tt)) tied.bag
+
+    confirms_so : AreWritten setting journal first acts new
+        (piece setting journal row (Confirm s))
+    unfolding AreTied
+    confirms_so = confirms setting journal row s control.controller new
+        (reached_known setting journal tied.sound tied.reached).caused tied.controller
+        (own_up ∙ down) (omega (arith, may, tied.controller.marks.many)) settles
+
+    pub gone_piece : piece setting journal row (Confirm s) ≡ item.Row row (Confirm s)
+        ∷ item.OverNow s ∷ act_items (length control.posts + 1) acts
+    gone_piece = confirms_so.same
+        ∙ ap (λ items. first ++ items) (written_is (journal ++ first) acts
+        ∙ ap (λ k. act_items k acts) bag_behind.many)
+
+    pub gone_tied : AreTied setting (journal ++ item.Row row (Confirm s) ∷ item.OverNow s
+        ∷ act_items (length control.posts + 1) acts) switches before count
+        (record control { controller = new; posts = control.posts ++ act_posts acts })
+    unfolding AreTied
+    gone_tied = tied_told control (record control { controller = new }) setting journal
+        switches switches before count row (Confirm s) (item.OverNow s ∷ []) acts tied (record {
+          may = may;
+          piece_is = gone_piece;
+          packet = λ i. (refl, (refl, tt));
+          packets = (refl, (refl, tt));
+          as_many = refl;
+          each = λ q d below. tied.each q d below
+              ∙ sym (kept_is setting q journal first (refl, (refl, tt)) (refl, (refl, tt)));
+          bag = bag_behind;
+          number = refl;
+          controller = confirms_so.after;
+          up = up_stay control setting journal switches before count first tied (refl, (refl, tt));
+          usable = links_stay control setting journal switches before count first tied
+              (refl, (refl, tt));
+        })
+
+    pub gone_few : length control.posts < 990_000
+        → length control.posts + length (act_posts acts) < 2 ^ 32
+    unfolding AreTied
+    gone_few room = omega (
+      arith,
+      room,
+      acts_fit setting journal row (Confirm s) (item.OverNow s ∷ []) (length control.posts + 1)
+          acts (sends_few setting journal (reached_known setting journal tied.sound tied.reached))
+          gone_piece,
+    )

@@ -1,0 +1,149 @@
+-- A packet is lost.
+use Rattle.std.proofs.Common.{ℕ, ◌≡◌, ◌==◌, Bool, true, false, if◌then◌else◌, Some, None, List, [], ◌∷◌, ◌++◌, refl, ap, sym, ◌∙◌, eqb-true, arith, length}
+use Rattle.std.specs.Prelude.{is_some}
+use Rattle.std.proofs.lemmas.Bool.Decides.{nat_tests}
+use Rattle.journal.specs.declared.item.Item.{Item}
+use Rattle.journal.specs.declared.item.Item.TheVariants as item
+use Rattle.steps.specs.declared.step.Step.{Step}
+use Rattle.steps.specs.declared.step.Step.TheVariants.{Lose}
+use Rattle.switch_core.specs.State.{SwitchValue}
+use Rattle.update_machine.specs.Packets.{travels}
+use Rattle.update_machine.specs.Pieces.{lose_items, nothing, piece}
+use Rattle.steps.specs.Steps.{IsStep}
+use Rattle.update_machine.specs.Setting.{Setting}
+use Rattle.way_laws.specs.Words.{words_of}
+use Rattle.way_laws.proofs.Words.{words_grow}
+use Rattle.world_ties.specs.Tied.{AreTied, Control}
+use Rattle.log_ties.specs.Travellers.{traveller_in}
+use Rattle.travelling.specs.Travelling.{Travellers, WithOne, traveller}
+use Rattle.log_ties.proofs.Known.{Known, reached_known, traveller_stays}
+use Rattle.world_ties.proofs.Tying.{switches_stay, tied_silent}
+use Rattle.log_ties.proofs.Words.{traveller_along}
+
+-- a row tells nothing of a packet
+pub travels_on : (journal : List Item) (row i : ℕ) (step : Step)
+    → travels (journal ++ item.Row row step ∷ []) i ≡ travels journal i
+unfolding words_of
+travels_on journal row i step = ap (λ words. words.travels)
+    (words_grow i journal (item.Row row step))
+
+pub travels_as : (setting : Setting) (journal : List Item) (i : ℕ)
+    → is_some (traveller_in setting journal i) ≡ travels journal i
+unfolding traveller_in
+travels_as setting journal i = by_case (travels journal i) _
+  where
+    by_case : {X : Type 0} (b : Bool) (x : X) → is_some (if b then Some x else None) ≡ b
+    by_case true x = refl
+    by_case false x = refl
+
+-- what losing a packet writes
+pub lose_piece : (setting : Setting) (journal : List Item) (row i : ℕ)
+    → piece setting journal row (Lose i)
+    ≡ item.Row row (Lose i) ∷ (if travels journal i then item.Lost i ∷ [] else nothing)
+unfolding piece lose_items
+lose_piece setting journal row i =
+    ap (λ b. item.Row row (Lose i) ∷ elim b [ false ↦ nothing | true ↦ item.Lost i ∷ [] ])
+    (travels_on journal row i (Lose i))
+    ∙ by_case (travels journal i)
+  where
+    by_case : (b : Bool) → item.Row row (Lose i) ∷ elim b
+        [ false ↦ nothing | true ↦ item.Lost i ∷ [] ]
+        ≡ item.Row row (Lose i) ∷ (if b then item.Lost i ∷ [] else nothing)
+    by_case true = refl
+    by_case false = refl
+
+-- of the packets, it is gone
+gone : (setting : Setting) (journal : List Item) (row i : ℕ) (before : Travellers) (q : ℕ)
+    (b : Bool) → Known setting journal → (q == i) ≡ b
+    → traveller before q ≡ traveller_in setting journal q
+    → (if b then None else traveller before q)
+    ≡ traveller_in setting (journal ++ item.Row row (Lose i) ∷ item.Lost i ∷ []) q
+gone setting journal row i before q true knows is was =
+    let same : (i == q) ≡ true = grind (arith, nat_tests) in
+    sym (traveller_along setting journal (item.Row row (Lose i) ∷ item.Lost i ∷ []) q
+    (refl, (refl, tt)) ∙ rw same refl)
+gone setting journal row i before q false knows is was =
+    let other : (i == q) ≡ false = grind (arith, nat_tests) in
+    was ∙ sym (traveller_stays setting journal (item.Row row (Lose i) ∷ item.Lost i ∷ []) q knows
+    (refl, (other, tt)))
+
+pub lost : (control : Control) (setting : Setting) (journal : List Item)
+    (switches : List SwitchValue) (before after : Travellers) (count row i : ℕ)
+    → AreTied setting journal switches before count control → IsStep setting.net (length setting.policies) (Lose i)
+    → is_some (traveller before i) ≡ true → WithOne before i None after
+    → (piece setting journal row (Lose i) ≡ item.Row row (Lose i) ∷ item.Lost i ∷ [])
+    × AreTied setting (journal ++ item.Row row (Lose i) ∷ item.Lost i ∷ []) switches after count
+    control
+unfolding AreTied
+lost control setting journal switches before after count row i tied may travelling without =
+    let on : travels journal i ≡ true =
+    sym (ap is_some (tied.packet i) ∙ travels_as setting journal i) ∙ travelling in
+    let is : piece setting journal row (Lose i) ≡ item.Row row (Lose i) ∷ item.Lost i ∷ [] =
+    lose_piece setting journal row i
+    ∙ ap (λ b. item.Row row (Lose i) ∷ (if b then item.Lost i ∷ [] else nothing)) on in (
+      is,
+      tied_silent control setting journal switches switches before after count count row (Lose i)
+          (item.Lost i ∷ []) tied (record {
+            may = may;
+            piece_is = is;
+            not_told = refl;
+            sends = tt;
+            as_many = refl;
+            each = switches_stay control setting journal switches before count
+                (item.Row row (Lose i) ∷ item.Lost i ∷ []) tied (λ s. (refl, (refl, tt)))
+                (λ s. (refl, (refl, tt)));
+            travels = λ q. without q
+                ∙ gone setting journal row i before q (q == i)
+                (reached_known setting journal tied.sound tied.reached) refl (tied.packet q);
+          }) (omega arith) refl,
+    )
+
+-- of a packet that didn't travel, nothing changes
+stayed : (setting : Setting) (journal : List Item) (row i : ℕ) (before : Travellers) (q : ℕ)
+    (b : Bool) → Known setting journal → (q == i) ≡ b → travels journal i ≡ false
+    → traveller before q ≡ traveller_in setting journal q
+    → (if b then None else traveller before q)
+    ≡ traveller_in setting (journal ++ item.Row row (Lose i) ∷ item.Nothing ∷ []) q
+unfolding traveller_in
+stayed setting journal row i before q b knows is off was =
+    by_test b is
+    ∙ sym (traveller_stays setting journal (item.Row row (Lose i) ∷ item.Nothing ∷ []) q knows
+    (refl, (refl, tt)))
+  where
+    by_test : (b : Bool) → (q == i) ≡ b
+        → (if b then None else traveller before q) ≡ traveller_in setting journal q
+    by_test true is =
+        let same : travels journal q ≡ false = ap (travels journal) (eqb-true _ _ is) ∙ off in
+        rw same refl
+    by_test false is = was
+
+pub not_lost : (control : Control) (setting : Setting) (journal : List Item)
+    (switches : List SwitchValue) (before after : Travellers) (count row i : ℕ)
+    → AreTied setting journal switches before count control → IsStep setting.net (length setting.policies) (Lose i)
+    → is_some (traveller before i) ≡ false → WithOne before i None after
+    → (piece setting journal row (Lose i) ≡ item.Row row (Lose i) ∷ item.Nothing ∷ [])
+    × AreTied setting (journal ++ item.Row row (Lose i) ∷ item.Nothing ∷ []) switches after count
+    control
+unfolding AreTied
+not_lost control setting journal switches before after count row i tied may resting without =
+    let off : travels journal i ≡ false =
+    sym (ap is_some (tied.packet i) ∙ travels_as setting journal i) ∙ resting in
+    let is : piece setting journal row (Lose i) ≡ item.Row row (Lose i) ∷ item.Nothing ∷ [] =
+    lose_piece setting journal row i
+    ∙ ap (λ b. item.Row row (Lose i) ∷ (if b then item.Lost i ∷ [] else nothing)) off in (
+      is,
+      tied_silent control setting journal switches switches before after count count row (Lose i)
+          (item.Nothing ∷ []) tied (record {
+            may = may;
+            piece_is = is;
+            not_told = refl;
+            sends = tt;
+            as_many = refl;
+            each = switches_stay control setting journal switches before count
+                (item.Row row (Lose i) ∷ item.Nothing ∷ []) tied (λ s. (refl, (refl, tt)))
+                (λ s. (refl, (refl, tt)));
+            travels = λ q. without q
+                ∙ stayed setting journal row i before q (q == i)
+                (reached_known setting journal tied.sound tied.reached) refl off (tied.packet q);
+          }) (omega arith) refl,
+    )

@@ -1,0 +1,167 @@
+-- The packets that stand at a switch: those of the table are those of the journal.
+use Rattle.std.proofs.Common.{ℕ, zero, suc, ◌≡◌, ◌+◌, ◌<◌, ◌≤◌, ◌==◌, ◌⊎◌, inl, inr, Bool, true, false, ◌&&◌, cond, if◌then◌else◌, Some, None, List, [], ◌∷◌, refl, ap, sym, ◌∙◌, length, get_or, filter, arith}
+use Rattle.std.specs.Prelude.{◌||◌}
+use Rattle.std.specs.List.{list_any, range_with_len}
+use Rattle.std.proofs.lemmas.Bool.{cases_lt, eq-eqb, eqb-true}
+use Rattle.std.proofs.lemmas.List.Elements.{filter_agree}
+use Rattle.journal.specs.declared.item.Item.{Item}
+use Rattle.switch_core.specs.State.{SwitchValue}
+use Rattle.update_machine.specs.Folds.{count_of}
+use Rattle.update_machine.specs.Packets.{is_at, is_packet, next_packet, packets_at, travels, travels_at}
+use Rattle.update_machine.specs.Packets.{standing as place_of}
+use Rattle.update_machine.specs.Setting.{Setting}
+use Rattle.way_laws.specs.Words.{words_of}
+use Rattle.way_laws.proofs.Rests.{numbered, ways_of_all}
+use Rattle.world_ties.specs.Tied.{AreTied, Control}
+use Rattle.log_ties.specs.Travellers.{traveller_in, traveller_of}
+use Rattle.travelling.specs.Travelling.{Travellers, numbers_at, stands_at, traveller}
+use Rattle.travelling.specs.declared.travelling.Traveller.{Traveller}
+use Rattle.travelling.proofs.Numbers.{beyond, none_between}
+use Rattle.log_ties.proofs.Known.{Known, reached_known}
+use Rattle.log_ties.proofs.OnWay.{IsStanding, got}
+use Rattle.world_ties.proofs.Asking.{standing_of}
+
+-- ---- numbers that pass a test
+
+-- the number is among these
+abbrev pub among : ℕ → List ℕ → Bool
+among i numbers = list_any (λ k. k == i) numbers
+
+-- the first number doesn't pass
+first_passes_not : (test : ℕ → Bool) (n : ℕ) → test 0 ≡ false
+    → filter test (range_with_len 0 (suc n)) ≡ filter test (range_with_len 1 n)
+first_passes_not test n fails = rw fails refl
+
+-- so all that pass are found from 1 on, as far as any passes
+same_numbers : (test : ℕ → Bool) (one other : ℕ) → test 0 ≡ false
+    → ((i : ℕ) → one ≤ i → test i ≡ false) → ((i : ℕ) → suc other ≤ i → test i ≡ false)
+    → filter test (range_with_len 0 one) ≡ filter test (range_with_len 1 other)
+same_numbers test one other zero_fails none none_other =
+    let sum : ◌≡◌ {A = ℕ} (one + suc other) (suc other + one) = omega arith in
+    sym (none_between test one (suc other) (λ i above below. none i above))
+    ∙ ap (λ k. filter test (range_with_len 0 k)) sum
+    ∙ none_between test (suc other) one (λ i above below. none_other i above)
+    ∙ first_passes_not test other zero_fails
+
+-- one that doesn't pass isn't among those that do
+fails_not_among : (test : ℕ → Bool) (numbers : List ℕ) (i : ℕ) → test i ≡ false
+    → among i (filter test numbers) ≡ false
+fails_not_among test [] i fails = refl
+fails_not_among test (k ∷ numbers) i fails =
+    by_test (test k) refl (fails_not_among test numbers i fails)
+  where
+    rest : List ℕ
+    rest = filter test numbers
+
+    by_same : (b : Bool) → (k == i) ≡ b → test k ≡ true → among i rest ≡ false
+        → among i (k ∷ rest) ≡ false
+    by_same true e passes later =
+        let clash : true ≡ false = sym passes ∙ ap test (eqb-true k i e) ∙ fails in cc
+    by_same false e passes later = rw e later
+
+    by_test : (b : Bool) → test k ≡ b → among i rest ≡ false
+        → among i (cond b (k ∷ rest) rest) ≡ false
+    by_test true e later = by_same (k == i) refl e later
+    by_test false e later = later
+
+-- one that passes is, where it is in the range
+passes_among : (test : ℕ → Bool) (low n i : ℕ) → test i ≡ true → low ≤ i → i < low + n
+    → among i (filter test (range_with_len low n)) ≡ true
+passes_among test low zero i passes above below = absurd (omega (arith, above, below))
+passes_among test low (suc n) i passes above below =
+    by_first (low == i) refl
+    (λ later. passes_among test (low + 1) n i passes later (omega (arith, below)))
+  where
+    rest : List ℕ
+    rest = filter test (range_with_len (low + 1) n)
+
+    or_right : (b c : Bool) → c ≡ true → (b || c) ≡ true
+    or_right true c e = refl
+    or_right false c e = e
+
+    with_first : (b : Bool) → among i rest ≡ true → among i (cond b (low ∷ rest) rest) ≡ true
+    with_first true e = or_right (low == i) (among i rest) e
+    with_first false e = e
+
+    by_first : (b : Bool) → (low == i) ≡ b → ((low + 1) ≤ i → among i rest ≡ true)
+        → among i (cond (test low) (low ∷ rest) rest) ≡ true
+    by_first true e later =
+        let passed : test low ≡ true = ap test (eqb-true low i e) ∙ passes in
+        rw (passed, e) refl
+    by_first false e later = with_first (test low) (later (further (cases_lt low i)))
+      where
+        further : (low < i) ⊎ (i ≤ low) → (low + 1) ≤ i
+        further (inl less) = omega (arith, less)
+        further (inr not_less) =
+            let same : (low == i) ≡ true = eq-eqb low i (omega (arith, above, not_less)) in
+            absurd (let clash : true ≡ false = sym same ∙ e in cc)
+
+-- ---- the table
+
+-- a packet is among those that stand at the switch where it stands there
+pub among_numbers : (before : Travellers) (s i : ℕ)
+    → among i (numbers_at before s) ≡ stands_at s (traveller before i)
+unfolding numbers_at
+among_numbers before s i = by_test (test i) refl
+  where
+    test : ℕ → Bool
+    test = λ k. stands_at s (traveller before k)
+
+    by_test : (b : Bool) → test i ≡ b
+        → among i (filter test (range_with_len 0 (length before))) ≡ test i
+    by_test false e = fails_not_among test (range_with_len 0 (length before)) i e ∙ sym e
+    by_test true e =
+        passes_among test 0 (length before) i e (omega arith) (within (cases_lt i (length before)))
+        ∙ sym e
+      where
+        within : (i < length before) ⊎ (length before ≤ i) → i < 0 + length before
+        within (inl less) = omega (arith, less)
+        within (inr past) =
+            absurd (let clash : true ≡ false = sym e ∙ beyond before s i past in cc)
+
+module _ (control : Control) (setting : Setting) (journal : List Item)
+    (switches : List SwitchValue) (before : Travellers) (count s : ℕ)
+    (tied : AreTied setting journal switches before count control) where
+  -- where a packet stands by its route, it stands by the journal
+  same_place : (i : ℕ) → stands_at s (traveller before i) ≡ travels_at journal s i
+  unfolding AreTied traveller_in words_of
+  same_place i = by_travels (travels journal i) refl
+    where
+      by_travels : (b : Bool) → travels journal i ≡ b
+          → stands_at s (traveller before i) ≡ travels_at journal s i
+      by_travels false off =
+          let none : traveller before i ≡ None =
+          tied.packet i ∙ ap (λ b. if b then Some (traveller_of setting journal i) else None) off in
+          rw (none, off) refl
+      by_travels true on =
+          let t : Traveller = traveller_of setting journal i in
+          let some : traveller before i ≡ Some t =
+          tied.packet i ∙ ap (λ b. if b then Some t else None) on in
+          let is : IsStanding setting journal i t =
+          standing_of control setting journal switches before count i t tied some in
+          let here : get_or t.tunnel.route t.tunnel.place 0 ≡ is.place =
+          ap (λ (u : Traveller). get_or u.tunnel.route u.tunnel.place 0) is.is
+          ∙ got (words_of journal i).route (words_of journal i).hops is.place is.stands.here in
+          ap (stands_at s) some ∙ ap (λ k. k == s) here
+          ∙ sym (ap (λ b. b && is_at s (place_of journal i)) on
+          ∙ ap (is_at s) is.stands.stands)
+
+  -- so these are the packets that the journal says
+  pub numbers_are : numbers_at before s ≡ packets_at journal s
+  unfolding AreTied numbers_at next_packet
+  numbers_are =
+      let knows : Known setting journal = reached_known setting journal tied.sound tied.reached in
+      let own = numbered setting journal (ways_of_all setting [] journal knows.settled.causes) in
+      let many : ℕ = count_of is_packet journal in
+      filter_agree (λ i. stands_at s (traveller before i)) (travels_at journal s) same_place
+      (range_with_len 0 (length before))
+      ∙ same_numbers (travels_at journal s) (length before) many
+      (unnumbered 0 (travels journal 0) refl (λ on. absurd (omega (arith, (own 0 on).0))))
+      (λ i past. sym (same_place i) ∙ beyond before s i past)
+      (λ i past. unnumbered i (travels journal i) refl
+      (λ on. absurd (omega (arith, (own i on).1, past))))
+    where
+      unnumbered : (i : ℕ) (b : Bool) → travels journal i ≡ b → (travels journal i ≡ true → ⊥)
+          → travels_at journal s i ≡ false
+      unnumbered i true on never = absurd (never on)
+      unnumbered i false off never = rw off refl

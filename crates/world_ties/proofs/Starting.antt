@@ -1,0 +1,139 @@
+-- A world in which nothing happened yet is as its journal says.
+use Rattle.std.proofs.Common.{ℕ, ◌≡◌, ◌<◌, ◌≤◌, List, [], ◌∷◌, refl, ap, sym, subst, ◌∙◌, length, cond, filter, map, get_or, arith, All}
+use Rattle.std.specs.Prelude.{Ok, IsOk, Some}
+use Rattle.std.specs.List.{range_with_len}
+use Rattle.std.proofs.lemmas.List.Elements.{All-nil}
+use Rattle.std.proofs.lemmas.List.FromFn.{get_or-map-range_with_len, length-map-range_with_len}
+use Rattle.control_ties.specs.Controller.{IsControllerOf, IsPlanOfFile}
+use Rattle.control_ties.proofs.CallerLemmas.{begins}
+use Rattle.controller.specs.Controller.{ControllerValue, first_controller}
+use Rattle.controller.specs.Plan.{PlanValue}
+use Rattle.net_file.specs.Net.{IsNet, links_of}
+use Rattle.net_file.specs.declared.net.LinkRow.{LinkRow}
+use Rattle.net_file.specs.declared.net.Net.{Net}
+use Rattle.partition.specs.Plan.{Placed, plan_of}
+use Rattle.policy_rules.specs.Policy.{IsPolicy}
+use Rattle.policy_rules.specs.declared.policy.Row.{Row}
+use Rattle.steps.specs.Steps.{IsStep}
+use Rattle.switch_core.specs.State.{SwitchValue}
+use Rattle.switch_ties.specs.SwitchOf.{switch_of}
+use Rattle.update_machine.specs.Packets.{next_packet, travels}
+use Rattle.update_machine.specs.Sound.{IsSetting, NamesOwnPort}
+use Rattle.update_machine.specs.Setting.{Setting, placed_in, plan_of_file, setting_of}
+use Rattle.update_machine.specs.Versions.{plan_at}
+use Rattle.update_machine.proofs.CallerLemmas.{of_its_file, start_laws}
+use Rattle.usable_links.specs.Linking.{AreNear}
+use Rattle.world_ties.specs.Begun.{switch_begun}
+use Rattle.world_ties.specs.Tied.{AreTied, is_up_link}
+use Rattle.log_ties.specs.Travellers.{traveller_in}
+use Rattle.log_ties.proofs.Posting.{bag_begun}
+
+planned_first : (net : Net) (policies : List (List Row)) → 1 ≤ length policies
+    → plan_of_file (setting_of net policies) 1 ≡ plan_of (get_or policies 0 []) net
+planned_first net [] some = absurd (omega arith)
+planned_first net (rows ∷ policies) some = refl
+
+pub setting_begun : (net : Net) (policies : List (List Row)) (plan : List Placed) → IsNet net
+    → 1 ≤ length policies → All IsPolicy policies
+    → All (All (λ row. NamesOwnPort (setting_of net policies) row.action)) policies
+    → plan_of (get_or policies 0 []) net ≡ Ok plan → IsSetting (setting_of net policies)
+setting_begun net policies plan sound some rows ports is =
+    let there : plan_of_file (setting_of net policies) 1 ≡ Ok plan =
+    planned_first net policies some ∙ is in
+    record {
+      net = sound;
+      made = refl;
+      sound = rows;
+      ports = ports;
+      planned = subst IsOk (sym there) refl;
+    }
+
+-- the plan of the first version is that of the first policy
+first_plan_is : (net : Net) (policies : List (List Row)) (plan : List Placed)
+    → 1 ≤ length policies → plan_of (get_or policies 0 []) net ≡ Ok plan
+    → plan_at (setting_of net policies) [] 1 ≡ plan
+first_plan_is net [] plan some is = absurd (omega arith)
+first_plan_is net (rows ∷ policies) plan some is =
+    (of_its_file (setting_of net (rows ∷ policies)) [] 1 1 rows (start_laws.file 1) refl).1
+    ∙ ap placed_in is
+
+-- a switch before the first item
+switch_first : (setting : Setting) (s : ℕ) → s < length setting.net.switches
+    → length setting.net.switches ≤ 64
+    → switch_of setting [] s ≡ switch_begun setting.net (plan_at setting [] 1) s
+unfolding switch_of
+switch_first setting s there few =
+    rw (
+      start_laws.boot s,
+      start_laws.up s,
+      start_laws.serving s,
+      start_laws.stamp s,
+      start_laws.heard s,
+      start_laws.adverts setting s there few,
+      start_laws.seq setting s,
+      start_laws.versions s 1,
+      start_laws.cache setting s,
+      start_laws.handled s,
+    ) refl
+
+-- the controller's plan is that of the first file
+of_first : (net : Net) (policies : List (List Row)) (plan : PlanValue) → 1 ≤ length policies
+    → plan.policy ≡ get_or policies 0 [] → plan_of (get_or policies 0 []) net ≡ Ok plan.placed
+    → IsPlanOfFile (setting_of net policies) 1 plan
+of_first net [] plan some own is = absurd (omega arith)
+of_first net (rows ∷ policies) plan some own is = record {
+  policy = ap Some (sym own);
+  placed = ap (λ these. plan_of these net) own ∙ is;
+}
+
+-- all links are up
+all_up : (links : List LinkRow) → filter (is_up_link []) links ≡ links
+all_up [] = refl
+all_up (link ∷ links) =
+    ap (λ b. cond b (link ∷ filter (is_up_link []) links) (filter (is_up_link []) links))
+    (start_laws.links link.one link.two)
+    ∙ ap (λ rest. link ∷ rest) (all_up links)
+
+pub begun_tied : (net : Net) (policies : List (List Row)) (plan : PlanValue)
+    (switches : List SwitchValue) (controller : ControllerValue) (near : List ℕ) → IsNet net
+    → 1 ≤ length policies → All IsPolicy policies
+    → All (All (λ row. NamesOwnPort (setting_of net policies) row.action)) policies
+    → plan.policy ≡ get_or policies 0 [] → plan_of (get_or policies 0 []) net ≡ Ok plan.placed
+    → switches ≡ map (switch_begun net plan.placed) (range_with_len 0 (length net.switches))
+    → controller ≡ first_controller (length net.switches) plan → AreNear net near
+    → AreTied (setting_of net policies) [] switches [] 0
+    (record { controller = controller; posts = []; links = near; near = near })
+unfolding AreTied traveller_in travels next_packet
+begun_tied net policies plan switches controller near sound some rows ports of_policy is made
+    first_is masks =
+    let setting : Setting = setting_of net policies in
+    let own : IsSetting setting = setting_begun net policies plan.placed sound some rows ports is in
+    let first : plan_at setting [] 1 ≡ plan.placed =
+    first_plan_is net policies plan.placed some is in
+    let many : length switches ≡ length net.switches =
+    ap length made
+    ∙ length-map-range_with_len (switch_begun net plan.placed) 0 (length net.switches) in
+    record {
+      sound = own;
+      reached = record {
+        steps = [];
+        own = All-nil (λ next. IsStep setting.net (length setting.policies) next.step);
+        written =
+            refl;
+      };
+      many = many;
+      each = λ s d there.
+          let own : s < length net.switches = omega (arith, there, many) in
+          ap (λ all. get_or all s d) made
+          ∙ get_or-map-range_with_len (switch_begun net plan.placed) 0 (length net.switches) s s d
+          own (omega arith)
+          ∙ sym (switch_first setting s own sound.few_switches
+          ∙ ap (λ placed. switch_begun net placed s) first);
+      packet = λ i. refl;
+      counted = refl;
+      controller = subst (IsControllerOf setting []) (sym first_is)
+          (begins setting plan (of_first net policies plan some of_policy is));
+      bag = bag_begun;
+      up = λ s below. masks s below ∙ ap (λ rows. links_of rows s) (sym (all_up net.links));
+      usable = λ s below. masks s below ∙ sym (start_laws.near setting s);
+    }

@@ -1,0 +1,209 @@
+-- A policy is submitted or refused: what is written then, and what the parts are behind it.
+use Rattle.std.proofs.Common.{ℕ, ◌≡◌, ◌≢◌, ◌+◌, ◌-◌, ◌^◌, ◌<◌, ◌≤◌, Some, None, List, [], ◌∷◌, ◌++◌, refl, ap, sym, subst, ◌∙◌, length, get_or, append-nil, arith, ne_eqb}
+use Rattle.std.specs.Prelude.{Err, Ok, if◌then◌else◌, slice_get, Result}
+use Rattle.std.proofs.lemmas.Option.{slice_get-get_or}
+use Rattle.control_ties.specs.Controller.{IsControllerOf, IsPlanOfFile}
+use Rattle.control_ties.specs.Written.{AreWritten}
+use Rattle.control_ties.proofs.CallerLemmas.{items_leave, submits, too_many_live, too_many_versions}
+use Rattle.controller.specs.Controller.{ControllerValue}
+use Rattle.controller.specs.Plan.{PlanValue}
+use Rattle.controller.specs.Sends.{submitting}
+use Rattle.controller.specs.Submit.{Submits}
+use Rattle.controller.specs.declared.sends.Act.{Act}
+use Rattle.journal.specs.declared.item.Item.{Item}
+use Rattle.journal.specs.declared.item.Item.TheVariants as item
+use Rattle.net_file.specs.declared.net.Net.{Net}
+use Rattle.partition.specs.Plan.{NoPlan, Placed, TooManyLeaves, plan_of}
+use Rattle.policy_rules.specs.declared.policy.Row.{Row}
+use Rattle.steps.specs.declared.step.Step.TheVariants.{Update}
+use Rattle.switch_core.specs.State.{SwitchValue}
+use Rattle.switch_ties.proofs.Links.{kept_is}
+use Rattle.update_machine.specs.Moves.{put}
+use Rattle.update_machine.specs.Pieces.{marks_code, piece, plan_code, update_code, update_items}
+use Rattle.steps.specs.Steps.{IsStep}
+use Rattle.update_machine.specs.Setting.{Setting, plan_of_file, policy_of_file, setting_of}
+use Rattle.update_machine.specs.Settling.{submitted_items}
+use Rattle.update_machine.specs.Versions.{version_count}
+use Rattle.world_log.specs.Sending.{act_items, act_posts}
+use Rattle.world_ties.specs.Tied.{AreTied, Control}
+use Rattle.log_ties.specs.Bags.{IsBagOf}
+use Rattle.travelling.specs.Travelling.{Travellers}
+use Rattle.world_ties.proofs.ActItems.{written_is}
+use Rattle.world_ties.proofs.HearReady.{sends_few}
+use Rattle.log_ties.proofs.Known.{reached_known}
+use Rattle.world_ties.proofs.OneItem.{grown}
+use Rattle.log_ties.proofs.Posting.{bag_on}
+use Rattle.world_ties.proofs.Told.{acts_fit, tied_told}
+use Rattle.world_ties.proofs.Tying.{links_stay, up_stay}
+
+-- ---- files
+
+-- the policy of a file that is there
+file_there : (net : Net) (policies : List (List Row)) (file : ℕ) → 1 ≤ file
+    → file ≤ length policies
+    → policy_of_file (setting_of net policies) file ≡ Some (get_or policies (file - 1) [])
+file_there net policies file first last =
+    ap (λ b. if b then None else slice_get policies (file - 1))
+    (ne_eqb file 0 (λ none. absurd (omega (arith, none, first))))
+    ∙ slice_get-get_or policies (file - 1) [] (omega (arith, first, last))
+
+pub planned_file : (net : Net) (policies : List (List Row)) (file : ℕ) (plan : PlanValue)
+    → 1 ≤ file → file ≤ length policies → plan.policy ≡ get_or policies (file - 1) []
+    → plan_of (get_or policies (file - 1) []) net ≡ Ok plan.placed
+    → IsPlanOfFile (setting_of net policies) file plan
+planned_file net policies file plan first last own is = record {
+  policy = file_there net policies file first last ∙ ap Some (sym own);
+  placed = ap (λ rows. plan_of rows net) own ∙ is;
+}
+
+-- a file whose policy has no plan is refused with the code of the cause
+pub unplanned_code : (net : Net) (policies : List (List Row)) (journal : List Item) (file code : ℕ)
+    (why : NoPlan) → 1 ≤ file → file ≤ length policies
+    → plan_of (get_or policies (file - 1) []) net ≡ Err why → plan_code why ≡ code
+    → update_code (setting_of net policies) journal file ≡ Some code
+unplanned_code net policies journal file code why first last none is =
+    let setting : Setting = setting_of net policies in
+    let refused : plan_of_file setting file ≡ Err why =
+    ap (λ o. elim o [ None ↦ Err TooManyLeaves | Some rows ↦ setting.plan rows ])
+    (file_there net policies file first last) ∙ none in
+    ap (λ (r : Result (List Placed) NoPlan). elim r [
+      | Err cause ↦ Some (plan_code cause)
+      | Ok plan ↦ marks_code journal
+    ]) refused ∙ ap Some is
+
+pub refused_piece : (setting : Setting) (journal : List Item) (row file code : ℕ)
+    → update_code setting (journal ++ item.Row row (Update file) ∷ []) file ≡ Some code
+    → piece setting journal row (Update file)
+    ≡ item.Row row (Update file) ∷ item.Refused file code ∷ []
+unfolding piece update_items
+refused_piece setting journal row file code is =
+    let rowed : List Item = journal ++ item.Row row (Update file) ∷ [] in
+    ap (λ o. item.Row row (Update file) ∷ elim o [
+      | Some k ↦ item.Refused file k ∷ []
+      | None ↦ put (item.Submitted file (version_count rowed + 1) ∷ []) (submitted_items setting)
+          rowed
+    ]) is
+
+-- ---- the tie
+
+module _ (control : Control) (setting : Setting) (journal : List Item)
+    (switches : List SwitchValue) (before : Travellers) (count row file : ℕ)
+    (tied : AreTied setting journal switches before count control)
+    (may : IsStep setting.net (length setting.policies) (Update file)) where
+  abbrev first : Item → List Item
+  first one = item.Row row (Update file) ∷ one ∷ []
+
+  -- nothing is sent, and the controller stays
+  pub refused_tied : (code : ℕ)
+      → piece setting journal row (Update file)
+      ≡ item.Row row (Update file) ∷ item.Refused file code ∷ []
+      → AreTied setting (grown journal row (Update file) (item.Refused file code)) switches before
+      count control
+  unfolding AreTied act_items act_posts
+  refused_tied code is =
+      let one : Item = item.Refused file code in
+      subst (λ posts. AreTied setting (grown journal row (Update file) one) switches before count
+      (record control { posts = posts })) (append-nil control.posts)
+      (tied_told control control setting journal switches switches before count row (Update file)
+      (one ∷ []) [] tied (record {
+        may = may;
+        piece_is = is;
+        packet = λ i. (refl, (refl, tt));
+        packets = (refl, (refl, tt));
+        as_many = refl;
+        each = λ s d below. tied.each s d below
+            ∙ sym (kept_is setting s journal (first one) (refl, (refl, tt)) (refl, (refl, tt)));
+        bag = bag_on journal (first one) control.posts (refl, (refl, tt)) tied.bag;
+        number = refl;
+        controller = subst (λ more. IsControllerOf setting (journal ++ more) control.controller)
+            (sym is) (items_leave setting journal (first one) control.controller
+            (reached_known setting journal tied.sound tied.reached).caused (refl, (refl, tt)) tied.controller);
+        up = up_stay control setting journal switches before count (first one) tied
+            (refl, (refl, tt));
+        usable = links_stay control setting journal switches before count (first one) tied
+            (refl, (refl, tt));
+      }))
+
+  module _ (plan : PlanValue) (new : ControllerValue) (of_file : IsPlanOfFile setting file plan)
+      (live : control.controller.marks.count - control.controller.marks.retired ≢ 8)
+      (versions : control.controller.marks.count ≢ 64)
+      (submitted : Submits control.controller plan new) where
+    abbrev version : ℕ
+    version = control.controller.marks.count + 1
+
+    abbrev one : Item
+    one = item.Submitted file version
+
+    abbrev acts : List Act
+    acts = submitting control.controller.marks plan new.marks
+
+    bag_behind : IsBagOf (grown journal row (Update file) one) control.posts
+    unfolding AreTied
+    bag_behind = bag_on journal (first one) control.posts (refl, (refl, tt)) tied.bag
+
+    submits_so : AreWritten setting journal (first one) acts new
+        (piece setting journal row (Update file))
+    unfolding AreTied
+    submits_so = submits setting journal row file control.controller new plan
+        (reached_known setting journal tied.sound tied.reached).caused tied.controller of_file live versions submitted
+
+    pub submitted_piece : piece setting journal row (Update file)
+        ≡ item.Row row (Update file) ∷ one ∷ act_items (length control.posts + 1) acts
+    submitted_piece = submits_so.same
+        ∙ ap (λ items. first one ++ items) (written_is (journal ++ first one) acts
+        ∙ ap (λ k. act_items k acts) bag_behind.many)
+
+    pub submitted_tied : AreTied setting (journal ++ item.Row row (Update file) ∷ one
+        ∷ act_items (length control.posts + 1) acts) switches before count
+        (record control { controller = new; posts = control.posts ++ act_posts acts })
+    unfolding AreTied
+    submitted_tied = tied_told control (record control { controller = new }) setting journal
+        switches switches before count row (Update file) (one ∷ []) acts tied (record {
+          may = may;
+          piece_is = submitted_piece;
+          packet = λ i. (refl, (refl, tt));
+          packets = (refl, (refl, tt));
+          as_many = refl;
+          each = λ s d below. tied.each s d below
+              ∙ sym (kept_is setting s journal (first one) (refl, (refl, tt)) (refl, (refl, tt)));
+          bag = bag_behind;
+          number = refl;
+          controller = submits_so.after;
+          up = up_stay control setting journal switches before count (first one) tied
+              (refl, (refl, tt));
+          usable = links_stay control setting journal switches before count (first one) tied
+              (refl, (refl, tt));
+        })
+
+    -- and there is room for it
+    pub submitted_few : length control.posts < 990_000
+        → length control.posts + length (act_posts acts) < 2 ^ 32
+    unfolding AreTied
+    submitted_few room = omega (
+      arith,
+      room,
+      acts_fit setting journal row (Update file) (one ∷ []) (length control.posts + 1) acts
+          (sends_few setting journal (reached_known setting journal tied.sound tied.reached)) submitted_piece,
+    )
+
+-- ---- what the marks refuse
+
+module _ (control : Control) (setting : Setting) (journal : List Item)
+    (switches : List SwitchValue) (before : Travellers) (count row file : ℕ) (plan : PlanValue)
+    (tied : AreTied setting journal switches before count control)
+    (of_file : IsPlanOfFile setting file plan) where
+  pub live_piece : control.controller.marks.count - control.controller.marks.retired ≡ 8
+      → piece setting journal row (Update file)
+      ≡ item.Row row (Update file) ∷ item.Refused file 16 ∷ []
+  unfolding AreTied
+  live_piece live = (too_many_live setting journal row file control.controller plan
+      (reached_known setting journal tied.sound tied.reached).caused tied.controller of_file
+      live).same
+
+  pub versions_piece : control.controller.marks.count - control.controller.marks.retired ≢ 8
+      → control.controller.marks.count ≡ 64 → piece setting journal row (Update file)
+      ≡ item.Row row (Update file) ∷ item.Refused file 17 ∷ []
+  unfolding AreTied
+  versions_piece live many = (too_many_versions setting journal row file control.controller plan
+      (reached_known setting journal tied.sound tied.reached).caused tied.controller of_file live
+      many).same

@@ -1,0 +1,21 @@
+-- What a world holds as it begins.
+use Rattle.std.specs.Prelude.{ℕ, ◌≡◌, map, List, length}
+use Rattle.std.specs.List.{range_with_len}
+use Rattle.controller.specs.Controller.{ControllerValue, first_controller}
+use Rattle.controller.specs.Plan.{PlanValue}
+use Rattle.failover.specs.Adverts.{first_adverts}
+use Rattle.net_file.specs.Net.{links_of}
+use Rattle.net_file.specs.declared.net.Net.{Net}
+use Rattle.switch_core.specs.State.{SwitchValue, begun}
+use Rattle.switch_table.specs.Tables.{Placed, tables_of}
+
+-- a switch as it begins its first boot with the tables of this plan
+abbrev pub switch_begun : Net → List Placed → ℕ → SwitchValue
+switch_begun net plan s = begun s net.cache (tables_of plan 1 s)
+    (first_adverts (map (links_of net.links) (range_with_len 0 (length net.switches)))
+    (length net.switches))
+
+-- the network's controller as it begins, with some plan
+abbrev pub IsFirst : Net → ControllerValue → Type 0
+IsFirst net controller =
+    (plan : PlanValue) × (controller ≡ first_controller (length net.switches) plan)
