@@ -8,7 +8,7 @@ use Rattle.wire.specs.Fields.{n4}
 use Rattle.wire.specs.Frames.{frame, frames_from, place_of, count_of, piece_of, slices, cut, most_of_piece}
 use Rattle.wire.proofs.Laws.{AreBytes, AreBytes-drop, AreBytes-take}
 
-length_n4 : (n : ℕ) → length (n4.spell n) ≡ 4
+pub length_n4 : (n : ℕ) → length (n4.spell n) ≡ 4
 unfolding n4 spelled_number
 length_n4 n = refl
 

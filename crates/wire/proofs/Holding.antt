@@ -57,7 +57,7 @@ no_bound m n lt = grind (arith, nat_tests)
 a_bound : (m n : ℕ) → n ≤ m → not (leb n m) ≡ false
 a_bound m n le = grind (arith, nat_tests)
 
-first_is : (g f : List ℕ) (gs : List (List ℕ)) (place : ℕ) → place_of g ≡ place → held_at (g ∷ gs) place ≡ Some f → g ≡ f
+pub first_is : (g f : List ℕ) (gs : List (List ℕ)) (place : ℕ) → place_of g ≡ place → held_at (g ∷ gs) place ≡ Some f → g ≡ f
 first_is g f gs place same e =
     let is : held_at (g ∷ gs) place ≡ Some g = rw (same, same_place place) refl in
     some_is g f (sym is ∙ e)
@@ -81,14 +81,14 @@ none_below from count (f ∷ fs) place rising lt =
     let le = rising.0 in
     rw (later_place (place_of f) place (omega arith)) (none_below (place_of f + 1) count fs place rising.2 (omega arith))
 
-none_lower : (from count : ℕ) (fs : List (List ℕ)) (place : ℕ) → AreRising from count fs → place < from
+pub none_lower : (from count : ℕ) (fs : List (List ℕ)) (place : ℕ) → AreRising from count fs → place < from
     → filter (λ g. ltb (place_of g) place) fs ≡ []
 none_lower from count [] place rising lt = refl
 none_lower from count (f ∷ fs) place rising lt =
     let le = rising.0 in
     rw (not_below (place_of f) place (omega arith)) (none_lower (place_of f + 1) count fs place rising.2 (omega arith))
 
-all_higher : (from count : ℕ) (fs : List (List ℕ)) (place : ℕ) → AreRising from count fs → place < from
+pub all_higher : (from count : ℕ) (fs : List (List ℕ)) (place : ℕ) → AreRising from count fs → place < from
     → filter (λ g. ltb place (place_of g)) fs ≡ fs
 all_higher from count [] place rising lt = refl
 all_higher from count (f ∷ fs) place rising lt =
@@ -98,7 +98,7 @@ all_higher from count (f ∷ fs) place rising lt =
 
 -- ---- all places are held exactly where there are as many frames as the count
 
-step_held : (f : List ℕ) (fs : List (List ℕ)) (place : ℕ) → place_of f < place → held_at (f ∷ fs) place ≡ held_at fs place
+pub step_held : (f : List ℕ) (fs : List (List ℕ)) (place : ℕ) → place_of f < place → held_at (f ∷ fs) place ≡ held_at fs place
 step_held f fs place lt = rw (other_place (place_of f) place lt) refl
 
 enough : (from count : ℕ) (fs : List (List ℕ)) → AreRising from count fs

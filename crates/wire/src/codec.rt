@@ -1,4 +1,4 @@
-ghost use Rattle.std.specs.Prelude.{◌≡◌, ◌<◌, OnOk, IfOk, IsErrOf};
+ghost use Rattle.std.specs.Prelude.{◌≡◌, ◌<◌, ◌++◌, true, OnOk, IfOk, IsErrOf};
 ghost use Rattle.ctrl_msg.specs.declared.message.Message.{Message};
 ghost use Rattle.wire.specs.declared.error.WireError.TheVariants.{Malformed};
 ghost use Rattle.wire.specs.Fields as form;
@@ -323,6 +323,19 @@ fn put_message(out: &mut Vec<u8>, message: &Message) -> Result<(), AllocError>
 {
     put_receiver(out, message.to)?;
     put_body(out, &message.body)
+}
+
+/// Writes the spelling of a message at the end.
+///
+/// # Errors
+/// Want of memory alone; a part of the spelling may be written then.
+pub fn append(out: &mut Vec<u8>, message: &Message) -> Result<(), AllocError>
+    requires { HasSpelling message.now }
+    ensures fits { OnOk result (kinds.message.fits message.now ≡ true) }
+    ensures spelled { OnOk result
+        (out.new.items ≡ out.old.items ++ kinds.message.spell message.now) }
+{
+    put_message(out, message)
 }
 
 /// The spelling of a message.

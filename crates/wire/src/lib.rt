@@ -1,6 +1,6 @@
 //! Messages as bytes: a canonical spelling, and frames of it that may come in any order.
 //!
-//! `encode` promises the one spelling of a message, and `decode` the message of a spelling: it
+//! `encode` and `append` promise the one spelling of a message, and `decode` the message of a spelling: it
 //! answers `Malformed` exactly where bytes are the spelling of no message, so no message has a
 //! second one. `split` promises the frames of a message. An `Assembler` holds frames by their
 //! places; it promises the message exactly where all of its frames are held, and refuses a frame
@@ -30,6 +30,6 @@ mod reader;
 mod writer;
 
 pub use assembler::Assembler;
-pub use codec::{decode, encode};
+pub use codec::{append, decode, encode};
 pub use error::WireError;
 pub use frames::{Frames, split};
