@@ -1,0 +1,105 @@
+-- How long spellings are: those of all messages but installations are short.
+use Rattle.std.proofs.Common.{◌≡◌, ℕ, ◌+◌, ◌≤◌, Bool, true, false, ◌++◌, length, Option, Some, None, refl, arith}
+use Rattle.std.proofs.lemmas.List.{length-append}
+use Rattle.ctrl_msg.specs.declared.message.Receiver.{Receiver}
+use Rattle.ctrl_msg.specs.declared.message.Receiver.TheVariants.{Switch, Controller}
+use Rattle.ctrl_msg.specs.declared.message.Body.{Body}
+use Rattle.ctrl_msg.specs.declared.message.Body.TheVariants.{Install, OpenAt, Stamp, Collect, CacheRule, Advertise, Hello, Installed, Stamped}
+use Rattle.ctrl_msg.specs.declared.message.Message.{Message}
+use Rattle.failover.specs.declared.advert.Advert.{Advert}
+use Rattle.policy_rules.specs.declared.policy.Action.{Action}
+use Rattle.policy_rules.specs.declared.policy.Action.TheVariants.{Drop, Out}
+use Rattle.switch_table.specs.declared.tables.Tables.{Tables}
+use Rattle.ternary.specs.Word.{WordValue}
+use Rattle.wire.specs.Format.{spelled_number}
+use Rattle.wire.specs.Fields.{n1, n4, n8, n16, switch, word, rule_name, action, tables}
+use Rattle.wire.proofs.Framing.{length_n4}
+use Rattle.wire.specs.Messages.{receiver, install, of_version, cache_rule, advert, hello, acknowledged, kind_of, spelled_fields, body, message}
+
+length_receiver : (to : Receiver) → length (receiver.spell to) ≡ 1
+unfolding receiver switch n1 spelled_number
+length_receiver (Switch s) = refl
+length_receiver Controller = refl
+
+length_kind : (b : Body) → length (n1.spell (kind_of b)) ≡ 1
+unfolding n1 spelled_number
+length_kind b = refl
+
+-- the receiver and the kind, and then the fields
+pub length_message : (m : Message) → length (message.spell m) ≡ 2 + length (spelled_fields m.body)
+unfolding message body
+length_message m =
+    omega (
+      arith,
+      length-append (receiver.spell m.to) (n1.spell (kind_of m.body) ++ spelled_fields m.body),
+      length-append (n1.spell (kind_of m.body)) (spelled_fields m.body),
+      length_receiver m.to,
+      length_kind m.body,
+    )
+
+-- a body that is no installation
+abbrev pub is_alone : Body → Bool
+is_alone (Install _ _) = false
+is_alone _ = true
+
+two_numbers : (a b : ℕ) → length (of_version.spell (a, b)) ≡ 8
+unfolding of_version n4 spelled_number
+two_numbers a b = refl
+
+three_numbers : (s a b : ℕ) → length (acknowledged.spell (s, (a, b))) ≡ 9
+unfolding acknowledged switch n1 n4 spelled_number
+three_numbers s a b = refl
+
+told : (s a : ℕ) → length (hello.spell (s, a)) ≡ 5
+unfolding hello switch n1 n4 spelled_number
+told s a = refl
+
+advert_len : (a : Advert) → length (advert.spell a) ≡ 17
+unfolding advert switch n1 n4 n8 spelled_number
+advert_len a = refl
+
+word_len : (w : WordValue) → length (word.spell w) ≡ 32
+unfolding word n16 n8 spelled_number
+word_len w = refl
+
+rule_len : (o : Option ℕ) → length (rule_name.spell o) ≤ 5
+unfolding rule_name n1 n4 spelled_number
+rule_len None = omega arith
+rule_len (Some n) = omega arith
+
+action_len : (a : Action) → length (action.spell a) ≤ 5
+unfolding action n1 n4 spelled_number
+action_len Drop = omega arith
+action_len (Out port) = omega arith
+
+rule_fields : (version : ℕ) (w : WordValue) (rule : Option ℕ) (act : Action)
+    → length (cache_rule.spell (version, (w, (rule, act)))) ≤ 46
+unfolding cache_rule
+rule_fields version w rule act =
+    omega (
+      arith,
+      length-append (n4.spell version) (word.spell w ++ (rule_name.spell rule ++ action.spell act)),
+      length-append (word.spell w) (rule_name.spell rule ++ action.spell act),
+      length-append (rule_name.spell rule) (action.spell act),
+      length_n4 version,
+      word_len w,
+      rule_len rule,
+      action_len act,
+    )
+
+pub fields_short : (b : Body) → is_alone b ≡ true → length (spelled_fields b) ≤ 46
+fields_short (Install boot t) alone = absurd cc
+fields_short (OpenAt boot version) alone = omega (arith, two_numbers boot version)
+fields_short (Stamp boot version) alone = omega (arith, two_numbers boot version)
+fields_short (Collect boot version) alone = omega (arith, two_numbers boot version)
+fields_short (CacheRule version w rule act) alone = rule_fields version w rule act
+fields_short (Advertise a) alone = omega (arith, advert_len a)
+fields_short (Hello s boot) alone = omega (arith, told s boot)
+fields_short (Installed s boot version) alone = omega (arith, three_numbers s boot version)
+fields_short (Stamped s boot version) alone = omega (arith, three_numbers s boot version)
+
+-- of an installation there is the boot
+pub install_long : (boot : ℕ) (t : Tables) → 4 ≤ length (spelled_fields (Install boot t))
+unfolding install
+install_long boot t =
+    omega (arith, length-append (n4.spell boot) (tables.spell t), length_n4 boot)

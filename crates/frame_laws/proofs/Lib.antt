@@ -1,0 +1,5 @@
+mod Lengths
+pub mod Sized
+mod Parts
+pub mod Coming
+pub mod InOrder

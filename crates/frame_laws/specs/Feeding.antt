@@ -1,0 +1,25 @@
+-- Frames of a message with which an assembler is fed, one after another.
+use Rattle.std.specs.Prelude.{ℕ, ◌^◌, ◌<◌, ◌≡◌, true, List, [], ◌∷◌, length, All}
+use Rattle.std.specs.List.{Contains}
+use Rattle.ctrl_msg.specs.declared.message.Message.{Message}
+use Rattle.wire.specs.Assembly.{with_frame}
+use Rattle.wire.specs.Frames.{frames}
+use Rattle.wire.specs.Messages.{message}
+
+-- a message that is sent in frames: it has a spelling, of fewer than 2^40 bytes
+pub record HasFrames (m : Message) : Type 0 where
+  pub fits : message.fits m ≡ true
+  pub short : length (message.spell m) < 2 ^ 40
+
+-- each of these is a frame of the message, in whatever order, and with whatever repeats
+abbrev pub AreOf : Message → List (List ℕ) → Type 0
+AreOf m fed = All (Contains (frames m)) fed
+
+-- each frame of the message is among these
+abbrev pub AreAllAmong : Message → List (List ℕ) → Type 0
+AreAllAmong m fed = All (Contains fed) (frames m)
+
+-- what an assembler holds that was fed with these, the newest first, and refused none
+abbrev pub held_after : List (List ℕ) → List (List ℕ)
+held_after [] = []
+held_after (f ∷ fed) = with_frame (held_after fed) f

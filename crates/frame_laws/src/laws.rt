@@ -1,0 +1,28 @@
+//! The laws.
+ghost use Rattle.std.specs.Prelude.{◌≡◌, ◌∷◌, ◌↔◌, List, ℕ};
+ghost use Rattle.ctrl_msg.specs.declared.message.Message.{Message};
+ghost use Rattle.wire.specs.Assembly.{AreAllHeld, IsRefused};
+ghost use Rattle.wire.specs.Frames.{AreFrames, count_of, frames};
+ghost use Rattle.frame_laws.specs.Feeding.{AreAllAmong, AreOf, HasFrames, held_after};
+
+/// In whatever order the frames of a message come, and with whatever repeats: an assembler that was
+/// fed with them refuses none; all places are held exactly where each frame of the message has come;
+/// and then what is held is the message's frames.
+///
+/// So, as `Assembler::feed` ensures, it answers `None` until the last of them has come, and the
+/// message then and at each repeat.
+pub fn frames_come_in_any_order()
+    ensures taken { (m : Message) (f : List ℕ) (fed : List (List ℕ)) → HasFrames m
+        → AreOf m (f ∷ fed) → IsRefused (held_after fed) f → ⊥ }
+    ensures all_held { (m : Message) (f : List ℕ) (fed : List (List ℕ)) → HasFrames m
+        → AreOf m (f ∷ fed)
+        → (AreAllHeld (held_after (f ∷ fed)) (count_of f) ↔ AreAllAmong m (f ∷ fed)) }
+    ensures whole { (m : Message) (fed : List (List ℕ)) → HasFrames m → AreOf m fed
+        → AreAllAmong m fed → held_after fed ≡ frames m }
+{}
+
+/// Frames are those of one message.
+pub fn frames_are_of_one_message()
+    ensures { (m other : Message) (fs : List (List ℕ)) → AreFrames m fs → AreFrames other fs
+        → other ≡ m }
+{}
