@@ -1,0 +1,3 @@
+mod Spans
+mod Posting
+mod ComingOut

@@ -1,0 +1,53 @@
+-- Messages that are kept as their frames.
+use Rattle.std.specs.Prelude.{ℕ, ◌≡◌, ◌+◌, ◌-◌, ◌<◌, ◌≤◌, true, Option, Some, None, List, [], ◌∷◌, length, take, drop, get_or, slice_get}
+use Rattle.ctrl_msg.specs.declared.message.Body.{Body}
+use Rattle.ctrl_msg.specs.declared.message.Body.TheVariants.{Install}
+use Rattle.ctrl_msg.specs.declared.message.Message.{Message}
+use Rattle.frame_laws.specs.Feeding.{HasFrames}
+use Rattle.wire.specs.Frames.{frames}
+use Rattle.wire.specs.Messages.{message}
+use Rattle.frame_bag.specs.declared.firsts.Span.{Span}
+
+-- the version of the tables that an installation carries
+abbrev pub tables_version : Body → Option ℕ
+tables_version (Install boot tables) = Some tables.version
+tables_version _ = None
+
+-- the message of this number is this one, and it has a spelling
+pub record IsPosted (bag : List (List (List ℕ))) (number : ℕ) (m : Message) : Type 0 where
+  pub fits : message.fits m ≡ true
+  pub posted : slice_get bag (number - 1) ≡ Some (frames m)
+
+-- ---- how they are kept
+
+-- a first frame, and the number of kept frames that have the others, if there are others
+abbrev pub First : Type 0
+First = List ℕ × Option ℕ
+
+-- first frames that lie one after the other
+abbrev pub first_in : List ℕ → Span → First
+first_in bytes span = (take span.len (drop span.start bytes), span.tables)
+
+abbrev pub IsWithin : List ℕ → Span → Type 0
+IsWithin bytes span = span.start + span.len ≤ length bytes
+
+-- all frames of a message; kept frames have a first one of their own
+abbrev pub frames_in : List (List (List ℕ)) → First → List (List ℕ)
+frames_in kept (first, None) = first ∷ []
+frames_in kept (first, Some number) = first ∷ drop 1 (get_or kept number [])
+
+abbrev pub IsThere : List (List (List ℕ)) → Option ℕ → Type 0
+IsThere kept None = Unit {0}
+IsThere kept (Some number) = number < length kept
+
+-- they are the frames of a message
+abbrev pub AreOfMessage : List (List ℕ) → Type 0
+AreOfMessage fs = (m : Message) × HasFrames m × (fs ≡ frames m)
+
+pub record IsKept (kept : List (List (List ℕ))) (first : First) : Type 0 where
+  pub there : IsThere kept first.1
+  pub are : AreOfMessage (frames_in kept first)
+
+-- what was kept is there still, under its number
+abbrev pub IsGrown : List (List (List ℕ)) → List (List (List ℕ)) → Type 0
+IsGrown before after = take (length before) after ≡ before

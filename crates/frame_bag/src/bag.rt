@@ -1,0 +1,142 @@
+ghost use Rattle.std.specs.Prelude.{◌≡◌, ◌<◌, ◌+◌, ◌^◌, ◌++◌, ◌∷◌, ◌↔◌, ◌⊎◌, [], None, Some, length, IfOk, IfSome, IsNone, OnErr, OnOk};
+ghost use Rattle.wire.specs.Frames.{frames};
+ghost use Rattle.wire.specs.Messages.{HasSpelling, message as form};
+ghost use Rattle.frame_bag.specs.Kept.{IsPosted, tables_version};
+
+use crate::firsts::Firsts;
+use crate::reading::{alone, assembled};
+use crate::tables::{TableFrames, keep};
+use ctrl_msg::{Body, Message};
+use std::alloc::{AllocError, Global};
+use std::marker::Model;
+use wire::{append, split};
+
+/// The messages that were posted, numbered from 1 in their order. Contracts see the list of their
+/// frames.
+#[derive(Drop)]
+pub struct FrameBag {
+    firsts: Firsts,
+    tables: Vec<TableFrames>,
+    // The first frame of the message that is posted now.
+    scratch: Vec<u8>,
+}
+
+impl Model for FrameBag {
+    ghost use Rattle.std.specs.Prelude.{List, ℕ, All, map};
+    ghost use Rattle.frame_bag.specs.Kept.{IsKept, frames_in};
+
+    ghost Value = { List (List (List ℕ)) };
+
+    ghost view = { λ b. map (frames_in b.tables.items) b.firsts };
+
+    ghost invariant = { λ b. All (IsKept b.tables.items) b.firsts };
+}
+
+impl FrameBag {
+    /// A bag in which nothing was posted; it takes no memory yet.
+    pub fn new(alloc: Global) -> FrameBag
+        ensures { result ≡ [] }
+    {
+        FrameBag {
+            firsts: Firsts::new(alloc),
+            tables: Vec::new(alloc),
+            scratch: Vec::new(alloc),
+        }
+    }
+
+    /// How many messages were posted.
+    pub fn len(&self) -> usize
+        ensures { result ≡ length self.now }
+    {
+        self.firsts.len()
+    }
+
+    /// Posts a message, and answers its number: one more than there were messages.
+    ///
+    /// # Errors
+    /// Want of memory alone; nothing changes then.
+    pub fn post(&mut self, alloc: Global, message: &Message) -> Result<u32, AllocError>
+        requires spelling { HasSpelling message.now }
+        requires short { length (form.spell message.now) < 2 ^ 40 }
+        requires few { length self.old < 1_000_000 }
+        ensures number { IfOk result (λ number. number ≡ length self.old + 1) }
+        ensures posted { OnOk result (self.new ≡ self.old ++ frames message.now ∷ []) }
+        ensures unchanged { OnErr result (self.new ≡ self.old) }
+    {
+        match tables_version(&message.body) {
+            None => self.post_alone(message)?,
+            Some(version) => self.post_tables(alloc, message, version)?,
+        }
+        Ok(self.len() as u32)
+    }
+
+    // Posts a message of one frame.
+    fn post_alone(&mut self, message: &Message) -> Result<(), AllocError>
+        requires spelling { HasSpelling message.now }
+        requires short { length (form.spell message.now) < 2 ^ 40 }
+        requires alone { tables_version message.now.body ≡ None }
+        ensures posted { OnOk result (self.new ≡ self.old ++ frames message.now ∷ []) }
+        ensures unchanged { OnErr result (self.new ≡ self.old) }
+    {
+        self.scratch.clear();
+        self.scratch.extend_from_slice(&[0, 0, 0, 0, 0, 0, 0, 1])?;
+        append(&mut self.scratch, message)?;
+        self.firsts.push(&self.scratch, None)
+    }
+
+    // Posts a message with the tables of a version.
+    fn post_tables(
+        &mut self,
+        alloc: Global,
+        message: &Message,
+        version: u32,
+    ) -> Result<(), AllocError>
+        requires spelling { HasSpelling message.now }
+        requires short { length (form.spell message.now) < 2 ^ 40 }
+        ensures posted { OnOk result (self.new ≡ self.old ++ frames message.now ∷ []) }
+        ensures unchanged { OnErr result (self.new ≡ self.old) }
+    {
+        let frames = split(alloc, message)?;
+        self.scratch.clear();
+        match frames.get(0) {
+            Some(first) => self.scratch.extend_from_slice(first)?,
+            None => unreachable!(),
+        }
+        let number = keep(&mut self.tables, message.to, version, frames)?;
+        self.firsts.push(&self.scratch, Some(number))
+    }
+
+    /// The message of this number, out of its frames; `None` exactly where none of this number was
+    /// posted.
+    ///
+    /// # Errors
+    /// Want of memory alone.
+    pub fn take(&self, alloc: Global, number: u32) -> Result<Option<Message>, AllocError>
+        ensures none { IfOk result (λ answer.
+            IsNone answer ↔ ((number ≡ 0) ⊎ (length self.now < number))) }
+        ensures message { IfOk result (λ answer.
+            IfSome answer (λ message. IsPosted self.now number message)) }
+    {
+        if number == 0 {
+            return Ok(None);
+        }
+        match self.firsts.get(number as usize - 1) {
+            None => Ok(None),
+            Some((frame, None)) => Ok(Some(alone(alloc, frame)?)),
+            Some((frame, Some(kept))) => {
+                let frames = self.tables[kept].frames();
+                Ok(Some(assembled(alloc, frame, frames)?))
+            }
+        }
+    }
+}
+
+// The version of the tables that an installation carries.
+fn tables_version(body: &Body) -> Option<u32>
+    ensures { result ≡ tables_version body.now }
+{
+    match body {
+        Body::Install { tables, .. } => Some(tables.tables().version),
+        _ => None,
+    }
+}
