@@ -1,0 +1,64 @@
+//! Messages that come out of a bag of frames.
+ghost use Rattle.wire.specs.Messages.{HasSpelling};
+
+use crate::messages::{collect, hello, install};
+use ctrl_msg::{Body, Message};
+use frame_bag::FrameBag;
+use std::alloc::Global;
+use std::test::*;
+use wire::encode;
+
+// Posts a message that isn't too long, where the bag isn't full.
+fn post(bag: &mut FrameBag, alloc: Global, message: &Message) -> Result<u32, Fail>
+    requires { HasSpelling message.now }
+{
+    let bytes = encode(alloc, message)?;
+    if bytes.len() > 1 << 20 || bag.len() >= 1000 {
+        return Err(Fail::from("too long, or full"));
+    }
+    Ok(bag.post(alloc, message)?)
+}
+
+fn take(bag: &FrameBag, alloc: Global, number: u32) -> Result<Message, Fail> {
+    Ok(bag.take(alloc, number)?.ok_or("no such message")?)
+}
+
+// How many rules the first partition has that the installation of this number carries.
+fn rules(bag: &FrameBag, alloc: Global, number: u32) -> Result<Option<usize>, Fail> {
+    match take(bag, alloc, number)?.body {
+        Body::Install { boot: 1, tables } => match tables.tables().auth.items().first() {
+            Some(part) => Ok(Some(part.rules.items().len())),
+            None => Ok(None),
+        },
+        _ => Ok(None),
+    }
+}
+
+#[test]
+fn messages_come_out_of_a_bag(rt: HostRuntime) -> Result<(), Fail> {
+    let alloc = rt.alloc();
+    let mut bag = FrameBag::new(alloc);
+    assert_eq!(rt; post(&mut bag, alloc, &collect())?, 1);
+    // Tables of 40,000 bytes, of 52 bytes, and the first ones again.
+    assert_eq!(rt; post(&mut bag, alloc, &install(alloc, 1038, 12)?)?, 2);
+    assert_eq!(rt; post(&mut bag, alloc, &install(alloc, 0, 0)?)?, 3);
+    assert_eq!(rt; post(&mut bag, alloc, &install(alloc, 1038, 12)?)?, 4);
+    assert_eq!(rt; post(&mut bag, alloc, &hello())?, 5);
+    let first = take(&bag, alloc, 1)?;
+    assert!(rt;
+        matches!(
+            first.body,
+            Body::Collect {
+                boot: 1,
+                version: 1
+            }
+        )
+    );
+    assert!(rt; rules(&bag, alloc, 2)? == Some(1050));
+    assert!(rt; rules(&bag, alloc, 3)? == Some(0));
+    assert!(rt; rules(&bag, alloc, 4)? == Some(1050));
+    let last = take(&bag, alloc, 5)?;
+    assert!(rt; matches!(last.body, Body::Hello { switch: 0, boot: 2 }));
+    assert!(rt; bag.take(alloc, 0)?.is_none() && bag.take(alloc, 6)?.is_none());
+    Ok(())
+}

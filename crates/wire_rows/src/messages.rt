@@ -1,0 +1,95 @@
+//! The messages that the tests spell.
+ghost use Rattle.std.specs.Prelude.{◌<◌, ◌^◌, length, IfOk};
+ghost use Rattle.wire.specs.Messages.{HasSpelling};
+
+use ctrl_msg::{Body, Message, Receiver, SharedTables};
+use policy_rules::{Action, Partition, Rule, Rules};
+use std::alloc::Global;
+use std::test::Fail;
+use switch_table::{PartRows, Partitions, Tables};
+use ternary::Word;
+
+pub fn collect() -> Message
+    ensures { HasSpelling result }
+{
+    Message {
+        to: Receiver::Switch(0),
+        body: Body::Collect {
+            boot: 1,
+            version: 1,
+        },
+    }
+}
+
+pub fn hello() -> Message
+    ensures { HasSpelling result }
+{
+    Message {
+        to: Receiver::Controller,
+        body: Body::Hello { switch: 0, boot: 2 },
+    }
+}
+
+pub fn cache_rule() -> Message
+    ensures { HasSpelling result }
+{
+    Message {
+        to: Receiver::Switch(5),
+        body: Body::CacheRule {
+            version: 3,
+            word: Word::any(),
+            rule: Some(100),
+            action: Action::Out(2),
+        },
+    }
+}
+
+// Rules that drop: of no row, in 38 bytes each, and of a row, in 42 bytes each.
+fn rules(alloc: Global, defaults: u32, rows: u32) -> Result<Vec<Rule>, Fail>
+    ensures { IfOk result (λ rules. length rules.items < 2 ^ 32) }
+{
+    let mut rules = Vec::new(alloc);
+    for rank in 0..defaults {
+        rules.push(Rule {
+            word: Word::any(),
+            rank,
+            rule: None,
+            action: Action::Drop,
+        })?;
+    }
+    for rank in 0..rows {
+        rules.push(Rule {
+            word: Word::any(),
+            rank,
+            rule: Some(rank),
+            action: Action::Drop,
+        })?;
+    }
+    if rules.len() >= 1 << 20 {
+        return Err(Fail::from("too many rules"));
+    }
+    Ok(rules)
+}
+
+/// An installation of one partition: its tables are spelled in 52 bytes, and 38 or 42 for each rule.
+pub fn install(alloc: Global, defaults: u32, rows: u32) -> Result<Message, Fail>
+    ensures { IfOk result HasSpelling }
+{
+    let part = Partition {
+        number: 0,
+        region: Word::any(),
+        rules: Rules::new(rules(alloc, defaults, rows)?)?,
+    };
+    let mut auth = Vec::new(alloc);
+    auth.push(part)?;
+    let tables = Tables {
+        version: 1,
+        parts: PartRows::new(Vec::new(alloc))?,
+        auth: Partitions::new(auth),
+    };
+    let tables = SharedTables::new(alloc, tables)?;
+    Ok(Message {
+        to: Receiver::Switch(1),
+        body: Body::Install { boot: 1, tables },
+    })
+}
