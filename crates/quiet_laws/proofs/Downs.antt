@@ -318,7 +318,7 @@ first_on setting before next cause are s up first =
 
 -- ---- idle switches
 
-waited_more : (before : List Item) (next : Item) (s : ℕ) → is_waited_for (before ++ next ∷ []) s
+pub waited_more : (before : List Item) (next : Item) (s : ℕ) → is_waited_for (before ++ next ∷ []) s
     ≡ unwrap_or (tells_waited_for s next) (is_waited_for before s)
 waited_more before next s =
     ap (λ o. unwrap_or o false) (last_told_append (tells_waited_for s) before (next ∷ []))

@@ -8,6 +8,7 @@ pub mod Downs
 pub mod Received
 pub mod Updates
 pub mod Finished
+pub mod Flushed
 pub mod Near
 pub mod Givens
 pub mod Changed

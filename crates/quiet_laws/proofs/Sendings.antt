@@ -138,7 +138,7 @@ next_rises before next = rw (next_more before next) (by_test (is_sending next))
     by_test true = omega arith
     by_test false = omega arith
 
-delivered_more : (before : List Item) (next : Item) (n : ℕ)
+pub delivered_more : (before : List Item) (next : Item) (n : ℕ)
     → was_delivered (before ++ next ∷ []) n ≡ (is_delivery n next || was_delivered before n)
 unfolding was_delivered
 delivered_more before next n = by_test (is_delivery n next) refl

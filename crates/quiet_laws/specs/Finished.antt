@@ -1,6 +1,9 @@
 -- A network in which nothing is left to do.
-use Rattle.std.specs.Prelude.{ℕ, ◌≡◌, not, ◌||◌, None, List, All, IsTrue, IsFalse}
+use Rattle.std.specs.Prelude.{ℕ, ◌≡◌, not, ◌||◌, None, List, [], ◌∷◌, ◌++◌, All, IsTrue, IsFalse}
 use Rattle.journal.specs.declared.item.Item.{Item}
+use Rattle.steps.specs.declared.step.Event.{Event}
+use Rattle.steps.specs.declared.step.Event.TheVariants.{Flush}
+use Rattle.update_machine.specs.Answers.{Answers}
 use Rattle.update_machine.specs.Boots.{is_up}
 use Rattle.update_machine.specs.Messages.{is_forgotten, next_waiting}
 use Rattle.update_machine.specs.Quiet.{is_waited_for}
@@ -10,6 +13,15 @@ use Rattle.update_machine.specs.Setting.{Setting, switches_of}
 -- it
 pub record IsFinished (setting : Setting) (journal : List Item) : Type 0 where
   pub waiting : next_waiting journal ≡ None
+  pub forgotten : (number : ℕ) → IsFalse (is_forgotten journal number)
+  pub switches : All (λ s. IsTrue (is_up journal s || not (is_waited_for journal s)))
+      (switches_of setting)
+
+-- a schedule ends with a flush, no message was forgotten in its journal, and each switch that went
+-- down came up again or was confirmed
+pub record EndsFinished (setting : Setting) (events : List Event) (journal : List Item)
+    : Type 0 where
+  pub answered : Answers setting (events ++ Flush ∷ []) journal
   pub forgotten : (number : ℕ) → IsFalse (is_forgotten journal number)
   pub switches : All (λ s. IsTrue (is_up journal s || not (is_waited_for journal s)))
       (switches_of setting)

@@ -1,9 +1,13 @@
 //! The laws.
+ghost use Rattle.std.specs.Prelude.{List};
 ghost use Rattle.net_file.specs.Net.{IsNet};
+ghost use Rattle.journal.specs.declared.item.Item.{Item};
+ghost use Rattle.steps.specs.declared.step.Event.{Event};
+ghost use Rattle.update_machine.specs.Setting.{Setting};
 ghost use Rattle.update_machine.specs.Quiet.{IsQuiet};
 ghost use Rattle.boot_laws.specs.Always.{HoldsAtEnds, HoldsBehindItems};
 ghost use Rattle.quiet_laws.specs.Converged.{HasConverged};
-ghost use Rattle.quiet_laws.specs.Finished.{IsFinished};
+ghost use Rattle.quiet_laws.specs.Finished.{EndsFinished, IsFinished};
 ghost use Rattle.quiet_laws.specs.News.{NewsSpreads};
 ghost use Rattle.quiet_laws.specs.Stuck.{GetStuckApart};
 ghost use Rattle.quiet_laws.specs.Updated.{IsUpdated};
@@ -40,4 +44,17 @@ pub fn quiet_networks_are_updated()
 pub fn finished_networks_are_quiet()
     ensures { HoldsBehindItems (λ setting journal.
         IsFinished setting journal → IsQuiet setting journal) }
+{}
+
+/// A schedule that ends with a flush leaves no message waiting. So where none was forgotten, and each
+/// switch that went down came up again or was confirmed, its network is quiet: it has converged, and
+/// every switch that is up stamps with the newest version.
+pub fn flushed_networks_have_converged()
+    ensures quiet { (setting : Setting) (events : List Event) (journal : List Item)
+        → EndsFinished setting events journal → IsQuiet setting journal }
+    ensures converged { (setting : Setting) (events : List Event) (journal : List Item)
+        → IsNet setting.net → EndsFinished setting events journal
+        → HasConverged setting journal }
+    ensures updated { (setting : Setting) (events : List Event) (journal : List Item)
+        → EndsFinished setting events journal → IsUpdated setting journal }
 {}

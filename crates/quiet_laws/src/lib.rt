@@ -6,6 +6,6 @@
 mod laws;
 
 pub use laws::{
-    finished_networks_are_quiet, news_spreads, packets_get_stuck_apart, quiet_networks_are_updated,
-    quiet_networks_have_converged,
+    finished_networks_are_quiet, flushed_networks_have_converged, news_spreads,
+    packets_get_stuck_apart, quiet_networks_are_updated, quiet_networks_have_converged,
 };
