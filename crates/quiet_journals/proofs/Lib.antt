@@ -1,0 +1,5 @@
+pub mod Counting
+mod Replacing
+mod Lives
+mod Judging
+mod Plain

@@ -1,0 +1,7 @@
+use Rattle.std.proofs.Common.{ℕ, ◌≡◌, ◌<◌, true}
+use Rattle.quiet_journals.specs.Judging.{is_settled}
+use Rattle.quiet_journals.proofs.judge.quiet.Given as goal
+
+abbrev pub invariant-loop-switch : goal.invariant-loop-switch
+invariant-loop-switch l = (s : ℕ) → s < l.switch
+    → is_settled l.items s l.delivered.items ≡ true

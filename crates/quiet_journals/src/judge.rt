@@ -1,0 +1,54 @@
+//! Whether a network is quiet.
+ghost use Rattle.std.specs.Prelude.{ℕ, ◌≡◌, ◌↔◌, ◌<◌, IfOk, IsTrue};
+ghost use Rattle.net_file.specs.Net.{IsNet};
+ghost use Rattle.update_machine.specs.Quiet.{IsQuiet};
+ghost use Rattle.update_machine.specs.Setting.{Setting};
+ghost use Rattle.quiet_journals.specs.Judging.{is_settled};
+ghost use Rattle.quiet_journals.specs.Plain.{IsPlain};
+
+use crate::deliveries::deliveries;
+use crate::life::Life;
+use crate::waiting::waiting;
+use journal::{Item, Journal};
+use net_file::Net;
+use std::alloc::{AllocError, Global};
+
+/// Whether the network is quiet behind its journal: each switch is up, or the controller doesn't
+/// wait for it, and each message that still matters was delivered, or one that replaces it. It takes
+/// time in the order of the journal's length times the number of switches.
+///
+/// # Errors
+/// Want of memory alone.
+pub fn quiet(alloc: Global, journal: &Journal, net: &Net) -> Result<bool, AllocError>
+    requires { IsNet net.now }
+    ensures { IfOk result (λ answer. (setting : Setting) → setting.net ≡ net.now
+        → IsPlain setting journal.now → IsTrue answer ↔ IsQuiet setting journal.now) }
+{
+    let items = journal.items();
+    let delivered = deliveries(alloc, items)?;
+    let count = net.switches.rows().len() as u32;
+    for switch in 0..count {
+        if !is_settled(alloc, items, switch, &delivered)? {
+            return Ok(false);
+        }
+    }
+    Ok(true)
+}
+
+// Whether no message to the switch or of it waits, or, where it is down, the controller doesn't wait
+// for it.
+fn is_settled(
+    alloc: Global,
+    items: &[Item],
+    switch: u32,
+    delivered: &[bool],
+) -> Result<bool, AllocError>
+    ensures { IfOk result (λ answer. answer ≡ is_settled items.now switch delivered.now) }
+{
+    let life = Life::of(items, switch);
+    if !life.is_up {
+        return Ok(!life.is_waited_for);
+    }
+    let messages = waiting(alloc, items, &life, delivered)?;
+    Ok(messages.is_empty())
+}

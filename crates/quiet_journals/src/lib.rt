@@ -1,0 +1,21 @@
+//! Whether the network of a journal is quiet.
+//!
+//! `quiet` answers exactly that for each journal of steps of the network (`answers_are_plain`): it
+//! goes over the items once for each switch, and keeps the messages that still matter and that
+//! nothing delivered replaces. In a quiet network all has converged, by the laws of `quiet_laws`.
+//!
+//! ```text
+//! let is_quiet = quiet(alloc, &played.journal, &net)?; // Err: want of memory alone
+//! ```
+#![tactic(auto)]
+
+mod deliveries;
+mod judge;
+mod laws;
+mod life;
+mod waiting;
+
+pub use journal::Journal;
+pub use judge::quiet;
+pub use laws::answers_are_plain;
+pub use net_file::Net;

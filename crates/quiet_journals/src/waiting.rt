@@ -1,0 +1,217 @@
+//! The messages to a switch, and those of it to the controller, that still have to be delivered.
+ghost use Rattle.std.specs.Prelude.{◌≡◌, ◌||◌, [], false, filter, not, IfOk, OnOk};
+ghost use Rattle.std.specs.Option.{option_map_or};
+ghost use Rattle.update_machine.specs.Quiet.{carries, is_advert, sendings, speaker};
+ghost use Rattle.quiet_journals.specs.Judging.{boot_after, is_of_boot, is_old, matters_to, noted, says_again, says_as_much, waiting_after, waiting_of};
+
+use crate::deliveries::is_marked;
+use crate::life::Life;
+use journal::{Body, Item, Message, Receiver, SharedMessage};
+use std::alloc::{AllocError, Global};
+
+/// The messages to the switch, and those of it to the controller, that matter at the end of the
+/// journal and were not delivered, and none behind them that replaces them; but of these only the
+/// last ones, where others replace them that were not delivered either.
+pub fn waiting(
+    alloc: Global,
+    items: &[Item],
+    life: &Life,
+    delivered: &[bool],
+) -> Result<Vec<SharedMessage>, AllocError>
+    ensures { IfOk result (λ messages. messages.items
+        ≡ waiting_of life.now delivered.now [] (sendings items.now)) }
+{
+    let mut messages = Vec::new(alloc);
+    let mut boot = 1;
+    for item in items {
+        take_item(&mut messages, &mut boot, item, life, delivered)?;
+    }
+    Ok(messages)
+}
+
+// What one more item makes of the messages that wait, and of the switch's boot.
+fn take_item(
+    messages: &mut Vec<SharedMessage>,
+    boot: &mut u32,
+    item: &Item,
+    life: &Life,
+    delivered: &[bool],
+) -> Result<(), AllocError>
+    ensures messages { OnOk result (messages.new.items
+        ≡ waiting_after life.now delivered.now boot.old item.now messages.old.items) }
+    ensures boot { OnOk result (boot.new ≡ boot_after life.now.switch item.now boot.old) }
+{
+    match item {
+        Item::Booted {
+            switch,
+            boot: begun,
+        } => {
+            if *switch == life.switch {
+                *boot = *begun;
+            }
+            Ok(())
+        }
+        Item::Sent { number, message } => {
+            let is_delivered = is_marked(delivered, *number);
+            let matters = matters(message.message(), life, *boot);
+            note(messages, message, matters, is_delivered)
+        }
+        _ => Ok(()),
+    }
+}
+
+// The message goes, or is to go, in the place of those before it that it replaces.
+fn note(
+    messages: &mut Vec<SharedMessage>,
+    next: &SharedMessage,
+    matters: bool,
+    is_delivered: bool,
+) -> Result<(), AllocError>
+    ensures { OnOk result (messages.new.items
+        ≡ noted matters is_delivered next.now messages.old.items) }
+{
+    if !matters && !is_delivered {
+        return Ok(());
+    }
+    let_go(messages, next.message());
+    if !is_delivered {
+        messages.push(next.clone()?)?;
+    }
+    Ok(())
+}
+
+// Lets the messages go that this one replaces.
+fn let_go(messages: &mut Vec<SharedMessage>, next: &Message)
+    ensures { messages.new.items
+        ≡ filter (λ earlier. not (says_again next.now earlier)) messages.old.items }
+{
+    messages.retain(|earlier| !says_again(next, earlier.message()));
+}
+
+// Whether the message is one to the switch or of it that matters, where it was sent in this boot.
+fn matters(message: &Message, life: &Life, boot: u32) -> bool
+    ensures { result ≡ matters_to life.now boot message.now }
+{
+    if is_old(&message.body, life.current) {
+        return false;
+    }
+    match message.to {
+        Receiver::Switch(to) => {
+            to == life.switch && boot == life.boot && is_for(&message.body, life.boot)
+        }
+        Receiver::Controller => is_of(&message.body, life),
+    }
+}
+
+// An advert, or a body that carries this boot.
+fn is_for(body: &Body, boot: u32) -> bool
+    ensures { result ≡ (is_advert body.now || carries boot body.now) }
+{
+    match body {
+        Body::Advertise { .. } => true,
+        other => other.boot() == Some(boot),
+    }
+}
+
+// What the switch says in its boot.
+fn is_of(body: &Body, life: &Life) -> bool
+    ensures { result ≡ option_map_or (is_of_boot life.now) (speaker body.now) false }
+{
+    match body {
+        Body::Hello { switch, boot }
+        | Body::Installed { switch, boot, .. }
+        | Body::Stamped { switch, boot, .. } => *switch == life.switch && *boot == life.boot,
+        _ => false,
+    }
+}
+
+// Tables of a version before the current one, or their acknowledgement.
+fn is_old(body: &Body, current: u32) -> bool
+    ensures { result ≡ is_old body.now current }
+{
+    match body {
+        Body::Install { tables, .. } => tables.tables().version < current,
+        Body::Installed { version, .. } => *version < current,
+        _ => false,
+    }
+}
+
+// Whether the later message replaces the earlier one: it is to the same receiver and says the same
+// or more.
+fn says_again(later: &Message, earlier: &Message) -> bool
+    ensures { result ≡ says_again later.now earlier.now }
+{
+    later.to == earlier.to && says_as_much(&later.body, &earlier.body)
+}
+
+// The body says what the other one does, or the same of a greater version or of a newer advert. All
+// tables of a version for a switch are the same.
+fn says_as_much(later: &Body, earlier: &Body) -> bool
+    ensures { result ≡ says_as_much later.now earlier.now }
+{
+    match (later, earlier) {
+        (
+            Body::Install { boot, tables },
+            Body::Install {
+                boot: of,
+                tables: old,
+            },
+        ) => boot == of && tables.tables().version == old.tables().version,
+        (
+            Body::OpenAt { boot, version },
+            Body::OpenAt {
+                boot: of,
+                version: old,
+            },
+        ) => boot == of && version == old,
+        (
+            Body::Stamp { boot, version },
+            Body::Stamp {
+                boot: of,
+                version: old,
+            },
+        )
+        | (
+            Body::Collect { boot, version },
+            Body::Collect {
+                boot: of,
+                version: old,
+            },
+        ) => boot == of && old <= version,
+        (Body::Advertise { advert }, Body::Advertise { advert: old }) => {
+            advert == old || (advert.origin == old.origin && advert.is_newer(old))
+        }
+        (
+            Body::Hello { switch, boot },
+            Body::Hello {
+                switch: who,
+                boot: of,
+            },
+        ) => switch == who && boot == of,
+        (
+            Body::Installed {
+                switch,
+                boot,
+                version,
+            },
+            Body::Installed {
+                switch: who,
+                boot: of,
+                version: old,
+            },
+        ) => switch == who && boot == of && version == old,
+        (
+            Body::Stamped {
+                switch,
+                boot,
+                version,
+            },
+            Body::Stamped {
+                switch: who,
+                boot: of,
+                version: old,
+            },
+        ) => switch == who && boot == of && old <= version,
+        _ => false,
+    }
+}
