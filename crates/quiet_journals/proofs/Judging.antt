@@ -1,5 +1,5 @@
 -- The judge answers as the definition says.
-use Rattle.std.proofs.Common.{ℕ, suc, ◌≡◌, ◌<◌, ◌⊎◌, ◌&&◌, ◌||◌, ◌==◌, Bool, true, false, not, if◌then◌else◌, Option, Some, None, List, [], ◌∷◌, ◌++◌, length, refl, ap, sym, subst, ◌∙◌, arith, inl, inr, append_assoc}
+use Rattle.std.proofs.Common.{ℕ, suc, ◌≡◌, ◌<◌, ◌⊎◌, ◌&&◌, ◌||◌, ◌==◌, Bool, true, false, not, Option, Some, None, List, [], ◌∷◌, ◌++◌, length, refl, ap, sym, subst, ◌∙◌, arith, inl, inr, append_assoc}
 use Rattle.std.specs.Prelude.{All, Any, IsTrue, IsFalse}
 use Rattle.std.specs.Option.{option_map_or}
 use Rattle.std.proofs.lemmas.Bool.{eq-eqb, eqb-true}
@@ -21,7 +21,7 @@ use Rattle.update_machine.specs.Setting.{Setting, switches_of}
 use Rattle.update_machine.specs.Settling.{to_switch}
 use Rattle.quiet_laws.proofs.Lists.{IsIn, all_in, each_in, each_of_in, in_range, in_right, of_range, some_in}
 use Rattle.quiet_journals.specs.declared.life.Life.{Life}
-use Rattle.quiet_journals.specs.Judging.{has_mark, is_old, is_of_boot, is_settled, life_in, matters_to, says_again, waiting_of}
+use Rattle.quiet_journals.specs.Judging.{has_mark, is_missed, is_old, is_of_boot, is_settled, life_in, matters_to, says_again, waiting_of}
 use Rattle.quiet_journals.specs.Plain.{AreInOrder, IsPlain, WasSentTo}
 use Rattle.quiet_journals.proofs.Counting.{all_got, is_got, none_waits}
 use Rattle.quiet_journals.proofs.Replacing.{is_cache_rule, means_says, says_means}
@@ -66,6 +66,9 @@ both_true true true e = (refl, refl)
 both_true true false e = absurd cc
 both_true false b e = absurd cc
 
+false_true : {X : Type 0} → false ≡ true → X
+false_true e = absurd cc
+
 flipped : (a b : ℕ) → (a == b) ≡ true → (b == a) ≡ true
 flipped a b e = eq-eqb b a (sym (eqb-true a b e))
 
@@ -85,9 +88,10 @@ concerns_to journal number boot s body matter =
     let fresh = both_true _ _ matter in
     let for = both_true _ _ fresh.0 in
     let in_boot = both_true _ _ for.0 in
+    let here : is_up journal s ≡ true = in_boot.0 in
     record {
       up = in_boot.0;
-      matter = rw (same, in_boot.1, for.1, old, fresh.1) refl;
+      matter = rw (here, same, in_boot.1, for.1, old, fresh.1) refl;
     }
 
 concerns_of : (journal : List Item) (number boot s own : ℕ) (body : Body)
@@ -106,9 +110,10 @@ concerns_of journal number boot s own body speaks matter =
     let present = both_true _ _ fresh.0 in
     let its : (own == boot_of journal s) ≡ true =
     flipped (boot_of journal s) own present.1 in
+    let here : is_up journal s ≡ true = present.0 in
     record {
       up = present.0;
-      matter = rw (speaks, same, its, old, fresh.1) refl;
+      matter = rw (here, speaks, same, its, old, fresh.1) refl;
     }
 
 concerned : (setting : Setting) (journal : List Item) (x : Sending)
@@ -141,27 +146,29 @@ concerned setting journal x addressed matter =
     by_receiver receiver.Controller body number boot addressed matter =
         by_speaker body number boot (speaker body) refl addressed matter
 
--- and what matters in the life of a switch that is up matters
-matters_so : (journal : List Item) (s : ℕ) (x : Sending) → IsTrue (is_up journal s)
+-- and what matters in the life of a switch matters
+matters_so : (journal : List Item) (s : ℕ) (x : Sending)
     → matters_to (life_in journal s) x.boot x.message ≡ true → IsTrue (matters journal x)
-matters_so journal s x up matter = by_receiver x.message.to x.message.body x.number x.boot matter
+matters_so journal s x matter = by_receiver x.message.to x.message.body x.number x.boot matter
   where
     by_speaker : (body : Body) (number boot : ℕ) (o : Option (ℕ × ℕ)) → speaker body ≡ o
-        → (option_map_or (is_of_boot (life_in journal s)) o false
+        → (is_up journal s && option_map_or (is_of_boot (life_in journal s)) o false
         && not (is_old body (current_mark journal))) ≡ true
         → IsTrue (matters journal (record {
           number = number;
           message = record { to = receiver.Controller; body = body };
           boot = boot;
         }))
-    by_speaker body number boot None e matter = absurd cc
+    by_speaker body number boot None e matter =
+        false_true (both_true _ _ (both_true _ _ matter).0).1
     by_speaker body number boot (Some (t, own)) e matter =
         let old : is_of_old_tables journal body ≡ is_old body (current_mark journal) =
         sym (same_old journal body) in
         let fresh = both_true _ _ matter in
-        let of = both_true _ _ fresh.0 in
+        let present = both_true _ _ fresh.0 in
+        let of = both_true _ _ present.1 in
         let who : t ≡ s = eqb-true t s of.0 in
-        let here : is_up journal t ≡ true = ap (is_up journal) who ∙ up in
+        let here : is_up journal t ≡ true = ap (is_up journal) who ∙ present.0 in
         let own_boot : own ≡ boot_of journal s = eqb-true own (boot_of journal s) of.1 in
         let its : (boot_of journal t == own) ≡ true =
         eq-eqb (boot_of journal t) own (ap (boot_of journal) who ∙ sym own_boot) in
@@ -177,8 +184,9 @@ matters_so journal s x up matter = by_receiver x.message.to x.message.body x.num
         let fresh = both_true _ _ matter in
         let for = both_true _ _ fresh.0 in
         let in_boot = both_true _ _ for.0 in
-        let who : t ≡ s = eqb-true t s in_boot.0 in
-        let here : is_up journal t ≡ true = ap (is_up journal) who ∙ up in
+        let of = both_true _ _ in_boot.0 in
+        let who : t ≡ s = eqb-true t s of.1 in
+        let here : is_up journal t ≡ true = ap (is_up journal) who ∙ of.0 in
         let same : boot_of journal t ≡ boot_of journal s = ap (boot_of journal) who in
         rw (here, same, in_boot.1, for.1, old, fresh.1) refl
     by_receiver receiver.Controller body number boot matter =
@@ -333,12 +341,21 @@ received_of setting journal marks x plain right is marked = elim marked.by [
 
 -- ---- a network that is settled is quiet
 
-settled_up : (journal : List Item) (s : ℕ) (marks : List Bool) → IsTrue (is_up journal s)
+settled_got : (journal : List Item) (s : ℕ) (marks : List Bool)
     → is_settled journal s marks ≡ true
     → all_got (life_in journal s) marks (sendings journal) ≡ true
-settled_up journal s marks up settled =
-    let here : is_up journal s ≡ true = up in
-    sym (none_waits (life_in journal s) marks (sendings journal)) ∙ (rw here at settled)
+settled_got journal s marks settled =
+    sym (none_waits (life_in journal s) marks (sendings journal)) ∙ (both_true _ _ settled).1
+
+not_missed : (up waited : Bool) → not (not up && waited) ≡ true → IsTrue (up || not waited)
+not_missed true waited e = refl
+not_missed false true e = absurd cc
+not_missed false false e = refl
+
+is_not_missed : (up waited : Bool) → IsTrue (up || not waited) → not (not up && waited) ≡ true
+is_not_missed true waited is = refl
+is_not_missed false true is = absurd cc
+is_not_missed false false is = refl
 
 pub settled_quiet : (setting : Setting) (journal : List Item) (marks : List Bool)
     → IsPlain setting journal → AreMarks journal marks
@@ -358,15 +375,9 @@ settled_quiet setting journal marks plain right settled = record {
     each_switch : (s : ℕ) → IsIn s (switches_of setting)
         → IsTrue (is_up journal s || not (is_waited_for journal s))
     each_switch s is =
-        by_up (is_up journal s) refl
-        (settled s (omega (arith, (of_range s 0 (length setting.net.switches) is).1)))
-      where
-        by_up : (b : Bool) → is_up journal s ≡ b
-            → (if b then length (waiting_of (life_in journal s) marks [] (sendings journal)) == 0
-            else not (is_waited_for journal s)) ≡ true
-            → IsTrue (b || not (is_waited_for journal s))
-        by_up true e is = refl
-        by_up false e is = is
+        not_missed (is_up journal s) (is_waited_for journal s)
+        (both_true _ _ (settled s
+        (omega (arith, (of_range s 0 (length setting.net.switches) is).1)))).0
 
     each_message : (x : Sending) → IsIn x (sendings journal) → IsTrue (matters journal x)
         → IsReceived journal x
@@ -376,7 +387,7 @@ settled_quiet setting journal marks plain right settled = record {
         (sendings journal) plain.addressed is) matter in
         received_of setting journal marks x plain right is
         (marked_of (life_in journal its.0) marks (sendings journal) x plain.numbers
-        (settled_up journal its.0 marks its.2.up (settled its.0 its.1)) is its.2.matter)
+        (settled_got journal its.0 marks (settled its.0 its.1)) is its.2.matter)
 
 -- ---- and a quiet one is settled
 
@@ -389,26 +400,24 @@ no_cache_rule life x matter = by_body x.message.to x.message.body x.boot matter
         → matters_to life boot (record { to = to; body = body }) ≡ true
         → IsFalse (is_cache_rule body)
     by_body (receiver.Switch s) (CacheRule version word rule action) boot matter =
-        let no : false ≡ true = (both_true _ _ (both_true _ _ matter).0).1 in
-        absurd cc
+        false_true (both_true _ _ (both_true _ _ matter).0).1
     by_body receiver.Controller (CacheRule version word rule action) boot matter =
-        let no : false ≡ true = matter in
-        absurd cc
+        false_true (both_true _ _ (both_true _ _ matter).0).1
     by_body to body boot matter = refl
 
 got_if : (setting : Setting) (journal : List Item) (marks : List Bool) (s : ℕ)
     → IsPlain setting journal → AreMarks journal marks → IsQuiet setting journal
-    → IsTrue (is_up journal s) → (front later : List Sending)
+    → (front later : List Sending)
     → front ++ later ≡ sendings journal
     → all_got (life_in journal s) marks later ≡ true
-got_if setting journal marks s plain right quiet up front [] is = refl
-got_if setting journal marks s plain right quiet up front (x ∷ later) is =
+got_if setting journal marks s plain right quiet front [] is = refl
+got_if setting journal marks s plain right quiet front (x ∷ later) is =
     let first : (not (matters_to (life_in journal s) x.boot x.message)
     || has_mark marks x.number || is_got marks x.message later) ≡ true =
     by_tests (matters_to (life_in journal s) x.boot x.message) (has_mark marks x.number) refl
     refl in
     let rest : all_got (life_in journal s) marks later ≡ true =
-    got_if setting journal marks s plain right quiet up (front ++ x ∷ []) later
+    got_if setting journal marks s plain right quiet (front ++ x ∷ []) later
     (append_assoc front (x ∷ []) later ∙ is) in
     rw (first, rest) refl
   where
@@ -439,39 +448,32 @@ got_if setting journal marks s plain right quiet up front (x ∷ later) is =
     by_tests true false e f =
         by_received e f
         (all_in (λ y. IsTrue (matters journal y) → IsReceived journal y) x (sendings journal)
-        quiet.messages there (matters_so journal s x up e))
+        quiet.messages there (matters_so journal s x e))
 
 pub quiet_settled : (setting : Setting) (journal : List Item) (marks : List Bool) (s : ℕ)
     → IsPlain setting journal → AreMarks journal marks → IsQuiet setting journal
     → HasSwitch setting.net s → is_settled journal s marks ≡ true
 quiet_settled setting journal marks s plain right quiet there =
-    by_up (is_up journal s) refl
+    let present = is_not_missed (is_up journal s) (is_waited_for journal s)
     (all_in (λ s. IsTrue (is_up journal s || not (is_waited_for journal s))) s
     (switches_of setting) quiet.switches
-    (in_range s 0 (length setting.net.switches) (omega arith) (omega (arith, there))))
-  where
-    by_up : (b : Bool) → is_up journal s ≡ b → IsTrue (b || not (is_waited_for journal s))
-        → (if b then length (waiting_of (life_in journal s) marks [] (sendings journal)) == 0
-        else not (is_waited_for journal s)) ≡ true
-    by_up true e is =
-        none_waits (life_in journal s) marks (sendings journal)
-        ∙ got_if setting journal marks s plain right quiet e [] (sendings journal) refl
-    by_up false e is = is
+    (in_range s 0 (length setting.net.switches) (omega arith) (omega (arith, there)))) in
+    let none = none_waits (life_in journal s) marks (sendings journal)
+    ∙ got_if setting journal marks s plain right quiet [] (sendings journal) refl in
+    rw (present, none) refl
 
 -- ---- the answers
 
-pub answers_no : (setting : Setting) (journal items : List Item) (marks given : List Bool) (s : ℕ)
-    (answer : Bool) → IsPlain setting journal → items ≡ journal → given ≡ marks
-    → AreMarks items marks → HasSwitch setting.net s → answer ≡ is_settled items s given
-    → answer ≡ false
+pub answers_no : (setting : Setting) (journal items : List Item) (marks : List Bool) (s : ℕ)
+    → IsPlain setting journal → items ≡ journal → AreMarks items marks
+    → HasSwitch setting.net s → is_settled items s marks ≡ false
     → (IsTrue false → IsQuiet setting journal) × (IsQuiet setting journal → IsTrue false)
-answers_no setting journal items marks given s answer plain same its right there says denied = (
+answers_no setting journal items marks s plain same right there denied = (
   λ yes. let clash : false ≡ true = yes in absurd cc,
-  λ quiet. sym denied ∙ says
-      ∙ subst (λ js. is_settled js s given ≡ true) (sym same)
-      (subst (λ ms. is_settled journal s ms ≡ true) (sym its)
+  λ quiet. sym denied
+      ∙ subst (λ js. is_settled js s marks ≡ true) (sym same)
       (quiet_settled setting journal marks s plain
-      (subst (λ js. AreMarks js marks) same right) quiet there)),
+      (subst (λ js. AreMarks js marks) same right) quiet there),
 )
 
 pub answers_yes : (setting : Setting) (journal items : List Item) (marks : List Bool)
@@ -484,3 +486,22 @@ answers_yes setting journal items marks plain same right settled = (
       (λ s there. subst (λ js. is_settled js s marks ≡ true) same (settled s there)),
   λ quiet. refl,
 )
+
+-- ---- one switch
+
+pub missed_unsettled : (items : List Item) (s : ℕ) (marks : List Bool) (life : Life)
+    → life ≡ life_in items s → is_missed life ≡ true → is_settled items s marks ≡ false
+missed_unsettled items s marks life is missed =
+    let here : is_missed (life_in items s) ≡ true = subst (λ l. is_missed l ≡ true) is missed in
+    rw here refl
+
+pub settled_where : (items : List Item) (s : ℕ) (marks given : List Bool) (life : Life)
+    (messages : List Message) (none : Bool) → life ≡ life_in items s → given ≡ marks
+    → is_missed life ≡ false → messages ≡ waiting_of life given [] (sendings items)
+    → none ≡ (length messages == 0) → is_settled items s marks ≡ none
+settled_where items s marks given life messages none is its missed left empty =
+    let here : is_missed (life_in items s) ≡ false = subst (λ l. is_missed l ≡ false) is missed in
+    let there : waiting_of (life_in items s) marks [] (sendings items) ≡ messages =
+    sym (left ∙ ap (λ l. waiting_of l given [] (sendings items)) is
+    ∙ ap (λ ms. waiting_of (life_in items s) ms [] (sendings items)) its) in
+    rw (here, there) (sym empty)

@@ -1,5 +1,5 @@
 -- What one more item makes of a switch's life, and of the messages that wait.
-use Rattle.std.proofs.Common.{ℕ, ◌≡◌, ◌+◌, ◌<◌, take, length, get_or, ◌||◌, ◌==◌, Bool, true, false, List, [], ◌∷◌, ◌++◌, refl, ap, sym, ◌∙◌, append-nil}
+use Rattle.std.proofs.Common.{ℕ, ◌≡◌, ◌+◌, ◌<◌, take, length, get_or, ◌&&◌, ◌||◌, ◌==◌, Bool, true, false, List, [], ◌∷◌, ◌++◌, refl, ap, sym, ◌∙◌, append-nil}
 use Rattle.std.proofs.lemmas.Bool.{eqb-true}
 use Rattle.std.proofs.lemmas.List.{take_more}
 use Rattle.ctrl_msg.specs.declared.message.Body.{Body}
@@ -29,6 +29,10 @@ life_more before item s =
       current_more before item,
     ) refl
 
+and_false : (b : Bool) → (b && false) ≡ false
+and_false true = refl
+and_false false = refl
+
 -- in which boot another switch is doesn't matter to this one
 same_boot : (life : Life) (before : List Item) (message : Message)
     → matters_to life (boot_at before message.to) message
@@ -50,7 +54,7 @@ same_boot life before message = by_receiver message.to message.body
             let same : s ≡ life.switch = eqb-true s life.switch e in
             ap (λ t. matters_to life (boot_of before t)
             (record { to = receiver.Switch s; body = body })) same
-        by_switch false e = rw e refl
+        by_switch false e = rw (e, and_false life.is_up) refl
 
 pub waiting_more : (life : Life) (marks : List Bool) (before : List Item) (item : Item)
     → waiting_of life marks [] (sendings (before ++ item ∷ []))

@@ -55,15 +55,16 @@ is_old _ current = false
 abbrev pub is_of_boot : Life → ℕ × ℕ → Bool
 is_of_boot life (s, boot) = s == life.switch && boot == life.boot
 
--- a message to the switch, or of it, that matters in this life if it was sent in this boot
+-- a message to the switch, or of it, that matters in this life if it was sent in this boot; none
+-- does where the switch is down
 abbrev pub matters_to : Life → ℕ → Message → Bool
 matters_to life boot message = elim message.to [
   | receiver.Switch s ↦
-      s == life.switch && boot == life.boot
+      life.is_up && s == life.switch && boot == life.boot
       && (is_advert message.body || carries life.boot message.body)
       && not (is_old message.body life.current)
   | receiver.Controller ↦
-      option_map_or (is_of_boot life) (speaker message.body) false
+      life.is_up && option_map_or (is_of_boot life) (speaker message.body) false
       && not (is_old message.body life.current)
 ]
 
@@ -131,9 +132,12 @@ boot_after s item boot = unwrap_or (tells_boot s item) boot
 
 -- ---- which switches are settled
 
--- none waits that is to the switch or of it; or it is down, and the controller doesn't wait for it
+-- the switch is down, and the controller waits for it
+abbrev pub is_missed : Life → Bool
+is_missed life = not life.is_up && life.is_waited_for
+
+-- the switch isn't missed, and no message waits that is to it or of it
 abbrev pub is_settled : List Item → ℕ → List Bool → Bool
 is_settled journal s marks =
-    if is_up journal s
-    then length (waiting_of (life_in journal s) marks [] (sendings journal)) == 0
-    else not (is_waited_for journal s)
+    not (is_missed (life_in journal s))
+    && length (waiting_of (life_in journal s) marks [] (sendings journal)) == 0

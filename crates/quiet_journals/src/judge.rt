@@ -9,7 +9,7 @@ ghost use Rattle.quiet_journals.specs.Plain.{IsPlain};
 use crate::deliveries::deliveries;
 use crate::life::Life;
 use crate::waiting::waiting;
-use journal::{Item, Journal};
+use journal::Journal;
 use net_file::Net;
 use std::alloc::{AllocError, Global};
 
@@ -28,27 +28,14 @@ pub fn quiet(alloc: Global, journal: &Journal, net: &Net) -> Result<bool, AllocE
     let delivered = deliveries(alloc, items)?;
     let count = net.switches.rows().len() as u32;
     for switch in 0..count {
-        if !is_settled(alloc, items, switch, &delivered)? {
+        let life = Life::of(items, switch);
+        if life.is_missed() {
+            return Ok(false);
+        }
+        let messages = waiting(alloc, items, &life, &delivered)?;
+        if !messages.is_empty() {
             return Ok(false);
         }
     }
     Ok(true)
-}
-
-// Whether no message to the switch or of it waits, or, where it is down, the controller doesn't wait
-// for it.
-fn is_settled(
-    alloc: Global,
-    items: &[Item],
-    switch: u32,
-    delivered: &[bool],
-) -> Result<bool, AllocError>
-    ensures { IfOk result (λ answer. answer ≡ is_settled items.now switch delivered.now) }
-{
-    let life = Life::of(items, switch);
-    if !life.is_up {
-        return Ok(!life.is_waited_for);
-    }
-    let messages = waiting(alloc, items, &life, delivered)?;
-    Ok(messages.is_empty())
 }

@@ -1,6 +1,6 @@
 //! What a journal says of a switch, at its end.
 ghost use Rattle.std.specs.Prelude.{◌≡◌};
-ghost use Rattle.quiet_journals.specs.Judging.{life_after, life_in};
+ghost use Rattle.quiet_journals.specs.Judging.{is_missed, life_after, life_in};
 
 use journal::Item;
 
@@ -31,6 +31,13 @@ impl Life {
             life.go_on(item);
         }
         life
+    }
+
+    /// Whether the switch is down, and the controller waits for it.
+    pub fn is_missed(self) -> bool
+        ensures { result ≡ is_missed self }
+    {
+        !self.is_up && self.is_waited_for
     }
 
     // What one more item makes of it.

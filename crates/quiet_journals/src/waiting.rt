@@ -88,11 +88,12 @@ fn let_go(messages: &mut Vec<SharedMessage>, next: &Message)
     messages.retain(|earlier| !says_again(next, earlier.message()));
 }
 
-// Whether the message is one to the switch or of it that matters, where it was sent in this boot.
+// Whether the message is one to the switch or of it that matters, where it was sent in this boot: the
+// switch is up.
 fn matters(message: &Message, life: &Life, boot: u32) -> bool
     ensures { result ≡ matters_to life.now boot message.now }
 {
-    if is_old(&message.body, life.current) {
+    if !life.is_up || is_old(&message.body, life.current) {
         return false;
     }
     match message.to {
