@@ -1,0 +1,340 @@
+-- What the crate `clap` makes of the words of a line, one after another.
+use Rattle.std.specs.Prelude.{nat_lt, nat_le, bytes_eq, codes, fold}
+use Rattle.std.specs.Bool.{⊤}
+use Rattle.std.specs.List.{list_all}
+use Rattle.std.proofs.Common.{◌≡◌, ℕ, ◌==◌, ◌<◌, ◌^◌, Bool, true, false, not, ◌&&◌, ◌||◌, Option, Some, None, List, [], ◌∷◌, ◌++◌, length, refl, sym, ap, ◌∙◌, subst, append_assoc, append-nil, true≢false, le-leb, arith}
+use Rattle.clap.specs.Lexer.{long_of, short_of, usize_max}
+use Rattle.clap.specs.Simple.{Shape, built, help_rule}
+use Rattle.clap.specs.Takes.{settle_passes, turn_passes, use_passes, values_pass, walk_passes}
+use Rattle.clap.specs.Walk.{Held, Row, Rule, Waiting, Walk, has_row, idle, positional, used, walk_from, walked}
+use Rattle.clap.specs.Walk as clap
+use Rattle.clap.specs.declared.builder.value_parser.ValueParser.TheVariants as vp
+use Rattle.clap.proofs.WalkLemmas.{both}
+use Rattle.words.specs.Line.{line_app, names_arg, net_arg, quiet_arg}
+use Rattle.words.specs.Words.{is_name}
+use Rattle.words.proofs.Shapes.{Given, is_good, joined, pair, quiet, spell, spelled}
+
+-- the arguments as they are built
+abbrev pub names_rule : Rule
+names_rule = record names_arg { index = Some 1; parser = Some vp.String }
+
+abbrev pub net_rule : Rule
+net_rule = record net_arg {
+  range = Some (record { start_inclusive = 1; end_inclusive = 1 });
+  parser = Some vp.String;
+}
+
+abbrev pub quiet_rule : Rule
+quiet_rule = record quiet_arg {
+  range = Some (record { start_inclusive = 0; end_inclusive = 0 });
+  defaults = codes "false" ∷ [];
+  missing = codes "true" ∷ [];
+  parser = Some vp.Bool;
+}
+
+abbrev pub help_built : Rule
+help_built = record help_rule {
+  range = Some (record { start_inclusive = 0; end_inclusive = 0 });
+  parser = Some vp.String;
+}
+
+abbrev pub rules : List Rule
+rules = names_rule ∷ net_rule ∷ quiet_rule ∷ help_built ∷ []
+
+abbrev pub shape : Shape
+shape = record line_app.top {
+  rules = rules;
+  is_built = true;
+  disable_help_subcommand = true;
+}
+
+pub shape_is : (built line_app).top ≡ shape
+shape_is = refl
+
+-- ---- where a walk stands between two words of a line
+
+-- behind a flag or an option of one word, or nothing; behind an option of two words; behind names
+pub data At : Type 0 where
+  apart : At
+  valued : List ℕ → At
+  named : List ℕ → List (List ℕ) → At
+
+abbrev pub pending_at : At → Option (List ℕ × List (List ℕ))
+pending_at apart = None
+pending_at (valued net) = Some (codes "net", net ∷ [])
+pending_at (named n ns) = Some (codes "names", n ∷ ns)
+
+abbrev pub waiting_at : At → Waiting
+waiting_at (named n ns) = positional
+waiting_at _ = idle
+
+abbrev pub walk_at : At → List Row → Walk
+walk_at a rows = record {
+  held = record { rows = rows; pending = pending_at a; skip = 0 };
+  waiting = waiting_at a;
+  position = 1;
+  is_trailing = false;
+  stopped = None;
+}
+
+-- the rows, once what is pending is used
+abbrev pub rows_at : At → List Row → List Row
+rows_at apart rows = rows
+rows_at (valued net) rows = used net_rule (net ∷ []) rows
+rows_at (named n ns) rows = used names_rule (n ∷ ns) rows
+
+abbrev pub use_given : Given → List Row → List Row
+use_given (joined net) rows = used net_rule (net ∷ []) rows
+use_given (pair net) rows = used net_rule (net ∷ []) rows
+use_given quiet rows = used quiet_rule [] rows
+
+abbrev pub use_all : List Given → List Row → List Row
+use_all [] rows = rows
+use_all (g ∷ gs) rows = use_all gs (use_given g rows)
+
+-- the walk takes these words, and then stands there
+pub record Goes (from : Walk) (words : List (List ℕ)) (to : Walk) : Type 0 where
+  pub walk : fold (walked rules []) from words ≡ to
+  pub passes : walk_passes shape [] from words ≡ true
+
+goes_nowhere : (w : Walk) → Goes w [] w
+unfolding walk_passes
+goes_nowhere w = record { walk = refl; passes = refl }
+
+goes_on : (w v u : Walk) (word : List ℕ) (words : List (List ℕ)) → walked rules [] w word ≡ v
+    → turn_passes shape [] w word ≡ true → Goes v words u → Goes w (word ∷ words) u
+unfolding walk_passes
+goes_on w v u word words step turn more = record {
+  walk = ap (λ x. fold (walked rules []) x words) step ∙ more.walk;
+  passes = rw (turn, step) more.passes;
+}
+
+pub goes_far : (w v u : Walk) (xs ys : List (List ℕ)) → Goes w xs v → Goes v ys u
+    → Goes w (xs ++ ys) u
+unfolding walk_passes
+goes_far w v u [] ys front back = subst (λ x. Goes x ys u) (sym front.walk) back
+goes_far w v u (x ∷ xs) ys front back =
+    let p = both (turn_passes shape [] w x) _ front.passes in
+    goes_on w (walked rules [] w x) u x (xs ++ ys) refl p.0
+    (goes_far (walked rules [] w x) v u xs ys (record { walk = front.walk; passes = p.1 }) back)
+
+-- ---- a name
+
+record IsPlainWord (word : List ℕ) : Type 0 where
+  pub dashes : bytes_eq word (45 ∷ 45 ∷ []) ≡ false
+  pub long : long_of word ≡ None
+  pub short : short_of word ≡ None
+
+plain_word : (word : List ℕ) → is_name word ≡ true → IsPlainWord word
+plain_word [] e = absurd (true≢false (sym e))
+plain_word (x ∷ xs) e = go (x == 45) refl e
+  where
+    go : (b : Bool) → (x == 45) ≡ b → (nat_lt 0 (length (x ∷ xs)) && not b) ≡ true
+        → IsPlainWord (x ∷ xs)
+    go true s e = absurd (true≢false (sym (both (nat_lt 0 (length (x ∷ xs))) false e).1))
+    go false s e = record { dashes = rw s refl; long = rw s refl; short = rw s refl }
+
+-- how many names there may be
+abbrev pub IsFew : List (List ℕ) → Type 0
+IsFew names = length names < 2 ^ 16
+
+all_pass : (vs : List (List ℕ)) → values_pass names_rule vs ≡ true
+all_pass [] = refl
+all_pass (v ∷ vs) = all_pass vs
+
+names_pass : (n : List ℕ) (ns : List (List ℕ)) (rows : List Row) → IsFew (n ∷ ns)
+    → use_passes true names_rule (n ∷ ns) rows ≡ true
+names_pass n ns rows few =
+    let some : nat_le 1 (length (n ∷ ns)) ≡ true = le-leb 1 (length (n ∷ ns)) (omega arith) in
+    let most : nat_le (length (n ∷ ns)) usize_max ≡ true =
+    le-leb (length (n ∷ ns)) usize_max (omega arith) in
+    rw (some, most) (all_pass ns)
+
+abbrev IsSmall : At → Type 0
+IsSmall (named n ns) = IsFew (n ∷ ns)
+IsSmall _ = ⊤
+
+-- a second use would replace the first, so what was used is not asked
+again_passes : (id : List ℕ) (rows : List Row) → (not (has_row id rows) || true) ≡ true
+again_passes id rows = go (not (has_row id rows))
+  where
+    go : (b : Bool) → (b || true) ≡ true
+    go true = refl
+    go false = refl
+
+pub settles : (a : At) (rows : List Row) → IsSmall a
+    → settle_passes rules true (walk_at a rows).held ≡ true
+settles apart rows few = refl
+settles (valued net) rows few = rw (again_passes (codes "net") rows) refl
+settles (named n ns) rows few = names_pass n ns rows few
+
+-- behind no names there are no names pending
+abbrev IsApart : At → Type 0
+IsApart (named n ns) = ⊥
+IsApart _ = ⊤
+
+-- a name behind options
+pub name_first : (a : At) (rows : List Row) (n : List ℕ) → is_name n ≡ true
+    → IsApart a
+    → Goes (walk_at a rows) (n ∷ []) (walk_at (named n []) (rows_at a rows))
+unfolding walked
+name_first apart rows n good behind =
+    let word = plain_word n good in
+    goes_on _ _ _ n [] (rw (word.dashes, word.long, word.short) refl)
+    (rw (word.dashes, word.long, word.short) refl) (goes_nowhere _)
+name_first (valued net) rows n good behind =
+    let word = plain_word n good in
+    goes_on _ _ _ n [] (rw (word.dashes, word.long, word.short) refl)
+    (rw (word.dashes, word.long, word.short, again_passes (codes "net") rows) refl) (goes_nowhere _)
+name_first (named m ms) rows n good behind = absurd behind
+
+-- more names behind one
+pub names_walk : (n : List ℕ) (ns ms : List (List ℕ)) (rows : List Row)
+    → list_all is_name ms ≡ true
+    → Goes (walk_at (named n ns) rows) ms (walk_at (named n (ns ++ ms)) rows)
+unfolding walked
+names_walk n ns [] rows good =
+    rw (append-nil ns) (goes_nowhere (walk_at (named n ns) rows))
+names_walk n ns (m ∷ ms) rows good =
+    let p = both (is_name m) _ good in
+    let word = plain_word m p.0 in
+    let more = names_walk n (ns ++ m ∷ []) ms rows p.1 in
+    goes_on (walk_at (named n ns) rows) (walk_at (named n (ns ++ m ∷ [])) rows) _ m ms
+    (rw (word.dashes, word.long, word.short) refl)
+    (rw (word.dashes, word.long, word.short) refl)
+    (subst (λ xs. Goes (walk_at (named n (ns ++ m ∷ [])) rows) ms (walk_at (named n xs) rows))
+    (append_assoc ns (m ∷ []) ms) more)
+
+-- ---- an option
+
+abbrev pub after : Given → At
+after (pair net) = valued net
+after _ = apart
+
+-- the rows behind an option, where the value of one of two words is still pending
+abbrev pub rows_then : Given → List Row → List Row
+rows_then (joined net) rows = used net_rule (net ∷ []) rows
+rows_then (pair net) rows = rows
+rows_then quiet rows = used quiet_rule [] rows
+
+-- `--net` waits for its value
+abbrev walk_asking : List Row → Walk
+walk_asking rows = record (walk_at apart rows) {
+  held = record { rows = rows; pending = Some (codes "net", []); skip = 0 };
+  waiting = clap.option (codes "net");
+}
+
+asks : (a : At) (rows : List Row) → walked rules [] (walk_at a rows) (codes "--net") ≡ walk_asking (rows_at a rows)
+unfolding walked
+asks apart rows = refl
+asks (valued net) rows = refl
+asks (named n ns) rows = refl
+
+may_ask : (a : At) (rows : List Row) → IsSmall a → turn_passes shape [] (walk_at a rows) (codes "--net") ≡ true
+may_ask apart rows few = refl
+may_ask (valued net) rows few = rw (again_passes (codes "net") rows) refl
+may_ask (named n ns) rows few = rw (names_pass n ns rows few) refl
+
+told : (net : List ℕ) (rows : List Row) → is_name net ≡ true
+    → Goes (walk_asking rows) (net ∷ []) (walk_at (valued net) rows)
+unfolding walked
+told net rows good =
+    let word = plain_word net good in
+    goes_on _ _ _ net [] (rw (word.dashes, word.long, word.short) refl)
+    (rw (word.dashes, word.long, word.short) refl) (goes_nowhere _)
+
+joins : (net : List ℕ) (a : At) (rows : List Row)
+    → walked rules [] (walk_at a rows) (codes "--net=" ++ net)
+    ≡ walk_at apart (used net_rule (net ∷ []) (rows_at a rows))
+unfolding walked
+joins net apart rows = refl
+joins net (valued v) rows = refl
+joins net (named n ns) rows = refl
+
+may_join : (net : List ℕ) (a : At) (rows : List Row) → IsSmall a
+    → turn_passes shape [] (walk_at a rows) (codes "--net=" ++ net) ≡ true
+may_join net apart rows few = rw (again_passes (codes "net") rows) refl
+may_join net (valued v) rows few = rw (
+  again_passes (codes "net") rows,
+  again_passes (codes "net") (rows_at (valued v) rows),
+) refl
+may_join net (named n ns) rows few = rw (
+  names_pass n ns rows few,
+  again_passes (codes "net") (rows_at (named n ns) rows),
+) refl
+
+flags : (a : At) (rows : List Row) → walked rules [] (walk_at a rows) (codes "--quiet")
+    ≡ walk_at apart (used quiet_rule [] (rows_at a rows))
+unfolding walked
+flags apart rows = refl
+flags (valued v) rows = refl
+flags (named n ns) rows = refl
+
+may_flag : (a : At) (rows : List Row) → IsSmall a
+    → turn_passes shape [] (walk_at a rows) (codes "--quiet") ≡ true
+may_flag apart rows few = rw (again_passes (codes "quiet") rows) refl
+may_flag (valued v) rows few = rw (
+  again_passes (codes "net") rows,
+  again_passes (codes "quiet") (rows_at (valued v) rows),
+) refl
+may_flag (named n ns) rows few = rw (
+  names_pass n ns rows few,
+  again_passes (codes "quiet") (rows_at (named n ns) rows),
+) refl
+
+given_walks : (g : Given) (a : At) (rows : List Row) → is_good g ≡ true → IsSmall a
+    → Goes (walk_at a rows) (spell g) (walk_at (after g) (rows_then g (rows_at a rows)))
+given_walks (joined net) a rows good few =
+    goes_on _ _ _ _ [] (joins net a rows) (may_join net a rows few) (goes_nowhere _)
+given_walks (pair net) a rows good few =
+    goes_on _ _ _ _ (net ∷ []) (asks a rows) (may_ask a rows few)
+    (told net (rows_at a rows) good)
+given_walks quiet a rows good few =
+    goes_on _ _ _ _ [] (flags a rows) (may_flag a rows few) (goes_nowhere _)
+
+rows_given : (g : Given) (rows : List Row) → rows_at (after g) (rows_then g rows) ≡ use_given g rows
+rows_given (joined net) rows = refl
+rows_given (pair net) rows = refl
+rows_given quiet rows = refl
+
+small_after : (g : Given) → IsSmall (after g)
+small_after (joined net) = tt
+small_after (pair net) = tt
+small_after quiet = tt
+
+apart_after : (g : Given) → IsApart (after g)
+apart_after (joined net) = tt
+apart_after (pair net) = tt
+apart_after quiet = tt
+
+-- options: where the walk stands behind them
+pub record Passed (from : At) (gs : List Given) (old : List Row) : Type 0 where
+  pub at : At
+  pub left : List Row
+  pub goes : Goes (walk_at from old) (spelled gs) (walk_at at left)
+  pub rows : rows_at at left ≡ use_all gs (rows_at from old)
+  pub small : IsSmall at
+  pub apart : IsApart from → IsApart at
+
+pub options_walk : (gs : List Given) (a : At) (rows : List Row) → list_all is_good gs ≡ true
+    → IsSmall a → Passed a gs rows
+options_walk [] a rows good few = record {
+  at = a;
+  left = rows;
+  goes = goes_nowhere (walk_at a rows);
+  rows = refl;
+  small = few;
+  apart = λ e. e;
+}
+options_walk (g ∷ gs) a rows good few =
+    let p = both (is_good g) _ good in
+    let then = rows_then g (rows_at a rows) in
+    let more = options_walk gs (after g) then p.1 (small_after g) in
+    record {
+      at = more.at;
+      left = more.left;
+      goes = goes_far _ _ _ (spell g) (spelled gs) (given_walks g a rows p.0 few) more.goes;
+      rows = more.rows ∙ ap (use_all gs) (rows_given g (rows_at a rows));
+      small = more.small;
+      apart = λ e. more.apart (apart_after g);
+    }

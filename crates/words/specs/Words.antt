@@ -1,0 +1,189 @@
+-- The grammar of the command line: a command, then options, then names, then options.
+use Rattle.std.specs.Prelude.{ℕ, Bool, true, false, not, ◌&&◌, ◌||◌, ◌==◌, nat_le, nat_lt, eqb, if◌then◌else◌, Option, Some, None, is_some, option_and_then, List, [], ◌∷◌, length, drop, take, map, slice_index, codes, bytes_eq, string_bytes, String, Vec}
+use Rattle.std.specs.Global.{Global}
+use Rattle.std.specs.List.{prefix_len, starts_with}
+use Rattle.std.specs.Option.{option_map_or, option_or}
+use Rattle.five_tuple.specs.Texts.{number_up_to}
+
+-- `replay SCHEDULE POLICY ..`, on the network of a file, or on that of one switch
+pub record ReplayCommand : Type 0 where
+  pub schedule : List ℕ
+  -- an update names one of them by its place, from 1
+  pub policies : List (List ℕ)
+  pub net : Option (List ℕ)
+  -- whether it is to say what the network came to, once it is quiet
+  pub quiet : Bool
+
+-- `compile POLICY`, or `show POLICY SWITCH`; on the network of a file, or on that of one switch
+pub record PrintCommand : Type 0 where
+  pub policy : List ℕ
+  pub switch : Option (List ℕ)
+  pub net : Option (List ℕ)
+
+-- `load N` has the number alone
+pub data Command : Type 0 where
+  Replay : ReplayCommand → Command
+  Print : PrintCommand → Command
+  Load : ℕ → Command
+
+-- the bytes of the words
+abbrev pub texts : Vec (String Global) Global → List (List ℕ)
+texts words = map string_bytes words.items
+
+-- a word that may name a file or a switch: it isn't empty and doesn't begin with a dash
+abbrev pub is_name : List ℕ → Bool
+is_name word = nat_lt 0 (length word) && not (slice_index word 0 == 45)
+
+-- ---- options
+
+-- the network of an option `--net=NET`
+abbrev pub joined_net : List ℕ → Option (List ℕ)
+joined_net word =
+    if starts_with eqb word (codes "--net=") && is_name (drop 6 word)
+    then Some (drop 6 word)
+    else None
+
+-- the network of an option `--net NET` of these words, and the words behind it
+abbrev pub cut_pair : List ℕ → List (List ℕ) → Option (List ℕ × List (List ℕ))
+cut_pair option [] = None
+cut_pair option (net ∷ words) =
+    if bytes_eq option (codes "--net") && is_name net then Some (net, words) else None
+
+-- the network of an option in front of the words, in either form, and the words behind it
+abbrev pub cut_net : List (List ℕ) → Option (List ℕ × List (List ℕ))
+cut_net [] = None
+cut_net (option ∷ words) =
+    option_map_or (λ net. Some (net, words)) (joined_net option) (cut_pair option words)
+
+-- the words behind a flag `--quiet` in front of them
+abbrev pub cut_quiet : List (List ℕ) → Option (List (List ℕ))
+cut_quiet [] = None
+cut_quiet (option ∷ words) = if bytes_eq option (codes "--quiet") then Some words else None
+
+-- the options in front of some words, each at most once, and the words behind them
+pub record Cut : Type 0 where
+  pub net : Option (List ℕ)
+  pub quiet : Bool
+  pub words : List (List ℕ)
+
+-- a network's option may stand behind the flag
+abbrev pub quiet_and_net : List (List ℕ) → Cut
+quiet_and_net words = elim (cut_net words) [
+  | None ↦ record { net = None; quiet = true; words = words }
+  | Some found ↦ record { net = Some found.0; quiet = true; words = found.1 }
+]
+
+-- a flag may stand behind the network's option
+abbrev pub net_and_quiet : List ℕ → List (List ℕ) → Cut
+net_and_quiet net words = elim (cut_quiet words) [
+  | None ↦ record { net = Some net; quiet = false; words = words }
+  | Some rest ↦ record { net = Some net; quiet = true; words = rest }
+]
+
+abbrev pub cut_options : List (List ℕ) → Cut
+cut_options words = elim (cut_quiet words) [
+  | Some rest ↦ quiet_and_net rest
+  | None ↦ elim (cut_net words) [
+    | None ↦ record { net = None; quiet = false; words = words }
+    | Some found ↦ net_and_quiet found.0 found.1
+  ]
+]
+
+-- ---- the words behind a command
+
+-- names, and options in front of them or behind them
+pub record Line : Type 0 where
+  pub names : List (List ℕ)
+  pub net : Option (List ℕ)
+  pub quiet : Bool
+
+-- no option stands twice, and nothing stands behind the last ones
+abbrev pub end_together : Cut → Cut → Bool
+end_together front back =
+    not (is_some front.net && is_some back.net) && not (front.quiet && back.quiet)
+    && length back.words == 0
+
+abbrev pub line_from : Cut → List (List ℕ) → Cut → Option Line
+line_from front names back =
+    if end_together front back
+    then Some (record {
+      names = names;
+      net = option_or front.net back.net;
+      quiet = front.quiet || back.quiet;
+    })
+    else None
+
+-- options, then names up to the next option or the end, then options
+abbrev pub line_of : List (List ℕ) → Option Line
+line_of words =
+    let front = cut_options words in
+    let count = prefix_len is_name front.words in
+    line_from front (take count front.words) (cut_options (drop count front.words))
+
+-- ---- the commands
+
+-- whether the flag `--quiet` is built: until it is, words with it are off the grammar
+abbrev pub quiet_is_built : Bool
+quiet_is_built = false
+
+-- a replay names at least one policy, and at most so many
+abbrev pub most_policies : ℕ
+most_policies = 64
+
+abbrev pub may_be_policies : ℕ → Bool
+may_be_policies count = nat_le 1 count && nat_le count most_policies
+
+abbrev pub replay_from : Line → List (List ℕ) → Option Command
+replay_from line [] = None
+replay_from line (schedule ∷ policies) =
+    if may_be_policies (length policies) && (not line.quiet || quiet_is_built)
+    then Some (Replay (record {
+      schedule = schedule;
+      policies = policies;
+      net = line.net;
+      quiet = line.quiet;
+    }))
+    else None
+
+abbrev pub print_from : Line → List (List ℕ) → Option Command
+print_from line (policy ∷ []) =
+    Some (Print (record { policy = policy; switch = None; net = line.net }))
+print_from line (policy ∷ switch ∷ []) =
+    Some (Print (record { policy = policy; switch = Some switch; net = line.net }))
+print_from line _ = None
+
+-- a command of so many names, that has no flag
+abbrev pub print_of : ℕ → Line → Option Command
+print_of count line =
+    if length line.names == count && not line.quiet then print_from line line.names else None
+
+-- the greatest number of `load N`, and whether a number may be one
+abbrev pub most_load : ℕ
+most_load = 1000
+
+abbrev pub load_number : List (List ℕ) → Option ℕ
+load_number (number ∷ []) = number_up_to most_load number
+load_number _ = None
+
+abbrev pub load_from : Option ℕ → Option Command
+load_from None = None
+load_from (Some n) = if nat_le 1 n then Some (Load n) else None
+
+-- `load` has no option
+abbrev pub load_of : Line → Option Command
+load_of line =
+    if is_some line.net || line.quiet then None else load_from (load_number line.names)
+
+-- the command of this name, with these words behind it
+abbrev pub command_by : List ℕ → Line → Option Command
+command_by name line =
+    if bytes_eq name (codes "replay") then replay_from line line.names
+    else if bytes_eq name (codes "compile") then print_of 1 line
+    else if bytes_eq name (codes "show") then print_of 2 line
+    else if bytes_eq name (codes "load") then load_of line
+    else None
+
+-- the command that the words are, if they are in the grammar
+abbrev pub command_of : List (List ℕ) → Option Command
+command_of [] = None
+command_of (name ∷ words) = option_and_then (command_by name) (line_of words)

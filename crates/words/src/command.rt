@@ -1,0 +1,112 @@
+ghost use Rattle.std.specs.Prelude.{◌≡◌, ◌≤◌, true, IfOk, IfErr, IfSome, Some, is_some, map, string_bytes, option_map};
+ghost use Rattle.words.specs.Named.{HasPolicies, NamesPolicies, command_named, kind_name, line_seen, names_seen, replay_named};
+ghost use Rattle.words.specs.Words as grammar;
+ghost use Rattle.words.specs.Words.{command_by, command_of, load_from, replay_from};
+ghost use Rattle.five_tuple.specs.Texts.{number_up_to};
+
+use crate::grammar::{Kind, kind_of};
+use crate::read::{Line, read_line};
+use five_tuple::read_number;
+use std::alloc::{AllocError, Global};
+
+/// The files of a replay.
+#[derive(Drop)]
+pub struct ReplayWords<'a> {
+    /// The name of the schedule's file.
+    pub schedule: &'a str,
+    /// The names of the policies' files; an update names one of them by its place, from 1.
+    pub policies: Vec<&'a str>,
+    /// The name of the network's file; without it the network is that of one switch.
+    pub net: Option<&'a str>,
+    /// Whether the replay is to say what the network came to, once it is quiet.
+    pub quiet: bool,
+}
+
+/// What is to be printed: the plan of a policy, or the tables that it gives to a switch.
+#[derive(Clone, Copy)]
+pub struct PrintWords<'a> {
+    /// The name of the policy's file.
+    pub policy: &'a str,
+    /// The name of the switch whose tables are asked for.
+    pub switch: Option<&'a str>,
+    /// The name of the network's file; without it the network is that of one switch.
+    pub net: Option<&'a str>,
+}
+
+/// A replay names at most so many policies.
+pub const MAX_POLICIES: usize = 64;
+
+/// The greatest number of a load case.
+pub const MAX_LOAD: u32 = 1000;
+
+/// What the words ask for.
+#[derive(Drop)]
+pub enum Command<'a> {
+    Replay(ReplayWords<'a>),
+    Print(PrintWords<'a>),
+    /// The load case of this number is to be played.
+    Load(u32),
+}
+
+/// The command that the words are, or `None` exactly where they are off the grammar.
+///
+/// # Errors
+/// Want of memory alone, and only for words of the grammar.
+pub fn read_words(alloc: Global, words: &[String]) -> Result<Option<Command<'_>>, AllocError>
+    ensures value { IfOk result (λ found.
+        option_map command_named found ≡ command_of (map string_bytes words.now)) }
+    ensures named { IfOk result (λ found. IfSome found NamesPolicies) }
+    ensures needless { IfErr result (λ _. is_some (command_of (map string_bytes words.now)) ≡ true) }
+{
+    let Some(kind) = kind_of(words) else {
+        return Ok(None);
+    };
+    let line = read_line(alloc, words)?;
+    Ok(Some(command_from(kind, line)))
+}
+
+// The command of a line that is one of this kind.
+fn command_from<'a>(kind: Kind, line: Line<'a>) -> Command<'a>
+    requires { is_some (command_by (kind_name kind) (line_seen line)) ≡ true }
+    ensures command { Some (command_named result) ≡ command_by (kind_name kind) (line_seen line.entry) }
+    ensures named { NamesPolicies result }
+{
+    match kind {
+        Kind::Replay => Command::Replay(replay_from(line)),
+        Kind::Compile | Kind::Show => Command::Print(PrintWords {
+            policy: line.names[0],
+            switch: line.names.get(1).copied(),
+            net: line.net,
+        }),
+        Kind::Load => Command::Load(load_from(line.names[0])),
+    }
+}
+
+fn replay_from<'a>(line: Line<'a>) -> ReplayWords<'a>
+    requires { is_some (replay_from (line_seen line) (names_seen line.names.items)) ≡ true }
+    ensures words { Some (grammar.Replay (replay_named result))
+        ≡ replay_from (line_seen line.entry) (names_seen line.entry.names.items) }
+    ensures few { HasPolicies result }
+{
+    let mut names = line.names;
+    let schedule = names.remove(0);
+    ReplayWords {
+        schedule,
+        policies: names,
+        net: line.net,
+        quiet: line.quiet,
+    }
+}
+
+// The number of a load case.
+fn load_from(number: &str) -> u32
+    requires { is_some (load_from (number_up_to 1000 number.now)) ≡ true }
+    ensures number { Some (grammar.Load result) ≡ load_from (number_up_to 1000 number.now) }
+    ensures some { 1 ≤ result }
+    ensures few { result ≤ 1000 }
+{
+    match read_number(number.as_bytes(), u64::from(MAX_LOAD)) {
+        None => unreachable!(),
+        Some(n) => n as u32,
+    }
+}
