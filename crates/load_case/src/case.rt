@@ -1,0 +1,52 @@
+ghost use Rattle.std.specs.Prelude.{◌≡◌, ◌≤◌, IfOk};
+ghost use Rattle.load_case.specs.Case.{IsPlayable, case_seen, load_case};
+
+use crate::draws::Draws;
+use crate::net::net;
+use crate::policies::policy;
+use crate::schedule::events;
+use net_file::Net;
+use policy_rules::Policy;
+use std::alloc::{AllocError, Global};
+use steps::Event;
+
+/// A network, its policies and what happens on it.
+#[derive(Drop)]
+pub struct Case {
+    pub net: Net,
+    /// The policies by their files; an update names one of them by its place, from 1.
+    pub policies: Vec<Policy>,
+    pub events: Vec<Event>,
+}
+
+/// The load case of this number.
+///
+/// # Errors
+/// Want of memory alone.
+pub fn load_case(alloc: Global, n: u32) -> Result<Case, AllocError>
+    requires { (1 ≤ n) × (n ≤ 1000) }
+    ensures case { IfOk result (λ case. case_seen case ≡ load_case n) }
+    ensures playable { IfOk result (λ case. IsPlayable (case_seen case)) }
+{
+    let case = draw_case(alloc, n)?;
+    Ok(case)
+}
+
+fn draw_case(alloc: Global, n: u32) -> Result<Case, AllocError>
+    requires { n ≤ 1000 }
+    ensures { IfOk result (λ case. case_seen case ≡ load_case n) }
+{
+    let net = net(alloc)?;
+    let mut draws = Draws { state: n };
+    let first = policy(alloc, &mut draws, n)?;
+    let second = policy(alloc, &mut draws, n)?;
+    let events = events(alloc, &mut draws, 2 * n)?;
+    let mut policies = Vec::new(alloc);
+    policies.push(first)?;
+    policies.push(second)?;
+    Ok(Case {
+        net,
+        policies,
+        events,
+    })
+}

@@ -1,0 +1,14 @@
+//! The generator of load cases.
+//!
+//! `load_case` gives exactly the network, the two policies and the events that the definition
+//! states for a number, all drawn from a linear congruential generator, so that a case is the same
+//! at each run.
+#![tactic(auto)]
+
+mod case;
+mod draws;
+mod net;
+mod policies;
+mod schedule;
+
+pub use case::{Case, load_case};
