@@ -1,0 +1,130 @@
+ghost use Rattle.std.specs.Prelude.{◌≡◌};
+ghost use Rattle.load_text.specs.Summary.{HasRoom, counted, counts_of, summary_by, summary_of};
+
+use journal::{How, Item, Journal};
+
+/// What became of the packets of a play, what was sent in it, and the versions that it ended with.
+#[derive(Clone, Copy)]
+pub struct Summary {
+    /// Packets that came in, or were refused at a switch that did not serve.
+    pub packets: usize,
+    /// Packets that were refused so.
+    pub closed: usize,
+    /// Packets that left the network by a port.
+    pub delivered: usize,
+    pub dropped: usize,
+    pub lost: usize,
+    pub stuck: usize,
+    /// Packets that came in and have none of these ends.
+    pub travelling: usize,
+    /// Decisions by cached rules.
+    pub cached: usize,
+    /// Messages that were sent.
+    pub messages: usize,
+    /// The version that new packets are to be stamped with.
+    pub current: u32,
+    /// The last version that is retired.
+    pub retired: u32,
+}
+
+// How many items of each kind there are, and the marks of the versions.
+#[derive(Clone, Copy)]
+pub(crate) struct Counts {
+    pub(crate) packets: usize,
+    pub(crate) entered: usize,
+    pub(crate) closed: usize,
+    pub(crate) left: usize,
+    pub(crate) dropped: usize,
+    pub(crate) lost: usize,
+    pub(crate) stuck: usize,
+    pub(crate) cached: usize,
+    pub(crate) sent: usize,
+    pub(crate) current: u32,
+    pub(crate) retired: u32,
+}
+
+/// The summary of a journal.
+pub fn summarize(journal: &Journal) -> Summary
+    ensures { result ≡ summary_of journal.now }
+{
+    count(journal.items()).summary()
+}
+
+// Counts the items in one pass.
+fn count(items: &[Item]) -> Counts
+    ensures { result ≡ counts_of items.now }
+{
+    let mut counts = Counts {
+        packets: 0,
+        entered: 0,
+        closed: 0,
+        left: 0,
+        dropped: 0,
+        lost: 0,
+        stuck: 0,
+        cached: 0,
+        sent: 0,
+        current: 1,
+        retired: 0,
+    };
+    for item in items {
+        counts.note(item);
+    }
+    counts
+}
+
+impl Counts {
+    // Counts one more item.
+    fn note(&mut self, item: &Item)
+        requires { HasRoom self.old }
+        ensures { self.new ≡ counted self.old item.now }
+    {
+        match item {
+            Item::Entered { .. } => {
+                self.packets += 1;
+                self.entered += 1;
+            }
+            Item::Closed { .. } => {
+                self.packets += 1;
+                self.closed += 1;
+            }
+            Item::Left { .. } => self.left += 1,
+            Item::Dropped { .. } => self.dropped += 1,
+            Item::Lost { .. } => self.lost += 1,
+            Item::Stuck { .. } => self.stuck += 1,
+            Item::Decided {
+                how: How::Cached { .. },
+                ..
+            } => self.cached += 1,
+            Item::Sent { .. } => self.sent += 1,
+            Item::Current { version } => self.current = *version,
+            Item::Retired { version } => self.retired = *version,
+            _ => {}
+        }
+    }
+
+    // What the counts say of a play.
+    fn summary(&self) -> Summary
+        ensures { result ≡ summary_by self.now }
+    {
+        let travelling = self
+            .entered
+            .saturating_sub(self.left)
+            .saturating_sub(self.dropped)
+            .saturating_sub(self.lost)
+            .saturating_sub(self.stuck);
+        Summary {
+            packets: self.packets,
+            closed: self.closed,
+            delivered: self.left,
+            dropped: self.dropped,
+            lost: self.lost,
+            stuck: self.stuck,
+            travelling,
+            cached: self.cached,
+            messages: self.sent,
+            current: self.current,
+            retired: self.retired,
+        }
+    }
+}
