@@ -1,12 +1,12 @@
 #!/usr/bin/env python3
-"""Plays random schedules by the program and by `bench/slow_replay.py`, and compares the journals.
+"""Plays random schedules by the program and by `bench/slow_replay.py`, and compares the outputs.
 
 usage: bench/fuzz.py BIN COUNT [START]
 
 BIN is the program (`rt run` leaves it in crates/difane/out/difane). Each seed from START on (0
 where it isn't given) makes a network of two to five switches, three policies and a schedule of 10
 to 60 rows of all kinds. Each difference is told by its seed and its first line; it stops at ten.
-At last it prints how many journals were alike, and how many cases both refused, since the first
+At last it prints how many outputs were alike, and how many cases both refused, since the first
 policy had no plan. It ends with 1 where there was a difference.
 """
 import random
@@ -122,10 +122,9 @@ def write_case(seed, folder):
 
 
 def run(command, folder):
-    """The status and the lines; meters are the program's alone."""
+    """The status, the lines, and what was told of errors."""
     done = subprocess.run([*command, *WORDS], cwd=folder, capture_output=True, text=True)
-    lines = [line for line in done.stdout.splitlines() if not line.startswith("meter port")]
-    return done.returncode, lines, done.stderr.strip()
+    return done.returncode, done.stdout.splitlines(), done.stderr.strip()
 
 
 def tell(seed, model, program):

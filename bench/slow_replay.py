@@ -1,16 +1,16 @@
 #!/usr/bin/env python3
-"""The journal of `replay`, worked out anew from its definitions and slowly.
+"""The output of `replay`, worked out anew from its definitions and slowly.
 
 usage: bench/slow_replay.py SCHEDULE POLICY.. [--net NET]
 
 It shares nothing with the program: the plans are those of `bench/plan_model.py`, and all that
 happens is written from the definitions in words, in sets and lists. `bench/fuzz.py` compares it
-with the program. It prints no meter lines, reads accepted files alone, and ends with 3 where the
-first policy has no plan.
+with the program. It reads accepted files alone, and ends with 3 where the first policy has no plan.
 """
 import csv
 import sys
 import tomllib
+from collections import Counter
 from typing import NamedTuple
 
 import plan_model
@@ -167,6 +167,7 @@ class Journal:
     def __init__(self, network):
         self.network = network
         self.lines = []
+        self.ports_left_by = []
         self.messages = []
         self.delivered, self.forgotten = set(), set()
 
@@ -180,6 +181,11 @@ class Journal:
         self.messages.append((to, body))
         name = "controller" if to is CONTROLLER else self.network.names[to]
         self.say(f"sent {len(self.messages)} {name} {body.text(self.network)}")
+
+    def meter_lines(self):
+        """How many packets left by each port, of which none has fewer than one."""
+        counts = sorted(Counter(self.ports_left_by).items())
+        return [f"meter port {port} notes {count}" for port, count in counts]
 
     def has(self, message):
         """A message that was sent can be delivered, late or again, until it is forgotten."""
@@ -553,6 +559,7 @@ class World:
 
     def go_out(self, packet, port):
         self.say(f"out {packet.number} port {port}")
+        self.journal.ports_left_by.append(port)
         packet.travels = False
 
     def arrive(self, packet):
@@ -819,7 +826,8 @@ def main():
         sys.exit(3)
     with open(schedule, newline="") as file:
         world.play([row for row in csv.reader(file) if row][1:])
-    sys.stdout.write("".join(line + "\n" for line in world.journal.lines))
+    lines = [*world.journal.lines, *world.journal.meter_lines()]
+    sys.stdout.write("".join(line + "\n" for line in lines))
 
 
 if __name__ == "__main__":

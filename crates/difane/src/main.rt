@@ -1,11 +1,12 @@
 //! `difane`: replays a schedule of packets against an access-control policy.
 //!
 //! This file only joins the proved top call to the system: files, standard output and standard
-//! error.
+//! error. At each port, from 0 to 63, a recorder notes the packets that leave.
 #![tactic(auto)]
 
-use difane_cli::{Status, run, tell};
+use difane_cli::{Meter, Recorder, Status, run, tell};
 use shelf::{DiskShelf, StdSink};
+use std::alloc::AllocError;
 use std::io::ErrorKind;
 use std::process::ExitCode;
 use std::rt::Env;
@@ -20,16 +21,28 @@ fn read_words<R: Env + AllocGlobal>(rt: &R) -> io::Result<Vec<String>> {
     Ok(words)
 }
 
+/// Does what the words ask, with a recorder for each port, and says how it ended. Where there is no
+/// memory for the recorders, it prints nothing.
+fn do_words(rt: HostRuntime, words: &Vec<String>) -> Result<Status, AllocError> {
+    let alloc = rt.alloc();
+    let mut meters: Vec<Box<dyn Meter>> = Vec::new(alloc);
+    for port in 0..64 {
+        meters.push(Box::new(alloc, Recorder::new(alloc, port))?)?;
+    }
+    let mut errs = StdSink::new(rt.stderr());
+    let mut out = StdSink::new(rt.stdout());
+    let mut shelf = DiskShelf::new(rt);
+    let finished = run(alloc, words, &mut shelf, &mut out, &mut errs, meters);
+    Ok(finished.status)
+}
+
 fn main(rt: HostRuntime) -> ExitCode {
     let mut errs = StdSink::new(rt.stderr());
     match read_words(&rt) {
-        Ok(words) => {
-            let mut out = StdSink::new(rt.stdout());
-            let alloc = rt.alloc();
-            let mut shelf = DiskShelf::new(rt);
-            let finished = run(alloc, &words, &mut shelf, &mut out, &mut errs);
-            ExitCode::from(finished.status.number())
-        }
+        Ok(words) => match do_words(rt, &words) {
+            Ok(status) => ExitCode::from(status.number()),
+            Err(_) => ExitCode::from(Status::NoMemory.number()),
+        },
         Err(error) => {
             let status = match error.kind() {
                 ErrorKind::OutOfMemory => Status::NoMemory,

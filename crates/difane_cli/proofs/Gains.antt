@@ -1,5 +1,5 @@
 -- What a sink gained by several writes.
-use Rattle.std.proofs.Common.{ℕ, zero, suc, refl, [], ◌≡◌, ◌+◌, ◌<◌, ◌≤◌, inl, inr, Option, Result, Ok, Err, OnErr, List, ◌∷◌, ◌++◌, length, take, drop, get_or, ap, ◌∙◌, sym, arith, length-append, drop-cons}
+use Rattle.std.proofs.Common.{ℕ, zero, suc, refl, [], ◌≡◌, ◌+◌, ◌<◌, ◌≤◌, inl, inr, Option, Result, Ok, Err, OnErr, List, ◌∷◌, ◌++◌, length, take, drop, get_or, ap, ◌∙◌, sym, arith, append-nil, length-append, drop-cons}
 use Rattle.std.specs.List.{flat_map}
 use Rattle.std.proofs.Math.Seq.{take-add, take-append-add}
 use Rattle.std.proofs.lemmas.Bool.{cases_lt}
@@ -63,6 +63,22 @@ pub flat_map-more : {X : Type 0} (f : X → List ℕ) (xs block : List X) (at : 
 flat_map-more f xs block at is =
     sym (flat_map-append f (take at xs) block)
     ∙ ap (flat_map f) (ap (λ ys. take at xs ++ ys) is ∙ sym (take-add at (length block) xs))
+
+-- the same of an item that is known to stand there
+pub flat_map-there : {X : Type 0} (f : X → List ℕ) (xs : List X) (i : ℕ) (x : X) → i < length xs
+    → get_or xs i x ≡ x
+    → flat_map f (take i xs) ++ (f x ++ flat_map f (drop (suc i) xs)) ≡ flat_map f xs
+flat_map-there f xs i x within own =
+    ap (λ y. flat_map f (take i xs) ++ (f y ++ flat_map f (drop (suc i) xs))) (sym own)
+    ∙ flat_map-at f xs i x within
+
+-- the pieces of one more
+pub flat_map-one : {X : Type 0} (f : X → List ℕ) (xs : List X) (i : ℕ) (x : X) → i < length xs
+    → get_or xs i x ≡ x → flat_map f (take i xs) ++ f x ≡ flat_map f (take (i + 1) xs)
+flat_map-one f xs i x within own =
+    ap (λ y. flat_map f (take i xs) ++ f y) (sym own)
+    ∙ ap (λ bytes. flat_map f (take i xs) ++ bytes) (sym (append-nil (f (get_or xs i x))))
+    ∙ flat_map-more f xs (get_or xs i x ∷ []) i (sym (ap (take 1) (drop-cons xs i x within)))
 
 -- some of the next bytes, behind what was written, are some of the whole
 pub GainedSome-behind : (before middle now : Option (List ℕ)) (front piece rest : List ℕ)

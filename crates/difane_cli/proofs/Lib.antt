@@ -1,5 +1,6 @@
 mod Begun
 mod Gains
+mod MeterLines
 mod OneSwitch
 mod Plays
 mod PolicyReads

@@ -1,22 +1,22 @@
 -- What comes of a task that is done, by what became of its text.
 use Rattle.std.specs.Prelude.{⊤}
-use Rattle.std.proofs.Common.{ℕ, ◌≡◌, inr, refl, Option, Some, None, Result, Ok, Err, OnOk, OnErr, IsErrOf, List, [], All, length}
+use Rattle.std.proofs.Common.{ℕ, ◌≡◌, inr, refl, Option, Some, None, Result, Ok, Err, OnOk, OnErr, IsErrOf, List, [], subst}
 use Rattle.std.specs.Option.{ForSome}
 use Rattle.boot_laws.specs.Always.{HoldsReached}
 use Rattle.journal.specs.declared.item.Item.{Item}
-use Rattle.journal_text.specs.Lines.{journal_text}
+use Rattle.meters.specs.Meters.{Seen}
 use Rattle.update_machine.specs.Answers.{BeginsAnswer}
 use Rattle.update_machine.specs.Causes.{EndsHaveCauses, HaveCauses}
 use Rattle.update_machine.specs.Full.{IsPlay}
 use Rattle.update_machine.specs.Machine.{IsRun}
 use Rattle.update_machine.specs.Sound.{IsSetting}
-use Rattle.update_machine.specs.Setting.{Setting}
 use Rattle.update_machine.proofs.CallerLemmas.{answers_so_far, begins_itself, stop_begins}
 use Rattle.way_laws.specs.StrongCauses.{StrongCause}
 use Rattle.difane_cli.specs.Inputs.{Inputs, Play, Print, Printing}
 use Rattle.shelf.specs.Sink.{gained, GainedPart, SinkState}
 use Rattle.shelf.specs.declared.output.SinkError.{SinkError}
 use Rattle.shelf.specs.declared.output.SinkError.TheVariants as sink
+use Rattle.difane_cli.specs.Meters.{kept_by, replay_text}
 use Rattle.difane_cli.specs.Run.{Begun, GainedSome, IsAnswer, IsPrintingOf, IsReplayOf, Known, PrintOutcome, ReplayOutcome, Wrote, WroteSome, printing_text}
 use Rattle.difane_cli.specs.Status.{status_after}
 use Rattle.difane_cli.specs.Words.{PrintCommand, ReplayCommand}
@@ -59,10 +59,11 @@ played laws command known inputs journal full asked accepted play = record {
 
 -- what a play leaves begins an answer, so that some of its text may be written
 begun : (command : ReplayCommand) (known : Known) (inputs : Inputs) (journal : List Item)
-    (full : Option ℕ) (before now : SinkState) → IsAnswer command known inputs journal full
-    → WroteSome (journal_text inputs.setting.net journal) before now
-    → Begun command known journal before now
-begun command known inputs journal full before now answer written = record {
+    (full : Option ℕ) (taken given : List Seen) (before now : SinkState)
+    → IsAnswer command known inputs journal full → given ≡ kept_by inputs.setting.net journal taken
+    → WroteSome (replay_text inputs.setting.net journal full given) before now
+    → Begun command known journal taken before now
+begun command known inputs journal full taken given before now answer kept written = record {
   inputs = inputs;
   asked = answer.asked;
   accepted = answer.accepted;
@@ -70,37 +71,46 @@ begun command known inputs journal full before now answer written = record {
   run = answer.run;
   causes = answer.causes;
   strong = answer.strong;
-  written = written;
+  full = full;
+  written =
+      subst (λ meters. WroteSome (replay_text inputs.setting.net journal full meters) before now)
+      kept written;
 }
 
--- a journal that was played, and its text that was written, or not
+-- a journal that was played, and its text and the meters' lines that were written, or not
 pub replayed : (command : ReplayCommand) (known : Known) (inputs : Inputs) (journal : List Item)
-    (full : Option ℕ) (before now : SinkState) (written : Result (⊤) SinkError)
-    → IsAnswer command known inputs journal full
-    → OnOk written (now.bytes ≡ gained before.bytes (journal_text inputs.setting.net journal))
+    (full : Option ℕ) (taken given : List Seen) (before now : SinkState)
+    (written : Result (⊤) SinkError) → IsAnswer command known inputs journal full
+    → given ≡ kept_by inputs.setting.net journal taken → OnOk written
+    (now.bytes ≡ gained before.bytes (replay_text inputs.setting.net journal full given))
     → (IsErrOf written sink.Failed
-    → GainedPart before.bytes (journal_text inputs.setting.net journal) now.bytes)
-    → OnErr written (GainedSome before.bytes (journal_text inputs.setting.net journal) now.bytes)
-    → (journal_text inputs.setting.net journal ≡ [] → now ≡ before)
-    → ReplayOutcome command known (status_after written full) journal before now
-replayed command known inputs journal None before now (Ok done) answer whole part some none =
+    → GainedPart before.bytes (replay_text inputs.setting.net journal full given) now.bytes)
+    → OnErr written
+    (GainedSome before.bytes (replay_text inputs.setting.net journal full given) now.bytes)
+    → (replay_text inputs.setting.net journal full given ≡ [] → now ≡ before)
+    → ReplayOutcome command known (status_after written full) journal taken given before now
+replayed command known inputs journal None taken given before now (Ok done) answer kept whole part
+    some none =
     record {
       inputs = inputs;
       played = answer;
+      kept = kept;
       written = record { whole = whole; untouched = none };
     }
-replayed command known inputs journal (Some row) before now (Ok done) answer whole part some none =
+replayed command known inputs journal (Some row) taken given before now (Ok done) answer kept whole
+    part some none =
     record {
       inputs = inputs;
       played = answer;
+      kept = kept;
       written = record { whole = whole; untouched = none };
     }
-replayed command known inputs journal full before now (Err sink.Failed) answer whole part some
-    none =
-    record { inputs = inputs; full = full; played = answer; written = part refl }
-replayed command known inputs journal full before now (Err sink.NoMemory) answer whole part some
-    none =
-    inr (begun command known inputs journal full before now answer
+replayed command known inputs journal full taken given before now (Err sink.Failed) answer kept
+    whole part some none =
+    record { inputs = inputs; full = full; played = answer; kept = kept; written = part refl }
+replayed command known inputs journal full taken given before now (Err sink.NoMemory) answer kept
+    whole part some none =
+    inr (begun command known inputs journal full taken given before now answer kept
     (record { some = some; untouched = none }))
 
 -- a plan or tables whose text was written, or not

@@ -1,5 +1,6 @@
 pub mod Codes
 pub mod Inputs
+pub mod Meters
 pub mod Run
 pub mod Status
 pub mod Words

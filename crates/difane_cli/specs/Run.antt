@@ -5,11 +5,11 @@ use Rattle.net_file.specs.Net.{IsNet, solo_net, switch_number}
 use Rattle.net_file.specs.declared.net.Net.{Net}
 use Rattle.partition.specs.Plan.{plan_of}
 use Rattle.policy_rules.specs.Policy.{IsPolicy}
-use Rattle.journal_text.specs.Lines.{journal_text}
 use Rattle.show_text.specs.Text.{compile_text, table_text}
 use Rattle.switch_table.specs.Tables.{tables_of}
 use Rattle.shelf.specs.Sink.{gained, GainedPart, SinkState}
 use Rattle.journal.specs.declared.item.Item.{Item}
+use Rattle.meters.specs.Meters.{Seen}
 use Rattle.update_machine.specs.Answers.{BeginsAnswer}
 use Rattle.update_machine.specs.Causes.{EndsHaveCauses, HaveCauses}
 use Rattle.update_machine.specs.Full.{IsPlay}
@@ -18,6 +18,7 @@ use Rattle.update_machine.specs.Sound.{IsSetting}
 use Rattle.steps.specs.Steps.{IsEvent}
 use Rattle.way_laws.specs.StrongCauses.{StrongCause}
 use Rattle.difane_cli.specs.Inputs.{Inputs, Play, Print, Printing, Task}
+use Rattle.difane_cli.specs.Meters.{kept_by, replay_text}
 use Rattle.difane_cli.specs.Words.{Command, PrintCommand, ReplayCommand}
 use Rattle.difane_cli.specs.Words as asked
 use Rattle.difane_cli.specs.declared.status.Refusal.{Refusal}
@@ -78,25 +79,29 @@ pub record IsAnswer (command : ReplayCommand) (known : Known) (inputs : Inputs)
   pub strong : HaveCauses (StrongCause inputs.setting) [] journal
 
 -- there are inputs such that the journal is that of their play, to its end or to a row at which it
--- stopped full, and the output gained its text
+-- stopped full; the meters that were given back are those that stayed of the ones that were taken;
+-- and the output gained the text of the journal, and where it didn't stop full their lines
 pub record Replayed (command : ReplayCommand) (known : Known) (full : Option ℕ)
-    (journal : List Item) (before now : SinkState) : Type 0 where
+    (journal : List Item) (taken given : List Seen) (before now : SinkState) : Type 0 where
   pub inputs : Inputs
   pub played : IsAnswer command known inputs journal full
-  pub written : Wrote (journal_text inputs.setting.net journal) before now
+  pub kept : given ≡ kept_by inputs.setting.net journal taken
+  pub written : Wrote (replay_text inputs.setting.net journal full given) before now
 
 -- the same of either play, but that the output failed and gained a part of the text
 pub record CutShort (command : ReplayCommand) (known : Known) (journal : List Item)
-    (before now : SinkState) : Type 0 where
+    (taken given : List Seen) (before now : SinkState) : Type 0 where
   pub inputs : Inputs
   pub full : Option ℕ
   pub played : IsAnswer command known inputs journal full
-  pub written : GainedPart before.bytes (journal_text inputs.setting.net journal) now.bytes
+  pub kept : given ≡ kept_by inputs.setting.net journal taken
+  pub written :
+      GainedPart before.bytes (replay_text inputs.setting.net journal full given) now.bytes
 
 -- there are such inputs; the journal begins an answer to them, and the output gained some of its
--- text
+-- text and of the lines of the meters that stay in it
 pub record Begun (command : ReplayCommand) (known : Known) (journal : List Item)
-    (before now : SinkState) : Type 0 where
+    (taken : List Seen) (before now : SinkState) : Type 0 where
   pub inputs : Inputs
   pub asked : IsReplayOf command inputs
   pub accepted : ForSome known (λ read. read ≡ Ok (Play inputs))
@@ -104,20 +109,24 @@ pub record Begun (command : ReplayCommand) (known : Known) (journal : List Item)
   pub run : IsRun inputs.setting journal
   pub causes : EndsHaveCauses inputs.setting journal
   pub strong : HaveCauses (StrongCause inputs.setting) [] journal
-  pub written : WroteSome (journal_text inputs.setting.net journal) before now
+  pub full : Option ℕ
+  pub written : WroteSome (replay_text inputs.setting.net journal full
+      (kept_by inputs.setting.net journal taken)) before now
 
--- the journal and the output that a status of a replay comes with
-abbrev pub ReplayOutcome : ReplayCommand → Known → Status → List Item
+-- the journal, the meters and the output that a status of a replay comes with; nothing is said of
+-- the meters where memory ran out, and none is left where nothing was played
+abbrev pub ReplayOutcome : ReplayCommand → Known → Status → List Item → (taken given : List Seen)
     → (before now : SinkState) → Type 0
-ReplayOutcome command known status.Ok journal before now =
-    Replayed command known None journal before now
-ReplayOutcome command known (status.Full row) journal before now =
-    Replayed command known (Some row) journal before now
-ReplayOutcome command known status.WriteFault journal before now =
-    CutShort command known journal before now
-ReplayOutcome command known status.NoMemory journal before now =
-    Unplayed journal before now ⊎ Begun command known journal before now
-ReplayOutcome command known _ journal before now = Unplayed journal before now
+ReplayOutcome command known status.Ok journal taken given before now =
+    Replayed command known None journal taken given before now
+ReplayOutcome command known (status.Full row) journal taken given before now =
+    Replayed command known (Some row) journal taken given before now
+ReplayOutcome command known status.WriteFault journal taken given before now =
+    CutShort command known journal taken given before now
+ReplayOutcome command known status.NoMemory journal taken given before now =
+    Unplayed journal before now ⊎ Begun command known journal taken before now
+ReplayOutcome command known _ journal taken given before now =
+    Unplayed journal before now × (given ≡ [])
 
 -- ---- plans and tables
 
@@ -167,13 +176,14 @@ PrintOutcome command known _ journal before now = Unplayed journal before now
 
 -- ---- all commands
 
--- the journal and the output that a status of a command comes with
-abbrev pub Outcome : Option Command → Known → Status → List Item
+-- the journal, the meters that were taken and given back, and the output that a status of a command
+-- comes with
+abbrev pub Outcome : Option Command → Known → Status → List Item → (taken given : List Seen)
     → (before now : SinkState) → Type 0
-Outcome None known status journal before now = Unplayed journal before now
-Outcome (Some (asked.Replay words)) known status journal before now =
-    ReplayOutcome words known status journal before now
-Outcome (Some (asked.Print words)) known status journal before now =
+Outcome None known status journal taken given before now = Unplayed journal before now
+Outcome (Some (asked.Replay words)) known status journal taken given before now =
+    ReplayOutcome words known status journal taken given before now
+Outcome (Some (asked.Print words)) known status journal taken given before now =
     PrintOutcome words known status journal before now
 
 -- what a status says of the known task: a refusal is the one that stands there, and work was done

@@ -3,14 +3,16 @@
 //!
 //! `run` carries the headline. Where a replay answers `Ok` there are inputs that its journal
 //! answers, is a run of the abstract machine for, and whose items have their causes; where files are
-//! known, these are the inputs that the files state. The output gained the journal's text and
-//! nothing else. Where it answers `Full`, the same holds up to the row that it names. A plan and
+//! known, these are the inputs that the files state. The output gained the journal's text, then a
+//! line for each meter that still is there and has a note, and nothing else; the meters are those
+//! that stay in the journal. Where it answers `Full`, the same holds up to the row that it names. A plan and
 //! tables are the defined ones, and so are their lines. Each status but want of memory has its
 //! cause in a clause.
 #![tactic(auto)]
 
 mod inputs;
 mod laws;
+mod meter_lines;
 mod networks;
 mod playing;
 mod policies;
@@ -21,5 +23,6 @@ mod top_call;
 mod words;
 
 pub use laws::one_switch_laws;
-pub use status::{FileName, Finished, Refusal, Status, Stop, tell};
+pub use meters::{Meter, Recorder};
+pub use status::{Ended, FileName, Finished, Refusal, Status, Stop, tell};
 pub use top_call::run;

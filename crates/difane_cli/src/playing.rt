@@ -1,11 +1,12 @@
 //! The play of accepted inputs, and the writing of its journal.
-ghost use Rattle.std.specs.Prelude.{◌≡◌, ◌≤◌, ◌<◌, ◌+◌, [], Ok, IsErrOf, OnOk, OnErr, drop, length, take};
+ghost use Rattle.std.specs.Prelude.{◌≡◌, ◌≤◌, ◌<◌, ◌+◌, [], Ok, IsErrOf, OnOk, OnErr, drop, length, map, take};
 ghost use Rattle.std.specs.Option.{ForSome};
 ghost use Rattle.journal_text.specs.Lines.{journal_text};
 ghost use Rattle.net_file.specs.Net.{IsNet};
 ghost use Rattle.shelf.specs.Faults.{Rose};
 ghost use Rattle.shelf.specs.Sink.{GainedPart, gained};
 ghost use Rattle.difane_cli.specs.Commands.{IsReady, inputs_stated};
+ghost use Rattle.difane_cli.specs.Meters.{replay_text};
 ghost use Rattle.difane_cli.specs.Run.{GainedSome, IsReplayOf, Known, ReplayOutcome};
 ghost use Rattle.difane_cli.specs.Inputs.{Play};
 ghost use Rattle.difane_cli.specs.Status.{IsAfterWork};
@@ -13,10 +14,13 @@ ghost use Rattle.difane_cli.specs.Words.{ReplayCommand};
 ghost use Rattle.difane_cli.specs.declared.status.Status.TheVariants as status;
 
 use crate::inputs::ReplayInputs;
-use crate::status::{Finished, Status};
+use crate::meter_lines::write_meters;
+use crate::status::{Ended, Status};
 use journal::{Item, Journal};
 use journal_text::lines;
+use meters::Meter;
 use net_file::Net;
+use replay::Played;
 use shelf::{Sink, SinkError, write_whole};
 use std::alloc::Global;
 use way_laws::{answers_are_runs, causes_are_strong, ends_have_causes};
@@ -24,14 +28,21 @@ use way_laws::{answers_are_runs, causes_are_strong, ends_have_causes};
 /// How many items are printed before they are written: their lines have about 50,000 bytes.
 const BLOCK: usize = 1_024;
 
-/// Plays the inputs, to their end or as far as there is room, and writes the journal. What comes of
-/// it is told for whatever is known of them.
-pub fn play<K: Sink>(alloc: Global, inputs: ReplayInputs, out: &mut K) -> Finished
+/// Plays the inputs, to their end or as far as there is room, while the meters note the packets that
+/// leave; writes the journal, and behind its last line, where it didn't stop full, those of the
+/// meters. What comes of it is told for whatever is known of the inputs.
+pub fn play<M: Meter, K: Sink>(
+    alloc: Global,
+    inputs: ReplayInputs,
+    meters: Vec<M>,
+    out: &mut K,
+) -> Ended<M>
     requires { IsReady inputs }
     ensures outcome { (command : ReplayCommand) (known : Known)
         → IsReplayOf command (inputs_stated inputs)
         → ForSome known (λ read. read ≡ Ok (Play (inputs_stated inputs)))
         → ReplayOutcome command known result.status result.journal
+        (map M.seen meters.items) (map M.seen result.meters.items)
         (K.state out.old) (K.state out.new) }
     ensures worked { IsAfterWork result.status }
     ensures failed { result.status ≡ status.WriteFault
@@ -42,16 +53,51 @@ pub fn play<K: Sink>(alloc: Global, inputs: ReplayInputs, out: &mut K) -> Finish
     answers_are_runs();
     ends_have_causes();
     causes_are_strong();
-    let Ok(played) = replay::play(alloc, world, &events) else {
-        return Finished {
+    let Ok(played) = replay::play(alloc, world, &events, meters, net.port_mask()) else {
+        return Ended {
             status: Status::NoMemory,
             journal: Journal::new(alloc),
+            meters: Vec::new(alloc),
         };
     };
-    let written = write_journal(alloc, &played.journal, &net, out);
-    Finished {
+    let written = write_played(alloc, &played, &net, out);
+    Ended {
         status: Status::after(written, played.full),
         journal: played.journal,
+        meters: played.meters,
+    }
+}
+
+/// Writes the lines of a play: those of its journal, and then, where it didn't stop full, those of
+/// its meters.
+fn write_played<M: Meter, K: Sink>(
+    alloc: Global,
+    played: &Played<M>,
+    net: &Net,
+    out: &mut K,
+) -> Result<(), SinkError>
+    requires { IsNet net.now }
+    ensures whole { OnOk result ((K.state out.new).bytes ≡ gained (K.state out.old).bytes
+        (replay_text net.now played.now.journal played.now.full
+        (map M.seen played.now.meters.items))) }
+    ensures part { IsErrOf result SinkError.Failed → GainedPart (K.state out.old).bytes
+        (replay_text net.now played.now.journal played.now.full
+        (map M.seen played.now.meters.items)) (K.state out.new).bytes }
+    ensures some { OnErr result (GainedSome (K.state out.old).bytes
+        (replay_text net.now played.now.journal played.now.full
+        (map M.seen played.now.meters.items)) (K.state out.new).bytes) }
+    ensures untouched { replay_text net.now played.now.journal played.now.full
+        (map M.seen played.now.meters.items) ≡ [] → out.new ≡ out.old }
+    ensures failed { IsErrOf result SinkError.Failed
+        → Rose (K.state out.old).faults (K.state out.new).faults }
+    ensures faults { (K.state out.old).faults ≤ (K.state out.new).faults }
+{
+    match write_journal(alloc, &played.journal, net, out) {
+        Ok(()) => match played.full {
+            None => write_meters(&played.meters, out),
+            Some(_) => Ok(()),
+        },
+        Err(error) => Err(error),
     }
 }
 

@@ -7,6 +7,7 @@ ghost use Rattle.difane_cli.specs.Status.{TellsLine, full_line, input_line, stat
 
 use itoa::Buffer;
 use journal::Journal;
+use meters::Meter;
 use shelf::{Sink, SinkError, write_whole};
 use std::alloc::{AllocError, AllocFailed, Global};
 use std::marker::Model;
@@ -91,12 +92,17 @@ pub enum Status {
     NoMemory,
 }
 
-/// How a command ended, and the journal of its play; the empty one where nothing was played.
+/// How a command ended, the journal of its play, which is the empty one where nothing was played,
+/// and the meters that are still there.
 #[derive(Drop)]
-pub struct Finished {
+pub struct Ended<M> {
     pub status: Status,
     pub journal: Journal,
+    pub meters: Vec<M>,
 }
+
+/// The same with boxed meters, of whatever kinds their maker has.
+pub type Finished = Ended<Box<dyn Meter>>;
 
 impl From<Stop> for Status {
     ghost from_gives = { λ stop status. status ≡ status_of stop };
@@ -203,8 +209,8 @@ fn write_input_line<E: Sink>(
     write_pieces(&pieces, errs)
 }
 
-// Writes the pieces one after another, until one fails.
-fn write_pieces<E: Sink>(pieces: &[&[u8]], errs: &mut E) -> Result<(), SinkError>
+/// Writes the pieces one after another, until one fails.
+pub fn write_pieces<E: Sink>(pieces: &[&[u8]], errs: &mut E) -> Result<(), SinkError>
     ensures { IsAfterWrite (flat_map (λ piece. piece.now) pieces.now) E.takes_memory
         (E.state errs.old) (E.state errs.new) result }
 {

@@ -1,5 +1,5 @@
 //! What a command is to do, once its files are read, and the doing of it.
-ghost use Rattle.std.specs.Prelude.{◌≡◌, ◌≤◌, Ok, Some, IfOk, IfErr, Result};
+ghost use Rattle.std.specs.Prelude.{◌≡◌, ◌≤◌, Ok, Some, IfOk, IfErr, Result, [], map};
 ghost use Rattle.std.specs.Option.{ForSome};
 ghost use Rattle.shelf.specs.Faults.{Rose};
 ghost use Rattle.shelf.specs.Shelf.{IsAfterReads};
@@ -7,6 +7,7 @@ ghost use Rattle.difane_cli.specs.Commands.{IsReadyTask, IsTaskOf, NamesPolicies
 ghost use Rattle.difane_cli.specs.Inputs.{known_task, most_reads};
 ghost use Rattle.difane_cli.specs.Inputs.{Task as Stated};
 ghost use Rattle.difane_cli.specs.declared.status.Refusal.{Refusal};
+ghost use Rattle.difane_cli.specs.Meters.{PlaysNothing};
 ghost use Rattle.difane_cli.specs.Run.{Accounts, Known, Outcome};
 ghost use Rattle.difane_cli.specs.Status.{IsAfterWork, NeedsReadFault, status_of};
 ghost use Rattle.difane_cli.specs.Words as grammar;
@@ -15,9 +16,10 @@ ghost use Rattle.difane_cli.specs.declared.status.Status.TheVariants as status;
 use crate::inputs::{ReplayInputs, read_inputs};
 use crate::playing::play;
 use crate::printing::{PrintInputs, print, read_printing};
-use crate::status::{Finished, Status, Stop};
+use crate::status::{Ended, Status, Stop};
 use crate::words::Command;
 use journal::Journal;
+use meters::Meter;
 use shelf::{Shelf, Sink};
 use std::alloc::Global;
 
@@ -59,13 +61,16 @@ pub fn read_task<F: Shelf>(alloc: Global, shelf: &mut F, command: Command<'_>) -
 }
 
 /// Does the task and writes what comes of it, which is told for whatever is known of the task.
-pub fn work<K: Sink>(alloc: Global, task: Task, out: &mut K) -> Finished
+pub fn work<M: Meter, K: Sink>(alloc: Global, task: Task, meters: Vec<M>, out: &mut K) -> Ended<M>
     requires { IsReadyTask task }
     ensures outcome { (command : grammar.Command) (known : Known)
         → IsTaskOf command (task_stated task)
         → ForSome known (λ read. read ≡ Ok (task_stated task))
         → Outcome (Some command) known result.status result.journal
+        (map M.seen meters.items) (map M.seen result.meters.items)
         (K.state out.old) (K.state out.new) }
+    ensures meters { (command : grammar.Command) → IsTaskOf command (task_stated task)
+        → PlaysNothing (Some command) → result.meters ≡ meters }
     ensures accounts { (read : Result Stated Refusal) → read ≡ Ok (task_stated task)
         → Accounts read result.status }
     ensures worked { IsAfterWork result.status }
@@ -74,10 +79,23 @@ pub fn work<K: Sink>(alloc: Global, task: Task, out: &mut K) -> Finished
     ensures faults { (K.state out.old).faults ≤ (K.state out.new).faults }
 {
     match task {
-        Task::Play(inputs) => play(alloc, inputs, out),
-        Task::Print(inputs) => Finished {
+        Task::Play(inputs) => play(alloc, inputs, meters, out),
+        Task::Print(inputs) => Ended {
             status: Status::after(print(alloc, &inputs, out), None),
             journal: Journal::new(alloc),
+            meters,
         },
+    }
+}
+
+/// The meters that are left where nothing was played: none of a replay, and all of a command that
+/// plays nothing.
+pub fn unplayed<M: Meter>(alloc: Global, command: Command<'_>, meters: Vec<M>) -> Vec<M>
+    ensures none { ¬ PlaysNothing (Some (command_named command.entry)) → result.items ≡ [] }
+    ensures all { PlaysNothing (Some (command_named command.entry)) → result ≡ meters }
+{
+    match command {
+        Command::Replay(_) => Vec::new(alloc),
+        Command::Print(_) => meters,
     }
 }

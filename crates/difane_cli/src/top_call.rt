@@ -1,18 +1,20 @@
 //! The top call.
-ghost use Rattle.std.specs.Prelude.{◌≡◌, ◌≤◌, ◌⊎◌, ◌↔◌, ℕ, None};
+ghost use Rattle.std.specs.Prelude.{◌≡◌, ◌≤◌, ◌⊎◌, ◌↔◌, ℕ, None, map};
 ghost use Rattle.std.specs.Option.{ForSome};
 ghost use Rattle.shelf.specs.Faults.{Rose};
 ghost use Rattle.shelf.specs.Shelf.{IsAfterReads};
 ghost use Rattle.difane_cli.specs.Inputs.{IsAccepted, known_task, most_reads};
+ghost use Rattle.difane_cli.specs.Meters.{PlaysNothing};
 ghost use Rattle.difane_cli.specs.Run.{Accounts, Outcome};
 ghost use Rattle.difane_cli.specs.Status.{NeedsReadFault, TellsLine, status_line};
 ghost use Rattle.difane_cli.specs.Words.{command_of, texts};
 ghost use Rattle.difane_cli.specs.declared.status.Status.TheVariants as status;
 
-use crate::status::{Finished, Status, tell};
-use crate::task::{read_task, work};
+use crate::status::{Ended, Finished, Status, tell};
+use crate::task::{read_task, unplayed, work};
 use crate::words::read_words;
 use journal::Journal;
+use meters::Meter;
 use shelf::{Shelf, Sink};
 use std::alloc::Global;
 
@@ -32,12 +34,18 @@ pub fn run<F: Shelf, K: Sink, E: Sink>(
     shelf: &mut F,
     out: &mut K,
     errs: &mut E,
+    meters: Vec<Box<dyn Meter>>,
 ) -> Finished
     // By its status: what was played, that it answers the inputs, is a run of the abstract machine
-    // whose ends and items have their causes, and what the output gained.
+    // whose ends and items have their causes, which meters stayed, and what the output gained.
     ensures outcome { Outcome (command_of (texts words.now))
         (known_task (F.state shelf.old).files (command_of (texts words.now)))
-        result.status result.journal (K.state out.old) (K.state out.new) }
+        result.status result.journal (map ⟦<Box<dyn Meter> as Meter>⟧.seen meters.items)
+        (map ⟦<Box<dyn Meter> as Meter>⟧.seen result.meters.items)
+        (K.state out.old) (K.state out.new) }
+
+    // A command that plays nothing gives the meters back as it took them.
+    ensures meters { PlaysNothing (command_of (texts words.now)) → result.meters ≡ meters }
 
     // Each status has its cause.
     ensures words { (result.status ≡ status.Words) ↔ (command_of (texts words.now) ≡ None) }
@@ -69,24 +77,37 @@ pub fn run<F: Shelf, K: Sink, E: Sink>(
     ensures faults { (K.state out.old).faults ≤ (K.state out.new).faults }
 {
     match read_words(words) {
-        None => end(Status::Words, Journal::new(alloc), errs),
+        None => end(Status::Words, Journal::new(alloc), meters, errs),
         Some(command) => match read_task(alloc, shelf, command) {
-            Err(stop) => end(Status::from(stop), Journal::new(alloc), errs),
+            Err(stop) => {
+                let meters = unplayed(alloc, command, meters);
+                end(Status::from(stop), Journal::new(alloc), meters, errs)
+            }
             Ok(task) => {
-                let finished = work(alloc, task, out);
-                end(finished.status, finished.journal, errs)
+                let ended = work(alloc, task, meters, out);
+                end(ended.status, ended.journal, ended.meters, errs)
             }
         },
     }
 }
 
 /// Tells the status of a command that ended.
-fn end<E: Sink>(status: Status, journal: Journal, errs: &mut E) -> Finished
+fn end<M: Meter, E: Sink>(
+    status: Status,
+    journal: Journal,
+    meters: Vec<M>,
+    errs: &mut E,
+) -> Ended<M>
     ensures status { result.status ≡ status }
     ensures journal { result.journal ≡ journal }
+    ensures meters { result.meters ≡ meters }
     ensures line { TellsLine (status_line status) E.takes_memory
         (E.state errs.old) (E.state errs.new) }
 {
     tell(&status, errs);
-    Finished { status, journal }
+    Ended {
+        status,
+        journal,
+        meters,
+    }
 }

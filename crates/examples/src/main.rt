@@ -5,7 +5,7 @@
 //! `examples` at the top of the repository leads there.
 #![tactic(auto)]
 
-use difane_cli::run;
+use difane_cli::{Meter, Recorder, run};
 use shelf::{DiskShelf, MemSink, Shelf, ShelfError, StdSink, write_whole};
 use std::alloc::{AllocError, Global};
 use std::process::ExitCode;
@@ -21,15 +21,20 @@ struct Answer {
     errs: MemSink,
 }
 
-fn ask<F: Shelf>(alloc: Global, shelf: &mut F, words: &Vec<String>) -> Answer {
+/// What the program answers, with a recorder for each port as its `main` has them.
+fn ask<F: Shelf>(alloc: Global, shelf: &mut F, words: &Vec<String>) -> Result<Answer, AllocError> {
+    let mut meters: Vec<Box<dyn Meter>> = Vec::new(alloc);
+    for port in 0..64 {
+        meters.push(Box::new(alloc, Recorder::new(alloc, port))?)?;
+    }
     let mut out = MemSink::new(alloc, u64::MAX, Vec::new(alloc));
     let mut errs = MemSink::new(alloc, u64::MAX, Vec::new(alloc));
-    let finished = run(alloc, words, shelf, &mut out, &mut errs);
-    Answer {
+    let finished = run(alloc, words, shelf, &mut out, &mut errs, meters);
+    Ok(Answer {
         status: finished.status.number(),
         out,
         errs,
-    }
+    })
 }
 
 /// The content of the file of this name, or nothing where the name is `-`.
@@ -53,7 +58,7 @@ fn told<F: Shelf>(alloc: Global, shelf: &mut F, line: &str) -> anyhow::Result<St
     let Some((name, words)) = line.split_once(' ') else {
         return Ok(String::from_str(alloc, "no command\n")?);
     };
-    let answer = ask(alloc, shelf, &words_of(alloc, words)?);
+    let answer = ask(alloc, shelf, &words_of(alloc, words)?)?;
     let wanted = expected(alloc, shelf, name)?;
     let same = if answer.out.bytes() == wanted.as_slice() {
         "as"

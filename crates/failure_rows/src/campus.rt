@@ -1,6 +1,6 @@
-//! A whole day of a campus: caches, a link that fails, and an update.
+//! A whole day of a campus: caches, a link that fails, and an update; what left is counted.
 use std::test::Fail;
-use worked_rows::runs::{ended, ran, shelf_of, sink};
+use worked_rows::runs::{ended, recorded};
 
 const CAMPUS: &str = "backups = 1\n\
     switch = [{ name = \"a\", ports = [1] }, { name = \"b\", authority = 1000 }, \
@@ -39,7 +39,7 @@ const DAY: &str = "event,arguments\n\
     drain\n\
     flush\n";
 
-const DAY_JOURNAL: &str = "row 1: packet a 10.0.1.5 10.0.2.10 40000 443 tcp\n\
+const DAY_OUTPUT: &str = "row 1: packet a 10.0.1.5 10.0.2.10 40000 443 tcp\n\
     \x20 entered 1 a\n\
     \x20 tunnelled 1 v1 part 0 via a b\n\
     row 2: hop 1\n\
@@ -198,7 +198,9 @@ const DAY_JOURNAL: &str = "row 1: packet a 10.0.1.5 10.0.2.10 40000 443 tcp\n\
     000000000a00020a000001bb06/00000000ffffffff0000ffffff rule 600 drop\n\
     \x20 dropped 4\n\
     row 14: deliver 35\n\
-    \x20 delivered 35\n";
+    \x20 delivered 35\n\
+    meter port 2 notes 2\n\
+    meter port 3 notes 1\n";
 
 const WORDS: [&str; 6] = [
     "replay",
@@ -219,8 +221,7 @@ const FILES: [(&str, &str); 4] = [
 #[test]
 fn replays_a_day(rt: HostRuntime) -> Result<(), Fail> {
     let alloc = rt.alloc();
-    let shelf = shelf_of(alloc, &FILES)?;
-    let ran = ran(alloc, &WORDS, shelf, sink(alloc), sink(alloc))?;
-    assert!(rt; ended(&ran, 0, DAY_JOURNAL, ""));
+    let ran = recorded(alloc, &WORDS, &FILES)?;
+    assert!(rt; ended(&ran, 0, DAY_OUTPUT, ""));
     Ok(())
 }

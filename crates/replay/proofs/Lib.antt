@@ -1,5 +1,6 @@
 mod Asked
 pub mod Events
+mod Keeping
 mod Small
 mod Stepping
 mod Ties

@@ -116,6 +116,19 @@ took_next setting row event is_begun start here after step took is room written 
   begun = begun_on took.steps (one row step);
 }
 
+-- whole steps begin the event too
+pub begins_whole : (setting : Setting) (row : ℕ) (event : Event) (is_begun : Bool)
+    (start here : List Item) → Took setting row event is_begun start here
+    → Begins setting row event start here
+begins_whole setting row event is_begun start here took = record {
+  steps = took.steps;
+  first = took.first;
+  written = took.items;
+  grown = took.grown;
+  lacking = [];
+  whole = sym took.written ∙ sym (append-nil here);
+}
+
 -- in front of a step that would begin full
 pub stops_next : (setting : Setting) (row : ℕ) (event : Event) (is_begun : Bool)
     (start here : List Item) (step : Step) → Took setting row event is_begun start here

@@ -1,24 +1,29 @@
-ghost use Rattle.std.specs.Prelude.{◌≡◌, ◌+◌, ◌≤◌, false, IsErrOf, OnErr, OnOk, length};
+ghost use Rattle.std.specs.Prelude.{◌≡◌, ◌+◌, ◌≤◌, false, length, map, IsErrOf, OnErr, OnOk};
 ghost use Rattle.steps.specs.Steps.{IsEvent, max_events};
 ghost use Rattle.world.specs.declared.error.StepError.TheVariants.{Full};
+ghost use Rattle.replay.specs.Leavings.{KeepUp};
 ghost use Rattle.replay.specs.Playing.{Begins, Happens, StopsWithin, brought_in, next_step};
 ghost use Rattle.world.specs.State.{setting_at};
 
+use crate::noting::note_left;
 use hop_laws::{deliveries_rise, drains_end};
+use meters::{Board, Meter};
 use std::alloc::Global;
 use steps::{Event, Step};
 use world::{StepError, World};
 
 /// Takes all steps of an event of this row: the one that it names; for a drain a hop of the least
 /// packet that travels, until none travels; for a flush a delivery of the least message that waits,
-/// until none waits, those that are sent meanwhile among them.
+/// until none waits, those that are sent meanwhile among them. Behind each step the meters note the
+/// packets that left in it.
 ///
 /// # Errors
 /// `Full` where a step would begin behind a full journal, which has the steps before it; otherwise
 /// want of memory alone, and the journal has first steps of the event and a part of the next one.
-pub fn take_steps(
+pub fn take_steps<M: Meter>(
     alloc: Global,
     world: &mut World,
+    board: &mut Board<M>,
     row: u32,
     event: &Event,
 ) -> Result<(), StepError>
@@ -35,13 +40,19 @@ pub fn take_steps(
         world.old.journal world.new.journal }
     ensures part { OnErr result (Begins (setting_at world.old) row event.now world.old.journal
         world.new.journal) }
+    ensures kept { OnOk result (KeepUp world.old.journal world.new.journal
+        (map M.seen board.old) (map M.seen board.new)) }
+    ensures kept_full { IsErrOf result Full → KeepUp world.old.journal world.new.journal
+        (map M.seen board.old) (map M.seen board.new) }
 {
     let mut is_begun = false;
     while let Some(next) = next_of(world, event, is_begun) {
         drains_end();
         deliveries_rise();
         world.tied();
+        let before = world.journal().items().len();
         world.step(alloc, row, &next)?;
+        note_left(board, &world.journal().items()[before..])?;
         is_begun = true;
     }
     Ok(())

@@ -5,23 +5,27 @@
 //! one that would begin behind a full journal. What follows is said by the laws of `way_laws`: that
 //! it is a run of the abstract machine, and that the ends in it have causes. That drains and flushes
 //! end are laws of `hop_laws`: a packet takes few hops, and each message that is delivered in a
-//! flush has a greater number than the one before it.
+//! flush has a greater number than the one before it. Behind each step the meters note the packets
+//! that left; those that stay are the kept meters of the journal.
 //!
 //! ```text
-//! let played = replay(alloc, &net, policies, &events)?; // Plan(why) where there is no first plan
+//! let played = replay(alloc, &net, policies, &events, meters)?; // Plan(why): no first plan
 //! let text = text(alloc, &played.journal, &net)?; // its lines, by `journal_text`
 //! let row = played.full; // the row at which there was no room, if the play stopped there
+//! let meters = played.meters; // those that stayed
 //! ```
 #![tactic(auto)]
 
 mod error;
 mod event_steps;
+mod noting;
 mod playing;
 
 pub use error::ReplayError;
 pub use event_steps::take_steps;
 pub use journal::{Item, Journal};
 pub use journal_text::text;
+pub use meters::{Board, Meter};
 pub use net_file::Net;
 pub use playing::{Played, play, replay};
 pub use policy_rules::Policy;

@@ -1,5 +1,6 @@
-ghost use Rattle.std.specs.Prelude.{◌≡◌, ◌≤◌, ◌+◌, All, IfErr, IfOk, IsOk, OnOk, length, slice_index_or, []};
-ghost use Rattle.net_file.specs.Net.{IsNet};
+ghost use Rattle.std.specs.Prelude.{◌≡◌, ◌≤◌, ◌+◌, All, IfErr, IfOk, IsOk, OnOk, length, map, slice_index_or, []};
+ghost use Rattle.meters.specs.Meters.{kept_meters};
+ghost use Rattle.net_file.specs.Net.{IsNet, port_mask};
 ghost use Rattle.partition.specs.Plan.{plan_of};
 ghost use Rattle.policy_rules.specs.Policy.{IsPolicy};
 ghost use Rattle.steps.specs.Steps.{IsEvent, max_events};
@@ -7,11 +8,13 @@ ghost use Rattle.update_machine.specs.Full.{IsPlay};
 ghost use Rattle.update_machine.specs.Sound.{NamesOwnPort};
 ghost use Rattle.update_machine.specs.Setting.{setting_of};
 ghost use Rattle.world.specs.State.{IsBegun, setting_at};
+ghost use Rattle.replay.specs.Leavings.{left_in};
 ghost use Rattle.replay.specs.Playing.{IsRefusal};
 
 use crate::error::ReplayError;
 use crate::event_steps::take_steps;
 use journal::Journal;
+use meters::{Board, Meter};
 use net_file::Net;
 use policy_rules::Policy;
 use std::alloc::{AllocError, Global};
@@ -20,8 +23,10 @@ use world::{StepError, World};
 
 /// What a play leaves.
 #[derive(Drop)]
-pub struct Played {
+pub struct Played<M> {
     pub journal: Journal,
+    /// The meters that stayed, in their order.
+    pub meters: Vec<M>,
     /// The row of the step that would have begun behind a full journal, where the play ended so.
     pub full: Option<u32>,
 }
@@ -29,16 +34,18 @@ pub struct Played {
 /// Plays the events on the network, on which the first policy is in force as version 1: event k,
 /// from 1, is row k of the schedule. A drain is a hop of the least packet that travels, until none
 /// does; a flush is a delivery of the least message that waits, until none does. Where a step would
-/// begin behind a full journal, the play ends before it.
+/// begin behind a full journal, the play ends before it. Behind each step the meters note the
+/// packets that left; those of no port of the network are dropped, and those that leave.
 ///
 /// # Errors
 /// `Plan` exactly where the first policy has no plan on the network, unless memory runs out.
-pub fn replay(
+pub fn replay<M: Meter>(
     alloc: Global,
     net: &Net,
     policies: Vec<Policy>,
     events: &[Event],
-) -> Result<Played, ReplayError>
+    meters: Vec<M>,
+) -> Result<Played<M>, ReplayError>
     requires net { IsNet net.now }
     requires some { 1 ≤ length policies.items }
     requires sound { All IsPolicy policies.items }
@@ -48,6 +55,9 @@ pub fn replay(
     requires few { length events.now ≤ max_events }
     ensures play { IfOk result (λ played.
         IsPlay (setting_of net.now policies.items) events.now played.journal played.full) }
+    ensures kept { IfOk result (λ played. map M.seen played.meters.items
+        ≡ kept_meters (port_mask net.now.switches) (left_in played.journal)
+        (map M.seen meters.items)) }
     ensures planned { OnOk result
         (IsOk (plan_of (slice_index_or policies.items 0 []) net.now)) }
     ensures refused { IfErr result
@@ -55,31 +65,42 @@ pub fn replay(
 {
     let world = World::begin(alloc, net, policies)?;
     world.tied();
-    let played = play(alloc, world, events)?;
+    let played = play(alloc, world, events, meters, net.port_mask())?;
     Ok(played)
 }
 
-/// Plays the events in a world in which nothing happened yet, as `replay` does.
+/// Plays the events in a world in which nothing happened yet, as `replay` does, with the meters of
+/// the ports in the mask.
 ///
 /// # Errors
 /// Want of memory alone.
-pub fn play(alloc: Global, world: World, events: &[Event]) -> Result<Played, AllocError>
+pub fn play<M: Meter>(
+    alloc: Global,
+    world: World,
+    events: &[Event],
+    meters: Vec<M>,
+    ports: u64,
+) -> Result<Played<M>, AllocError>
     requires begun { IsBegun (setting_at world) world }
     requires events { All (IsEvent world.net (length world.policies)) events.now }
     requires few { length events.now ≤ max_events }
-    ensures { IfOk result (λ played.
+    ensures play { IfOk result (λ played.
         IsPlay (setting_at world) events.now played.journal played.full) }
+    ensures kept { IfOk result (λ played. map M.seen played.meters.items
+        ≡ kept_meters ports (left_in played.journal) (map M.seen meters.items)) }
 {
     world.tied();
     let mut world = world;
+    let mut board = Board::new(meters, ports);
     let mut row = 0u32;
     for event in events {
         row += 1;
-        match take_steps(alloc, &mut world, row, event) {
+        match take_steps(alloc, &mut world, &mut board, row, event) {
             Ok(()) => {}
             Err(StepError::Full) => {
                 return Ok(Played {
                     journal: world.into_journal(),
+                    meters: board.into_meters(),
                     full: Some(row),
                 });
             }
@@ -88,6 +109,7 @@ pub fn play(alloc: Global, world: World, events: &[Event]) -> Result<Played, All
     }
     Ok(Played {
         journal: world.into_journal(),
+        meters: board.into_meters(),
         full: None,
     })
 }

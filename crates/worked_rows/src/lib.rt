@@ -4,6 +4,8 @@
 
 pub mod files;
 #[cfg(test)]
+mod meter_runs;
+#[cfg(test)]
 mod networks;
 #[cfg(test)]
 mod plans;

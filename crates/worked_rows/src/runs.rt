@@ -1,12 +1,13 @@
 //! Runs of the program over files and outputs in memory.
-use difane_cli::run;
+use difane_cli::{Meter, Recorder, run};
 use shelf::{MemShelf, MemSink};
 use std::alloc::{AllocError, Global};
 
 /// The status of a run, its output and its line of errors.
 pub type Ran = (u8, MemSink, MemSink);
 
-fn owned(alloc: Global, words: &[&str]) -> Result<Vec<String>, AllocError> {
+/// These words, each of which owns its text.
+pub fn owned(alloc: Global, words: &[&str]) -> Result<Vec<String>, AllocError> {
     let mut all = Vec::new(alloc);
     for word in words {
         all.push(String::from_str(alloc, word)?)?;
@@ -14,7 +15,7 @@ fn owned(alloc: Global, words: &[&str]) -> Result<Vec<String>, AllocError> {
     Ok(all)
 }
 
-/// A run with these words over this shelf and these sinks.
+/// A run with these words over this shelf and these sinks, and without meters.
 pub fn ran(
     alloc: Global,
     words: &[&str],
@@ -23,7 +24,22 @@ pub fn ran(
     mut errs: MemSink,
 ) -> Result<Ran, AllocError> {
     let words = owned(alloc, words)?;
-    let finished = run(alloc, &words, &mut shelf, &mut out, &mut errs);
+    let meters: Vec<Box<dyn Meter>> = Vec::new(alloc);
+    let finished = run(alloc, &words, &mut shelf, &mut out, &mut errs, meters);
+    Ok((finished.status.number(), out, errs))
+}
+
+/// A run with these words over these files, with a recorder for each port as the program has them.
+pub fn recorded(alloc: Global, words: &[&str], files: &[(&str, &str)]) -> Result<Ran, AllocError> {
+    let words = owned(alloc, words)?;
+    let mut meters: Vec<Box<dyn Meter>> = Vec::new(alloc);
+    for port in 0..64 {
+        meters.push(Box::new(alloc, Recorder::new(alloc, port))?)?;
+    }
+    let mut shelf = shelf_of(alloc, files)?;
+    let mut out = sink(alloc);
+    let mut errs = sink(alloc);
+    let finished = run(alloc, &words, &mut shelf, &mut out, &mut errs, meters);
     Ok((finished.status.number(), out, errs))
 }
 

@@ -1,4 +1,6 @@
-use Rattle.std.proofs.Common.{List, ap, subst}
+use Rattle.std.proofs.Common.{ℕ, ◌∙◌, List, ap, map, subst}
+use Rattle.meters.specs.Meters.{kept_meters}
+use Rattle.replay.specs.Leavings.{left_in}
 use Rattle.steps.specs.declared.step.Event.{Event}
 use Rattle.update_machine.specs.Full.{IsPlay}
 use Rattle.difane_cli.specs.Commands.{inputs_stated}
@@ -17,19 +19,22 @@ returns-clause-outcome g c = λ command known asked read.
       strong = c.causes_are_strong.ensures;
     } in
     let play = subst (λ (events : List Event). IsPlay inputs.setting events journal full)
-    c.deref.ensures.value c.in-Ok.ensures in
+    c.deref.ensures.value c.in-Ok.ensures.play in
     let answer = played laws command known inputs journal full asked read play in
-    let written = c.write_journal-written.ensures in
-    rw c.after.ensures (replayed command known inputs journal full _ _ _ answer
-    (rw c.requires.net written.whole) (rw c.requires.net written.part)
+    let written = c.write_played-written.ensures in
+    let kept = c.in-Ok.ensures.kept
+    ∙ ap (λ (ports : ℕ). kept_meters ports (left_in journal) (map g.M.Meter.seen c.args.meters.items))
+    c.port_mask.ensures in
+    rw c.after.ensures (replayed command known inputs journal full _ _ _ _ _ answer
+    (rw c.requires.net kept) (rw c.requires.net written.whole) (rw c.requires.net written.part)
     (rw c.requires.net written.some)
     (rw c.requires.net (λ none. ap (λ k. g.K.Sink.state k) (written.untouched none))))
 
 pub returns-clause-worked : goal.returns-clause-worked
 returns-clause-worked g c =
-    rw c.after.ensures (after_work c.write_journal-written.result c.in-Ok.played.full)
+    rw c.after.ensures (after_work c.write_played-written.result c.in-Ok.played.full)
 
 pub returns-clause-failed : goal.returns-clause-failed
 returns-clause-failed g c = λ is.
-    c.write_journal-written.ensures.failed
-    (by_failed c.write_journal-written.result c.in-Ok.played.full (rw c.after.ensures at is))
+    c.write_played-written.ensures.failed
+    (by_failed c.write_played-written.result c.in-Ok.played.full (rw c.after.ensures at is))

@@ -1,24 +1,27 @@
-use Rattle.std.proofs.Common.{◌∙◌, ap, Err, length, refl, subst, sym, arith}
+use Rattle.std.proofs.Common.{◌-◌, ◌∙◌, ap, drop, Err, length, map, refl, subst, sym, take, true, arith}
 use Rattle.steps.specs.Steps.{IsEvent}
 use Rattle.update_machine.specs.Setting.{Setting}
 use Rattle.world.specs.State.{WorldValue, setting_at}
 use Rattle.world.specs.declared.error.StepError.TheVariants.{Full}
+use Rattle.replay.specs.Leavings.{KeepUp}
 use Rattle.replay.specs.Playing.{StopsWithin}
 use Rattle.replay.proofs.Asked.{asked, brought_all, none_yet}
-use Rattle.replay.proofs.Stepping.{begins_next, happens_whole, on_err, same_error, stops_next, took_next, took_none}
+use Rattle.replay.proofs.Keeping.{keep_up_next, keep_up_none, rest_is}
+use Rattle.replay.proofs.Stepping.{begins_next, begins_whole, happens_whole, on_err, same_error, stops_next, took_next, took_none}
 use Rattle.replay.proofs.Ties.{few_packets, tie_of}
 use Rattle.replay.proofs.event_steps.take_steps.Goals as goal
 
 pub loop-next-init : goal.loop-next-init
-loop-next-init c = record {
+loop-next-init g c = record {
   setting = refl;
   able = c.requires.able;
   packets = omega (arith, none_yet c.args.event.now);
   took = took_none (setting_at c.args.world.now) c.args.row c.args.event.now c.args.world.now.journal;
+  kept = keep_up_none c.args.world.now.journal (map g.M.Meter.seen c.args.board.now);
 }
 
 pub step-requires-clause-few : goal.step-requires-clause-few
-step-requires-clause-few c =
+step-requires-clause-few g c =
     let so_far = c.loop-next.invariant in
     let world = c.loop-next.world in
     let tied = c.tied.ensures so_far.able in
@@ -28,7 +31,7 @@ step-requires-clause-few c =
     (omega (arith, so_far.packets, next.none)) c.requires.few
 
 pub step-requires-clause-may : goal.step-requires-clause-may
-step-requires-clause-may c =
+step-requires-clause-may g c =
     let so_far = c.loop-next.invariant in
     let world = c.loop-next.world in
     let tied = c.tied.ensures so_far.able in
@@ -40,7 +43,7 @@ step-requires-clause-may c =
     (omega (arith, (tie_of world tied).counted, so_far.packets, next.none, c.requires.few))
 
 pub loop-next-smaller : goal.loop-next-smaller
-loop-next-smaller c =
+loop-next-smaller g c =
     let so_far = c.loop-next.invariant in
     let world = c.loop-next.world in
     let tied = c.tied.ensures so_far.able in
@@ -49,7 +52,7 @@ loop-next-smaller c =
     rw c.in_ok-step.ensures.written (next.fewer c.in_ok-step.ensures.room)
 
 pub loop-next-preserved : goal.loop-next-preserved
-loop-next-preserved c =
+loop-next-preserved g c =
     let so_far = c.loop-next.invariant in
     let world = c.loop-next.world in
     let tied = c.tied.ensures so_far.able in
@@ -68,10 +71,19 @@ loop-next-preserved c =
       took = took_next (setting_at c.args.world.now) c.args.row c.args.event.now c.loop-next.is_begun
           c.args.world.now.journal world.journal c.step.new.self.journal c.in-Some.next so_far.took
           is c.in_ok-step.ensures.room (rw so_far.setting at c.in_ok-step.ensures.written);
+      kept =
+          let before = c.items-before.result.now in
+          let items = c.items.result.now in
+          keep_up_next c.args.world.now.journal world.journal c.step.new.self.journal _
+          (take (length items - length before) (drop (length before) items)) _ _ _
+          c.in_ok-step.ensures.written so_far.kept c.in_ok-note_left.ensures
+          (rest_is world.journal c.step.new.self.journal before items
+          (c.items-before.ensures ∙ c.journal.ensures)
+          (c.items.ensures ∙ c.journal-in-Some.ensures));
     }
 
 pub returns-in_err-step-clause-part : goal.returns-in_err-step-clause-part
-returns-in_err-step-clause-part c =
+returns-in_err-step-clause-part g c =
     let so_far = c.loop-next.invariant in
     on_err c.from_residual.result _
     (begins_next (setting_at c.args.world.now) c.args.row c.args.event.now c.loop-next.is_begun
@@ -79,7 +91,7 @@ returns-in_err-step-clause-part c =
     so_far.took (sym c.in-Some.ensures) (rw so_far.setting at c.in_err-step.ensures.part))
 
 pub returns-in_err-step-clause-stops : goal.returns-in_err-step-clause-stops
-returns-in_err-step-clause-stops c = λ is.
+returns-in_err-step-clause-stops g c = λ is.
     let full = ap Err (same_error c.from_residual.result _ Full c.from_residual.ensures.1 is) in
     subst (λ (world : WorldValue). StopsWithin (setting_at c.args.world.now) c.args.row
     c.args.event.now c.args.world.now.journal world.journal)
@@ -88,14 +100,32 @@ returns-in_err-step-clause-stops c = λ is.
     c.args.world.now.journal c.loop-next.world.journal c.in-Some.next
     c.loop-next.invariant.took (sym c.in-Some.ensures) (c.in_err-step.ensures.full full))
 
+pub returns-in_err-step-clause-kept_full : goal.returns-in_err-step-clause-kept_full
+returns-in_err-step-clause-kept_full g c = λ is.
+    let full = ap Err (same_error c.from_residual.result _ Full c.from_residual.ensures.1 is) in
+    subst (λ (world : WorldValue). KeepUp c.args.world.now.journal world.journal
+    (map g.M.Meter.seen c.args.board.now) (map g.M.Meter.seen c.loop-next.board))
+    (sym (c.in_err-step.ensures.unchanged full)) c.loop-next.invariant.kept
+
+pub returns-in_err-note_left-clause-part : goal.returns-in_err-note_left-clause-part
+returns-in_err-note_left-clause-part g c =
+    let so_far = c.loop-next.invariant in
+    on_err c.from_residual-in_err-note_left.result _
+    (begins_whole (setting_at c.args.world.now) c.args.row c.args.event.now true
+    c.args.world.now.journal c.step.new.self.journal
+    (took_next (setting_at c.args.world.now) c.args.row c.args.event.now c.loop-next.is_begun
+    c.args.world.now.journal c.loop-next.world.journal c.step.new.self.journal c.in-Some.next
+    so_far.took (sym c.in-Some.ensures) c.in_ok-step.ensures.room
+    (rw so_far.setting at c.in_ok-step.ensures.written)))
+
 pub returns-clause-happens : goal.returns-clause-happens
-returns-clause-happens c =
+returns-clause-happens g c =
     happens_whole (setting_at c.args.world.now) c.args.row c.args.event.now c.loop-next.is_begun
     c.args.world.now.journal c.loop-next.world.journal c.loop-next.invariant.took
     (sym c.next_of.ensures ∙ c.in_default.is)
 
 pub returns-clause-packets : goal.returns-clause-packets
-returns-clause-packets c = omega (
+returns-clause-packets g c = omega (
   arith,
   c.loop-next.invariant.packets,
   brought_all c.args.event.now c.loop-next.is_begun c.loop-next.world.journal

@@ -1,16 +1,19 @@
 use Rattle.world.specs.State.{setting_at}
-use Rattle.std.proofs.Common.{◌+◌, ◌∙◌, Some, None, Err, ap, refl, sym, subst, arith}
+use Rattle.std.proofs.Common.{◌+◌, ◌∙◌, Some, None, Err, List, ap, map, refl, sym, subst, arith}
 use Rattle.std.proofs.lemmas.List.{drop_all}
+use Rattle.journal.specs.declared.item.Item.{Item}
+use Rattle.meters.specs.Meters.{kept_meters}
 use Rattle.update_machine.specs.Full.{IsPlay}
 use Rattle.update_machine.specs.Packets.{next_packet}
 use Rattle.update_machine.proofs.CallerLemmas.{start_laws}
+use Rattle.replay.specs.Leavings.{left_in}
 use Rattle.replay.proofs.Asked.{brought_few}
 use Rattle.replay.proofs.Events.{PlaysOn, plays_from_start, plays_no_more, plays_on_by, stops_by}
 use Rattle.replay.proofs.Ties.{tie_of}
 use Rattle.replay.proofs.playing.play.Goals as goal
 
 pub loop-event-init : goal.loop-event-init
-loop-event-init c =
+loop-event-init g c =
     let world = c.args.world in
     let begun = c.requires.begun in record {
       rows = refl;
@@ -25,10 +28,13 @@ loop-event-init c =
       plays_on = λ whole stop rest.
           subst (λ journal. PlaysOn (setting_at world) journal 1 c.args.events.now whole stop)
           begun.silent rest;
+      kept = c.new-board.ensures.kept
+          ∙ ap (λ (journal : List Item). kept_meters c.args.ports (left_in journal)
+          (map g.M.Meter.seen c.args.meters.items)) (sym begun.silent);
     }
 
 pub loop-event-preserved : goal.loop-event-preserved
-loop-event-preserved c =
+loop-event-preserved g c =
     let so_far = c.loop-event.invariant in record {
       rows = ap (λ n. n + 1) so_far.rows;
       setting = c.in-Ok.ensures.setting ∙ so_far.setting;
@@ -39,10 +45,11 @@ loop-event-preserved c =
           c.take_steps.new.world.journal whole (c.loop-event.row + 1) c.args.events.now
           c.loop-event.event-index _ stop c.loop-event-test.true
           (rw so_far.setting at c.in-Ok.ensures.happens) rest);
+      kept = c.in-Ok.ensures.kept c.args.ports (map g.M.Meter.seen c.args.meters.items) so_far.kept;
     }
 
-pub returns-in-Err-Full : goal.returns-in-Err-Full
-returns-in-Err-Full c =
+pub returns-in-Err-Full-clause-play : goal.returns-in-Err-Full-clause-play
+returns-in-Err-Full-clause-play g c =
     let setting = setting_at c.args.world in
     let so_far = c.loop-event.invariant in
     let row = c.loop-event.row + 1 in
@@ -56,8 +63,8 @@ returns-in-Err-Full c =
     (stops_by setting c.loop-event.world.journal after row c.args.events.now
     c.loop-event.event-index _ c.loop-event-test.true stops)))
 
-pub returns : goal.returns
-returns c =
+pub returns-clause-play : goal.returns-clause-play
+returns-clause-play g c =
     let setting = setting_at c.args.world in
     let journal = c.loop-event.world.journal in
     let row = c.loop-event.row + 1 in
@@ -67,3 +74,17 @@ returns c =
     (c.loop-event.invariant.plays_on journal None
     (subst (λ events. PlaysOn setting journal row events journal None) (sym none)
     (plays_no_more setting journal row))))
+
+pub returns-in-Err-Full-clause-kept : goal.returns-in-Err-Full-clause-kept
+returns-in-Err-Full-clause-kept g c =
+    ap (map g.M.Meter.seen) c.into_meters.ensures
+    ∙ c.in-Err-Full.ensures.kept_full (ap Err c.in-Err-Full.field-0-is) c.args.ports
+    (map g.M.Meter.seen c.args.meters.items) c.loop-event.invariant.kept
+    ∙ ap (λ (journal : List Item). kept_meters c.args.ports (left_in journal)
+    (map g.M.Meter.seen c.args.meters.items)) (sym c.into_journal.ensures)
+
+pub returns-clause-kept : goal.returns-clause-kept
+returns-clause-kept g c =
+    ap (map g.M.Meter.seen) c.into_meters-2.ensures ∙ c.loop-event.invariant.kept
+    ∙ ap (λ (journal : List Item). kept_meters c.args.ports (left_in journal)
+    (map g.M.Meter.seen c.args.meters.items)) (sym c.into_journal-2.ensures)

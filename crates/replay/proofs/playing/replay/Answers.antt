@@ -6,7 +6,7 @@ use Rattle.replay.proofs.Ties.{tie_of}
 use Rattle.replay.proofs.playing.replay.Goals as goal
 
 pub returns-clause-planned : goal.returns-clause-planned
-returns-clause-planned c =
+returns-clause-planned g c =
     let begun = c.in_ok-world.ensures.begun in
     first_planned c.args.net.now c.args.policies.items
     (subst (λ setting. IsOk (plan_of_file setting 1)) begun.own

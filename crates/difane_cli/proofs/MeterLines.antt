@@ -1,0 +1,90 @@
+-- The lines of meters, and the text of a replay, which has them behind the journal's.
+use Rattle.std.specs.Prelude.{⊤, Bool}
+use Rattle.std.proofs.Common.{ℕ, ◌≡◌, ◌≢◌, Option, Some, None, Result, Ok, Err, IsErrOf, OnErr, List, [], ◌∷◌, ◌++◌, length, map, refl, ap, sym, subst, append-nil}
+use Rattle.std.specs.List.{flat_map}
+use Rattle.journal.specs.declared.item.Item.{Item}
+use Rattle.journal_text.specs.Lines.{journal_text}
+use Rattle.meters.specs.Meters.{Seen}
+use Rattle.net_file.specs.declared.net.Net.{Net}
+use Rattle.policy_rules.specs.declared.packet.Leaving.{Leaving}
+use Rattle.shelf.specs.Sink.{gained, GainedPart, IsAfterWrite, SinkState}
+use Rattle.shelf.specs.declared.output.SinkError.{SinkError}
+use Rattle.shelf.specs.declared.output.SinkError.TheVariants as sink
+use Rattle.difane_cli.specs.Meters.{line_by, meter_line, meter_lines, notes_line, replay_text}
+use Rattle.difane_cli.specs.Run.{GainedSome}
+use Rattle.difane_cli.proofs.Gains.{GainedPart-behind, GainedSome-behind, GainedSome-part}
+
+-- ---- one line
+
+pub line_none : (port : ℕ) (held : List Leaving) → length held ≡ 0 → line_by port held ≡ []
+line_none port [] none = refl
+line_none port (one ∷ held) none = absurd (cc none)
+
+pub line_some : (port : ℕ) (held : List Leaving) → length held ≢ 0
+    → line_by port held ≡ notes_line port (length held)
+line_some port [] some = absurd (some refl)
+line_some port (one ∷ held) some = refl
+
+-- ---- the lines of all meters
+
+pub lines_of : {X : Type 0} (seen : X → Seen) (xs : List X)
+    → flat_map (λ meter. meter_line (seen meter)) xs ≡ meter_lines (map seen xs)
+lines_of seen [] = refl
+lines_of seen (x ∷ xs) = ap (λ lines. meter_line (seen x) ++ lines) (lines_of seen xs)
+
+-- ---- some bytes
+
+pub gained_nothing : (before : Option (List ℕ)) → before ≡ gained before []
+gained_nothing None = refl
+gained_nothing (Some bytes) = ap Some (sym (append-nil bytes))
+
+pub part_last : (before middle now : Option (List ℕ)) (front piece : List ℕ)
+    → middle ≡ gained before front → GainedPart middle piece now
+    → GainedPart before (front ++ piece) now
+part_last before middle now front piece written part =
+    subst (λ (bytes : List ℕ). GainedPart before (front ++ bytes) now) (append-nil piece)
+    (GainedPart-behind before middle now front piece [] written part)
+
+pub none_left : (xs ys : List ℕ) → xs ++ ys ≡ [] → xs ≡ []
+none_left [] ys is = refl
+none_left (x ∷ xs) ys is = absurd (cc is)
+
+pub none_right : (xs ys : List ℕ) → xs ++ ys ≡ [] → ys ≡ []
+none_right [] ys is = is
+none_right (x ∷ xs) ys is = absurd (cc is)
+
+-- ---- the text of a replay
+
+pub some_of_text : (net : Net) (journal : List Item) (full : Option ℕ) (meters : List Seen)
+    (before now : Option (List ℕ)) → GainedSome before (journal_text net journal) now
+    → GainedSome before (replay_text net journal full meters) now
+some_of_text net journal None meters before now some =
+    GainedSome-behind before before now [] (journal_text net journal) (meter_lines meters)
+    (gained_nothing before) some
+some_of_text net journal (Some row) meters before now some = some
+
+-- ---- the lines of the meters, behind a text that was written
+
+pub cut_last : (before middle now : SinkState) (text lines : List ℕ) (takes_memory : Bool)
+    (result : Result (⊤) SinkError) → middle.bytes ≡ gained before.bytes text
+    → IsAfterWrite lines takes_memory middle now result → IsErrOf result sink.Failed
+    → GainedPart before.bytes (text ++ lines) now.bytes
+cut_last before middle now text lines takes_memory (Ok done) written after is = absurd (cc is)
+cut_last before middle now text lines takes_memory (Err why) written after is =
+    part_last before.bytes middle.bytes now.bytes text lines written after.part
+
+pub some_last : (before middle now : SinkState) (text lines : List ℕ) (takes_memory : Bool)
+    (result : Result (⊤) SinkError) → middle.bytes ≡ gained before.bytes text
+    → IsAfterWrite lines takes_memory middle now result
+    → OnErr result (GainedSome before.bytes (text ++ lines) now.bytes)
+some_last before middle now text lines takes_memory (Ok done) written after = tt
+some_last before middle now text lines takes_memory (Err why) written after =
+    GainedSome-part before.bytes now.bytes (text ++ lines)
+    (part_last before.bytes middle.bytes now.bytes text lines written after.part)
+
+-- a play that didn't stop full has both
+pub text_whole : (net : Net) (journal : List Item) (full : Option ℕ) (meters : List Seen)
+    → full ≡ None
+    → journal_text net journal ++ meter_lines meters ≡ replay_text net journal full meters
+text_whole net journal None meters is = refl
+text_whole net journal (Some row) meters is = absurd (cc is)

@@ -1,0 +1,78 @@
+use Rattle.std.proofs.Common.{◌≡◌, ◌∙◌, ap, arith, drop, get_or, subst, suc, sym, take}
+use Rattle.std.proofs.lemmas.List.{take_all}
+use Rattle.std.specs.List.{flat_map}
+use Rattle.shelf.specs.Sink.{gained, gained-gained, GainedPart}
+use Rattle.difane_cli.specs.Meters.{meter_line}
+use Rattle.difane_cli.proofs.Gains.{GainedPart-behind, flat_map-one, flat_map-there, middle_none}
+use Rattle.difane_cli.proofs.MeterLines.{lines_of}
+use Rattle.difane_cli.proofs.meter_lines.write_meters.Goals as goal
+
+pub loop-meter-preserved : goal.loop-meter-preserved
+loop-meter-preserved g c =
+    let meters = c.args.meters.now in
+    let i = c.loop-meter.meter-index in
+    let item = c.meter-item.result in
+    let own : get_or meters i item ≡ item = sym c.meter-item.is in
+    let line = λ (meter : g.row.M.Denot). meter_line (g.M.Meter.seen meter) in
+    let before = (g.K.Sink.state c.args.out.now).bytes in
+    let so_far = c.loop-meter.invariant in record {
+      written = c.in-Ok.ensures.after.whole
+          ∙ ap (λ bytes. gained bytes (line item)) so_far.written
+          ∙ gained-gained before (flat_map line (take i meters)) _
+          ∙ ap (gained before) (flat_map-one line meters i item c.loop-meter-test.true own);
+      untouched = λ none. c.in-Ok.ensures.no_line
+          (middle_none (flat_map line (take i meters)) _ (flat_map line (drop (suc i) meters))
+          (flat_map-there line meters i item c.loop-meter-test.true own
+          ∙ lines_of g.M.Meter.seen meters ∙ none)) ∙ so_far.untouched none;
+      faults = omega (arith, so_far.faults, c.in-Ok.ensures.after.faults);
+    }
+
+pub returns-clause-after : goal.returns-clause-after
+returns-clause-after g c =
+    let meters = c.args.meters.now in
+    let i = c.loop-meter.meter-index in
+    let line = λ (meter : g.row.M.Denot). meter_line (g.M.Meter.seen meter) in
+    let before = (g.K.Sink.state c.args.out.now).bytes in record {
+      whole = c.loop-meter.invariant.written ∙ ap (gained before)
+          (ap (flat_map line) (take_all i meters (omega (arith, c.loop-meter-test.false)))
+          ∙ lines_of g.M.Meter.seen meters);
+      part = tt;
+      faults = c.loop-meter.invariant.faults;
+      failed = λ is. absurd (cc is);
+      no_memory = λ is. absurd (cc is);
+    }
+
+pub returns-in-Err-clause-after : goal.returns-in-Err-clause-after
+returns-in-Err-clause-after g c =
+    let meters = c.args.meters.now in
+    let i = c.loop-meter.meter-index in
+    let item = c.meter-item.result in
+    let own : get_or meters i item ≡ item = sym c.meter-item.is in
+    let line = λ (meter : g.row.M.Denot). meter_line (g.M.Meter.seen meter) in
+    let before = (g.K.Sink.state c.args.out.now).bytes in
+    let now = (g.K.Sink.state c.write_meter.new.out).bytes in
+    let after = c.in-Err.ensures.after in
+    let behind = GainedPart-behind before (g.K.Sink.state c.loop-meter.out).bytes now
+    (flat_map line (take i meters)) _ (flat_map line (drop (suc i) meters))
+    c.loop-meter.invariant.written after.part in
+    record {
+      whole = tt;
+      part = subst (λ bytes. GainedPart before bytes now)
+          (flat_map-there line meters i item c.loop-meter-test.true own ∙ lines_of g.M.Meter.seen meters)
+          behind;
+      faults = omega (arith, c.loop-meter.invariant.faults, after.faults);
+      failed = λ is. omega (arith, c.loop-meter.invariant.faults, after.failed is);
+      no_memory = after.no_memory;
+    }
+
+pub returns-in-Err-clause-no_lines : goal.returns-in-Err-clause-no_lines
+returns-in-Err-clause-no_lines g c = λ none.
+    let meters = c.args.meters.now in
+    let i = c.loop-meter.meter-index in
+    let item = c.meter-item.result in
+    let own : get_or meters i item ≡ item = sym c.meter-item.is in
+    let line = λ (meter : g.row.M.Denot). meter_line (g.M.Meter.seen meter) in
+    c.in-Err.ensures.no_line
+    (middle_none (flat_map line (take i meters)) _ (flat_map line (drop (suc i) meters))
+    (flat_map-there line meters i item c.loop-meter-test.true own ∙ lines_of g.M.Meter.seen meters ∙ none))
+    ∙ c.loop-meter.invariant.untouched none

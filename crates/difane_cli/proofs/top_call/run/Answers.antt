@@ -1,0 +1,57 @@
+use Rattle.std.specs.Prelude.{String, Vec, option_map, string_bytes}
+use Rattle.std.specs.Global.{Global}
+use Rattle.std.proofs.Common.{◌≡◌, ◌∙◌, Option, Some, List, ap, map, subst, sym}
+use Rattle.journal.specs.declared.item.Item.{Item}
+use Rattle.meters.specs.Meters.{Seen}
+use Rattle.shelf.specs.Shelf.{Files}
+use Rattle.shelf.specs.Sink.{SinkState}
+use Rattle.difane_cli.specs.Commands.{command_named}
+use Rattle.difane_cli.specs.Inputs.{known_task}
+use Rattle.difane_cli.specs.Run.{Outcome}
+use Rattle.difane_cli.specs.Words.{command_of}
+use Rattle.difane_cli.specs.Words as grammar
+use Rattle.difane_cli.specs.declared.status.Ended.{Ended}
+use Rattle.difane_cli.specs.declared.status.Status.{Status}
+use Rattle.difane_cli.specs.declared.words.Command.{Command}
+use Rattle.difane_cli.proofs.top_call.run.Goals as goal
+
+-- the command that was read is that of the words
+command_is : (command : Command) (words owned : List (String Global))
+    → option_map command_named (Some command) ≡ command_of (map string_bytes words)
+    → words ≡ owned → Some (command_named command) ≡ command_of (map string_bytes owned)
+command_is command words owned read same =
+    read ∙ ap (λ (all : List (String Global)). command_of (map string_bytes all)) same
+
+-- what work came to, a call that ends so comes to
+ended_so : {M : Type 0} (seen : M → Seen) (files : Option Files)
+    (asked command : Option grammar.Command) (taken : List Seen) (before now : SinkState)
+    (worked ended : Ended M) → asked ≡ command → ended.status ≡ worked.status
+    → ended.journal ≡ worked.journal → ended.meters ≡ worked.meters
+    → Outcome asked (known_task files asked) worked.status worked.journal taken
+    (map seen worked.meters.items) before now
+    → Outcome command (known_task files command) ended.status ended.journal taken
+    (map seen ended.meters.items) before now
+ended_so {M} seen files asked command taken before now worked ended own is same stayed outcome =
+    let meters = ended.meters in
+    subst (λ (c : Option grammar.Command).
+    Outcome c (known_task files c) ended.status ended.journal taken (map seen meters.items)
+    before now) own
+    (subst (λ (s : Status).
+    Outcome asked (known_task files asked) s ended.journal taken (map seen meters.items)
+    before now) (sym is)
+    (subst (λ (items : List Item).
+    Outcome asked (known_task files asked) worked.status items taken (map seen meters.items)
+    before now) (sym same)
+    (subst (λ (given : List M).
+    Outcome asked (known_task files asked) worked.status worked.journal taken (map seen given)
+    before now) (sym (ap (λ (all : Vec M Global). all.items) stayed)) outcome)))
+
+pub returns-in-Ok-clause-outcome : goal.returns-in-Ok-clause-outcome
+returns-in-Ok-clause-outcome g c =
+    let asked = command_named c.in-Some.command in
+    let files = (g.F.Shelf.state c.args.shelf.now).files in
+    ended_so _ files (Some asked) _ _ _ _ c.work-ended.result c.end-in-Ok.result
+    (command_is c.in-Some.command _ _ c.in-Some.ensures.value c.deref.ensures.value)
+    c.end-in-Ok.ensures.status c.end-in-Ok.ensures.journal c.end-in-Ok.ensures.meters
+    (c.work-ended.ensures.outcome asked (known_task files (Some asked)) c.in-Ok.ensures.asked
+    c.in-Ok.ensures.value)

@@ -1,0 +1,45 @@
+-- What a replay writes: the text of its journal, and a line for each meter that has a note; and
+-- which commands play nothing.
+use Rattle.std.specs.Prelude.{⊤, ℕ, Option, Some, None, List, [], ◌∷◌, ◌++◌, codes, decimal, length}
+use Rattle.std.specs.List.{concat, flat_map}
+use Rattle.journal.specs.declared.item.Item.{Item}
+use Rattle.journal_text.specs.Lines.{journal_text}
+use Rattle.meters.specs.Meters.{Seen, kept_meters}
+use Rattle.net_file.specs.Net.{port_mask}
+use Rattle.net_file.specs.declared.net.Net.{Net}
+use Rattle.policy_rules.specs.declared.packet.Leaving.{Leaving}
+use Rattle.replay.specs.Leavings.{left_in}
+use Rattle.difane_cli.specs.Words.{Command}
+use Rattle.difane_cli.specs.Words as asked
+
+-- the line of a meter of this port that has so many notes, with its line feed
+abbrev pub notes_line : ℕ → ℕ → List ℕ
+notes_line port notes = concat (codes "meter port " ∷ decimal port
+    ∷ codes " notes " ∷ decimal notes ∷ codes "\n" ∷ [])
+
+-- a meter that holds nothing has none
+abbrev pub line_by : ℕ → List Leaving → List ℕ
+line_by port [] = []
+line_by port held = notes_line port (length held)
+
+abbrev pub meter_line : Seen → List ℕ
+meter_line meter = line_by meter.port meter.held
+
+abbrev pub meter_lines : List Seen → List ℕ
+meter_lines meters = flat_map meter_line meters
+
+-- the meters that stay while the packets of this journal leave the network
+abbrev pub kept_by : Net → List Item → List Seen → List Seen
+kept_by net journal meters = kept_meters (port_mask net.switches) (left_in journal) meters
+
+-- the text of the journal, and behind its last line those of the meters; a play that stopped full
+-- has the journal's alone
+abbrev pub replay_text : Net → List Item → Option ℕ → List Seen → List ℕ
+replay_text net journal None meters = journal_text net journal ++ meter_lines meters
+replay_text net journal (Some row) meters = journal_text net journal
+
+-- words off the grammar, and a command that plays nothing
+abbrev pub PlaysNothing : Option Command → Type 0
+PlaysNothing None = ⊤
+PlaysNothing (Some (asked.Print words)) = ⊤
+PlaysNothing (Some (asked.Replay words)) = ⊥

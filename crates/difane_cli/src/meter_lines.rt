@@ -1,0 +1,49 @@
+//! The lines of meters.
+ghost use Rattle.std.specs.Prelude.{◌≡◌, [], map};
+ghost use Rattle.shelf.specs.Sink.{IsAfterWrite};
+ghost use Rattle.difane_cli.specs.Meters.{meter_line, meter_lines, notes_line};
+
+use crate::status::write_pieces;
+use itoa::Buffer;
+use meters::Meter;
+use shelf::{Sink, SinkError};
+
+/// Writes a line for each meter that has a note, in order. It takes no memory of its own.
+pub fn write_meters<M: Meter, K: Sink>(meters: &[M], out: &mut K) -> Result<(), SinkError>
+    ensures after { IsAfterWrite (meter_lines (map M.seen meters.now)) K.takes_memory
+        (K.state out.old) (K.state out.new) result }
+    ensures no_lines { meter_lines (map M.seen meters.now) ≡ [] → out.new ≡ out.old }
+{
+    for meter in meters {
+        match write_meter(meter, out) {
+            Ok(()) => {}
+            Err(error) => return Err(error),
+        }
+    }
+    Ok(())
+}
+
+/// Writes the line of a meter, if it has a note.
+fn write_meter<M: Meter, K: Sink>(meter: &M, out: &mut K) -> Result<(), SinkError>
+    ensures after { IsAfterWrite (meter_line (M.seen meter.now)) K.takes_memory
+        (K.state out.old) (K.state out.new) result }
+    ensures no_line { meter_line (M.seen meter.now) ≡ [] → out.new ≡ out.old }
+{
+    let notes = meter.notes();
+    match notes > 0 {
+        true => write_notes(meter.port(), notes, out),
+        false => Ok(()),
+    }
+}
+
+fn write_notes<K: Sink>(port: u32, notes: u64, out: &mut K) -> Result<(), SinkError>
+    ensures { IsAfterWrite (notes_line port notes) K.takes_memory
+        (K.state out.old) (K.state out.new) result }
+{
+    let mut port_digits = Buffer::new();
+    let mut notes_digits = Buffer::new();
+    let port = port_digits.format(port).as_bytes();
+    let notes = notes_digits.format(notes).as_bytes();
+    let pieces: [&[u8]; 5] = [b"meter port ", port, b" notes ", notes, b"\n"];
+    write_pieces(&pieces, out)
+}

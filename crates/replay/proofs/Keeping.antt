@@ -1,0 +1,42 @@
+-- Meters that note what left in the items of a step, behind those of the steps before it.
+use Rattle.std.proofs.Common.{◌≡◌, ◌∙◌, ◌-◌, List, [], ◌∷◌, ◌++◌, drop, length, take, ap, arith, length-drop, refl, subst, sym}
+use Rattle.std.proofs.lemmas.Grind.{flat_map-append}
+use Rattle.std.proofs.lemmas.List.{take_all}
+use Rattle.journal.specs.declared.item.Item.{Item}
+use Rattle.meters.specs.Meters.{PortLeavings, Seen, kept_meters}
+use Rattle.replay.specs.Leavings.{KeepUp, StayOn, left_by, left_in}
+
+drop_front : {X : Type 0} (xs ys : List X) → drop (length xs) (xs ++ ys) ≡ ys
+drop_front [] ys = refl
+drop_front (x ∷ xs) ys = drop_front xs ys
+
+left_append : (here items : List Item) → left_in here ++ left_in items ≡ left_in (here ++ items)
+left_append here items = sym (flat_map-append left_by here items)
+
+-- what stands behind the items that were there before
+pub rest_is : (here after before items : List Item) → before ≡ here → items ≡ after
+    → take (length items - length before) (drop (length before) items)
+    ≡ drop (length here) after
+rest_is here after before items old is =
+    take_all (length items - length before) (drop (length before) items)
+    (omega (arith, length-drop (length before) items))
+    ∙ ap (λ (xs : List Item). drop (length xs) items) old ∙ ap (drop (length here)) is
+
+-- they keep up with a step that wrote some items, which they noted
+pub keep_up_next : (start here after items noted : List Item) (old now new : List Seen)
+    → after ≡ here ++ items → KeepUp start here old now → StayOn (left_in noted) now new
+    → noted ≡ drop (length here) after → KeepUp start after old new
+keep_up_next start here after items noted old now new written keep stay own =
+    let own_items : noted ≡ items =
+    own ∙ ap (drop (length here)) written ∙ drop_front here items in
+    let whole : left_in here ++ left_in noted ≡ left_in after =
+    ap (λ more. left_in here ++ left_in more) own_items ∙ left_append here items
+    ∙ ap left_in (sym written) in
+    λ ports meters is.
+    subst (λ (left : PortLeavings). new ≡ kept_meters ports left meters) whole
+    (stay ports (left_in here) meters (keep ports meters is))
+
+-- while nothing happens
+pub keep_up_none : (journal : List Item) (meters : List Seen)
+    → KeepUp journal journal meters meters
+keep_up_none journal meters = λ ports own is. is

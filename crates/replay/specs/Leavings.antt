@@ -1,0 +1,29 @@
+-- The packets that left in a journal, and the meters that stay while they do.
+use Rattle.std.specs.Prelude.{◌≡◌, ℕ, List, [], ◌∷◌, ◌++◌}
+use Rattle.std.specs.List.{flat_map}
+use Rattle.journal.specs.declared.item.Item.{Item}
+use Rattle.journal.specs.declared.item.Item.TheVariants as item
+use Rattle.meters.specs.Meters.{PortLeavings, Seen, kept_meters}
+
+-- what an item says of a packet that left
+abbrev pub left_by : Item → PortLeavings
+left_by (item.Left packet port leaving) = (port, leaving) ∷ []
+left_by _ = []
+
+-- the leavings of a journal, in order, each with its port
+abbrev pub left_in : List Item → PortLeavings
+left_in items = flat_map left_by items
+
+-- where the old meters are those that stayed behind some leavings, the new ones are those that stay
+-- behind these and more
+abbrev pub StayOn : PortLeavings → List Seen → List Seen → Type 0
+StayOn more old new =
+    (ports : ℕ) (left : PortLeavings) (meters : List Seen) → old ≡ kept_meters ports left meters
+    → new ≡ kept_meters ports (left ++ more) meters
+
+-- where the old meters are those that stayed behind the one journal, the new ones are those that
+-- stay behind the other
+abbrev pub KeepUp : (before after : List Item) → List Seen → List Seen → Type 0
+KeepUp before after old new =
+    (ports : ℕ) (meters : List Seen) → old ≡ kept_meters ports (left_in before) meters
+    → new ≡ kept_meters ports (left_in after) meters

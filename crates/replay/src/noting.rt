@@ -1,0 +1,23 @@
+//! Packets that left are noted by the meters of their ports.
+ghost use Rattle.std.specs.Prelude.{map, OnOk};
+ghost use Rattle.replay.specs.Leavings.{StayOn, left_in};
+
+use journal::Item;
+use meters::{Board, Meter};
+use std::alloc::AllocError;
+
+/// Lets the meters note each packet that left in these items, in their order.
+///
+/// # Errors
+/// Want of memory of a meter.
+pub fn note_left<M: Meter>(board: &mut Board<M>, items: &[Item]) -> Result<(), AllocError>
+    ensures { OnOk result
+        (StayOn (left_in items.now) (map M.seen board.old) (map M.seen board.new)) }
+{
+    for item in items {
+        if let Item::Left { port, leaving, .. } = item {
+            board.note(*port, leaving)?;
+        }
+    }
+    Ok(())
+}
