@@ -1,0 +1,4 @@
+mod Pieces
+mod Rows
+mod Plays
+mod Trials

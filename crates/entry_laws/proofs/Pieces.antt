@@ -1,0 +1,111 @@
+-- What the pieces of steps have of packet rows and their entries.
+use Rattle.std.proofs.Common.{ℕ, ◌≡◌, Bool, true, false, List, [], ◌∷◌, ◌++◌, refl, ap, sym, subst, ◌∙◌, append_assoc, append-nil}
+use Rattle.five_tuple.specs.declared.header.Header.{Header}
+use Rattle.journal.specs.declared.item.Item.{Item}
+use Rattle.journal.specs.declared.item.Item.TheVariants as item
+use Rattle.steps.specs.declared.step.Step.{Step}
+use Rattle.steps.specs.declared.step.Step.TheVariants.{Packet}
+use Rattle.update_machine.specs.Answers.{StepOfRow, after_steps}
+use Rattle.update_machine.specs.Boots.{serves}
+use Rattle.update_machine.specs.Causes.{HaveCauses}
+use Rattle.update_machine.specs.Moves.{lookup_items, put}
+use Rattle.update_machine.specs.Packets.{next_packet}
+use Rattle.update_machine.specs.Pieces.{packet_items, piece}
+use Rattle.update_machine.specs.Setting.{Setting}
+use Rattle.update_machine.proofs.CallerLemmas.{all_given_append}
+use Rattle.way_laws.proofs.Others.{IsNoRow}
+use Rattle.way_laws.proofs.Rests.{no_rows}
+use Rattle.entry_laws.specs.Entries.{BeginsWithEntry, EachEnters, PacketRow, gives_row, packet_row, packet_rows_in}
+
+-- none of the items is a row
+abbrev NoRows : List Item → List Item → Type 0
+NoRows before items = HaveCauses (λ js next. IsNoRow next) before items
+
+-- ---- the rows
+
+none_given : (before items : List Item) → NoRows before items → packet_rows_in items ≡ []
+none_given before [] none = refl
+none_given before (item.Row row step ∷ items) none = absurd none.0
+none_given before (first ∷ items) none = none_given (before ++ first ∷ []) items none.1
+
+piece_rows : (setting : Setting) (before : List Item) (row : ℕ) (step : Step)
+    → packet_rows_in (piece setting before row step) ≡ packet_row row step
+unfolding piece
+piece_rows setting before row step =
+    ap (λ rows. packet_row row step ++ rows) (none_given _ _ (no_rows setting before row step))
+    ∙ append-nil (packet_row row step)
+
+-- the packet rows of steps
+abbrev pub rows_of : List StepOfRow → List PacketRow
+rows_of [] = []
+rows_of (next ∷ steps) = packet_row next.row next.step ++ rows_of steps
+
+pub steps_rows : (setting : Setting) (before : List Item) (steps : List StepOfRow)
+    → packet_rows_in (after_steps setting before steps) ≡ packet_rows_in before ++ rows_of steps
+steps_rows setting before [] = sym (append-nil (packet_rows_in before))
+steps_rows setting before (next ∷ steps) =
+    steps_rows setting (before ++ piece setting before next.row next.step) steps
+    ∙ ap (λ rows. rows ++ rows_of steps)
+    (all_given_append gives_row before (piece setting before next.row next.step)
+    ∙ ap (λ rows. packet_rows_in before ++ rows)
+    (piece_rows setting before next.row next.step))
+    ∙ append_assoc (packet_rows_in before) (packet_row next.row next.step) (rows_of steps)
+
+-- ---- the entries
+
+none_enter : (before items : List Item) → NoRows before items → EachEnters before items
+none_enter before [] none = tt
+none_enter before (item.Row row step ∷ items) none = absurd none.0
+none_enter before (first ∷ items) none = none_enter (before ++ first ∷ []) items none.1
+
+-- what stands behind a packet row
+packet_begins : (setting : Setting) (i s : ℕ) (header : Header) (journal : List Item)
+    → BeginsWithEntry i s header (packet_items setting i s header journal)
+unfolding packet_items
+packet_begins setting i s header journal = by_serving (serves journal s)
+  where
+    by_serving : (b : Bool) → BeginsWithEntry i s header (elim b [
+      | false ↦ item.Closed i s ∷ []
+      | true ↦ put (item.Entered i s header ∷ []) (lookup_items setting i s) journal
+    ])
+    by_serving false = (refl, refl)
+    by_serving true = (refl, refl, refl)
+
+piece_enters : (setting : Setting) (before : List Item) (row : ℕ) (step : Step)
+    → EachEnters before (piece setting before row step)
+unfolding piece
+piece_enters setting before row (Packet s header) =
+    let here : List Item = before ++ item.Row row (Packet s header) ∷ [] in (
+      packet_begins setting (next_packet before) s header here,
+      none_enter here _ (no_rows setting before row (Packet s header)),
+    )
+piece_enters setting before row step = none_enter _ _ (no_rows setting before row step)
+
+still_begins : (i s : ℕ) (header : Header) (items more : List Item)
+    → BeginsWithEntry i s header items → BeginsWithEntry i s header (items ++ more)
+still_begins i s header [] more begins = absurd begins
+still_begins i s header (item.Entered packet switch came ∷ items) more begins = begins
+still_begins i s header (item.Closed packet switch ∷ items) more begins = begins
+still_begins i s header (first ∷ items) more begins = absurd begins
+
+enter_on : (before items more : List Item) → EachEnters before items
+    → EachEnters (before ++ items) more → EachEnters before (items ++ more)
+enter_on before [] more first then = subst (λ js. EachEnters js more) (append-nil before) then
+enter_on before (item.Row row (Packet s header) ∷ items) more first then =
+    let here : List Item = before ++ item.Row row (Packet s header) ∷ [] in (
+      still_begins (next_packet before) s header items more first.0,
+      enter_on here items more first.1
+          (subst (λ js. EachEnters js more)
+          (sym (append_assoc before (item.Row row (Packet s header) ∷ []) items)) then),
+    )
+enter_on before (next ∷ items) more first then =
+    enter_on (before ++ next ∷ []) items more first
+    (subst (λ js. EachEnters js more) (sym (append_assoc before (next ∷ []) items)) then)
+
+pub steps_enter : (setting : Setting) (before : List Item) (steps : List StepOfRow)
+    → EachEnters [] before → EachEnters [] (after_steps setting before steps)
+steps_enter setting before [] known = known
+steps_enter setting before (next ∷ steps) known =
+    steps_enter setting (before ++ piece setting before next.row next.step) steps
+    (enter_on [] before (piece setting before next.row next.step) known
+    (piece_enters setting before next.row next.step))
