@@ -12,6 +12,9 @@ use Rattle.update_machine.specs.Machine.{IsRun}
 use Rattle.update_machine.specs.Sound.{IsSetting}
 use Rattle.update_machine.proofs.CallerLemmas.{answers_so_far, begins_itself, stop_begins}
 use Rattle.way_laws.specs.StrongCauses.{StrongCause}
+use Rattle.entry_laws.specs.Entries.{AreEntered, rows_played}
+use Rattle.steps.specs.declared.step.Event.{Event}
+use Rattle.update_machine.specs.Setting.{Setting}
 use Rattle.difane_cli.specs.Inputs.{Inputs, Play, Print, Printing}
 use Rattle.shelf.specs.Sink.{gained, GainedPart, SinkState}
 use Rattle.shelf.specs.declared.output.SinkError.{SinkError}
@@ -28,6 +31,8 @@ pub record AnswerLaws : Type 0 where
       IsSetting setting → EndsHaveCauses setting journal)
   pub strong : HoldsReached (λ setting journal.
       IsSetting setting → HaveCauses (StrongCause setting) [] journal)
+  pub entered : (setting : Setting) (events : List Event) (journal : List Item) (full : Option ℕ)
+      → IsPlay setting events journal full → AreEntered (rows_played full events) journal
 
 begins : (inputs : Inputs) (journal : List Item) (full : Option ℕ)
     → IsPlay inputs.setting inputs.events journal full
@@ -55,6 +60,7 @@ played laws command known inputs journal full asked accepted play = record {
   strong = laws.strong.begun inputs.setting inputs.events journal
       asked.events (begins inputs journal full play)
       asked.setting;
+  entered = laws.entered inputs.setting inputs.events journal full play;
 }
 
 -- what a play leaves begins an answer, so that some of its text may be written
@@ -72,6 +78,7 @@ begun command known inputs journal full taken given before now answer kept writt
   causes = answer.causes;
   strong = answer.strong;
   full = full;
+  entered = answer.entered;
   written =
       subst (λ meters. WroteSome (replay_text inputs.setting.net journal full meters) before now)
       kept written;

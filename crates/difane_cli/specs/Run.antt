@@ -17,6 +17,7 @@ use Rattle.update_machine.specs.Machine.{IsRun}
 use Rattle.update_machine.specs.Sound.{IsSetting}
 use Rattle.steps.specs.Steps.{IsEvent}
 use Rattle.way_laws.specs.StrongCauses.{StrongCause}
+use Rattle.entry_laws.specs.Entries.{AreEntered, rows_played}
 use Rattle.difane_cli.specs.Inputs.{Inputs, Play, Print, Printing, Task}
 use Rattle.difane_cli.specs.Meters.{kept_by, replay_text}
 use Rattle.difane_cli.specs.Words.{Command, PrintCommand, ReplayCommand}
@@ -68,7 +69,7 @@ pub record IsReplayOf (command : ReplayCommand) (inputs : Inputs) : Type 0 where
 -- the journal is that of the play of these inputs, which are the known ones where the task is
 -- known: it answers them, or it answers them up to a row at which the play stopped full; so it is a
 -- run of the machine, its ends have their causes, and its items have the strong ones, with which a
--- run keeps the promise
+-- run keeps the promise; and its packets are the packet rows that were played, in order
 pub record IsAnswer (command : ReplayCommand) (known : Known) (inputs : Inputs)
     (journal : List Item) (full : Option ℕ) : Type 0 where
   pub asked : IsReplayOf command inputs
@@ -77,6 +78,7 @@ pub record IsAnswer (command : ReplayCommand) (known : Known) (inputs : Inputs)
   pub run : IsRun inputs.setting journal
   pub causes : EndsHaveCauses inputs.setting journal
   pub strong : HaveCauses (StrongCause inputs.setting) [] journal
+  pub entered : AreEntered (rows_played full inputs.events) journal
 
 -- there are inputs such that the journal is that of their play, to its end or to a row at which it
 -- stopped full; the meters that were given back are those that stayed of the ones that were taken;
@@ -110,6 +112,7 @@ pub record Begun (command : ReplayCommand) (known : Known) (journal : List Item)
   pub causes : EndsHaveCauses inputs.setting journal
   pub strong : HaveCauses (StrongCause inputs.setting) [] journal
   pub full : Option ℕ
+  pub entered : AreEntered (rows_played full inputs.events) journal
   pub written : WroteSome (replay_text inputs.setting.net journal full
       (kept_by inputs.setting.net journal taken)) before now
 

@@ -16,6 +16,7 @@ ghost use Rattle.difane_cli.specs.declared.status.Status.TheVariants as status;
 use crate::inputs::ReplayInputs;
 use crate::meter_lines::write_meters;
 use crate::status::{Ended, Status};
+use entry_laws::packet_rows_are_entered;
 use journal::{Item, Journal};
 use journal_text::lines;
 use meters::Meter;
@@ -53,6 +54,7 @@ pub fn play<M: Meter, K: Sink>(
     answers_are_runs();
     ends_have_causes();
     causes_are_strong();
+    packet_rows_are_entered();
     let Ok(played) = replay::play(alloc, world, &events, meters, net.port_mask()) else {
         return Ended {
             status: Status::NoMemory,

@@ -17,6 +17,7 @@ returns-clause-outcome g c = λ command known asked read.
       run = c.answers_are_runs.ensures;
       causes = c.ends_have_causes.ensures;
       strong = c.causes_are_strong.ensures;
+      entered = c.packet_rows_are_entered.ensures.played;
     } in
     let play = subst (λ (events : List Event). IsPlay inputs.setting events journal full)
     c.deref.ensures.value c.in-Ok.ensures.play in
