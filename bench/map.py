@@ -10,6 +10,7 @@ import re
 import subprocess
 import sys
 from pathlib import Path
+from textwrap import fill
 
 HOME = Path(__file__).resolve().parent.parent
 PICTURE, PAGE, PROVED = (HOME / "docs" / name for name in ("map.svg", "MAP.md", "PROVED.md"))
@@ -53,7 +54,7 @@ def layers_of(lines):
 
 def layers_text(lines):
     layers = layers_of(lines)
-    told = [f"{len(layers) - k:2}  {'  '.join(layer)}" for k, layer in enumerate(reversed(layers))]
+    told = [fill(f"{len(layers) - k:2}  {'  '.join(layer)}", 100, subsequent_indent="    ") for k, layer in enumerate(reversed(layers))]
     return "```text\n" + "\n".join(told) + "\n```"
 
 
