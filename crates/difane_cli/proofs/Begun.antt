@@ -21,7 +21,7 @@ use Rattle.world_ties.specs.Tied.{AreTied}
 use Rattle.shelf.specs.Shelf.{Files}
 use Rattle.difane_cli.specs.Inputs.{and_then, first_plan, inputs_of, plan_from, read_net, read_policies, read_schedule}
 use Rattle.difane_cli.specs.Run.{IsNetOf, IsReplayOf}
-use Rattle.difane_cli.specs.Words.{ReplayCommand}
+use Rattle.words.specs.Words.{ReplayCommand}
 use Rattle.difane_cli.specs.declared.status.Refusal.{Refusal}
 
 -- ---- ports
@@ -76,12 +76,13 @@ pub asked_for : (words : ReplayCommand) (net : Net) (policies : List (List Row))
     (events : List Event) (setting : Setting) → IsNetOf words.net net
     → setting ≡ setting_of net policies → length policies ≡ length words.policies
     → IsSetting setting → All (IsEvent setting.net (length setting.policies)) events
-    → IsReplayOf words (record { setting = setting; events = events })
+    → IsReplayOf words (record { setting = setting; events = events; quiet = words.quiet })
 asked_for words net policies events setting named own many sound may = record {
   net = subst (λ s. IsNetOf words.net s.net) (sym own) named;
   policies = ap (λ s. length s.policies) own ∙ many;
   setting = sound;
   events = may;
+  quiet = refl;
 }
 
 -- what is planned goes on
@@ -95,7 +96,11 @@ inputs_from : (files : Files) (words : ReplayCommand) (net : Net) (policies : Li
     → read_schedule net (length words.policies) files words.schedule ≡ Ok events
     → read_policies (port_mask net.switches) files words.policies ≡ Ok policies
     → IsOk (first_plan words.policies net policies)
-    → inputs_of files words ≡ Ok (record { setting = setting_of net policies; events = events })
+    → inputs_of files words ≡ Ok (record {
+      setting = setting_of net policies;
+      events = events;
+      quiet = words.quiet;
+    })
 inputs_from files words net policies events net_is events_are policies_are planned =
     rw (net_is, events_are, policies_are)
     (and_then_ok (first_plan words.policies net policies) _ planned)
@@ -110,7 +115,7 @@ pub inputs_are : (known middle later : Option Files) (words : ReplayCommand) (ne
     → ForSome later (λ files. read_policies ports files words.policies ≡ Ok policies)
     → IsOk (first_plan words.policies net policies) → setting ≡ setting_of net policies
     → ForSome known (λ files. inputs_of files words
-    ≡ Ok (record { setting = setting; events = events }))
+    ≡ Ok (record { setting = setting; events = events; quiet = words.quiet }))
 inputs_are known middle later words net policies events setting count ports first second many mask
     net_is events_are policies_are planned own = λ files is.
     let own_events =
@@ -120,4 +125,4 @@ inputs_are known middle later words net policies events setting count ports firs
     subst (λ (p : ℕ). read_policies p files words.policies ≡ Ok policies) mask
     (policies_are files (second ∙ is)) in
     inputs_from files words net policies events (net_is files is) own_events own_policies planned
-    ∙ ap (λ s. Ok (record { setting = s; events = events })) (sym own)
+    ∙ ap (λ s. Ok (record { setting = s; events = events; quiet = words.quiet })) (sym own)

@@ -5,5 +5,5 @@ mod OneSwitch
 mod Plays
 mod PolicyReads
 mod ShelfReads
-mod Tried
+mod Verdicts
 mod Worked

@@ -1,16 +1,16 @@
--- The lines of meters, and the text of a replay, which has them behind the journal's.
+-- The lines of meters, and the text of a replay, which has the last lines behind the journal's.
 use Rattle.std.specs.Prelude.{⊤, Bool}
-use Rattle.std.proofs.Common.{ℕ, ◌≡◌, ◌≢◌, Option, Some, None, Result, Ok, Err, IsErrOf, OnErr, List, [], ◌∷◌, ◌++◌, length, map, refl, ap, sym, subst, append-nil}
+use Rattle.std.proofs.Common.{ℕ, ◌≡◌, ◌≢◌, Option, Some, None, Result, Ok, Err, IsErrOf, OnErr, List, [], ◌∷◌, ◌++◌, length, map, refl, ap, sym, subst, append-nil, ◌∙◌, ◌≤◌, arith}
 use Rattle.std.specs.List.{flat_map}
 use Rattle.journal.specs.declared.item.Item.{Item}
 use Rattle.journal_text.specs.Lines.{journal_text}
 use Rattle.meters.specs.Meters.{Seen}
 use Rattle.net_file.specs.declared.net.Net.{Net}
 use Rattle.policy_rules.specs.declared.packet.Leaving.{Leaving}
-use Rattle.shelf.specs.Sink.{gained, GainedPart, IsAfterWrite, SinkState}
+use Rattle.shelf.specs.Sink.{gained, gained-gained, GainedPart, IsAfterWrite, SinkState}
 use Rattle.shelf.specs.declared.output.SinkError.{SinkError}
 use Rattle.shelf.specs.declared.output.SinkError.TheVariants as sink
-use Rattle.difane_cli.specs.Meters.{line_by, meter_line, meter_lines, notes_line, replay_text}
+use Rattle.difane_cli.specs.Meters.{last_lines, line_by, meter_line, meter_lines, notes_line, replay_text}
 use Rattle.difane_cli.specs.Run.{GainedSome}
 use Rattle.difane_cli.proofs.Gains.{GainedPart-behind, GainedSome-behind, GainedSome-part}
 
@@ -56,14 +56,15 @@ none_right (x ∷ xs) ys is = absurd (cc is)
 -- ---- the text of a replay
 
 pub some_of_text : (net : Net) (journal : List Item) (full : Option ℕ) (meters : List Seen)
-    (before now : Option (List ℕ)) → GainedSome before (journal_text net journal) now
-    → GainedSome before (replay_text net journal full meters) now
-some_of_text net journal None meters before now some =
-    GainedSome-behind before before now [] (journal_text net journal) (meter_lines meters)
+    (answer : Option Bool) (before now : Option (List ℕ))
+    → GainedSome before (journal_text net journal) now
+    → GainedSome before (replay_text net journal full meters answer) now
+some_of_text net journal None meters answer before now some =
+    GainedSome-behind before before now [] (journal_text net journal) (last_lines meters answer)
     (gained_nothing before) some
-some_of_text net journal (Some row) meters before now some = some
+some_of_text net journal (Some row) meters answer before now some = some
 
--- ---- the lines of the meters, behind a text that was written
+-- ---- the last lines, behind a text that was written
 
 pub cut_last : (before middle now : SinkState) (text lines : List ℕ) (takes_memory : Bool)
     (result : Result (⊤) SinkError) → middle.bytes ≡ gained before.bytes text
@@ -82,9 +83,44 @@ some_last before middle now text lines takes_memory (Err why) written after =
     GainedSome-part before.bytes now.bytes (text ++ lines)
     (part_last before.bytes middle.bytes now.bytes text lines written after.part)
 
+-- two texts, one after the other
+pub both_written : (before middle now : SinkState) (text lines : List ℕ) (takes_memory : Bool)
+    (result : Result (⊤) SinkError) → middle.bytes ≡ gained before.bytes text
+    → before.faults ≤ middle.faults → IsAfterWrite lines takes_memory middle now result
+    → IsAfterWrite (text ++ lines) takes_memory before now result
+both_written before middle now text lines takes_memory (Ok done) written fewer after = record {
+  whole = after.whole ∙ ap (λ bytes. gained bytes lines) written
+      ∙ gained-gained before.bytes text lines;
+  part = tt;
+  faults = omega (arith, fewer, after.faults);
+  failed = λ is. absurd (cc is);
+  no_memory = λ is. absurd (cc is);
+}
+both_written before middle now text lines takes_memory (Err why) written fewer after = record {
+  whole = tt;
+  part = part_last before.bytes middle.bytes now.bytes text lines written after.part;
+  faults = omega (arith, fewer, after.faults);
+  failed = λ is. omega (arith, fewer, after.failed is);
+  no_memory = after.no_memory;
+}
+
+-- the first of them was cut short
+pub first_part : (before now : SinkState) (text lines : List ℕ) (takes_memory : Bool)
+    (why : SinkError) → IsAfterWrite text takes_memory before now (Err why)
+    → IsAfterWrite (text ++ lines) takes_memory before now (Err why)
+first_part before now text lines takes_memory why after = record {
+  whole = tt;
+  part = GainedPart-behind before.bytes before.bytes now.bytes [] text lines
+      (gained_nothing before.bytes) after.part;
+  faults = after.faults;
+  failed = after.failed;
+  no_memory = after.no_memory;
+}
+
 -- a play that didn't stop full has both
 pub text_whole : (net : Net) (journal : List Item) (full : Option ℕ) (meters : List Seen)
-    → full ≡ None
-    → journal_text net journal ++ meter_lines meters ≡ replay_text net journal full meters
-text_whole net journal None meters is = refl
-text_whole net journal (Some row) meters is = absurd (cc is)
+    (answer : Option Bool) → full ≡ None
+    → journal_text net journal ++ last_lines meters answer
+    ≡ replay_text net journal full meters answer
+text_whole net journal None meters answer is = refl
+text_whole net journal (Some row) meters answer is = absurd (cc is)

@@ -1,10 +1,13 @@
 -- What comes of a task that is done, by what became of its text.
-use Rattle.std.specs.Prelude.{⊤}
-use Rattle.std.proofs.Common.{ℕ, ◌≡◌, inr, refl, Option, Some, None, Result, Ok, Err, OnOk, OnErr, IsErrOf, List, [], subst}
+use Rattle.std.specs.Prelude.{⊤, is_some}
+use Rattle.std.proofs.Common.{ℕ, ◌≡◌, ◌⊎◌, inl, inr, refl, Bool, zero, Option, Some, None, Result, Ok, Err, OnOk, OnErr, IsErrOf, List, [], subst}
 use Rattle.std.specs.Option.{ForSome}
 use Rattle.boot_laws.specs.Always.{HoldsReached}
 use Rattle.journal.specs.declared.item.Item.{Item}
 use Rattle.meters.specs.Meters.{Seen}
+use Rattle.net_file.specs.Net.{IsNet}
+use Rattle.net_file.specs.declared.net.Net.{Net}
+use Rattle.quiet_journals.specs.Plain.{IsPlain}
 use Rattle.update_machine.specs.Answers.{BeginsAnswer}
 use Rattle.update_machine.specs.Causes.{EndsHaveCauses, HaveCauses}
 use Rattle.update_machine.specs.Full.{IsPlay}
@@ -20,9 +23,12 @@ use Rattle.shelf.specs.Sink.{gained, GainedPart, SinkState}
 use Rattle.shelf.specs.declared.output.SinkError.{SinkError}
 use Rattle.shelf.specs.declared.output.SinkError.TheVariants as sink
 use Rattle.difane_cli.specs.Meters.{kept_by, replay_text}
+use Rattle.difane_cli.specs.Verdict.{Decides, IsVerdict, is_asked}
+use Rattle.difane_cli.proofs.MeterLines.{gained_nothing}
+use Rattle.difane_cli.proofs.Verdicts.{QuietLaws, verdict}
 use Rattle.difane_cli.specs.Run.{Begun, GainedSome, IsAnswer, IsPrintingOf, IsReplayOf, Known, PrintOutcome, ReplayOutcome, Wrote, WroteSome, printing_text}
 use Rattle.difane_cli.specs.Status.{status_after}
-use Rattle.difane_cli.specs.Words.{PrintCommand, ReplayCommand}
+use Rattle.words.specs.Words.{PrintCommand, ReplayCommand}
 
 -- what follows behind steps of the network
 pub record AnswerLaws : Type 0 where
@@ -33,6 +39,8 @@ pub record AnswerLaws : Type 0 where
       IsSetting setting → HaveCauses (StrongCause setting) [] journal)
   pub entered : (setting : Setting) (events : List Event) (journal : List Item) (full : Option ℕ)
       → IsPlay setting events journal full → AreEntered (rows_played full events) journal
+  pub plain : HoldsReached (λ setting journal. IsNet setting.net → IsPlain setting journal)
+  pub quiet : QuietLaws
 
 begins : (inputs : Inputs) (journal : List Item) (full : Option ℕ)
     → IsPlay inputs.setting inputs.events journal full
@@ -63,61 +71,102 @@ played laws command known inputs journal full asked accepted play = record {
   entered = laws.entered inputs.setting inputs.events journal full play;
 }
 
+-- the answer that the judge gave is the one that is asked for
+pub judged : AnswerLaws → (command : ReplayCommand) (known : Known) (inputs : Inputs)
+    (journal : List Item) (full : Option ℕ) (net : Net) (given : Option Bool)
+    → IsAnswer command known inputs journal full → inputs.setting.net ≡ net
+    → is_some given ≡ is_asked inputs.quiet full
+    → ((setting : Setting) → setting.net ≡ net → IsPlain setting journal
+    → Decides setting journal given)
+    → IsVerdict command.quiet inputs.setting journal full given
+judged laws command known inputs journal full net given answer own asked decides =
+    let sound = answer.asked.setting.net in
+    verdict laws.quiet inputs.quiet command.quiet inputs.setting inputs.events journal full given
+    sound answer.play answer.asked.quiet asked
+    (decides inputs.setting own (laws.plain.begun inputs.setting inputs.events journal
+    answer.asked.events (begins inputs journal full answer.play) sound))
+
 -- what a play leaves begins an answer, so that some of its text may be written
 begun : (command : ReplayCommand) (known : Known) (inputs : Inputs) (journal : List Item)
-    (full : Option ℕ) (taken given : List Seen) (before now : SinkState)
+    (full : Option ℕ) (taken given : List Seen) (said : Option Bool) (before now : SinkState)
     → IsAnswer command known inputs journal full → given ≡ kept_by inputs.setting.net journal taken
-    → WroteSome (replay_text inputs.setting.net journal full given) before now
+    → (said ≡ None) ⊎ IsVerdict command.quiet inputs.setting journal full said
+    → WroteSome (replay_text inputs.setting.net journal full given said) before now
     → Begun command known journal taken before now
-begun command known inputs journal full taken given before now answer kept written = record {
-  inputs = inputs;
-  asked = answer.asked;
-  accepted = answer.accepted;
-  begins = begins inputs journal full answer.play;
-  run = answer.run;
-  causes = answer.causes;
-  strong = answer.strong;
-  full = full;
-  entered = answer.entered;
-  written =
-      subst (λ meters. WroteSome (replay_text inputs.setting.net journal full meters) before now)
-      kept written;
-}
+begun command known inputs journal full taken given said before now answer kept judged written =
+    record {
+      inputs = inputs;
+      asked = answer.asked;
+      accepted = answer.accepted;
+      begins = begins inputs journal full answer.play;
+      run = answer.run;
+      causes = answer.causes;
+      strong = answer.strong;
+      full = full;
+      entered = answer.entered;
+      answer = said;
+      verdict = judged;
+      written = subst (λ meters.
+          WroteSome (replay_text inputs.setting.net journal full meters said) before now) kept written;
+    }
+
+-- memory ran out before an answer was given, and nothing was written
+pub unjudged : (command : ReplayCommand) (known : Known) (inputs : Inputs) (journal : List Item)
+    (full : Option ℕ) (taken given : List Seen) (now : SinkState)
+    → IsAnswer command known inputs journal full → given ≡ kept_by inputs.setting.net journal taken
+    → Begun command known journal taken now now
+unjudged command known inputs journal full taken given now answer kept =
+    begun command known inputs journal full taken given None now now answer kept (inl refl)
+    (record { some = (zero, gained_nothing now.bytes); untouched = λ none. refl })
 
 -- a journal that was played, and its text and the meters' lines that were written, or not
 pub replayed : (command : ReplayCommand) (known : Known) (inputs : Inputs) (journal : List Item)
-    (full : Option ℕ) (taken given : List Seen) (before now : SinkState)
+    (full : Option ℕ) (taken given : List Seen) (said : Option Bool) (before now : SinkState)
     (written : Result (⊤) SinkError) → IsAnswer command known inputs journal full
-    → given ≡ kept_by inputs.setting.net journal taken → OnOk written
-    (now.bytes ≡ gained before.bytes (replay_text inputs.setting.net journal full given))
+    → given ≡ kept_by inputs.setting.net journal taken
+    → IsVerdict command.quiet inputs.setting journal full said → OnOk written
+    (now.bytes ≡ gained before.bytes (replay_text inputs.setting.net journal full given said))
     → (IsErrOf written sink.Failed
-    → GainedPart before.bytes (replay_text inputs.setting.net journal full given) now.bytes)
+    → GainedPart before.bytes (replay_text inputs.setting.net journal full given said) now.bytes)
     → OnErr written
-    (GainedSome before.bytes (replay_text inputs.setting.net journal full given) now.bytes)
-    → (replay_text inputs.setting.net journal full given ≡ [] → now ≡ before)
+    (GainedSome before.bytes (replay_text inputs.setting.net journal full given said) now.bytes)
+    → (replay_text inputs.setting.net journal full given said ≡ [] → now ≡ before)
     → ReplayOutcome command known (status_after written full) journal taken given before now
-replayed command known inputs journal None taken given before now (Ok done) answer kept whole part
-    some none =
+replayed command known inputs journal None taken given said before now (Ok done) answer kept
+    judged whole part some none =
     record {
       inputs = inputs;
       played = answer;
       kept = kept;
+      answer = said;
+      verdict = judged;
       written = record { whole = whole; untouched = none };
     }
-replayed command known inputs journal (Some row) taken given before now (Ok done) answer kept whole
-    part some none =
+replayed command known inputs journal (Some row) taken given said before now (Ok done) answer
+    kept judged whole part some none =
     record {
       inputs = inputs;
       played = answer;
       kept = kept;
+      answer = said;
+      verdict = judged;
       written = record { whole = whole; untouched = none };
     }
-replayed command known inputs journal full taken given before now (Err sink.Failed) answer kept
-    whole part some none =
-    record { inputs = inputs; full = full; played = answer; kept = kept; written = part refl }
-replayed command known inputs journal full taken given before now (Err sink.NoMemory) answer kept
-    whole part some none =
-    inr (begun command known inputs journal full taken given before now answer kept
+replayed command known inputs journal full taken given said before now (Err sink.Failed) answer
+    kept judged whole part some none =
+    record {
+      inputs = inputs;
+      full = full;
+      played = answer;
+      kept = kept;
+      answer = said;
+      verdict = judged;
+      written = part refl;
+    }
+replayed command known inputs journal full taken given said before now (Err sink.NoMemory) answer
+    kept judged whole part some none =
+    inr (begun command known inputs journal full taken given said before now answer kept
+    (inr judged)
     (record { some = some; untouched = none }))
 
 -- a plan or tables whose text was written, or not

@@ -1,14 +1,13 @@
 -- Policies that are read one after another.
-use Rattle.std.specs.Prelude.{IfErr, IsErrAnd, String, string_bytes}
-use Rattle.std.specs.Global.{Global}
-use Rattle.std.specs.List.{prefix_len}
+use Rattle.std.specs.Borrow.{Bor}
+use Rattle.std.specs.Prelude.{IfErr, IsErrAnd}
 use Rattle.std.proofs.lemmas.List.{get_or-map, length-map}
-use Rattle.std.proofs.Common.{ℕ, ◌≡◌, ◌+◌, ◌<◌, ◌≤◌, Bool, true, false, Option, Some, None, Result, Ok, Err, List, [], ◌∷◌, ◌++◌, length, map, drop, get_or, drop-cons, add-one, refl, ap, sym, subst, ◌∙◌, append_assoc, append-nil, length-append, arith}
+use Rattle.std.proofs.Common.{ℕ, ◌≡◌, ◌+◌, ◌<◌, ◌≤◌, Bool, true, false, Option, Some, None, Result, Ok, Err, List, [], ◌∷◌, ◌++◌, length, drop, get_or, drop-cons, add-one, refl, ap, sym, subst, ◌∙◌, append_assoc, append-nil, length-append, arith}
 use Rattle.std.specs.Option.{ForSome}
 use Rattle.policy_rules.specs.declared.policy.Row.{Row}
 use Rattle.shelf.specs.Shelf.{Files, IsAfterReads, ShelfState}
 use Rattle.difane_cli.proofs.ShelfReads.{reads_then}
-use Rattle.difane_cli.specs.Words.{is_name}
+use Rattle.words.specs.Named.{names_seen}
 use Rattle.difane_cli.specs.Inputs.{Stops, and_then, policy_reads, read_policies, read_policy, up_to_refusal}
 use Rattle.difane_cli.specs.declared.status.Refusal.{Refusal}
 use Rattle.difane_cli.specs.declared.status.Stop.{Stop}
@@ -16,23 +15,14 @@ use Rattle.difane_cli.specs.declared.status.Stop.TheVariants as stop
 
 -- ---- names
 
--- so many words in front are names
-pub names_in_front : (words : List (String Global))
-    → prefix_len is_name (map string_bytes words)
-    ≡ prefix_len (λ word. is_name (string_bytes word)) words
-names_in_front [] = refl
-names_in_front (word ∷ words) = rw (names_in_front words) refl
-
 -- the next name stands in front of those that are left
-pub next_name : (names : List (String Global)) (i : ℕ) (d : String Global) (name : List ℕ)
-    → i < length names → name ≡ string_bytes (get_or names i d)
-    → drop i (map string_bytes names) ≡ name ∷ drop (i + 1) (map string_bytes names)
-next_name names i d name within is =
-    let all = map string_bytes names in
-    let inside : i < length all = omega (arith, length-map names string_bytes, within) in
-    let at : get_or all i (string_bytes d) ≡ name =
-    get_or-map string_bytes names i d (string_bytes d) within ∙ sym is in
-    rw (drop-cons all i (string_bytes d) inside, at, add-one i) refl
+next_name : (names : List (List ℕ)) (i : ℕ) → i < length names
+    → drop i names ≡ get_or names i [] ∷ drop (i + 1) names
+next_name names i within = rw (drop-cons names i [] within, add-one i) refl
+
+pub name_there : (names : List (Bor (List ℕ))) (i : ℕ) (d : Bor (List ℕ)) → i < length names
+    → (get_or names i d).now ≡ get_or (names_seen names) i []
+name_there names i d within = sym (get_or-map (λ n. n.now) names i d [] within)
 
 -- ---- what was read
 
@@ -63,15 +53,15 @@ none_read ports names shelf = record {
 }
 
 -- so it stands in front of what is left
-pub at_next : (ports : ℕ) (names : List (String Global)) (i : ℕ) (d : String Global)
-    (name : List ℕ) (policies : List (List Row)) (old now : ShelfState)
-    → HasRead ports (map string_bytes names) (drop i (map string_bytes names)) policies old now
-    → i < length names → name ≡ string_bytes (get_or names i d)
-    → HasRead ports (map string_bytes names) (name ∷ drop (i + 1) (map string_bytes names)) policies
-    old now
-at_next ports names i d name policies old now so_far within is =
-    subst (λ (left : List (List ℕ)). HasRead ports (map string_bytes names) left policies old now)
-    (next_name names i d name within is) so_far
+pub at_next : (ports : ℕ) (names : List (Bor (List ℕ))) (i : ℕ) (policies : List (List Row))
+    (old now : ShelfState)
+    → HasRead ports (names_seen names) (drop i (names_seen names)) policies old now
+    → i < length names
+    → HasRead ports (names_seen names)
+    (get_or (names_seen names) i [] ∷ drop (i + 1) (names_seen names)) policies old now
+at_next ports names i policies old now so_far within =
+    subst (λ (left : List (List ℕ)). HasRead ports (names_seen names) left policies old now)
+    (next_name (names_seen names) i (omega (arith, length-map names (λ n. n.now), within))) so_far
 
 -- ---- one more
 

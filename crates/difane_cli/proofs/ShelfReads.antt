@@ -7,7 +7,7 @@ use Rattle.steps.specs.declared.step.Event.{Event}
 use Rattle.shelf.specs.Faults.{counted, counted_up}
 use Rattle.shelf.specs.Shelf.{Files, ShelfState, IsAfterReads}
 use Rattle.difane_cli.specs.Inputs.{most_reads, net_reads, policy_reads, read_net, read_schedule, switch_on, up_to_refusal}
-use Rattle.difane_cli.specs.Words.{Print, PrintCommand, Replay, ReplayCommand}
+use Rattle.words.specs.Words.{Print, PrintCommand, Replay, ReplayCommand}
 
 counted_up-counted_up : (n m x : ℕ) → counted_up n (counted_up m x) ≡ counted_up (n + m) x
 counted_up-counted_up zero m x = ap (λ k. counted_up k x) (omega arith)

@@ -16,8 +16,8 @@ use Rattle.schedule.specs.Refusals as refused_by
 use Rattle.steps.specs.declared.step.Event.{Event}
 use Rattle.shelf.specs.Shelf.{Files, file_named}
 use Rattle.update_machine.specs.Setting.{Setting, setting_of}
-use Rattle.difane_cli.specs.Words.{Command, PrintCommand, ReplayCommand}
-use Rattle.difane_cli.specs.Words as asked
+use Rattle.words.specs.Words.{Command, PrintCommand, ReplayCommand}
+use Rattle.words.specs.Words as asked
 use Rattle.difane_cli.specs.Codes.{missing, most_bytes, no_port, no_room, no_switch, too_long, too_many_leaves, too_many_words}
 use Rattle.difane_cli.specs.declared.status.Refusal.{Refusal}
 use Rattle.difane_cli.specs.declared.status.Stop.{Stop}
@@ -121,6 +121,8 @@ first_plan names net policies =
 pub record Inputs : Type 0 where
   pub setting : Setting
   pub events : List Event
+  -- whether the replay is to say if the network is quiet
+  pub quiet : Bool
 
 -- the network is read and checked, then the schedule, then the policies in their order, and then
 -- the first policy is planned
@@ -130,7 +132,11 @@ inputs_of files command =
     and_then (read_schedule net (length command.policies) files command.schedule) (λ events.
     and_then (read_policies (port_mask net.switches) files command.policies) (λ policies.
     and_then (first_plan command.policies net policies) (λ placed.
-    Ok (record { setting = setting_of net policies; events = events })))))
+    Ok (record {
+      setting = setting_of net policies;
+      events = events;
+      quiet = command.quiet;
+    })))))
 
 -- ---- all files of a plan
 
@@ -170,14 +176,17 @@ pub data Task : Type 0 where
   Play : Inputs → Task
   Print : Printing → Task
 
-abbrev pub task_of : Files → Command → Result Task Refusal
-task_of files (asked.Replay words) = and_then (inputs_of files words) (λ inputs. Ok (Play inputs))
+-- the task or the refusal; a load case reads no files
+abbrev pub task_of : Files → Command → Option (Result Task Refusal)
+task_of files (asked.Replay words) =
+    Some (and_then (inputs_of files words) (λ inputs. Ok (Play inputs)))
 task_of files (asked.Print words) =
-    and_then (printing_of files words) (λ printing. Ok (Print printing))
+    Some (and_then (printing_of files words) (λ printing. Ok (Print printing)))
+task_of files (asked.Load n) = None
 
--- the task or the refusal, where files are known and the words are a command
+-- the same, where files are known and the words are a command
 abbrev pub known_task : Option Files → Option Command → Option (Result Task Refusal)
-known_task (Some files) (Some command) = Some (task_of files command)
+known_task (Some files) (Some command) = task_of files command
 known_task _ _ = None
 
 -- the task is known, and accepted
@@ -218,10 +227,12 @@ abbrev pub most_reads : Option Files → Option Command → ℕ
 most_reads files None = 0
 most_reads None (Some (asked.Replay words)) = net_reads words.net + 1 + length words.policies
 most_reads None (Some (asked.Print words)) = net_reads words.net + 1
+most_reads None (Some (asked.Load n)) = 0
 most_reads (Some files) (Some (asked.Replay words)) =
     net_reads words.net + replay_reads files words (read_net files words.net)
 most_reads (Some files) (Some (asked.Print words)) =
     net_reads words.net + (if is_ok (place_of files words) then 1 else 0)
+most_reads (Some files) (Some (asked.Load n)) = 0
 
 -- what a stop says of what was to be read: a refusal is the one that stands there
 abbrev pub Stops : {X : Type 0} → Result X Refusal → Stop → Type 0

@@ -3,5 +3,5 @@ pub mod Inputs
 pub mod Meters
 pub mod Run
 pub mod Status
-pub mod Words
+pub mod Verdict
 pub mod Commands

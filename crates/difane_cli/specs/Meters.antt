@@ -1,6 +1,6 @@
--- What a replay writes: the text of its journal, and a line for each meter that has a note; and
--- which commands play nothing.
-use Rattle.std.specs.Prelude.{⊤, ℕ, Option, Some, None, List, [], ◌∷◌, ◌++◌, codes, decimal, length}
+-- What a replay writes: the text of its journal, a line for each meter that has a note, and one that
+-- says whether the network is quiet; and which commands play nothing.
+use Rattle.std.specs.Prelude.{⊤, ℕ, Bool, true, false, Option, Some, None, List, [], ◌∷◌, ◌++◌, codes, decimal, length}
 use Rattle.std.specs.List.{concat, flat_map}
 use Rattle.journal.specs.declared.item.Item.{Item}
 use Rattle.journal_text.specs.Lines.{journal_text}
@@ -9,8 +9,8 @@ use Rattle.net_file.specs.Net.{port_mask}
 use Rattle.net_file.specs.declared.net.Net.{Net}
 use Rattle.policy_rules.specs.declared.packet.Leaving.{Leaving}
 use Rattle.replay.specs.Leavings.{left_in}
-use Rattle.difane_cli.specs.Words.{Command}
-use Rattle.difane_cli.specs.Words as asked
+use Rattle.words.specs.Words.{Command}
+use Rattle.words.specs.Words as asked
 
 -- the line of a meter of this port that has so many notes, with its line feed
 abbrev pub notes_line : ℕ → ℕ → List ℕ
@@ -32,14 +32,24 @@ meter_lines meters = flat_map meter_line meters
 abbrev pub kept_by : Net → List Item → List Seen → List Seen
 kept_by net journal meters = kept_meters (port_mask net.switches) (left_in journal) meters
 
--- the text of the journal, and behind its last line those of the meters; a play that stopped full
--- has the journal's alone
-abbrev pub replay_text : Net → List Item → Option ℕ → List Seen → List ℕ
-replay_text net journal None meters = journal_text net journal ++ meter_lines meters
-replay_text net journal (Some row) meters = journal_text net journal
+-- whether the network is quiet, with the line feed; nothing where no answer is given
+abbrev pub quiet_line : Option Bool → List ℕ
+quiet_line None = []
+quiet_line (Some true) = codes "quiet yes\n"
+quiet_line (Some false) = codes "quiet no\n"
+
+abbrev pub last_lines : List Seen → Option Bool → List ℕ
+last_lines meters answer = meter_lines meters ++ quiet_line answer
+
+-- the text of the journal, and behind its last line those of the meters and the one of the answer; a
+-- play that stopped full has the journal's alone
+abbrev pub replay_text : Net → List Item → Option ℕ → List Seen → Option Bool → List ℕ
+replay_text net journal None meters answer = journal_text net journal ++ last_lines meters answer
+replay_text net journal (Some row) meters answer = journal_text net journal
 
 -- words off the grammar, and a command that plays nothing
 abbrev pub PlaysNothing : Option Command → Type 0
 PlaysNothing None = ⊤
 PlaysNothing (Some (asked.Print words)) = ⊤
 PlaysNothing (Some (asked.Replay words)) = ⊥
+PlaysNothing (Some (asked.Load n)) = ⊥

@@ -1,5 +1,5 @@
 -- What became of a call of the program, by its status.
-use Rattle.std.specs.Prelude.{⊤, ℕ, ◌≡◌, ◌⊎◌, Option, Some, None, is_some, IsTrue, Result, Ok, Err, IsOk, List, [], length, take, All}
+use Rattle.std.specs.Prelude.{⊤, ℕ, ◌≡◌, ◌⊎◌, Bool, Option, Some, None, is_some, IsTrue, Result, Ok, Err, IsOk, List, [], length, take, All}
 use Rattle.std.specs.Option.{ForSome}
 use Rattle.net_file.specs.Net.{IsNet, solo_net, switch_number}
 use Rattle.net_file.specs.declared.net.Net.{Net}
@@ -20,8 +20,9 @@ use Rattle.way_laws.specs.StrongCauses.{StrongCause}
 use Rattle.entry_laws.specs.Entries.{AreEntered, rows_played}
 use Rattle.difane_cli.specs.Inputs.{Inputs, Play, Print, Printing, Task}
 use Rattle.difane_cli.specs.Meters.{kept_by, replay_text}
-use Rattle.difane_cli.specs.Words.{Command, PrintCommand, ReplayCommand}
-use Rattle.difane_cli.specs.Words as asked
+use Rattle.difane_cli.specs.Verdict.{IsVerdict}
+use Rattle.words.specs.Words.{Command, PrintCommand, ReplayCommand}
+use Rattle.words.specs.Words as asked
 use Rattle.difane_cli.specs.declared.status.Refusal.{Refusal}
 use Rattle.difane_cli.specs.declared.status.Status.{Status}
 use Rattle.difane_cli.specs.declared.status.Status.TheVariants as status
@@ -65,6 +66,7 @@ pub record IsReplayOf (command : ReplayCommand) (inputs : Inputs) : Type 0 where
   pub policies : length inputs.setting.policies ≡ length command.policies
   pub setting : IsSetting inputs.setting
   pub events : All (IsEvent inputs.setting.net (length inputs.setting.policies)) inputs.events
+  pub quiet : inputs.quiet ≡ command.quiet
 
 -- the journal is that of the play of these inputs, which are the known ones where the task is
 -- known: it answers them, or it answers them up to a row at which the play stopped full; so it is a
@@ -82,13 +84,17 @@ pub record IsAnswer (command : ReplayCommand) (known : Known) (inputs : Inputs)
 
 -- there are inputs such that the journal is that of their play, to its end or to a row at which it
 -- stopped full; the meters that were given back are those that stayed of the ones that were taken;
--- and the output gained the text of the journal, and where it didn't stop full their lines
+-- and the output gained the text of the journal, and where it didn't stop full their lines, and
+-- with `--quiet` the one that says whether the network is quiet: where it says yes, all have
+-- converged, and every switch that is up stamps with the newest version
 pub record Replayed (command : ReplayCommand) (known : Known) (full : Option ℕ)
     (journal : List Item) (taken given : List Seen) (before now : SinkState) : Type 0 where
   pub inputs : Inputs
   pub played : IsAnswer command known inputs journal full
   pub kept : given ≡ kept_by inputs.setting.net journal taken
-  pub written : Wrote (replay_text inputs.setting.net journal full given) before now
+  pub answer : Option Bool
+  pub verdict : IsVerdict command.quiet inputs.setting journal full answer
+  pub written : Wrote (replay_text inputs.setting.net journal full given answer) before now
 
 -- the same of either play, but that the output failed and gained a part of the text
 pub record CutShort (command : ReplayCommand) (known : Known) (journal : List Item)
@@ -97,11 +103,14 @@ pub record CutShort (command : ReplayCommand) (known : Known) (journal : List It
   pub full : Option ℕ
   pub played : IsAnswer command known inputs journal full
   pub kept : given ≡ kept_by inputs.setting.net journal taken
+  pub answer : Option Bool
+  pub verdict : IsVerdict command.quiet inputs.setting journal full answer
   pub written :
-      GainedPart before.bytes (replay_text inputs.setting.net journal full given) now.bytes
+      GainedPart before.bytes (replay_text inputs.setting.net journal full given answer) now.bytes
 
 -- there are such inputs; the journal begins an answer to them, and the output gained some of its
--- text and of the lines of the meters that stay in it
+-- text and of the lines behind it; where memory ran out before it was known whether the network is
+-- quiet, no line says so
 pub record Begun (command : ReplayCommand) (known : Known) (journal : List Item)
     (taken : List Seen) (before now : SinkState) : Type 0 where
   pub inputs : Inputs
@@ -113,8 +122,10 @@ pub record Begun (command : ReplayCommand) (known : Known) (journal : List Item)
   pub strong : HaveCauses (StrongCause inputs.setting) [] journal
   pub full : Option ℕ
   pub entered : AreEntered (rows_played full inputs.events) journal
+  pub answer : Option Bool
+  pub verdict : (answer ≡ None) ⊎ IsVerdict command.quiet inputs.setting journal full answer
   pub written : WroteSome (replay_text inputs.setting.net journal full
-      (kept_by inputs.setting.net journal taken)) before now
+      (kept_by inputs.setting.net journal taken) answer) before now
 
 -- the journal, the meters and the output that a status of a replay comes with; nothing is said of
 -- the meters where memory ran out, and none is left where nothing was played
@@ -180,7 +191,7 @@ PrintOutcome command known _ journal before now = Unplayed journal before now
 -- ---- all commands
 
 -- the journal, the meters that were taken and given back, and the output that a status of a command
--- comes with
+-- comes with; load cases aren't built, so their words are off the grammar
 abbrev pub Outcome : Option Command → Known → Status → List Item → (taken given : List Seen)
     → (before now : SinkState) → Type 0
 Outcome None known status journal taken given before now = Unplayed journal before now
@@ -188,6 +199,8 @@ Outcome (Some (asked.Replay words)) known status journal taken given before now 
     ReplayOutcome words known status journal taken given before now
 Outcome (Some (asked.Print words)) known status journal taken given before now =
     PrintOutcome words known status journal before now
+Outcome (Some (asked.Load n)) known status journal taken given before now =
+    Unplayed journal before now
 
 -- what a status says of the known task: a refusal is the one that stands there, and work was done
 -- only on an accepted one

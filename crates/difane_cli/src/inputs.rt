@@ -1,5 +1,5 @@
 //! The files of a command, read and checked one after another.
-ghost use Rattle.std.specs.Prelude.{◌≡◌, All, IsTrue, IfOk, IfErr, Ok, Some, length, map, string_bytes};
+ghost use Rattle.std.specs.Prelude.{◌≡◌, All, IsTrue, IfOk, IfErr, Ok, Some, length};
 ghost use Rattle.std.specs.Option.{ForSome};
 ghost use Rattle.net_file.specs.Net.{IsNet};
 ghost use Rattle.policy_file.specs.Ports.{has_port};
@@ -10,19 +10,20 @@ ghost use Rattle.shelf.specs.Shelf.{IsAfterReads};
 ghost use Rattle.difane_cli.specs.Inputs.{Refuses, Stops, StopsContent, content_of, inputs_of, most_reads, policy_reads, read_policies, read_policy, read_schedule, schedule_in};
 ghost use Rattle.difane_cli.specs.Run.{IsReplayOf};
 ghost use Rattle.difane_cli.specs.Status.{NeedsReadFault, status_of};
-ghost use Rattle.difane_cli.specs.Commands.{HasPolicies, IsReady, inputs_stated, replay_named};
-ghost use Rattle.difane_cli.specs.Words.{Replay};
+ghost use Rattle.difane_cli.specs.Commands.{IsReady, inputs_stated};
+ghost use Rattle.words.specs.Named.{HasPolicies, names_seen, replay_named};
+ghost use Rattle.words.specs.Words.{Replay};
 
 use crate::networks::take_network;
 use crate::policies::{begin_world, check_policy};
 use crate::status::{FileName, Refusal, Stop};
-use crate::words::ReplayWords;
 use net_file::Net;
 use policy_rules::Policy;
 use schedule::ScheduleError;
 use shelf::{Shelf, ShelfError};
 use std::alloc::Global;
 use steps::Event;
+use words::ReplayWords;
 use world::World;
 
 /// The most bytes of a file.
@@ -134,17 +135,17 @@ pub fn read_policy<F: Shelf>(
 fn read_policies<F: Shelf>(
     alloc: Global,
     shelf: &mut F,
-    names: &[String],
+    names: &[&str],
     ports: u64,
 ) -> Result<Vec<Policy>, Stop>
     ensures value { IfOk result (λ policies. ForSome (F.state shelf.old).files (λ files.
-        read_policies ports files (map string_bytes names.now) ≡ Ok policies.items)) }
+        read_policies ports files (names_seen names.now) ≡ Ok policies.items)) }
     ensures stopped { IfErr result (λ stop. ForSome (F.state shelf.old).files (λ files.
-        Stops (read_policies ports files (map string_bytes names.now)) stop)) }
+        Stops (read_policies ports files (names_seen names.now)) stop)) }
     ensures faults { IfErr result (λ stop. NeedsReadFault (F.state shelf.old).files (status_of stop)
         → Rose (F.state shelf.old).faults (F.state shelf.new).faults) }
     ensures shelf { IsAfterReads
-        (policy_reads ports (F.state shelf.old).files (map string_bytes names.now))
+        (policy_reads ports (F.state shelf.old).files (names_seen names.now))
         (F.state shelf.old) (F.state shelf.new) }
     ensures many { IfOk result (λ policies. length policies.items ≡ length names.now) }
     ensures own_ports { IfOk result (λ policies.
@@ -166,6 +167,8 @@ pub struct ReplayInputs {
     pub net: Net,
     /// The network with the first policy in force, on which nothing happened yet.
     pub world: World,
+    /// Whether the replay is to say if the network is quiet.
+    pub quiet: bool,
 }
 
 /// The inputs of a replay: the network is read and checked, then the schedule, then the policies in
@@ -173,26 +176,32 @@ pub struct ReplayInputs {
 pub fn read_inputs<F: Shelf>(
     alloc: Global,
     shelf: &mut F,
-    words: ReplayWords<'_>,
+    words: &ReplayWords<'_>,
 ) -> Result<ReplayInputs, Stop>
-    requires { HasPolicies words }
+    requires { HasPolicies words.now }
     ensures value { IfOk result (λ inputs. ForSome (F.state shelf.old).files (λ files.
-        inputs_of files (replay_named words.entry) ≡ Ok (inputs_stated inputs))) }
+        inputs_of files (replay_named words.now) ≡ Ok (inputs_stated inputs))) }
     ensures stopped { IfErr result (λ stop. ForSome (F.state shelf.old).files (λ files.
-        Stops (inputs_of files (replay_named words.entry)) stop)) }
+        Stops (inputs_of files (replay_named words.now)) stop)) }
     ensures faults { IfErr result (λ stop. NeedsReadFault (F.state shelf.old).files (status_of stop)
         → Rose (F.state shelf.old).faults (F.state shelf.new).faults) }
     ensures shelf { IsAfterReads
-        (most_reads (F.state shelf.old).files (Some (Replay (replay_named words.entry))))
+        (most_reads (F.state shelf.old).files (Some (Replay (replay_named words.now))))
         (F.state shelf.old) (F.state shelf.new) }
     ensures ready { IfOk result IsReady }
     ensures asked { IfOk result (λ inputs.
-        IsReplayOf (replay_named words.entry) (inputs_stated inputs)) }
+        IsReplayOf (replay_named words.now) (inputs_stated inputs)) }
 {
     let net = take_network(alloc, shelf, words.net)?;
-    let count = words.policies.len() as u32;
+    let names: &[&str] = &words.policies;
+    let count = names.len() as u32;
     let events = read_schedule(alloc, shelf, words.schedule, &net, count)?;
-    let policies = read_policies(alloc, shelf, words.policies, net.port_mask())?;
-    let world = begin_world(alloc, words.policies, policies, &net)?;
-    Ok(ReplayInputs { events, net, world })
+    let policies = read_policies(alloc, shelf, names, net.port_mask())?;
+    let world = begin_world(alloc, names, policies, &net)?;
+    Ok(ReplayInputs {
+        events,
+        net,
+        world,
+        quiet: words.quiet,
+    })
 }

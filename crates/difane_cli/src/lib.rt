@@ -20,7 +20,7 @@ mod printing;
 mod status;
 mod task;
 mod top_call;
-mod words;
+mod verdict;
 
 pub use laws::one_switch_laws;
 pub use meters::{Meter, Recorder};

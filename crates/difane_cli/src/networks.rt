@@ -4,7 +4,7 @@ ghost use Rattle.std.specs.Option.{ForSome};
 ghost use Rattle.net_file.specs.Net.{IsNet};
 ghost use Rattle.shelf.specs.Faults.{Rose};
 ghost use Rattle.shelf.specs.Shelf.{IsAfterReads};
-ghost use Rattle.difane_cli.specs.Commands.{net_named};
+ghost use Rattle.words.specs.Named.{net_named};
 ghost use Rattle.difane_cli.specs.Inputs.{Stops, StopsContent, StopsSwitch, net_in, net_reads, read_net, switch_on};
 ghost use Rattle.difane_cli.specs.Run.{IsNetOf, IsSwitchOf};
 ghost use Rattle.difane_cli.specs.Status.{NeedsReadFault, status_of};

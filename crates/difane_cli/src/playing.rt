@@ -4,23 +4,26 @@ ghost use Rattle.std.specs.Option.{ForSome};
 ghost use Rattle.journal_text.specs.Lines.{journal_text};
 ghost use Rattle.net_file.specs.Net.{IsNet};
 ghost use Rattle.shelf.specs.Faults.{Rose};
-ghost use Rattle.shelf.specs.Sink.{GainedPart, gained};
+ghost use Rattle.shelf.specs.Sink.{GainedPart, IsAfterWrite, gained};
 ghost use Rattle.difane_cli.specs.Commands.{IsReady, inputs_stated};
-ghost use Rattle.difane_cli.specs.Meters.{replay_text};
+ghost use Rattle.difane_cli.specs.Meters.{last_lines, replay_text};
 ghost use Rattle.difane_cli.specs.Run.{GainedSome, IsReplayOf, Known, ReplayOutcome};
 ghost use Rattle.difane_cli.specs.Inputs.{Play};
 ghost use Rattle.difane_cli.specs.Status.{IsAfterWork};
-ghost use Rattle.difane_cli.specs.Words.{ReplayCommand};
+ghost use Rattle.words.specs.Words.{ReplayCommand};
 ghost use Rattle.difane_cli.specs.declared.status.Status.TheVariants as status;
 
 use crate::inputs::ReplayInputs;
 use crate::meter_lines::write_meters;
 use crate::status::{Ended, Status};
+use crate::verdict::{judge, write_answer};
 use entry_laws::packet_rows_are_entered;
 use journal::{Item, Journal};
 use journal_text::lines;
 use meters::Meter;
 use net_file::Net;
+use quiet_journals::answers_are_plain;
+use quiet_laws::{quiet_networks_are_updated, quiet_networks_have_converged};
 use replay::Played;
 use shelf::{Sink, SinkError, write_whole};
 use std::alloc::Global;
@@ -31,7 +34,8 @@ const BLOCK: usize = 1_024;
 
 /// Plays the inputs, to their end or as far as there is room, while the meters note the packets that
 /// leave; writes the journal, and behind its last line, where it didn't stop full, those of the
-/// meters. What comes of it is told for whatever is known of the inputs.
+/// meters and the one that says whether the network is quiet. Nothing is written before that is
+/// known. What comes of it is told for whatever is known of the inputs.
 pub fn play<M: Meter, K: Sink>(
     alloc: Global,
     inputs: ReplayInputs,
@@ -50,11 +54,19 @@ pub fn play<M: Meter, K: Sink>(
         → Rose (K.state out.old).faults (K.state out.new).faults }
     ensures faults { (K.state out.old).faults ≤ (K.state out.new).faults }
 {
-    let ReplayInputs { events, net, world } = inputs;
+    let ReplayInputs {
+        events,
+        net,
+        world,
+        quiet,
+    } = inputs;
     answers_are_runs();
     ends_have_causes();
     causes_are_strong();
     packet_rows_are_entered();
+    answers_are_plain();
+    quiet_networks_have_converged();
+    quiet_networks_are_updated();
     let Ok(played) = replay::play(alloc, world, &events, meters, net.port_mask()) else {
         return Ended {
             status: Status::NoMemory,
@@ -62,7 +74,14 @@ pub fn play<M: Meter, K: Sink>(
             meters: Vec::new(alloc),
         };
     };
-    let written = write_played(alloc, &played, &net, out);
+    let Ok(answer) = judge(alloc, quiet, &played, &net) else {
+        return Ended {
+            status: Status::NoMemory,
+            journal: played.journal,
+            meters: played.meters,
+        };
+    };
+    let written = write_played(alloc, &played, answer, &net, out);
     Ended {
         status: Status::after(written, played.full),
         journal: played.journal,
@@ -70,35 +89,52 @@ pub fn play<M: Meter, K: Sink>(
     }
 }
 
-/// Writes the lines of a play: those of its journal, and then, where it didn't stop full, those of
-/// its meters.
+/// Writes the lines of a play: those of its journal, and then, where it didn't stop full, the last
+/// ones.
 fn write_played<M: Meter, K: Sink>(
     alloc: Global,
     played: &Played<M>,
+    answer: Option<bool>,
     net: &Net,
     out: &mut K,
 ) -> Result<(), SinkError>
     requires { IsNet net.now }
     ensures whole { OnOk result ((K.state out.new).bytes ≡ gained (K.state out.old).bytes
         (replay_text net.now played.now.journal played.now.full
-        (map M.seen played.now.meters.items))) }
+        (map M.seen played.now.meters.items) answer)) }
     ensures part { IsErrOf result SinkError.Failed → GainedPart (K.state out.old).bytes
         (replay_text net.now played.now.journal played.now.full
-        (map M.seen played.now.meters.items)) (K.state out.new).bytes }
+        (map M.seen played.now.meters.items) answer) (K.state out.new).bytes }
     ensures some { OnErr result (GainedSome (K.state out.old).bytes
         (replay_text net.now played.now.journal played.now.full
-        (map M.seen played.now.meters.items)) (K.state out.new).bytes) }
+        (map M.seen played.now.meters.items) answer) (K.state out.new).bytes) }
     ensures untouched { replay_text net.now played.now.journal played.now.full
-        (map M.seen played.now.meters.items) ≡ [] → out.new ≡ out.old }
+        (map M.seen played.now.meters.items) answer ≡ [] → out.new ≡ out.old }
     ensures failed { IsErrOf result SinkError.Failed
         → Rose (K.state out.old).faults (K.state out.new).faults }
     ensures faults { (K.state out.old).faults ≤ (K.state out.new).faults }
 {
     match write_journal(alloc, &played.journal, net, out) {
         Ok(()) => match played.full {
-            None => write_meters(&played.meters, out),
+            None => write_last(&played.meters, answer, out),
             Some(_) => Ok(()),
         },
+        Err(error) => Err(error),
+    }
+}
+
+/// Writes the lines of the meters, and then that of the answer.
+fn write_last<M: Meter, K: Sink>(
+    meters: &[M],
+    answer: Option<bool>,
+    out: &mut K,
+) -> Result<(), SinkError>
+    ensures after { IsAfterWrite (last_lines (map M.seen meters.now) answer) K.takes_memory
+        (K.state out.old) (K.state out.new) result }
+    ensures no_lines { last_lines (map M.seen meters.now) answer ≡ [] → out.new ≡ out.old }
+{
+    match write_meters(meters, out) {
+        Ok(()) => write_answer(answer, out),
         Err(error) => Err(error),
     }
 }

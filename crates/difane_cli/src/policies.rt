@@ -1,5 +1,5 @@
 //! Policies as a command takes them: read from bytes, and checked against the network.
-ghost use Rattle.std.specs.Prelude.{◌≡◌, ◌≤◌, All, List, IfOk, IfErr, IsOk, IsTrue, Ok, OnOk, length, map, string_bytes};
+ghost use Rattle.std.specs.Prelude.{◌≡◌, ◌≤◌, All, List, IfOk, IfErr, IsOk, IsTrue, Ok, OnOk, length};
 ghost use Rattle.policy_file.specs.Reading.{policy_of};
 ghost use Rattle.policy_file.specs.Ports.{has_port};
 ghost use Rattle.policy_rules.specs.Policy.{IsPolicy};
@@ -11,6 +11,7 @@ ghost use Rattle.net_file.specs.declared.net.Net.{Net};
 ghost use Rattle.partition.specs.Plan.{plan_of};
 ghost use Rattle.update_machine.specs.Sound.{IsSetting};
 ghost use Rattle.update_machine.specs.Setting.{setting_of};
+ghost use Rattle.words.specs.Named.{names_seen};
 ghost use Rattle.world.specs.State.{IsBegun, setting_at};
 
 use crate::inputs::refused;
@@ -83,7 +84,7 @@ fn no_plan(alloc: Global, name: &str, error: PlanError) -> Stop
 /// names.
 pub fn begin_world(
     alloc: Global,
-    names: &[String],
+    names: &[&str],
     policies: Vec<Policy>,
     net: &Net,
 ) -> Result<World, Stop>
@@ -94,11 +95,11 @@ pub fn begin_world(
     requires ports { All (All (λ row. IsTrue (has_port (port_mask net.now.switches) row.action)))
         policies.items }
     ensures planned { OnOk result
-        (IsOk (first_plan (map string_bytes names.now) net.now policies.items)) }
+        (IsOk (first_plan (names_seen names.now) net.now policies.items)) }
     ensures begun { IfOk result (IsBegun (setting_of net.now policies.items)) }
     ensures sound { IfOk result (λ world. IsSetting (setting_at world)) }
     ensures stopped { IfErr result
-        (StopsContent (first_plan (map string_bytes names.now) net.now policies.items)) }
+        (StopsContent (first_plan (names_seen names.now) net.now policies.items)) }
 {
     port_laws();
     match World::begin(alloc, net, policies) {
@@ -106,7 +107,7 @@ pub fn begin_world(
             world.tied();
             Ok(world)
         }
-        Err(error) => Err(no_plan(alloc, names[0].as_str(), error)),
+        Err(error) => Err(no_plan(alloc, names[0], error)),
     }
 }
 

@@ -4,23 +4,24 @@ ghost use Rattle.std.specs.Option.{ForSome};
 ghost use Rattle.net_file.specs.Net.{IsNet};
 ghost use Rattle.shelf.specs.Faults.{Rose};
 ghost use Rattle.shelf.specs.Shelf.{IsAfterReads};
-ghost use Rattle.difane_cli.specs.Commands.{print_named, printing_stated};
+ghost use Rattle.difane_cli.specs.Commands.{printing_stated};
 ghost use Rattle.difane_cli.specs.Inputs.{Print, Stops, most_reads, printing_of};
 ghost use Rattle.difane_cli.specs.Run.{IsPrintingOf, Known, PrintOutcome, printing_text};
 ghost use Rattle.difane_cli.specs.Status.{NeedsReadFault, status_after, status_of};
-ghost use Rattle.difane_cli.specs.Words as grammar;
-ghost use Rattle.difane_cli.specs.Words.{PrintCommand};
+ghost use Rattle.words.specs.Named.{print_named};
+ghost use Rattle.words.specs.Words as grammar;
+ghost use Rattle.words.specs.Words.{PrintCommand};
 
 use crate::inputs::read_policy;
 use crate::networks::{find_switch, take_network};
 use crate::policies::plan_policy;
 use crate::status::Stop;
-use crate::words::PrintWords;
 use controller::Plan;
 use net_file::Net;
 use shelf::{Shelf, Sink, SinkError, write_whole};
 use show_text::{compile_text, table_text};
 use std::alloc::{AllocError, Global};
+use words::PrintWords;
 
 /// A plan on its network, and the switch whose tables are asked for.
 #[derive(Drop)]
@@ -35,20 +36,20 @@ pub struct PrintInputs {
 pub fn read_printing<F: Shelf>(
     alloc: Global,
     shelf: &mut F,
-    words: PrintWords<'_>,
+    words: &PrintWords<'_>,
 ) -> Result<PrintInputs, Stop>
     ensures value { IfOk result (λ inputs. ForSome (F.state shelf.old).files (λ files.
-        printing_of files (print_named words.entry) ≡ Ok (printing_stated inputs))) }
+        printing_of files (print_named words.now) ≡ Ok (printing_stated inputs))) }
     ensures stopped { IfErr result (λ stop. ForSome (F.state shelf.old).files (λ files.
-        Stops (printing_of files (print_named words.entry)) stop)) }
+        Stops (printing_of files (print_named words.now)) stop)) }
     ensures faults { IfErr result (λ stop. NeedsReadFault (F.state shelf.old).files (status_of stop)
         → Rose (F.state shelf.old).faults (F.state shelf.new).faults) }
     ensures shelf { IsAfterReads
-        (most_reads (F.state shelf.old).files (Some (grammar.Print (print_named words.entry))))
+        (most_reads (F.state shelf.old).files (Some (grammar.Print (print_named words.now))))
         (F.state shelf.old) (F.state shelf.new) }
     ensures sound { IfOk result (λ inputs. IsNet inputs.net) }
     ensures planned { IfOk result (λ inputs.
-        IsPrintingOf (print_named words.entry) (printing_stated inputs)) }
+        IsPrintingOf (print_named words.now) (printing_stated inputs)) }
 {
     let net = take_network(alloc, shelf, words.net)?;
     let switch = find_switch(alloc, &net, words.switch)?;

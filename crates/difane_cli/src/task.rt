@@ -3,25 +3,26 @@ ghost use Rattle.std.specs.Prelude.{◌≡◌, ◌≤◌, Ok, Some, IfOk, IfErr,
 ghost use Rattle.std.specs.Option.{ForSome};
 ghost use Rattle.shelf.specs.Faults.{Rose};
 ghost use Rattle.shelf.specs.Shelf.{IsAfterReads};
-ghost use Rattle.difane_cli.specs.Commands.{IsReadyTask, IsTaskOf, NamesPolicies, command_named, task_stated};
+ghost use Rattle.difane_cli.specs.Commands.{IsReadyTask, IsTaskOf, task_stated};
 ghost use Rattle.difane_cli.specs.Inputs.{known_task, most_reads};
 ghost use Rattle.difane_cli.specs.Inputs.{Task as Stated};
 ghost use Rattle.difane_cli.specs.declared.status.Refusal.{Refusal};
 ghost use Rattle.difane_cli.specs.Meters.{PlaysNothing};
 ghost use Rattle.difane_cli.specs.Run.{Accounts, Known, Outcome};
 ghost use Rattle.difane_cli.specs.Status.{IsAfterWork, NeedsReadFault, status_of};
-ghost use Rattle.difane_cli.specs.Words as grammar;
+ghost use Rattle.words.specs.Named.{NamesPolicies, command_named};
+ghost use Rattle.words.specs.Words as grammar;
 ghost use Rattle.difane_cli.specs.declared.status.Status.TheVariants as status;
 
 use crate::inputs::{ReplayInputs, read_inputs};
 use crate::playing::play;
 use crate::printing::{PrintInputs, print, read_printing};
 use crate::status::{Ended, Status, Stop};
-use crate::words::Command;
 use journal::Journal;
 use meters::Meter;
 use shelf::{Shelf, Sink};
 use std::alloc::Global;
+use words::Command;
 
 /// What a command is to do.
 #[derive(Drop)]
@@ -31,22 +32,26 @@ pub enum Task {
 }
 
 /// The task of a command, whose files are read and checked one after another.
-pub fn read_task<F: Shelf>(alloc: Global, shelf: &mut F, command: Command<'_>) -> Result<Task, Stop>
-    requires { NamesPolicies command }
+pub fn read_task<F: Shelf>(
+    alloc: Global,
+    shelf: &mut F,
+    command: &Command<'_>,
+) -> Result<Task, Stop>
+    requires { NamesPolicies command.now }
     ensures value { IfOk result (λ task. ForSome
-        (known_task (F.state shelf.old).files (Some (command_named command.entry)))
+        (known_task (F.state shelf.old).files (Some (command_named command.now)))
         (λ read. read ≡ Ok (task_stated task))) }
     ensures accounts { IfErr result (λ stop. ForSome
-        (known_task (F.state shelf.old).files (Some (command_named command.entry)))
+        (known_task (F.state shelf.old).files (Some (command_named command.now)))
         (λ read. Accounts read (status_of stop))) }
     ensures faults { IfErr result (λ stop. NeedsReadFault (F.state shelf.old).files (status_of stop)
         → Rose (F.state shelf.old).faults (F.state shelf.new).faults) }
     ensures shelf { IsAfterReads
-        (most_reads (F.state shelf.old).files (Some (command_named command.entry)))
+        (most_reads (F.state shelf.old).files (Some (command_named command.now)))
         (F.state shelf.old) (F.state shelf.new) }
     ensures ready { IfOk result IsReadyTask }
     ensures asked { IfOk result (λ task.
-        IsTaskOf (command_named command.entry) (task_stated task)) }
+        IsTaskOf (command_named command.now) (task_stated task)) }
 {
     match command {
         Command::Replay(words) => {
@@ -57,6 +62,7 @@ pub fn read_task<F: Shelf>(alloc: Global, shelf: &mut F, command: Command<'_>) -
             let inputs = read_printing(alloc, shelf, words)?;
             Ok(Task::Print(inputs))
         }
+        Command::Load(_) => unreachable!(),
     }
 }
 
@@ -88,14 +94,14 @@ pub fn work<M: Meter, K: Sink>(alloc: Global, task: Task, meters: Vec<M>, out: &
     }
 }
 
-/// The meters that are left where nothing was played: none of a replay, and all of a command that
-/// plays nothing.
-pub fn unplayed<M: Meter>(alloc: Global, command: Command<'_>, meters: Vec<M>) -> Vec<M>
-    ensures none { ¬ PlaysNothing (Some (command_named command.entry)) → result.items ≡ [] }
-    ensures all { PlaysNothing (Some (command_named command.entry)) → result ≡ meters }
+/// The meters that are left where nothing was played: none of a command that plays, and all of one
+/// that plays nothing.
+pub fn unplayed<M: Meter>(alloc: Global, command: &Command<'_>, meters: Vec<M>) -> Vec<M>
+    ensures none { ¬ PlaysNothing (Some (command_named command.now)) → result.items ≡ [] }
+    ensures all { PlaysNothing (Some (command_named command.now)) → result ≡ meters }
 {
     match command {
-        Command::Replay(_) => Vec::new(alloc),
+        Command::Replay(_) | Command::Load(_) => Vec::new(alloc),
         Command::Print(_) => meters,
     }
 }

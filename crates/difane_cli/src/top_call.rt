@@ -7,21 +7,21 @@ ghost use Rattle.difane_cli.specs.Inputs.{IsAccepted, known_task, most_reads};
 ghost use Rattle.difane_cli.specs.Meters.{PlaysNothing};
 ghost use Rattle.difane_cli.specs.Run.{Accounts, Outcome};
 ghost use Rattle.difane_cli.specs.Status.{NeedsReadFault, TellsLine, status_line};
-ghost use Rattle.difane_cli.specs.Words.{command_of, texts};
+ghost use Rattle.words.specs.Words.{command_of, texts};
 ghost use Rattle.difane_cli.specs.declared.status.Status.TheVariants as status;
 
 use crate::status::{Ended, Finished, Status, tell};
 use crate::task::{read_task, unplayed, work};
-use crate::words::read_words;
 use journal::Journal;
 use meters::Meter;
 use shelf::{Shelf, Sink};
-use std::alloc::Global;
+use std::alloc::{AllocError, Global};
+use words::read_words;
 
 /// Does what the words ask: `replay SCHEDULE POLICY ..` plays the schedule, whose updates name the
-/// policies by their places, and writes the journal to `out`; `compile POLICY` writes the plan of
-/// the policy, and `show POLICY SWITCH` the tables that it gives to the switch, each on the network
-/// of `--net NET` or on one switch.
+/// policies by their places, and writes the journal to `out`, and with `--quiet` whether the network
+/// is quiet; `compile POLICY` writes the plan of the policy, and `show POLICY SWITCH` the tables that
+/// it gives to the switch, each on the network of `--net NET` or on one switch.
 ///
 /// A status other than `Ok` writes its line to `errs`. The words are those of the command line
 /// without the program's name. The first refusal in the order of work ends the call: the words, the
@@ -76,11 +76,12 @@ pub fn run<F: Shelf, K: Sink, E: Sink>(
         (F.state shelf.old) (F.state shelf.new) }
     ensures faults { (K.state out.old).faults ≤ (K.state out.new).faults }
 {
-    match read_words(words) {
-        None => end(Status::Words, Journal::new(alloc), meters, errs),
-        Some(command) => match read_task(alloc, shelf, command) {
+    match read_words(alloc, words) {
+        Err(AllocError) => end(Status::NoMemory, Journal::new(alloc), meters, errs),
+        Ok(None) => end(Status::Words, Journal::new(alloc), meters, errs),
+        Ok(Some(command)) => match read_task(alloc, shelf, &command) {
             Err(stop) => {
-                let meters = unplayed(alloc, command, meters);
+                let meters = unplayed(alloc, &command, meters);
                 end(Status::from(stop), Journal::new(alloc), meters, errs)
             }
             Ok(task) => {

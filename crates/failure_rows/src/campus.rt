@@ -1,4 +1,5 @@
-//! A whole day of a campus: caches, a link that fails, and an update; what left is counted.
+//! A whole day of a campus: caches, a link that fails, and an update; what left is counted, and in
+//! the end it is quiet.
 use std::test::Fail;
 use worked_rows::runs::{ended, recorded};
 
@@ -200,15 +201,17 @@ const DAY_OUTPUT: &str = "row 1: packet a 10.0.1.5 10.0.2.10 40000 443 tcp\n\
     row 14: deliver 35\n\
     \x20 delivered 35\n\
     meter port 2 notes 2\n\
-    meter port 3 notes 1\n";
+    meter port 3 notes 1\n\
+    quiet yes\n";
 
-const WORDS: [&str; 6] = [
+const WORDS: [&str; 7] = [
     "replay",
     "day.csv",
     "one.csv",
     "two.csv",
     "--net",
     "campus.toml",
+    "--quiet",
 ];
 
 const FILES: [(&str, &str); 4] = [

@@ -12,3 +12,5 @@ mod links;
 mod messages;
 #[cfg(test)]
 mod plays;
+#[cfg(test)]
+mod quiet;

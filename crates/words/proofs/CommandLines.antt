@@ -1,9 +1,9 @@
 -- The commands of the grammar, by their lines.
 use Rattle.std.specs.Prelude.{nat_le, option_and_then}
-use Rattle.std.proofs.Common.{◌≡◌, ℕ, ◌==◌, ◌<◌, ◌≤◌, ◌^◌, Bool, true, false, cond, ◌||◌, Option, Some, None, is_some, List, [], ◌∷◌, length, refl, sym, true≢false, eqb-true, leb-true, arith}
+use Rattle.std.proofs.Common.{◌≡◌, ℕ, ◌==◌, ◌<◌, ◌≤◌, ◌^◌, Bool, true, false, cond, not, ◌||◌, Option, Some, None, is_some, List, [], ◌∷◌, length, refl, sym, true≢false, eqb-true, leb-true, arith}
 use Rattle.clap.proofs.WalkLemmas.{both}
 use Rattle.words.specs.Named.{command_in, kind_name}
-use Rattle.words.specs.Words.{Line, command_by, line_of, load_from, load_number, load_of, may_be_policies, print_of, replay_from}
+use Rattle.words.specs.Words.{Line, command_by, line_of, load_from, load_number, load_is_built, load_of, print_of, replay_from}
 use Rattle.words.specs.declared.grammar.Kind.{Kind}
 use Rattle.words.specs.declared.grammar.Kind.TheVariants as kind
 
@@ -19,8 +19,8 @@ replay_names : (line : Line) (names : List (List ℕ)) → is_some (replay_from 
     → HaveNames names
 replay_names line [] e = absurd (true≢false (sym e))
 replay_names line (s ∷ ps) e =
-    let may = both (may_be_policies (length ps)) _ (passes _ _ e) in
-    let most : length ps ≤ 64 = leb-true (length ps) 64 (both (nat_le 1 (length ps)) _ may.0).1 in
+    let may = both (nat_le 1 (length ps)) _ (passes _ _ e) in
+    let most : length ps ≤ 64 = leb-true (length ps) 64 may.1 in
     (omega arith, omega (arith, most))
 
 print_names : (count : ℕ) (line : Line) → 0 < count → count < 3
@@ -30,7 +30,7 @@ print_names count line some few e =
     (omega (arith, is, some), omega (arith, is, few))
 
 load_names : (line : Line) → is_some (load_of line) ≡ true → HaveNames line.names
-load_names line e = go (is_some line.net || line.quiet) line.names e
+load_names line e = go (not load_is_built || is_some line.net || line.quiet) line.names e
   where
     go : (b : Bool) (names : List (List ℕ))
         → is_some (cond b None (load_from (load_number names))) ≡ true → HaveNames names

@@ -2,3 +2,4 @@ pub mod Shapes
 pub mod Walks
 pub mod Parses
 pub mod CommandLines
+mod Tried

@@ -122,10 +122,6 @@ line_of words =
 
 -- ---- the commands
 
--- whether the flag `--quiet` is built: until it is, words with it are off the grammar
-abbrev pub quiet_is_built : Bool
-quiet_is_built = false
-
 -- a replay names at least one policy, and at most so many
 abbrev pub most_policies : ℕ
 most_policies = 64
@@ -136,7 +132,7 @@ may_be_policies count = nat_le 1 count && nat_le count most_policies
 abbrev pub replay_from : Line → List (List ℕ) → Option Command
 replay_from line [] = None
 replay_from line (schedule ∷ policies) =
-    if may_be_policies (length policies) && (not line.quiet || quiet_is_built)
+    if may_be_policies (length policies)
     then Some (Replay (record {
       schedule = schedule;
       policies = policies;
@@ -169,10 +165,16 @@ abbrev pub load_from : Option ℕ → Option Command
 load_from None = None
 load_from (Some n) = if nat_le 1 n then Some (Load n) else None
 
+-- whether `load` is built: until it is, its words are off the grammar
+abbrev pub load_is_built : Bool
+load_is_built = false
+
 -- `load` has no option
 abbrev pub load_of : Line → Option Command
 load_of line =
-    if is_some line.net || line.quiet then None else load_from (load_number line.names)
+    if not load_is_built || is_some line.net || line.quiet
+    then None
+    else load_from (load_number line.names)
 
 -- the command of this name, with these words behind it
 abbrev pub command_by : List ℕ → Line → Option Command

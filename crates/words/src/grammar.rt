@@ -7,8 +7,8 @@ ghost use Rattle.words.specs.Words.{Line as Stated, command_by, command_of, cut_
 use crate::command::{MAX_LOAD, MAX_POLICIES};
 use five_tuple::read_number;
 
-/// Whether the flag `--quiet` is built: until it is, words with it are off the grammar.
-const QUIET_IS_BUILT: bool = false;
+/// Whether `load` is built: until it is, its words are off the grammar.
+const LOAD_IS_BUILT: bool = false;
 
 /// Which command the words are.
 #[derive(Clone, Copy)]
@@ -86,7 +86,7 @@ fn takes_replay(parts: &Parts<'_>) -> bool
     let [_schedule, policies @ ..] = parts.names else {
         return false;
     };
-    !policies.is_empty() && policies.len() <= MAX_POLICIES && (!parts.quiet || QUIET_IS_BUILT)
+    !policies.is_empty() && policies.len() <= MAX_POLICIES
 }
 
 fn takes_print(count: usize, parts: &Parts<'_>) -> bool
@@ -99,7 +99,7 @@ fn takes_print(count: usize, parts: &Parts<'_>) -> bool
 fn takes_load(parts: &Parts<'_>) -> bool
     ensures { result ≡ is_some (load_of (parts_seen parts.now)) }
 {
-    if parts.net.is_some() || parts.quiet {
+    if !LOAD_IS_BUILT || parts.net.is_some() || parts.quiet {
         return false;
     }
     let [number] = parts.names else {

@@ -1,8 +1,7 @@
 use Rattle.world.specs.State.{setting_at}
-use Rattle.std.proofs.Common.{◌∙◌, ap, refl, sym}
-use Rattle.std.specs.Prelude.{string_bytes}
+use Rattle.std.proofs.Common.{◌∙◌, ap, length, refl, sym}
 use Rattle.std.proofs.lemmas.List.{length-map}
-use Rattle.difane_cli.specs.Commands.{replay_named}
+use Rattle.words.specs.Named.{replay_named}
 use Rattle.difane_cli.specs.Inputs.{net_reads}
 use Rattle.difane_cli.proofs.Begun.{all_are_events, asked_for, inputs_are}
 use Rattle.difane_cli.proofs.ShelfReads.{all_reads, reads_then, schedule_read}
@@ -10,41 +9,42 @@ use Rattle.difane_cli.proofs.inputs.read_inputs.Goals as goal
 
 pub returns-in_err-events-clause-shelf : goal.returns-in_err-events-clause-shelf
 returns-in_err-events-clause-shelf g c =
-    let words = replay_named c.args.words in
+    let words = replay_named c.args.words.now in
     let one = schedule_read _ words c.in_ok-net.net c.in_ok-net.ensures.value in
     reads_then (net_reads words.net) 1 _ _ (g.F.Shelf.state c.take_network.new.shelf) _ one
     c.in_ok-net.ensures.shelf c.in_err-events.ensures.shelf
 
 pub returns-in_err-policies-clause-shelf : goal.returns-in_err-policies-clause-shelf
 returns-in_err-policies-clause-shelf g c =
-    all_reads (replay_named c.args.words) c.in_ok-net.net c.in_ok-events.events.items _ _ _ _ _ _
-    (sym (length-map c.args.words.policies.now string_bytes)) c.port_mask.ensures
+    all_reads (replay_named c.args.words.now) c.in_ok-net.net c.in_ok-events.events.items _ _ _ _ _ _
+    (ap length c.deref-names.ensures.value ∙ sym (length-map c.args.words.now.policies.items (λ n. n.now))) c.port_mask.ensures
     c.in_ok-net.ensures.value c.in_ok-events.ensures.value c.in_ok-net.ensures.shelf
-    c.in_ok-events.ensures.shelf c.in_err-policies.ensures.shelf
+    c.in_ok-events.ensures.shelf (rw c.deref-names.ensures.value at c.in_err-policies.ensures.shelf)
 
 pub returns-in_err-world-clause-shelf : goal.returns-in_err-world-clause-shelf
 returns-in_err-world-clause-shelf g c =
-    all_reads (replay_named c.args.words) c.in_ok-net.net c.in_ok-events.events.items _ _ _ _ _ _
-    (sym (length-map c.args.words.policies.now string_bytes)) c.port_mask.ensures
+    all_reads (replay_named c.args.words.now) c.in_ok-net.net c.in_ok-events.events.items _ _ _ _ _ _
+    (ap length c.deref-names.ensures.value ∙ sym (length-map c.args.words.now.policies.items (λ n. n.now))) c.port_mask.ensures
     c.in_ok-net.ensures.value c.in_ok-events.ensures.value c.in_ok-net.ensures.shelf
-    c.in_ok-events.ensures.shelf c.in_ok-policies.ensures.shelf
+    c.in_ok-events.ensures.shelf (rw c.deref-names.ensures.value at c.in_ok-policies.ensures.shelf)
 
 pub returns-clause-shelf : goal.returns-clause-shelf
 returns-clause-shelf g c =
-    all_reads (replay_named c.args.words) c.in_ok-net.net c.in_ok-events.events.items _ _ _ _ _ _
-    (sym (length-map c.args.words.policies.now string_bytes)) c.port_mask.ensures
+    all_reads (replay_named c.args.words.now) c.in_ok-net.net c.in_ok-events.events.items _ _ _ _ _ _
+    (ap length c.deref-names.ensures.value ∙ sym (length-map c.args.words.now.policies.items (λ n. n.now))) c.port_mask.ensures
     c.in_ok-net.ensures.value c.in_ok-events.ensures.value c.in_ok-net.ensures.shelf
-    c.in_ok-events.ensures.shelf c.in_ok-policies.ensures.shelf
+    c.in_ok-events.ensures.shelf (rw c.deref-names.ensures.value at c.in_ok-policies.ensures.shelf)
 
 pub returns-clause-value : goal.returns-clause-value
 returns-clause-value g c =
     let net_files = c.in_ok-net.ensures.shelf.same_files in
-    inputs_are _ _ _ (replay_named c.args.words) c.in_ok-net.net c.in_ok-policies.policies.items
+    inputs_are _ _ _ (replay_named c.args.words.now) c.in_ok-net.net c.in_ok-policies.policies.items
     c.in_ok-events.events.items (setting_at c.in_ok-world.world) _ _ net_files
     (c.in_ok-events.ensures.shelf.same_files ∙ net_files)
-    (sym (length-map c.args.words.policies.now string_bytes)) c.port_mask.ensures
-    c.in_ok-net.ensures.value c.in_ok-events.ensures.value c.in_ok-policies.ensures.value
-    c.in_ok-world.ensures.planned c.in_ok-world.ensures.begun.own
+    (ap length c.deref-names.ensures.value ∙ sym (length-map c.args.words.now.policies.items (λ n. n.now))) c.port_mask.ensures
+    c.in_ok-net.ensures.value c.in_ok-events.ensures.value
+    (rw c.deref-names.ensures.value at c.in_ok-policies.ensures.value)
+    (rw c.deref-names.ensures.value at c.in_ok-world.ensures.planned) c.in_ok-world.ensures.begun.own
 
 pub returns-clause-ready : goal.returns-clause-ready
 returns-clause-ready g c =
@@ -60,9 +60,10 @@ returns-clause-ready g c =
 pub returns-clause-asked : goal.returns-clause-asked
 returns-clause-asked g c =
     let own = c.in_ok-world.ensures.begun.own in
-    asked_for (replay_named c.args.words) c.in_ok-net.net c.in_ok-policies.policies.items
+    asked_for (replay_named c.args.words.now) c.in_ok-net.net c.in_ok-policies.policies.items
     c.in_ok-events.events.items (setting_at c.in_ok-world.world) c.in_ok-net.ensures.named own
-    (c.in_ok-policies.ensures.many ∙ sym (length-map c.args.words.policies.now string_bytes))
+    (c.in_ok-policies.ensures.many ∙ ap length c.deref-names.ensures.value
+    ∙ sym (length-map c.args.words.now.policies.items (λ n. n.now)))
     c.in_ok-world.ensures.sound
     (all_are_events c.in_ok-net.net c.in_ok-policies.policies.items _ _
     c.in_ok-events.events.items own c.in_ok-policies.ensures.many c.in_ok-events.ensures.sound)

@@ -1,56 +1,61 @@
-use Rattle.std.specs.Prelude.{IsTrue, string_bytes}
-use Rattle.std.proofs.Common.{◌≡◌, ◌∙◌, ◌+◌, All, List, [], ◌∷◌, ◌++◌, ap, arith, drop, length, length-append, map, subst, sym}
+use Rattle.std.specs.Prelude.{IsTrue}
+use Rattle.std.proofs.Common.{ℕ, ◌≡◌, ◌+◌, Ok, All, List, [], ◌∷◌, ◌++◌, ap, arith, drop, length, length-append, subst, sym}
 use Rattle.std.proofs.lemmas.List.Elements.{All-push}
 use Rattle.policy_file.specs.Ports.{has_port}
 use Rattle.policy_rules.specs.Policy.{IsPolicy}
 use Rattle.policy_rules.specs.declared.policy.Row.{Row}
 use Rattle.std.specs.Option.{ForSome}
-use Rattle.difane_cli.specs.Inputs.{Stops, read_policies}
-use Rattle.difane_cli.proofs.PolicyReads.{HasRead, at_next, handed_on, one_read, reads_at, stops_at}
+use Rattle.words.specs.Named.{names_seen}
+use Rattle.difane_cli.specs.Inputs.{Stops, read_policies, read_policy}
+use Rattle.difane_cli.proofs.PolicyReads.{HasRead, at_next, handed_on, name_there, one_read, reads_at, stops_at}
 use Rattle.difane_cli.proofs.inputs.read_policies.Goals as goal
 
 pub returns-in_err-policy-clause-stopped : goal.returns-in_err-policy-clause-stopped
 returns-in_err-policy-clause-stopped g c =
     let names = c.args.names.now in
-    let so_far = at_next c.args.ports names c.loop-name.name-index c.name-item.result
-    c.deref.result.now _ _ _ c.loop-name.invariant.read c.loop-name-test.true
-    (c.deref.ensures ∙ ap string_bytes c.name-item.is) in
-    handed_on c.from_residual.result c.in_err-policy.field-0.0
+    let so_far = at_next c.args.ports names c.loop-name.name-index _ _ _ c.loop-name.invariant.read
+    c.loop-name-test.true in
+    let stop = c.in_err-policy.field-0.0 in
+    let known = (g.F.Shelf.state c.loop-name.shelf).files in
+    handed_on c.from_residual.result stop
     (λ stop. ForSome (g.F.Shelf.state c.args.shelf.now).files
-    (λ files. Stops (read_policies c.args.ports files (map string_bytes names)) stop))
+    (λ files. Stops (read_policies c.args.ports files (names_seen names)) stop))
     c.from_residual.ensures.1
-    (stops_at _ _ _ _ _ _ _ c.in_err-policy.field-0.0 so_far c.in_err-policy.ensures.stopped)
+    (stops_at _ _ _ _ _ _ _ stop so_far
+    (subst (λ (name : List ℕ). ForSome known
+    (λ files. Stops (read_policy c.args.ports files name) stop))
+    (name_there names c.loop-name.name-index _ c.loop-name-test.true)
+    c.in_err-policy.ensures.stopped))
 
 pub returns-in_err-policy-clause-shelf : goal.returns-in_err-policy-clause-shelf
 returns-in_err-policy-clause-shelf g c =
-    let so_far = at_next c.args.ports c.args.names.now c.loop-name.name-index c.name-item.result
-    c.deref.result.now _ _ _ c.loop-name.invariant.read c.loop-name-test.true
-    (c.deref.ensures ∙ ap string_bytes c.name-item.is) in
-    reads_at _ _ _ _ _ _ _ _ so_far c.in_err-policy.ensures.shelf
+    reads_at _ _ _ _ _ _ _ _ (at_next c.args.ports c.args.names.now c.loop-name.name-index _ _ _
+    c.loop-name.invariant.read c.loop-name-test.true) c.in_err-policy.ensures.shelf
 
 pub returns-in_err-push-clause-shelf : goal.returns-in_err-push-clause-shelf
 returns-in_err-push-clause-shelf g c =
-    let so_far = at_next c.args.ports c.args.names.now c.loop-name.name-index c.name-item.result
-    c.deref.result.now _ _ _ c.loop-name.invariant.read c.loop-name-test.true
-    (c.deref.ensures ∙ ap string_bytes c.name-item.is) in
-    reads_at _ _ _ _ _ _ _ _ so_far c.in_ok-policy.ensures.shelf
+    reads_at _ _ _ _ _ _ _ _ (at_next c.args.ports c.args.names.now c.loop-name.name-index _ _ _
+    c.loop-name.invariant.read c.loop-name-test.true) c.in_ok-policy.ensures.shelf
 
 pub loop-name-preserved : goal.loop-name-preserved
 loop-name-preserved g c =
     let names = c.args.names.now in
-    let so_far = at_next c.args.ports names c.loop-name.name-index c.name-item.result
-    c.deref.result.now _ _ _ c.loop-name.invariant.read c.loop-name-test.true
-    (c.deref.ensures ∙ ap string_bytes c.name-item.is) in
+    let so_far = at_next c.args.ports names c.loop-name.name-index _ _ _ c.loop-name.invariant.read
+    c.loop-name-test.true in
+    let known = (g.F.Shelf.state c.loop-name.shelf).files in
     let before = c.loop-name.policies.items in
     let rows = c.in_ok-policy.policy in
     let pushed : c.push.new.self.items ≡ before ++ rows ∷ [] = c.in_ok-push.ensures.items in
     let HasOwn : List Row → Type 0 = All (λ row. IsTrue (has_port c.args.ports row.action)) in
     record {
-      read = subst (λ (policies : List (List Row)). HasRead c.args.ports (map string_bytes names)
-          (drop (c.loop-name.name-index + 1) (map string_bytes names)) policies
+      read = subst (λ (policies : List (List Row)). HasRead c.args.ports (names_seen names)
+          (drop (c.loop-name.name-index + 1) (names_seen names)) policies
           (g.F.Shelf.state c.args.shelf.now) (g.F.Shelf.state c.read_policy.new.shelf)) (sym pushed)
-          (one_read _ _ _ _ before rows _ _ _ so_far c.in_ok-policy.ensures.value
-          c.in_ok-policy.ensures.shelf);
+          (one_read _ _ _ _ before rows _ _ _ so_far
+          (subst (λ (name : List ℕ). ForSome known
+          (λ files. read_policy c.args.ports files name ≡ Ok rows))
+          (name_there names c.loop-name.name-index _ c.loop-name-test.true)
+          c.in_ok-policy.ensures.value) c.in_ok-policy.ensures.shelf);
       many = omega (
         arith,
         ap length pushed,

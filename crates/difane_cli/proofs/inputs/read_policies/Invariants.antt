@@ -1,14 +1,15 @@
-use Rattle.std.proofs.Common.{◌≡◌, All, drop, length, map}
-use Rattle.std.specs.Prelude.{IsTrue, string_bytes}
+use Rattle.std.proofs.Common.{◌≡◌, All, drop, length}
+use Rattle.std.specs.Prelude.{IsTrue}
 use Rattle.policy_file.specs.Ports.{has_port}
 use Rattle.policy_rules.specs.Policy.{IsPolicy}
+use Rattle.words.specs.Named.{names_seen}
 use Rattle.difane_cli.proofs.PolicyReads.{HasRead}
 use Rattle.difane_cli.proofs.inputs.read_policies.Given as goal
 
 abbrev pub invariant-loop-name : goal.invariant-loop-name
 invariant-loop-name g l = record {
-  read : HasRead l.ports (map string_bytes l.names)
-      (drop l.name-index (map string_bytes l.names)) l.policies.items
+  read : HasRead l.ports (names_seen l.names)
+      (drop l.name-index (names_seen l.names)) l.policies.items
       (g.F.Shelf.state l.fn.shelf) (g.F.Shelf.state l.shelf);
   many : length l.policies.items ≡ l.name-index;
   own_ports : All (All (λ row. IsTrue (has_port l.ports row.action))) l.policies.items;

@@ -1,6 +1,6 @@
-use Rattle.std.specs.Prelude.{string_bytes}
-use Rattle.std.proofs.Common.{ℕ, ◌≡◌, ◌∙◌, ◌<◌, List, [], ap, arith, get_or, length, map, subst, sym}
+use Rattle.std.proofs.Common.{ℕ, ◌<◌, List, [], arith, get_or, length, subst, sym}
 use Rattle.std.proofs.lemmas.List.{get_or-map}
+use Rattle.words.specs.Named.{names_seen}
 use Rattle.difane_cli.specs.Inputs.{StopsContent, plan_on}
 use Rattle.difane_cli.proofs.Begun.{has_plan, planned_by, sound_by_tie}
 use Rattle.difane_cli.proofs.policies.begin_world.Goals as goal
@@ -11,7 +11,7 @@ returns-in-Ok-clause-planned c =
     let policies = c.args.policies.items in
     let begun = c.in-Ok.ensures.begun in
     let sound = sound_by_tie c.in-Ok.world begun.able c.tied.ensures in
-    has_plan (map string_bytes c.args.names.now) net policies
+    has_plan (names_seen c.args.names.now) net policies
     (planned_by net policies _ begun.own sound)
 
 pub returns-in-Ok-clause-sound : goal.returns-in-Ok-clause-sound
@@ -24,8 +24,6 @@ returns-in-Err-clause-stopped c =
     let net = c.args.net.now in
     let rows = get_or c.args.policies.items 0 [] in
     let some : 0 < length names = omega (arith, c.requires.some, c.requires.named) in
-    let first : c.as_str.result.now ≡ get_or (map string_bytes names) 0 [] =
-    c.as_str.ensures.value ∙ ap string_bytes c.index-names-0.is
-    ∙ sym (get_or-map string_bytes names 0 c.index-names-0.result [] some) in
-    subst (λ (name : List ℕ). StopsContent (plan_on name net rows) c.no_plan.result) first
+    subst (λ (name : List ℕ). StopsContent (plan_on name net rows) c.no_plan.result)
+    (sym (get_or-map (λ n. n.now) names 0 _ [] some))
     (c.no_plan.ensures rows net c.in-Err.ensures.refused)

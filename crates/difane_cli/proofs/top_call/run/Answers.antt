@@ -1,26 +1,27 @@
 use Rattle.std.specs.Prelude.{String, Vec, option_map, string_bytes}
 use Rattle.std.specs.Global.{Global}
-use Rattle.std.proofs.Common.{◌≡◌, ◌∙◌, Option, Some, List, ap, map, subst, sym}
+use Rattle.std.proofs.Common.{◌≡◌, ◌∙◌, Option, Some, List, ap, map, rules, subst, sym}
 use Rattle.journal.specs.declared.item.Item.{Item}
 use Rattle.meters.specs.Meters.{Seen}
 use Rattle.shelf.specs.Shelf.{Files}
 use Rattle.shelf.specs.Sink.{SinkState}
-use Rattle.difane_cli.specs.Commands.{command_named}
+use Rattle.words.specs.Named.{command_named}
 use Rattle.difane_cli.specs.Inputs.{known_task}
 use Rattle.difane_cli.specs.Run.{Outcome}
-use Rattle.difane_cli.specs.Words.{command_of}
-use Rattle.difane_cli.specs.Words as grammar
+use Rattle.words.specs.Words.{command_of}
+use Rattle.words.specs.Words as grammar
 use Rattle.difane_cli.specs.declared.status.Ended.{Ended}
 use Rattle.difane_cli.specs.declared.status.Status.{Status}
-use Rattle.difane_cli.specs.declared.words.Command.{Command}
+use Rattle.words.specs.declared.command.Command.{Command}
 use Rattle.difane_cli.proofs.top_call.run.Goals as goal
 
 -- the command that was read is that of the words
-command_is : (command : Command) (words owned : List (String Global))
-    → option_map command_named (Some command) ≡ command_of (map string_bytes words)
+command_is : (command : Command) (found : Option Command) (words owned : List (String Global))
+    → found ≡ Some command → option_map command_named found ≡ command_of (map string_bytes words)
     → words ≡ owned → Some (command_named command) ≡ command_of (map string_bytes owned)
-command_is command words owned read same =
-    read ∙ ap (λ (all : List (String Global)). command_of (map string_bytes all)) same
+command_is command found words owned is read same =
+    sym (ap (option_map command_named) is) ∙ read
+    ∙ ap (λ (all : List (String Global)). command_of (map string_bytes all)) same
 
 -- what work came to, a call that ends so comes to
 ended_so : {M : Type 0} (seen : M → Seen) (files : Option Files)
@@ -46,12 +47,14 @@ ended_so {M} seen files asked command taken before now worked ended own is same 
     Outcome asked (known_task files asked) worked.status worked.journal taken (map seen given)
     before now) (sym (ap (λ (all : Vec M Global). all.items) stayed)) outcome)))
 
-pub returns-in-Ok-clause-outcome : goal.returns-in-Ok-clause-outcome
-returns-in-Ok-clause-outcome g c =
-    let asked = command_named c.in-Some.command in
+pub returns-clause-outcome : goal.returns-clause-outcome
+returns-clause-outcome g c =
+    let asked = command_named c.in-Ok-Some.command in
     let files = (g.F.Shelf.state c.args.shelf.now).files in
+    let found : c.in-Ok-Some.field-0 ≡ Some c.in-Ok-Some.command = search rules in
     ended_so _ files (Some asked) _ _ _ _ c.work-ended.result c.end-in-Ok.result
-    (command_is c.in-Some.command _ _ c.in-Some.ensures.value c.deref.ensures.value)
+    (command_is c.in-Ok-Some.command c.in-Ok-Some.field-0 _ _ found c.in-Ok-Some.ensures.value
+    c.deref.ensures.value)
     c.end-in-Ok.ensures.status c.end-in-Ok.ensures.journal c.end-in-Ok.ensures.meters
     (c.work-ended.ensures.outcome asked (known_task files (Some asked)) c.in-Ok.ensures.asked
     c.in-Ok.ensures.value)

@@ -1,9 +1,9 @@
 -- The grammar of words, tried on literals by computing.
-use Rattle.std.proofs.Common.{◌≡◌, Some, None, [], ◌∷◌, codes, refl, replicate}
-use Rattle.difane_cli.specs.Words.{Print, Replay, command_of}
+use Rattle.std.proofs.Common.{◌≡◌, true, false, Some, None, [], ◌∷◌, codes, refl, replicate}
+use Rattle.words.specs.Words.{Print, Replay, command_of}
 
 two_names : command_of (codes "replay" ∷ codes "s.csv" ∷ codes "p.csv" ∷ []) ≡ Some
-    (Replay (record { schedule = codes "s.csv"; policies = codes "p.csv" ∷ []; net = None }))
+    (Replay (record { schedule = codes "s.csv"; policies = codes "p.csv" ∷ []; net = None; quiet = false }))
 two_names = refl
 
 no_option : command_of (codes "replay" ∷ codes "s.csv" ∷ codes "--net" ∷ []) ≡ None
@@ -17,6 +17,7 @@ two_policies : command_of (codes "replay" ∷ codes "s.csv" ∷ codes "p.csv" �
       schedule = codes "s.csv";
       policies = codes "p.csv" ∷ codes "q.csv" ∷ [];
       net = None;
+      quiet = false;
     }))
 two_policies = refl
 
@@ -63,5 +64,23 @@ net_for_replay : command_of
       schedule = codes "s.csv";
       policies = codes "p.csv" ∷ [];
       net = Some (codes "n");
+      quiet = false;
     }))
 net_for_replay = refl
+
+flag_behind_net : command_of (codes "replay" ∷ codes "s.csv" ∷ codes "p.csv" ∷ codes "--net=n"
+    ∷ codes "--quiet" ∷ []) ≡ Some (Replay (record {
+      schedule = codes "s.csv";
+      policies = codes "p.csv" ∷ [];
+      net = Some (codes "n");
+      quiet = true;
+    }))
+flag_behind_net = refl
+
+no_two_flags : command_of
+    (codes "replay" ∷ codes "--quiet" ∷ codes "s.csv" ∷ codes "p.csv" ∷ codes "--quiet" ∷ [])
+    ≡ None
+no_two_flags = refl
+
+no_flag_for_plans : command_of (codes "compile" ∷ codes "p.csv" ∷ codes "--quiet" ∷ []) ≡ None
+no_flag_for_plans = refl

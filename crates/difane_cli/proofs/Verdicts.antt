@@ -1,0 +1,53 @@
+-- What an answer to the question whether the network is quiet says.
+use Rattle.std.specs.Prelude.{is_some}
+use Rattle.std.proofs.Common.{ℕ, ◌≡◌, Bool, true, false, Option, Some, None, List, refl, sym, subst, true≢false}
+use Rattle.boot_laws.specs.Always.{HoldsAtEnds}
+use Rattle.journal.specs.declared.item.Item.{Item}
+use Rattle.net_file.specs.Net.{IsNet}
+use Rattle.quiet_laws.specs.Converged.{HasConverged}
+use Rattle.quiet_laws.specs.Updated.{IsUpdated}
+use Rattle.steps.specs.declared.step.Event.{Event}
+use Rattle.update_machine.specs.Full.{IsPlay}
+use Rattle.update_machine.specs.Quiet.{IsQuiet}
+use Rattle.update_machine.specs.Setting.{Setting}
+use Rattle.difane_cli.specs.Verdict.{Decides, HasSettled, IsVerdict, Says, is_asked}
+
+-- what holds at the end of a play, where the network is quiet
+pub record QuietLaws : Type 0 where
+  pub converged : HoldsAtEnds (λ setting journal.
+      IsNet setting.net → IsQuiet setting journal → HasConverged setting journal)
+  pub updated : HoldsAtEnds (λ setting journal.
+      IsQuiet setting journal → IsUpdated setting journal)
+
+settled : QuietLaws → (setting : Setting) (events : List Event) (journal : List Item)
+    → IsNet setting.net → IsPlay setting events journal None → IsQuiet setting journal
+    → HasSettled setting journal
+settled laws setting events journal net play quiet = record {
+  quiet = quiet;
+  converged = laws.converged.answered setting events journal play.answers net quiet;
+  updated = laws.updated.answered setting events journal play.answers quiet;
+}
+
+says : QuietLaws → (quiet : Bool) (setting : Setting) (events : List Event) (journal : List Item)
+    (full : Option ℕ) (answer : Option Bool) → IsNet setting.net
+    → IsPlay setting events journal full → is_some answer ≡ is_asked quiet full
+    → Decides setting journal answer → Says setting journal answer
+says laws quiet setting events journal full None net play asked decides = tt
+says laws quiet setting events journal (Some row) (Some answer) net play asked decides =
+    absurd (true≢false asked)
+says laws quiet setting events journal None (Some true) net play asked decides =
+    settled laws setting events journal net play (decides.0 refl)
+says laws quiet setting events journal None (Some false) net play asked decides =
+    λ is. true≢false (sym (decides.1 is))
+
+-- the answer that decides it
+pub verdict : QuietLaws → (quiet asked : Bool) (setting : Setting) (events : List Event)
+    (journal : List Item) (full : Option ℕ) (answer : Option Bool) → IsNet setting.net
+    → IsPlay setting events journal full → quiet ≡ asked
+    → is_some answer ≡ is_asked quiet full → Decides setting journal answer
+    → IsVerdict asked setting journal full answer
+verdict laws quiet asked setting events journal full answer net play same given decides =
+    subst (λ (q : Bool). IsVerdict q setting journal full answer) same (record {
+      asked = given;
+      holds = says laws quiet setting events journal full answer net play given decides;
+    })

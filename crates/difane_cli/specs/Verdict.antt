@@ -1,0 +1,37 @@
+-- What a replay says of its network where it is asked to: whether it is quiet behind the journal, and
+-- what all switches came to where it is.
+use Rattle.std.specs.Prelude.{⊤, ℕ, ◌≡◌, ◌↔◌, Bool, true, false, Option, Some, None, is_some, IsTrue, List}
+use Rattle.journal.specs.declared.item.Item.{Item}
+use Rattle.quiet_laws.specs.Converged.{HasConverged}
+use Rattle.quiet_laws.specs.Updated.{IsUpdated}
+use Rattle.update_machine.specs.Quiet.{IsQuiet}
+use Rattle.update_machine.specs.Setting.{Setting}
+
+-- it is asked to by `--quiet`, at the end of a play that didn't stop full
+abbrev pub is_asked : Bool → Option ℕ → Bool
+is_asked quiet None = quiet
+is_asked quiet (Some row) = false
+
+-- an answer, if one is given, is whether the network is quiet
+abbrev pub Decides : Setting → List Item → Option Bool → Type 0
+Decides setting journal None = ⊤
+Decides setting journal (Some answer) = IsTrue answer ↔ IsQuiet setting journal
+
+-- the network is quiet: so the switches know the links that can be used, and those that are up stamp
+-- with the newest version
+pub record HasSettled (setting : Setting) (journal : List Item) : Type 0 where
+  pub quiet : IsQuiet setting journal
+  pub converged : HasConverged setting journal
+  pub updated : IsUpdated setting journal
+
+-- what an answer says of the network
+abbrev pub Says : Setting → List Item → Option Bool → Type 0
+Says setting journal None = ⊤
+Says setting journal (Some true) = HasSettled setting journal
+Says setting journal (Some false) = ¬ IsQuiet setting journal
+
+-- there is an answer exactly where one is asked for, and what it says holds
+pub record IsVerdict (quiet : Bool) (setting : Setting) (journal : List Item) (full : Option ℕ)
+    (answer : Option Bool) : Type 0 where
+  pub asked : is_some answer ≡ is_asked quiet full
+  pub holds : Says setting journal answer

@@ -1,0 +1,49 @@
+//! Whether the network of a play is quiet, and the line that says so.
+ghost use Rattle.std.specs.Prelude.{◌≡◌, [], IfOk, is_some};
+ghost use Rattle.net_file.specs.Net.{IsNet};
+ghost use Rattle.quiet_journals.specs.Plain.{IsPlain};
+ghost use Rattle.shelf.specs.Sink.{IsAfterWrite};
+ghost use Rattle.update_machine.specs.Setting.{Setting};
+ghost use Rattle.difane_cli.specs.Meters.{quiet_line};
+ghost use Rattle.difane_cli.specs.Verdict.{Decides, is_asked};
+
+use meters::Meter;
+use net_file::Net;
+use replay::Played;
+use shelf::{Sink, SinkError, write_whole};
+use std::alloc::{AllocError, Global};
+
+/// Whether the network is quiet, where this is asked for and the play didn't stop full.
+///
+/// # Errors
+/// Want of memory alone.
+pub fn judge<M: Meter>(
+    alloc: Global,
+    asked: bool,
+    played: &Played<M>,
+    net: &Net,
+) -> Result<Option<bool>, AllocError>
+    requires { IsNet net.now }
+    ensures asked { IfOk result (λ answer. is_some answer ≡ is_asked asked played.now.full) }
+    ensures decides { IfOk result (λ answer. (setting : Setting) → setting.net ≡ net.now
+        → IsPlain setting played.now.journal → Decides setting played.now.journal answer) }
+{
+    if !asked || played.full.is_some() {
+        return Ok(None);
+    }
+    let answer = quiet_journals::quiet(alloc, &played.journal, net)?;
+    Ok(Some(answer))
+}
+
+/// Writes the line of an answer, if one is given. It takes no memory of its own.
+pub fn write_answer<K: Sink>(answer: Option<bool>, out: &mut K) -> Result<(), SinkError>
+    ensures after { IsAfterWrite (quiet_line answer) K.takes_memory
+        (K.state out.old) (K.state out.new) result }
+    ensures no_line { quiet_line answer ≡ [] → out.new ≡ out.old }
+{
+    match answer {
+        None => Ok(()),
+        Some(true) => write_whole(out, b"quiet yes\n"),
+        Some(false) => write_whole(out, b"quiet no\n"),
+    }
+}
