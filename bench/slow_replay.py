@@ -1,7 +1,7 @@
 #!/usr/bin/env python3
 """The output of `replay`, worked out anew from its definitions and slowly.
 
-usage: bench/slow_replay.py SCHEDULE POLICY.. [--net NET]
+usage: bench/slow_replay.py SCHEDULE POLICY.. [--net NET] [--quiet]
 
 It shares nothing with the program: the plans are those of `bench/plan_model.py`, and all that
 happens is written from the definitions in words, in sets and lists. `bench/fuzz.py` compares it
@@ -162,13 +162,16 @@ CONTROLLER = None
 
 
 class Journal:
-    """The lines that are told, and the bag of the messages that were ever sent."""
+    """The lines that are told, and the bag of the messages that were ever sent, each with the boot
+    that its receiver was in then."""
 
     def __init__(self, network):
         self.network = network
         self.lines = []
         self.ports_left_by = []
         self.messages = []
+        self.boots = []
+        self.switches = []
         self.delivered, self.forgotten = set(), set()
 
     def row(self, row, fields):
@@ -179,6 +182,7 @@ class Journal:
 
     def send(self, to, body):
         self.messages.append((to, body))
+        self.boots.append(None if to is CONTROLLER else self.switches[to].boot)
         name = "controller" if to is CONTROLLER else self.network.names[to]
         self.say(f"sent {len(self.messages)} {name} {body.text(self.network)}")
 
@@ -449,6 +453,8 @@ class World:
         self.say, self.send = self.journal.say, self.journal.send
         self.is_link_up = dict.fromkeys(self.network.links, True)
         self.switches = [Switch(number, self.network) for number in range(len(self.network.names))]
+        self.journal.switches = self.switches
+        self.waited_for = set()
         self.controller = Controller(self.journal, len(self.switches))
         self.packets = {}
         self.packet_rows = 0
@@ -745,6 +751,7 @@ class World:
             return
         before = self.all_near()
         switch.crash()
+        self.waited_for.add(switch)
         self.say(f"down {name}")
         for packet in self.all_travelling():
             if packet.at() == switch.number:
@@ -765,6 +772,7 @@ class World:
         if switch.up:
             self.say("nothing")
             return
+        self.waited_for.discard(switch)
         self.say(f"over {name}")
         self.controller.confirm(switch.number)
 
@@ -778,6 +786,49 @@ class World:
         self.controller.resend(switch.number)
         if len(self.journal.messages) == sent:
             self.say("nothing")
+
+    # Whether the network is quiet.
+
+    def matters(self, number):
+        """What a switch that is up says in its boot; to such a switch, an advert or what is for its
+        boot, and was sent in it. Tables of a version before the current one don't, nor their report."""
+        to, body = self.journal.messages[number - 1]
+        if isinstance(body, CacheRule) or isinstance(body, Report) != (to is CONTROLLER):
+            return False
+        switch = self.switches[body.switch if to is CONTROLLER else to]
+        if not switch.up:
+            return False
+        if isinstance(body, Advert):
+            return self.journal.boots[number - 1] == switch.boot
+        if to is not CONTROLLER and self.journal.boots[number - 1] != switch.boot:
+            return False
+        old = body.kind in ("install", "installed") and body.version < self.controller.current
+        return body.boot == switch.boot and not old
+
+    def replaces(self, later, earlier):
+        """It was sent later to the same receiver, and says the same, or more."""
+        (to, body), (receiver, other) = (self.journal.messages[n - 1] for n in (later, earlier))
+        if later <= earlier or to != receiver or type(body) is not type(other):
+            return False
+        if isinstance(body, Advert) and body.origin == other.origin:
+            return body == other or other.age() < body.age()
+        if body == other:
+            return True
+        more = ("stamp", "collect", "stamped")
+        return body[0] in more and body[:-1] == other[:-1] and other.version < body.version
+
+    def is_quiet(self):
+        """The controller waits for no switch that is down, and each message that matters was
+        delivered, or one that replaces it."""
+        if any(not switch.up for switch in self.waited_for):
+            return False
+        numbers = range(1, len(self.journal.messages) + 1)
+        return all(
+            number in self.journal.delivered
+            or any(self.replaces(later, number) for later in self.journal.delivered)
+            for number in numbers
+            if self.matters(number)
+        )
 
     # Rows.
 
@@ -812,6 +863,8 @@ class World:
 
 def main():
     words, net = sys.argv[1:], SOLO
+    quiet = "--quiet" in words
+    words = [word for word in words if word != "--quiet"]
     if "--net" in words:
         at = words.index("--net")
         with open(words[at + 1], "rb") as file:
@@ -827,6 +880,8 @@ def main():
     with open(schedule, newline="") as file:
         world.play([row for row in csv.reader(file) if row][1:])
     lines = [*world.journal.lines, *world.journal.meter_lines()]
+    if quiet:
+        lines.append("quiet yes" if world.is_quiet() else "quiet no")
     sys.stdout.write("".join(line + "\n" for line in lines))
 
 
