@@ -1,5 +1,5 @@
 -- The least cut of a region.
-use Rattle.std.proofs.Common.{◌≡◌, ℕ, zero, suc, ◌+◌, ◌<◌, true, false, Option, Some, None, List, refl, sym, ◌∙◌, ap, subst, inl, inr, add-one, arith}
+use Rattle.std.proofs.Common.{◌≡◌, ℕ, zero, suc, ◌<◌, true, false, Option, Some, None, List, refl, sym, ◌∙◌, ap, subst, inl, inr, arith}
 use Rattle.std.specs.Bool.{IsFalse}
 use Rattle.std.proofs.lemmas.Bool.{cases_Bool, cases_eq, both_ways, cond-true, cond-false}
 use Rattle.ternary.specs.Word.{WordValue, is_fixed_of}
@@ -22,14 +22,13 @@ at_free : (n : ℕ) (rules : List Rule) (region : WordValue) → is_fixed_of reg
 unfolding least_below
 at_free n rules region free = rw free
 
-pub least_fixed : (bit : ℕ) (rules : List Rule) (region : WordValue) → is_fixed_of region bit ≡ true
-    → least_below (bit + 1) rules region ≡ least_below bit rules region
-least_fixed bit rules region fixed = rw add-one (at_fixed bit rules region fixed)
-
-pub least_free : (bit : ℕ) (rules : List Rule) (region : WordValue) → is_fixed_of region bit ≡ false
-    → least_below (bit + 1) rules region ≡ Some
-    (cheaper (cost_of rules region bit) (least_below bit rules region))
-least_free bit rules region free = rw add-one (at_free bit rules region free)
+-- there is none where no bit is free
+pub least_nowhere : (n : ℕ) (rules : List Rule) (region : WordValue)
+    → ((bit : ℕ) → bit < n → is_fixed_of region bit ≡ true) → least_below n rules region ≡ None
+least_nowhere zero rules region fixed = least_none rules region
+least_nowhere (suc n) rules region fixed =
+    at_fixed n rules region (fixed n (omega arith))
+    ∙ least_nowhere n rules region (λ bit within. fixed bit (omega arith))
 
 -- ---- the function gives a least cut
 
@@ -176,3 +175,10 @@ found_by rules region bit p (Some cost) is =
 pub least_found : (rules : List Rule) (region : WordValue) (bit : ℕ) → IsLeastCut rules region bit
     → (cost : Cost) × (least_below 104 rules region ≡ Some cost) × (cost.bit ≡ bit)
 least_found rules region bit p = found_by rules region bit p (least_below 104 rules region) refl
+
+pub least_is : (rules : List Rule) (region : WordValue) (bit : ℕ) → IsLeastCut rules region bit
+    → least_below 104 rules region ≡ Some (cost_of rules region bit)
+least_is rules region bit p =
+    let found = least_found rules region bit p in
+    let below = least_some 104 rules region found.0 found.1 in
+    found.1 ∙ ap Some (below.is ∙ ap (cost_of rules region) found.2)

@@ -1,15 +1,30 @@
 -- Counters for many bits at once.
-use Rattle.std.specs.Prelude.{ℕ, ◌≡◌, ◌+◌, ◌*◌, ◌≤◌, Bool, List, [], ◌∷◌, length, drop}
+use Rattle.std.specs.Prelude.{ℕ, ◌≡◌, ◌+◌, ◌*◌, ◌≤◌, ◌==◌, if◌then◌else◌, Bool, List, [], ◌∷◌, length, drop}
 use Rattle.std.specs.Int.{bit_at}
 use Rattle.ternary.specs.Word.{WordValue}
 use Rattle.policy_rules.specs.declared.rules.Rule.{Rule}
-use Rattle.cut_tree.specs.Cuts.{IsFreeBit, side_of}
+use Rattle.cut_tree.specs.Cuts.{IsFreeBit, cost_from, side_of}
+use Rattle.cut_tree.specs.declared.choice.Cost.{Cost}
 use Rattle.cut_tree.specs.declared.choice.Side.{Side}
 
 -- plane k holds the bits of weight 2 ^ k of all counters
 abbrev pub count_at : List ℕ → ℕ → ℕ
 count_at [] bit = 0
 count_at (plane ∷ planes) bit = bit_at plane bit + 2 * count_at planes bit
+
+-- what the second planes hold for a bit of the set, and the first ones for any other
+abbrev pub count_by : List ℕ → List ℕ → ℕ → ℕ → ℕ
+count_by first second which bit =
+    if bit_at which bit == 1 then count_at second bit else count_at first bit
+
+-- of a set of bits, none has a lower count than this one
+pub record IsLeastOf (bits : ℕ) (count : ℕ → ℕ) (bit : ℕ) : Type 0 where
+  pub member : bit_at bits bit ≡ 1
+  pub least : (other : ℕ) → bit_at bits other ≡ 1 → count bit ≤ count other
+
+-- the cost of a cut at the bit, by what is counted for its sides
+abbrev pub counted_cost : List ℕ → List ℕ → ℕ → Cost
+counted_cost low high bit = cost_from bit (count_at low bit) (count_at high bit)
 
 -- what is counted for a bit
 abbrev pub count_of : Side → ℕ → ℕ

@@ -1,17 +1,17 @@
-ghost use Rattle.std.specs.Prelude.{ℕ, ◌≡◌, ◌+◌, ◌*◌, ◌<◌, ◌≤◌, ◌^◌, Bool, true, false, List, ◌∷◌, length, All, IsTrue, IsFalse};
+ghost use Rattle.std.specs.Prelude.{ℕ, ◌≡◌, ◌≢◌, ◌+◌, ◌*◌, ◌<◌, ◌≤◌, ◌^◌, ◌↔◌, Bool, true, false, List, ◌∷◌, length, All, IsTrue, IsFalse};
 ghost use Rattle.std.specs.Int.{bit_at, from_bool};
 ghost use Rattle.ternary.specs.Word.{WordValue, admits, covers_of, fix_of, is_fixed_of};
 ghost use Rattle.policy_rules.specs.declared.rules.Rule.{Rule};
-ghost use Rattle.cut_tree.specs.Counts.{count_of, expected, HasCounted};
-ghost use Rattle.cut_tree.specs.Cuts.{IsFreeBit, cheaper, cost_from, least_below, side_of};
+ghost use Rattle.cut_tree.specs.Counts.{count_of, counted_cost, expected, HasCounted};
+ghost use Rattle.cut_tree.specs.Cuts.{IsAtMost, IsFreeBit, cost_from, least_below, side_of};
 ghost use Rattle.cut_tree.specs.Nodes.{LiesIn};
 
 use crate::counters::Counters;
 use policy_rules::Rule;
 use ternary::Word;
 
-/// The number of bits of a header number.
-const BITS: u32 = 104;
+/// The mask of all 104 bits of a header number.
+const ALL_BITS: u128 = (1 << 104) - 1;
 
 /// What it costs to cut a region at a bit.
 #[derive(Clone, Copy)]
@@ -33,23 +33,6 @@ impl Cost {
             bit,
         }
     }
-
-    // This cost, or the least before it where that is no greater.
-    fn or_least(self, least: Option<Cost>) -> Cost
-        ensures { result ≡ cheaper self least }
-    {
-        match least {
-            None => self,
-            Some(least) => {
-                let fewer = self.larger == least.larger && self.sum < least.sum;
-                if self.larger < least.larger || fewer {
-                    self
-                } else {
-                    least
-                }
-            }
-        }
-    }
 }
 
 /// The cost of the least cut of the region; `None` where no bit is free.
@@ -58,15 +41,34 @@ pub fn least_cut(rules: &[Rule], region: &Word) -> Option<Cost>
     requires within { All (LiesIn region.now) rules.now }
     ensures { result ≡ least_below 104 rules.now region.now }
 {
-    let (low, high) = count_sides(rules, region);
-    let mut least = None;
-    for bit in 0..BITS {
-        if !region.is_fixed(bit) {
-            let cost = Cost::new(bit, low.counts.count(bit), high.counts.count(bit));
-            least = Some(cost.or_least(least));
-        }
+    let free = free_bits(region);
+    if free == 0 {
+        return None;
     }
-    least
+    let (low, high) = count_sides(rules, region);
+    let bit = least_bit(&low.counts, &high.counts, free);
+    Some(Cost::new(bit, low.counts.count(bit), high.counts.count(bit)))
+}
+
+/// The bits that the region leaves free, of the 104 of a header number.
+pub fn free_bits(region: &Word) -> u128
+    ensures { (bit : ℕ) → (bit_at result bit ≡ 1) ↔ IsFreeBit region.now bit }
+{
+    ALL_BITS & !region.mask()
+}
+
+// Of the bits of a set the first whose cut costs least.
+fn least_bit(low: &Counters, high: &Counters, bits: u128) -> u32
+    requires some { bits ≢ 0 }
+    ensures member { bit_at bits result ≡ 1 }
+    ensures least { (other : ℕ) → bit_at bits other ≡ 1 →
+        IsAtMost (counted_cost low.now.planes high.now.planes result)
+        (counted_cost low.now.planes high.now.planes other) }
+{
+    let above = high.more_than(low);
+    let fewest = low.least(high, above, bits);
+    let least = high.least(low, above, fewest);
+    least.trailing_zeros()
 }
 
 // The rules of both halves at each bit, counted in one pass.

@@ -1,6 +1,6 @@
-ghost use Rattle.std.specs.Prelude.{ℕ, ◌≡◌, ◌+◌, ◌<◌, ◌^◌, length};
+ghost use Rattle.std.specs.Prelude.{ℕ, ◌≡◌, ◌≢◌, ◌+◌, ◌<◌, ◌^◌, ◌↔◌, length};
 ghost use Rattle.std.specs.Int.{bit_at};
-ghost use Rattle.cut_tree.specs.Counts.{count_at};
+ghost use Rattle.cut_tree.specs.Counts.{IsLeastOf, count_at, count_by};
 
 /// How many bits a counter has.
 const PLANES: usize = 32;
@@ -50,5 +50,46 @@ impl Counters {
             count = 2 * count + ((self.planes[place] >> bit) & 1) as u32;
         }
         count
+    }
+
+    /// The bits that were counted more often here than there.
+    pub fn more_than(&self, other: &Counters) -> u128
+        ensures { (bit : ℕ) → (bit_at result bit ≡ 1)
+            ↔ (count_at other.now.planes bit < count_at self.now.planes bit) }
+    {
+        let mut more = 0;
+        let mut settled = 0;
+        let mut place = PLANES;
+        while place > 0 {
+            place -= 1;
+            let own = self.planes[place];
+            let differing = own ^ other.planes[place];
+            let fresh = differing ^ (differing & settled);
+            more |= fresh & own;
+            settled |= differing;
+        }
+        more
+    }
+
+    /// Of a set of bits those that were counted least often, where those of `which` are counted
+    /// there and not here.
+    pub fn least(&self, other: &Counters, which: u128, bits: u128) -> u128
+        requires some { bits ≢ 0 }
+        ensures least { (bit : ℕ) → (bit_at result bit ≡ 1)
+            ↔ IsLeastOf bits (count_by self.now.planes other.now.planes which) bit }
+        ensures some { result ≢ 0 }
+    {
+        let mut least = bits;
+        let mut place = PLANES;
+        while place > 0 {
+            place -= 1;
+            let own = self.planes[place];
+            let plane = own ^ ((own ^ other.planes[place]) & which);
+            let fewer = least ^ (least & plane);
+            if fewer != 0 {
+                least = fewer;
+            }
+        }
+        least
     }
 }

@@ -1,29 +1,17 @@
-use Rattle.std.proofs.Common.{◌≡◌, ◌∙◌, sym, arith, false}
-use Rattle.ternary.specs.Word.{is_fixed_of}
-use Rattle.cut_tree.specs.Cuts.{IsFreeBit}
-use Rattle.cut_tree.proofs.CutLemmas.{least_none, least_fixed, least_free}
+use Rattle.std.proofs.Common.{sym}
+use Rattle.cut_tree.proofs.CutLemmas.{least_nowhere}
+use Rattle.cut_tree.proofs.LeastLemmas.{all_fixed, counted_cut}
 use Rattle.cut_tree.proofs.choice.least_cut.Goals as goal
-use Rattle.cut_tree.proofs.choice.least_cut.Goals.{then-not-is_fixed, else-not-is_fixed}
 
-pub loop-bit-init : goal.loop-bit-init
-loop-bit-init c = sym (least_none _ _)
+pub returns-then-free-eq0 : goal.returns-then-free-eq0
+returns-then-free-eq0 c =
+    sym (least_nowhere 104 c.args.rules.now c.args.region.now (λ bit within.
+    all_fixed c.args.region.now c.free_bits-free.result bit within (c.free_bits-free.ensures bit)
+    c.if-free-eq0.true))
 
-pub loop-bit-preserved : goal.loop-bit-preserved
-loop-bit-preserved c =
-    let bit = c.loop-bit.bit in
-    let rules = c.args.rules.now in
-    let region = c.args.region.now in
-    elim c.if-not-is_fixed.branch [
-      | then-not-is_fixed w ↦
-          let is : is_fixed_of region bit ≡ false = sym c.is_fixed.ensures
-          ∙ w.if-not-is_fixed.true in
-          let free : IsFreeBit region bit = record { bound = omega arith; free = is } in
-          let low = w.count.ensures ∙ c.count_sides.ensures.low bit free in
-          let high = w.count-then-not-is_fixed.ensures ∙ c.count_sides.ensures.high bit free in
-          rw (w.least-is, w.or_least.ensures, w.new-cost.ensures, low, high, c.loop-bit.invariant)
-          (sym (least_free bit rules region is))
-      | else-not-is_fixed w ↦
-          w.least-is ∙ c.loop-bit.invariant
-          ∙ sym (least_fixed bit rules region
-          (sym c.is_fixed.ensures ∙ w.if-not-is_fixed.false))
-    ]
+pub returns : goal.returns
+returns c =
+    rw (c.new.ensures, c.count.ensures, c.count-2.ensures)
+    (counted_cut c.count_sides.result.0 c.count_sides.result.1 c.args.rules.now c.args.region.now c.free_bits-free.result
+    c.least_bit-bit.result c.count_sides.ensures.low c.count_sides.ensures.high
+    c.free_bits-free.ensures c.least_bit-bit.ensures.member c.least_bit-bit.ensures.least)
