@@ -11,7 +11,7 @@ use ternary::Word;
 pub fn narrow(alloc: Global, rules: &[Rule], region: &Word) -> Result<Vec<Rule>, AllocError>
     ensures { IfOk result (λ kept. kept.items ≡ narrow rules.now region.now) }
 {
-    let mut kept = Vec::new(alloc);
+    let mut kept = Vec::with_capacity(alloc, rules.len())?;
     for rule in rules {
         let Some(word) = rule.word.meet(region) else {
             continue;
