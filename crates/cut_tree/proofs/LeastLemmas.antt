@@ -3,12 +3,11 @@ use Rattle.std.proofs.Common.{◌≡◌, ◌≢◌, ◌↔◌, ◌⊎◌, ℕ, z
 use Rattle.std.specs.Bool.{◌==◌}
 use Rattle.std.specs.Int.{w128, bit_at, trailing_zeros}
 use Rattle.std.proofs.lemmas.Bool.{both_ways, cases_Bool, cases_eq, cases_lt, cond-true, cond-false, eq-eqb, ne_eqb}
-use Rattle.std.proofs.lemmas.List.{at_drop_all}
 use Rattle.std.proofs.lemmas.Nat.{and_le_l, xor_lt}
 use Rattle.std.proofs.lemmas.Nat.Bits.{bit_at-lt, bit_at-zero, bit_at_and, bit_at_not, bit_at_ones, bit_at_ones_above, bit_at_or, bit_at_xor, bit_at-trailing_zeros}
 use Rattle.ternary.specs.Word.{WordValue, is_fixed_of}
 use Rattle.policy_rules.specs.declared.rules.Rule.{Rule}
-use Rattle.cut_tree.specs.Counts.{HasCounted, IsLeastOf, count_at, count_by, counted_cost}
+use Rattle.cut_tree.specs.Counts.{HasCounted, IsHeight, IsLeastOf, count_at, count_by, counted_cost}
 use Rattle.cut_tree.specs.Cuts.{IsAtMost, IsFreeBit, cost_from, cost_of, least_below, side_of}
 use Rattle.cut_tree.specs.declared.choice.Cost.{Cost}
 use Rattle.cut_tree.specs.declared.choice.Side.{Side}
@@ -185,17 +184,15 @@ chosen_at first second place next which bit is within also =
       )
     ]
 
--- no plane, no difference
-pub least_start : (first second : List ℕ) (n which bits bit : ℕ) → length first ≤ n
-    → length second ≤ n → (bit_at bits bit ≡ 1)
-    ↔ IsLeastOf bits (count_by (drop n first) (drop n second) which) bit
-least_start first second n which bits bit p q =
-    let none : (k : ℕ) → count_by (drop n first) (drop n second) which k ≡ 0 = λ k.
+-- past the height there is no difference
+pub least_start : (first second : List ℕ) (height which bits bit : ℕ) → IsHeight first height
+    → IsHeight second height → (bit_at bits bit ≡ 1)
+    ↔ IsLeastOf bits (count_by (drop height first) (drop height second) which) bit
+least_start first second height which bits bit p q =
+    let none : (k : ℕ) → count_by (drop height first) (drop height second) which k ≡ 0 = λ k.
     elim (cases_eq (bit_at which k) 1) [
-      | inl set ↦ by_second (drop n first) (drop n second) which k set
-          ∙ at_drop_all (λ (planes : List ℕ). count_at planes k) second n q
-      | inr clear ↦ by_first (drop n first) (drop n second) which k clear
-          ∙ at_drop_all (λ (planes : List ℕ). count_at planes k) first n p
+      | inl set ↦ by_second (drop height first) (drop height second) which k set ∙ q.above k
+      | inr clear ↦ by_first (drop height first) (drop height second) which k clear ∙ p.above k
     ] in
     (λ set. record { member = set; least = λ other m. omega (arith, none bit) }, λ best. best.member)
 
@@ -208,22 +205,12 @@ AreOrdered settled more first second =
     ⊎ ((settled ≡ 1) × (more ≡ 1) × (second < first))
     ⊎ ((settled ≡ 1) × (more ≡ 0) × (first < second))
 
-pub ordered_more : (settled more first second : ℕ) → AreOrdered settled more first second
-    → (more ≡ 1) ↔ (second < first)
-ordered_more settled more first second (inl same) =
-    (λ set. absurd (omega (arith, set, same.1)), λ less. absurd (omega (arith, less, same.2)))
-ordered_more settled more first second (inr (inl above)) = (λ set. above.2, λ less. above.1)
-ordered_more settled more first second (inr (inr below)) =
-    (λ set. absurd (omega (arith, set, below.1)), λ less. absurd (omega (arith, less, below.2)))
-
--- no plane, no order
-pub ordered_start : (first second : List ℕ) (n bit : ℕ) → length first ≤ n → length second ≤ n
-    → AreOrdered (bit_at 0 bit) (bit_at 0 bit) (count_at (drop n first) bit)
-    (count_at (drop n second) bit)
-ordered_start first second n bit p q =
-    let none : (planes : List ℕ) → length planes ≤ n → count_at (drop n planes) bit ≡ 0 = λ planes e.
-    at_drop_all (λ (some : List ℕ). count_at some bit) planes n e in
-    inl (bit_at-zero bit, bit_at-zero bit, none first p ∙ sym (none second q))
+-- nor an order
+pub ordered_start : (first second : List ℕ) (height bit : ℕ) → IsHeight first height
+    → IsHeight second height → AreOrdered (bit_at 0 bit) (bit_at 0 bit)
+    (count_at (drop height first) bit) (count_at (drop height second) bit)
+ordered_start first second height bit p q =
+    inl (bit_at-zero bit, bit_at-zero bit, p.above bit ∙ sym (q.above bit))
 
 -- one digit more below
 ordered_next : (s m t n a b x y : ℕ) → a < 2 → b < 2 → t ≡ max s ((a + b) % 2)

@@ -12,6 +12,11 @@ abbrev pub count_at : List ℕ → ℕ → ℕ
 count_at [] bit = 0
 count_at (plane ∷ planes) bit = bit_at plane bit + 2 * count_at planes bit
 
+-- of the 32 planes so many, from the first, hold all the counts
+pub record IsHeight (planes : List ℕ) (height : ℕ) : Type 0 where
+  pub bound : height ≤ 32
+  pub above : (bit : ℕ) → count_at (drop height planes) bit ≡ 0
+
 -- what the second planes hold for a bit of the set, and the first ones for any other
 abbrev pub count_by : List ℕ → List ℕ → ℕ → ℕ → ℕ
 count_by first second which bit =

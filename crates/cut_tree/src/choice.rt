@@ -65,9 +65,10 @@ fn least_bit(low: &Counters, high: &Counters, bits: u128) -> u32
         IsAtMost (counted_cost low.now.planes high.now.planes result)
         (counted_cost low.now.planes high.now.planes other) }
 {
-    let above = high.more_than(low);
-    let fewest = low.least(high, above, bits);
-    let least = high.least(low, above, fewest);
+    let height = low.height(high);
+    let above = high.more_than(low, height);
+    let fewest = low.least(high, above, bits, height);
+    let least = high.least(low, above, fewest, height);
     least.trailing_zeros()
 }
 

@@ -1,6 +1,6 @@
 ghost use Rattle.std.specs.Prelude.{ℕ, ◌≡◌, ◌≢◌, ◌+◌, ◌<◌, ◌^◌, ◌↔◌, length};
 ghost use Rattle.std.specs.Int.{bit_at};
-ghost use Rattle.cut_tree.specs.Counts.{IsLeastOf, count_at, count_by};
+ghost use Rattle.cut_tree.specs.Counts.{IsHeight, IsLeastOf, count_at, count_by};
 
 /// How many bits a counter has.
 const PLANES: usize = 32;
@@ -38,6 +38,21 @@ impl Counters {
         }
     }
 
+    /// How many planes, from the first, hold all the counts of both: no counter has a bit past them.
+    pub fn height(&self, other: &Counters) -> usize
+        ensures here { IsHeight self.now.planes result }
+        ensures there { IsHeight other.now.planes result }
+    {
+        let mut height = PLANES;
+        while height > 0 {
+            if self.planes[height - 1] != 0 || other.planes[height - 1] != 0 {
+                return height;
+            }
+            height -= 1;
+        }
+        height
+    }
+
     /// How often this bit was counted.
     pub fn count(&self, bit: u32) -> u32
         requires { bit < 128 }
@@ -52,14 +67,17 @@ impl Counters {
         count
     }
 
-    /// The bits that were counted more often here than there.
-    pub fn more_than(&self, other: &Counters) -> u128
+    /// The bits that were counted more often here than there, where so many planes hold all the
+    /// counts.
+    pub fn more_than(&self, other: &Counters, height: usize) -> u128
+        requires here { IsHeight self.now.planes height }
+        requires there { IsHeight other.now.planes height }
         ensures { (bit : ℕ) → (bit_at result bit ≡ 1)
             ↔ (count_at other.now.planes bit < count_at self.now.planes bit) }
     {
         let mut more = 0;
         let mut settled = 0;
-        let mut place = PLANES;
+        let mut place = height;
         while place > 0 {
             place -= 1;
             let own = self.planes[place];
@@ -73,14 +91,16 @@ impl Counters {
 
     /// Of a set of bits those that were counted least often, where those of `which` are counted
     /// there and not here.
-    pub fn least(&self, other: &Counters, which: u128, bits: u128) -> u128
+    pub fn least(&self, other: &Counters, which: u128, bits: u128, height: usize) -> u128
         requires some { bits ≢ 0 }
+        requires here { IsHeight self.now.planes height }
+        requires there { IsHeight other.now.planes height }
         ensures least { (bit : ℕ) → (bit_at result bit ≡ 1)
             ↔ IsLeastOf bits (count_by self.now.planes other.now.planes which) bit }
         ensures some { result ≢ 0 }
     {
         let mut least = bits;
-        let mut place = PLANES;
+        let mut place = height;
         while place > 0 {
             place -= 1;
             let own = self.planes[place];

@@ -5,10 +5,10 @@ use Rattle.cut_tree.proofs.counters.Counters.least.Goals as goal
 
 pub loop-place-init : goal.loop-place-init
 loop-place-init c = record {
-  within = omega arith;
+  within = c.requires.here.bound;
   some = c.requires.some;
-  least = λ bit. least_start c.args.self.now.planes c.args.other.now.planes 32 c.args.which
-      c.args.bits bit (omega arith) (omega arith);
+  least = λ bit. least_start c.args.self.now.planes c.args.other.now.planes c.args.height
+      c.args.which c.args.bits bit c.requires.here c.requires.there;
 }
 
 pub loop-place-preserved-then-fewer-ne0 : goal.loop-place-preserved-then-fewer-ne0

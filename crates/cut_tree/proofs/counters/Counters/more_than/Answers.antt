@@ -4,9 +4,9 @@ use Rattle.cut_tree.proofs.counters.Counters.more_than.Goals as goal
 
 pub loop-place-init : goal.loop-place-init
 loop-place-init c = record {
-  within = omega arith;
-  ordered = λ bit. ordered_start c.args.self.now.planes c.args.other.now.planes 32 bit (omega arith)
-      (omega arith);
+  within = c.requires.here.bound;
+  ordered = λ bit. ordered_start c.args.self.now.planes c.args.other.now.planes c.args.height bit
+      c.requires.here c.requires.there;
 }
 
 pub loop-place-preserved : goal.loop-place-preserved
