@@ -3,9 +3,9 @@ use Rattle.std.proofs.Common.{◌≡◌, ℕ, zero, suc, ◌+◌, ◌-◌, ◌^�
 use Rattle.std.specs.Bool.{◌==◌}
 use Rattle.std.specs.Option.{IfNone}
 use Rattle.std.specs.Int.{w128, bit_at, trailing_zeros}
-use Rattle.std.proofs.lemmas.Bool.{cases_eq, cases_lt, cases_Bool, both_ways, eq-eqb, eqb-true}
+use Rattle.std.proofs.lemmas.Bool.{cases_lt, cases_Bool, eqb-true}
 use Rattle.std.proofs.lemmas.List.Folds.{list_all_more, list_any_more}
-use Rattle.std.proofs.lemmas.Nat.Bits.{bit_at-lt, bit_at-zero, bit_at_and, bit_at_or, bit_at_not, bit_at_ones, bit_at_ones_above, bit_at-trailing_zeros}
+use Rattle.std.proofs.lemmas.Nat.Bits.{bit_at-lt, bit_at-zero, bit_at_and, bit_at_or, bit_at_ones, bit_at-trailing_zeros}
 use Rattle.ternary.specs.Word.{WordValue, is_fixed_of}
 use Rattle.cut_tree.specs.Cuts.{IsFreeBit}
 use Rattle.table_tree.specs.Cutting.{IsLowest, IsLeastFree, NoneFree}
@@ -71,34 +71,6 @@ all_none bit within = ap (λ n. n == 1) (bit_at_ones 104 bit within)
 
 pub some_none : (bit : ℕ) → (bit_at 0 bit == 1) ≡ false
 some_none bit = ap (λ n. n == 1) (bit_at-zero bit)
-
--- ---- the free bits of a region
-
--- a bit of the complement of the mask, below 104
-pub free_mask : (region : WordValue) (mask bit : ℕ) → mask ≡ region.mask → mask < 2 ^ 104
-    → (bit_at (bit_and (2 ^ 104 - 1) (2 ^ 128 - 1 - mask)) bit ≡ 1) ↔ IsFreeBit region bit
-unfolding is_fixed_of
-free_mask region mask bit same small =
-    let fixed : (bit_at mask bit == 1) ≡ is_fixed_of region bit =
-    ap (λ m. bit_at m bit == 1) same in
-    let both = bit_at_and (2 ^ 104 - 1) (2 ^ 128 - 1 - mask) bit in
-    let apart : bit < 128 → bit_at (2 ^ 128 - 1 - mask) bit ≡ 1 - bit_at mask bit =
-    λ below. bit_at_not w128 mask bit (omega arith) below in (
-      λ set. elim (cases_lt bit 104) [
-        | inl below ↦
-            let unset : bit_at mask bit ≡ 0 =
-            omega (arith, both, apart (omega arith), bit_at_ones 104 bit below, set) in
-            record { bound = below; free = sym fixed ∙ ap (λ n. n == 1) unset }
-        | inr above ↦ absurd (omega (arith, set, both, bit_at_ones_above 104 bit above))
-      ],
-      λ free. elim (cases_eq (bit_at mask bit) 1) [
-        | inl set ↦ absurd (both_ways _ free.free (sym fixed ∙ eq-eqb _ _ set))
-        | inr unset ↦
-            let zero_bit : bit_at mask bit ≡ 0 = omega (arith, bit_at-lt mask bit, unset) in
-            let bound = free.bound in
-            omega (arith, both, apart (omega arith), bit_at_ones 104 bit bound, zero_bit)
-      ],
-    )
 
 -- ---- the least bit
 

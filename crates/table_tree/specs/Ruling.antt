@@ -1,7 +1,7 @@
 -- A decision tree that finds the first rule of a header: a list of rules is cut as in Yu, Rexford,
 -- Freedman and Wang, "Scalable Flow-Based Networking with DIFANE", SIGCOMM 2010; where a cut pays is
 -- this project's own.
-use Rattle.std.specs.Prelude.{⊤, ℕ, zero, suc, ◌+◌, ◌*◌, ◌≡◌, ◌<◌, ◌==◌, ◌&&◌, if◌then◌else◌, nat_lt, nat_le, Bool, true, false, Option, Some, None, List, [], ◌∷◌, length, map, slice_get}
+use Rattle.std.specs.Prelude.{⊤, ℕ, zero, suc, ◌+◌, ◌*◌, ◌<◌, ◌==◌, ◌&&◌, if◌then◌else◌, nat_lt, nat_le, Bool, true, false, Option, Some, None, List, [], ◌∷◌, length, map, slice_get}
 use Rattle.std.specs.Int.{bit_at}
 use Rattle.std.specs.Option.{option_map_or}
 use Rattle.ternary.specs.Word.{WordValue, fix_of, holds}

@@ -1,10 +1,10 @@
-ghost use Rattle.std.specs.Prelude.{ℕ, ◌≡◌, ◌<◌, ◌==◌, ◌↔◌, IfNone, IfSome};
+ghost use Rattle.std.specs.Prelude.{ℕ, ◌≡◌, ◌<◌, ◌==◌, IfNone, IfSome};
 ghost use Rattle.std.specs.Int.{bit_at};
-ghost use Rattle.cut_tree.specs.Cuts.{IsFreeBit};
 ghost use Rattle.table_tree.specs.Cutting.{IsLowest, NoneFree};
 ghost use Rattle.table_tree.specs.Regions.{IsCutBit, all_fix, some_fix};
 
 use crate::node::Spot;
+use cut_tree::free_bits;
 use ternary::Word;
 
 /// The mask of all 104 bits of a header number.
@@ -21,12 +21,6 @@ pub fn cut_bit(spots: &[Spot], region: &Word) -> Option<u32>
         Some(bit) => Some(bit),
         None => lowest(fixed_by_some(spots) & free),
     }
-}
-
-fn free_bits(region: &Word) -> u128
-    ensures { (bit : ℕ) → (bit_at result bit ≡ 1) ↔ IsFreeBit region.now bit }
-{
-    ALL_BITS & !region.mask()
 }
 
 fn fixed_by_all(spots: &[Spot]) -> u128

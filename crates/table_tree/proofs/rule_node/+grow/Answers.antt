@@ -1,5 +1,4 @@
-use Rattle.std.proofs.Common.{List, ap, map, sym, ◌∙◌}
-use Rattle.policy_rules.specs.declared.rules.Rule.{Rule}
+use Rattle.std.proofs.Common.{ap, map, sym, ◌∙◌}
 use Rattle.table_tree.specs.Ruling.{Places}
 use Rattle.table_tree.proofs.RuleLemmas.{rank_of, within_cut, within_end}
 use Rattle.table_tree.proofs.rule_node.+grow.Goals as goal

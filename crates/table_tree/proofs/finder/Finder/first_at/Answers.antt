@@ -1,9 +1,7 @@
-use Rattle.std.proofs.Common.{◌≡◌, ◌∙◌, Option, ap, position, slice_get, sym}
+use Rattle.std.proofs.Common.{◌∙◌, ap, position, slice_get, sym}
 use Rattle.std.specs.Option.{option_and_then}
 use Rattle.five_tuple.specs.Header.{number_of}
 use Rattle.policy_rules.specs.Rules.{is_held}
-use Rattle.policy_rules.specs.declared.rules.Partition.{Partition}
-use Rattle.policy_rules.specs.declared.rules.Rule.{Rule}
 use Rattle.switch_table.specs.declared.tables.Tables.{Tables}
 use Rattle.table_tree.specs.Finding.{FinderValue}
 use Rattle.table_tree.specs.Ruling.{rule_tree}

@@ -1,4 +1,3 @@
-use Rattle.std.proofs.Common.{sym, ◌∙◌}
 use Rattle.five_tuple.specs.Header.{number_of}
 use Rattle.table_tree.specs.Ruling.{rule_shape}
 use Rattle.table_tree.proofs.RuleLemmas.{first_is, root_cuts}
