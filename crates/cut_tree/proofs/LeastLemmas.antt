@@ -25,6 +25,22 @@ fewer_digit left plane bit = omega (
   bit_at-lt plane bit,
 )
 
+-- a least count is least by its higher planes
+least_above : (bits plane : ℕ) (rest count : ℕ → ℕ)
+    → ((bit : ℕ) → count bit ≡ bit_at plane bit + 2 * rest bit) → (bit : ℕ)
+    → IsLeastOf bits count bit → IsLeastOf bits rest bit
+least_above bits plane rest count is bit best = record {
+  member = best.member;
+  least = λ other m. omega (
+    arith,
+    best.least other m,
+    is bit,
+    is other,
+    bit_at-lt plane bit,
+    bit_at-lt plane other,
+  );
+}
+
 -- counts with one plane more below: those that are least have a 0 there, if any has
 pub least_fewer : (bits left plane : ℕ) (rest count : ℕ → ℕ)
     → ((bit : ℕ) → count bit ≡ bit_at plane bit + 2 * rest bit)
@@ -51,17 +67,7 @@ least_fewer bits left plane rest count is known small some bit =
             least = λ other m. omega (arith, is bit, is other, none, own.least other m);
           },
       λ best.
-          let own : bit_at left bit ≡ 1 = (known bit).1 (record {
-            member = best.member;
-            least = λ other m. omega (
-              arith,
-              best.least other m,
-              is bit,
-              is other,
-              bit_at-lt plane bit,
-              bit_at-lt plane other,
-            );
-          }) in
+          let own : bit_at left bit ≡ 1 = (known bit).1 (least_above bits plane rest count is bit best) in
           let none : bit_at plane bit ≡ 0 = omega (
             arith,
             best.least k first.member,
@@ -98,17 +104,7 @@ least_same bits left plane rest count is known none bit =
                   omega (arith, is bit, is other, ones other also, bit_at-lt plane bit, own.least other m)
             ];
           },
-      λ best. (known bit).1 (record {
-        member = best.member;
-        least = λ other m. omega (
-          arith,
-          best.least other m,
-          is bit,
-          is other,
-          bit_at-lt plane bit,
-          bit_at-lt plane other,
-        );
-      }),
+      λ best. (known bit).1 (least_above bits plane rest count is bit best),
     )
 
 -- ---- counts of either of two
