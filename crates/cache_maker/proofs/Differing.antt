@@ -1,8 +1,8 @@
 -- A rule that is told apart from a word by one bit alone: of the bits by which it differs from the
 -- header, that one is the highest, since the word has not freed the bits above.
-use Rattle.std.proofs.Common.{ℕ, suc, zero, ◌≡◌, ◌≢◌, ◌+◌, ◌-◌, ◌*◌, ◌/◌, ◌%◌, ◌^◌, ◌<◌, ◌≤◌, min, Bool, true, false, ◌&&◌, ◌||◌, ◌⊎◌, List, [], ◌∷◌, All, get_or, length, take, cond, refl, ap, sym, ◌∙◌, subst, arith, inl, inr}
+use Rattle.std.proofs.Common.{ℕ, suc, zero, ◌≡◌, ◌≢◌, ◌+◌, ◌-◌, ◌*◌, ◌/◌, ◌%◌, ◌^◌, ◌<◌, ◌≤◌, min, max, Bool, true, false, ◌&&◌, ◌||◌, ◌⊎◌, List, [], ◌∷◌, All, get_or, length, take, cond, refl, ap, sym, ◌∙◌, subst, arith, inl, inr}
 use Rattle.std.specs.Prelude.{IsTrue, IsNone, IsSomeAnd, not, ◌==◌, bit_or, bit_and, bit_xor, is_some, is_none}
-use Rattle.std.specs.Int.{bit_at, w128}
+use Rattle.std.specs.Int.{bit_at}
 use Rattle.std.proofs.Math.Nat.{div-eq_of_lt-le, mod-eq_of_lt}
 use Rattle.std.proofs.Math.Pow.{pow-lt}
 use Rattle.std.specs.List.{list_all}
@@ -11,7 +11,7 @@ use Rattle.std.proofs.lemmas.Option.{slice_get-get_or}
 use Rattle.std.proofs.lemmas.List.{take_more}
 use Rattle.std.proofs.lemmas.List.Elements.{All-head, All-push, All-tail, All-take}
 use Rattle.std.proofs.lemmas.List.Sums.{list_all-from_AllPass}
-use Rattle.std.proofs.lemmas.Nat.Bits.{bit_at_and, bit_at_not, bit_at_xor, bit_at-lt, bit_at_above, bit_at-pow_other, bit_at-pow_same, same_from_bits}
+use Rattle.std.proofs.lemmas.Nat.Bits.{bit_at_and, bit_at_ones, bit_at_or, bit_at_xor, bit_at-lt, bit_at_above, bit_at-pow_other, bit_at-pow_same, same_from_bits}
 use Rattle.ternary.specs.Word.{WordValue, IsWord, covers_of, meets, meet_of, is_fixed_of, free_of, agrees_at, exact_word}
 use Rattle.ternary.specs.Laws.{CoversLaws, MeetLaws, ExactLaws, FreeLaws}
 use Rattle.ternary.proofs.CallerLemmas.{or_left, or_right}
@@ -104,7 +104,7 @@ same_at word rule h j fixed same e =
     bit_at_differing h rule j ∙ digits_agree _ _ _ (bit_at-lt h j) (bit_at-lt rule.value j)
     (bit_at-lt rule.mask j) (sym (agrees_as word rule h j fixed same) ∙ e)
 
-past_header : (h j : ℕ) (rule : WordValue) → IsWord rule → 104 ≤ j → bit_at (differing h rule) j ≡ 0
+pub past_header : (h j : ℕ) (rule : WordValue) → IsWord rule → 104 ≤ j → bit_at (differing h rule) j ≡ 0
 past_header h j rule is past =
     bit_at_differing h rule j ∙ ap (λ m. min ((bit_at h j + bit_at rule.value j) % 2) m)
     (bit_at_above rule.mask 104 j is.bounded past) ∙ none_of _
@@ -349,22 +349,19 @@ test_parts free region rules index bit word d within is =
 
 -- the bits that neither of two masks has
 pub neither_fixes : (region rule : WordValue) (m n bit : ℕ) → m ≡ region.mask → n ≡ rule.mask
-    → m < 2 ^ 104 → n < 2 ^ 104 → bit < 104
-    → (bit_at (bit_and (2 ^ 128 - 1 - m) (2 ^ 128 - 1 - n)) bit == 1)
+    → bit < 104 → (bit_at (bit_xor (2 ^ 104 - 1) (bit_or m n)) bit == 1)
     ≡ (not (is_fixed_of region bit) && not (is_fixed_of rule bit))
 unfolding is_fixed_of
-neither_fixes region rule m n bit same also small few within =
-    let clear : (x : ℕ) → x < 2 ^ 104 → bit_at (2 ^ 128 - 1 - x) bit ≡ 1 - bit_at x bit =
-    λ x below. bit_at_not w128 x bit (omega arith) (omega arith) in
-    ap (λ b. b == 1) (bit_at_and (2 ^ 128 - 1 - m) (2 ^ 128 - 1 - n) bit
-    ∙ ap (λ a. min a (bit_at (2 ^ 128 - 1 - n) bit)) (clear m small)
-    ∙ ap (min (1 - bit_at m bit)) (clear n few))
+neither_fixes region rule m n bit same also within =
+    ap (λ b. b == 1) (bit_at_xor (2 ^ 104 - 1) (bit_or m n) bit
+    ∙ ap (λ a. (a + bit_at (bit_or m n) bit) % 2) (bit_at_ones 104 bit within)
+    ∙ ap (λ b. (1 + b) % 2) (bit_at_or m n bit))
     ∙ digits (bit_at m bit) (bit_at n bit) (bit_at-lt m bit) (bit_at-lt n bit)
     ∙ ap (λ x. not (bit_at x bit == 1) && not (bit_at n bit == 1)) same
     ∙ ap (λ x. not (bit_at region.mask bit == 1) && not (bit_at x bit == 1)) also
   where
     digits : (a b : ℕ) → a < 2 → b < 2
-        → (min (1 - a) (1 - b) == 1) ≡ (not (a == 1) && not (b == 1))
+        → ((1 + max a b) % 2 == 1) ≡ (not (a == 1) && not (b == 1))
     digits zero zero p q = refl
     digits zero (suc zero) p q = refl
     digits (suc zero) zero p q = refl
@@ -422,9 +419,6 @@ highest_set n bit k small low high is = by_order (cases_eq k bit)
           let one = is.set in
           absurd (omega arith)
     ]
-
-pub no_highest : (n k : ℕ) → n ≡ 0 → IsHighest n k → bit_at 0 k ≡ 1
-no_highest n k e is = subst (λ x. bit_at x k ≡ 1) e is.set
 
 -- one rule more: with its highest bit, or where it differs in other bits too
 pub have_more : (mask bit h free_bits : ℕ) (rules : List Rule) (i : ℕ) (d : Rule)

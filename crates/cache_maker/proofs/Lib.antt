@@ -1,3 +1,4 @@
 pub mod Differing
 pub mod Independence
+pub mod Turns
 pub mod Widening

@@ -1,5 +1,5 @@
 -- The word after the bits below n were freed in turn.
-use Rattle.std.proofs.Common.{ℕ, suc, zero, ◌≡◌, ◌+◌, ◌<◌, ◌≤◌, ◌^◌, Bool, true, false, List, cond, refl, ap, sym, ◌∙◌, subst, arith, add-one, inl, inr}
+use Rattle.std.proofs.Common.{ℕ, suc, zero, ◌≡◌, ◌<◌, ◌≤◌, ◌^◌, Bool, true, false, List, cond, refl, sym, subst, arith, inl, inr}
 use Rattle.std.specs.Prelude.{IsTrue}
 use Rattle.std.specs.Int.{bit_at}
 use Rattle.std.proofs.lemmas.Bool.{cases_lt, eq-eqb, eqb-true}
@@ -70,13 +70,6 @@ widest covers meet free h region rules index bit within fixed is =
     let not_then = unfreed covers free h region rules index bit 104 within fixed in
     cc
 
--- one bit more
-pub widened_more : (h : ℕ) (region : WordValue) (rules : List Rule) (index bit : ℕ)
-    → widened h region rules index (bit + 1) ≡ freed region rules index bit
-    (widened h region rules index bit)
-unfolding widened
-widened_more h region rules index bit = ap (widened h region rules index) (add-one bit)
-
 -- the header is held all along
 pub widened_holds : CoversLaws → ExactLaws → FreeLaws
     → (h : ℕ) (region : WordValue) (rules : List Rule) (index n : ℕ) → h < 2 ^ 104
@@ -88,15 +81,6 @@ widened_holds covers exact free h region rules index n bound =
     ((exact.holds h h bound bound).1 refl)
 
 -- ---- one turn, with its test
-
-pub turn_widened : (h : ℕ) (region : WordValue) (rules : List Rule) (index bit : ℕ) (test : Bool)
-    (word after : WordValue) → word ≡ widened h region rules index bit
-    → test ≡ is_independent region rules index (free_of word bit)
-    → after ≡ cond test (free_of word bit) word → after ≡ widened h region rules index (bit + 1)
-turn_widened h region rules index bit test word after before tested made =
-    made ∙ ap (λ t. cond t (free_of word bit) word) tested
-    ∙ ap (λ (w : WordValue). freed region rules index bit w) before
-    ∙ sym (widened_more h region rules index bit)
 
 pub turn_independent : (region : WordValue) (rules : List Rule) (index bit : ℕ) (test : Bool)
     (word after : WordValue) → IsIndependent region rules index word

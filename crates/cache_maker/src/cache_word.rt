@@ -1,18 +1,18 @@
-ghost use Rattle.std.specs.Prelude.{ℕ, ◌≡◌, ◌≢◌, ◌^◌, ◌<◌, ◌==◌, ◌&&◌, not, Some, All, position, IsTrue};
-ghost use Rattle.std.specs.Int.{bit_at};
+ghost use Rattle.std.specs.Prelude.{ℕ, ◌≡◌, ◌^◌, ◌<◌, ◌==◌, ◌&&◌, not, Some, All, position, IsTrue};
+ghost use Rattle.std.specs.Int.{bit_at, trailing_zeros, w128};
 ghost use Rattle.five_tuple.specs.Header.{number_of};
 ghost use Rattle.ternary.specs.Word.{IsWord, holds, is_fixed_of, free_of};
 ghost use Rattle.policy_rules.specs.Rules.{is_held};
 ghost use Rattle.policy_rules.specs.declared.rules.Rule.{Rule};
-ghost use Rattle.cache_maker.specs.Independent.{IsIndependent, is_apart, widen};
+ghost use Rattle.cache_maker.specs.Independent.{IsIndependent, widen};
 ghost use Rattle.cache_maker.specs.Differing.{HaveHighest, IsHighest, differing, is_told};
 
 use five_tuple::Header;
 use policy_rules::Rule;
 use ternary::{Word, covers_laws, exact_laws, free_laws, meet_laws};
 
-/// How many bits a header's number has.
-const HEADER_BITS: u32 = 104;
+/// The mask of all bits of a header's number.
+const ALL_BITS: u128 = (1 << 104) - 1;
 
 /// The word of a cache rule for a header that the rule at `index` is the first of the partition to
 /// hold.
@@ -20,6 +20,7 @@ const HEADER_BITS: u32 = 104;
 /// From the header's own word each bit is freed in turn, from the lowest, where the freed word is
 /// still covered by the region and by the rule and meets no earlier rule: where both leave it free,
 /// and among the bits that are still fixed no earlier rule differs from the header in it alone.
+/// Such a rule has it as the last bit in which it differs, so all other bits are freed at once.
 pub fn widen(h: &Header, region: &Word, rules: &[Rule], index: u32) -> Word
     requires region { IsTrue (holds region.now (number_of h.now)) }
     requires first_hit { position (is_held (number_of h.now)) rules.now ≡ Some index }
@@ -40,43 +41,33 @@ pub fn widen(h: &Header, region: &Word, rules: &[Rule], index: u32) -> Word
     let free = free_bits(region, &rules[index].word);
     let earlier = &rules[..index];
     let last = last_differences(number, free, earlier);
-    let mut word = Word::exact(number);
-    for bit in 0..HEADER_BITS {
-        if can_free(&word, bit, number, free, earlier, last) {
-            word = word.free(bit);
+    let mut untested = free & last;
+    let mut fixed = (ALL_BITS ^ free) | untested;
+    while untested != 0 {
+        let bit = lowest_bit(untested);
+        if !is_told(number, fixed, bit, earlier) {
+            fixed ^= bit;
         }
+        untested ^= bit;
     }
-    word
+    Word::new(number & fixed, fixed).unwrap()
 }
 
 // The bits that both words leave free.
 fn free_bits(region: &Word, rule: &Word) -> u128
-    ensures { (bit : ℕ) → bit < 104 → (bit_at result bit == 1)
+    ensures bits { (bit : ℕ) → bit < 104 → (bit_at result bit == 1)
         ≡ (not (is_fixed_of region.now bit) && not (is_fixed_of rule.now bit)) }
+    ensures bound { result < 2 ^ 104 }
 {
-    !region.mask() & !rule.mask()
+    ALL_BITS ^ (region.mask() | rule.mask())
 }
 
-// Whether the bit can be freed: it is free in both, and no earlier rule differs from the header in
-// it alone among the bits that are still fixed. Each bit above is, so the rules are looked at only
-// where one has it as the last in which it differs.
-fn can_free(word: &Word, bit: u32, h: u128, free: u128, rules: &[Rule], last: u128) -> bool
-    requires bound { bit < 104 }
-    requires apart { bit_at free bit ≡ 1 → bit_at last bit ≢ 1
-        → IsTrue (is_apart (free_of word.now bit) rules.now) }
-    requires told { not (is_told h word.now.mask (2 ^ bit) rules.now)
-        ≡ is_apart (free_of word.now bit) rules.now }
-    ensures { result ≡ ((bit_at free bit == 1) && is_apart (free_of word.now bit) rules.now) }
+// The lowest bit of a number that isn't 0, alone.
+fn lowest_bit(n: u128) -> u128
+    requires { 0 < n }
+    ensures { result ≡ 2 ^ trailing_zeros w128 n }
 {
-    (free >> bit) & 1 == 1
-        && ((last >> bit) & 1 == 0 || !is_told(h, word.mask(), alone(bit), rules))
-}
-
-fn alone(bit: u32) -> u128
-    requires { bit < 104 }
-    ensures { result ≡ 2 ^ bit }
-{
-    1 << bit
+    1 << n.trailing_zeros()
 }
 
 // Whether some rule differs from the header, among these fixed bits, in this one alone.

@@ -4,6 +4,7 @@ mod Numbers
 mod Readings
 mod RoundTrip
 mod Covers
+mod Dots
 mod CoverOf
 mod PlainTexts
 pub mod CallerLemmas

@@ -2,7 +2,7 @@
 -- (RFC 1123, section
 -- 2.1), and a block has a slash and its length after it (RFC 4632, section 3.1). That a number has
 -- neither sign nor leading zero, and the words and the dash, are this project's own.
-use Rattle.std.specs.Prelude.{ℕ, ◌*◌, ◌+◌, ◌^◌, Bool, not, ◌&&◌, ◌==◌, nat_lt, nat_le, if◌then◌else◌, List, [], ◌∷◌, length, slice_index, Option, Some, None, option_map, codes, bytes_eq}
+use Rattle.std.specs.Prelude.{ℕ, ◌≡◌, ◌*◌, ◌+◌, ◌^◌, Bool, not, ◌&&◌, ◌==◌, nat_lt, nat_le, if◌then◌else◌, List, [], ◌∷◌, length, slice_index, Option, Some, None, option_map, codes, bytes_eq}
 use Rattle.std.specs.List.{list_all, slice_split}
 use Rattle.std.specs.Char.{is_ascii_digit}
 use Rattle.std.specs.Str.Parse.{digits_value}
@@ -34,6 +34,17 @@ parts_round byte text = slice_split (λ b. b == byte) text
 abbrev pub address_from : Option ℕ → Option ℕ → Option ℕ → Option ℕ → Option ℕ
 address_from (Some a) (Some b) (Some c) (Some d) = Some (a * 2 ^ 24 + b * 2 ^ 16 + c * 2 ^ 8 + d)
 address_from _ _ _ _ = None
+
+-- the text begins with this number from 0 to 255 and a dot, and this stands behind the dot
+pub record IsByteBefore (text : List ℕ) (byte : ℕ) (rest : List ℕ) : Type 0 where
+  pub part : List ℕ
+  pub parts : parts_round 46 text ≡ part ∷ parts_round 46 rest
+  pub number : number_up_to 255 part ≡ Some byte
+
+-- no number from 0 to 255 stands before a first dot
+abbrev pub LacksByte : List ℕ → Type 0
+LacksByte text = (part next : List ℕ) (others : List (List ℕ))
+    → parts_round 46 text ≡ part ∷ next ∷ others → number_up_to 255 part ≡ None
 
 -- four parts, each a byte
 abbrev pub address_of_parts : List (List ℕ) → Option ℕ

@@ -1,7 +1,6 @@
-ghost use Rattle.std.specs.Prelude.{◌≡◌, ◌≤◌, ◌<◌, ◌^◌, ◌∷◌, [], ◌==◌, IfSome, MatchOption, position};
-ghost use Rattle.std.specs.List.{slice_split};
+ghost use Rattle.std.specs.Prelude.{◌≡◌, ◌≤◌, ◌<◌, ◌^◌, ◌∷◌, [], ◌==◌, ◌&&◌, nat_lt, not, length, IfSome, MatchOption, position};
 ghost use Rattle.five_tuple.specs.Matching.{IsAddressBlock, IsPortRange, IsProtocol};
-ghost use Rattle.five_tuple.specs.Texts.{address_from, fields_from, packet_fields_of, range_from, has_leading_zero, number_up_to, address_of, prefix_of, range_of, proto_number_of, proto_of, parts_round};
+ghost use Rattle.five_tuple.specs.Texts.{IsByteBefore, LacksByte, fields_from, packet_fields_of, range_from, has_leading_zero, number_up_to, address_of, prefix_of, range_of, proto_number_of, proto_of, parts_round};
 
 use crate::header::Fields;
 use crate::matching::{PortRange, Prefix, Proto};
@@ -75,27 +74,46 @@ pub fn read_port(text: &[u8]) -> Option<u16>
     Some(number as u16)
 }
 
-fn address_from(a: Option<u8>, b: Option<u8>, c: Option<u8>, d: Option<u8>) -> Option<u32>
-    ensures { result ≡ address_from a b c d }
+/// Whether digits are there and begin with no zero but one that stands alone.
+fn are_plain(digits: &[u8]) -> bool
+    ensures { result ≡ (nat_lt 0 (length digits.now) && not (has_leading_zero digits.now)) }
 {
-    let (a, b, c, d) = (a?, b?, c?, d?);
-    Some(u32::from_be_bytes([a, b, c, d]))
+    !digits.is_empty() && !has_leading_zero(digits)
+}
+
+/// The number from 0 to 255 before the first dot, and what stands behind the dot; `None` where
+/// there is no dot, or no such number before it.
+fn byte_before_dot(text: &[u8]) -> Option<(u8, &[u8])>
+    ensures { MatchOption result (LacksByte text.now) (λ r. IsByteBefore text.now r.0 r.1.now) }
+{
+    let mut number: u32 = 0;
+    for (place, byte) in text.iter().enumerate() {
+        if !byte.is_ascii_digit() {
+            if *byte != b'.' {
+                return None;
+            }
+            if !are_plain(&text[..place]) {
+                return None;
+            }
+            return Some((number as u8, &text[place + 1..]));
+        }
+        number = number * 10 + u32::from(*byte - b'0');
+        if number > 255 {
+            return None;
+        }
+    }
+    None
 }
 
 /// The address of four numbers from 0 to 255 joined by dots; `None` for any other text.
-#[tactic(auto, unfolding(crate::specs::Texts::address_of))]
 pub fn read_address(text: &[u8]) -> Option<u32>
     ensures { result ≡ address_of text.now }
 {
-    let (first, rest) = cut(text, b'.')?;
-    let (second, rest) = cut(rest, b'.')?;
-    let (third, fourth) = cut(rest, b'.')?;
-    address_from(
-        read_byte(first),
-        read_byte(second),
-        read_byte(third),
-        read_byte(fourth),
-    )
+    let (first, rest) = byte_before_dot(text)?;
+    let (second, rest) = byte_before_dot(rest)?;
+    let (third, rest) = byte_before_dot(rest)?;
+    let fourth = read_byte(rest)?;
+    Some(u32::from_be_bytes([first, second, third, fourth]))
 }
 
 /// The block of addresses that the text names; `None` for a text that names none.

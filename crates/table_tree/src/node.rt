@@ -96,7 +96,7 @@ fn numbered(alloc: Global, rows: &[PartRow]) -> Result<Vec<Spot>, AllocError>
 fn meeting(alloc: Global, spots: &[Spot], region: &Word) -> Result<Vec<Spot>, AllocError>
     ensures { IfOk result (λ kept. kept.items ≡ filter (meets_region region.now) spots.now) }
 {
-    let mut kept = Vec::new(alloc);
+    let mut kept = Vec::with_capacity(alloc, spots.len())?;
     for spot in spots {
         if !meets(&spot.region, region) {
             continue;

@@ -1,5 +1,5 @@
 -- What proofs above cite: of pieces put at the end of a line.
-use Rattle.std.proofs.Common.{ℕ, ◌≡◌, ◌≤◌, ◌+◌, List, [], ◌∷◌, ◌++◌, length, take, append-nil, append_assoc, ap, ◌∙◌, sym, refl, arith, zero, suc}
+use Rattle.std.proofs.Common.{ℕ, ◌≡◌, ◌≤◌, List, [], ◌∷◌, ◌++◌, length, take, append-nil, append_assoc, ap, ◌∙◌, refl, zero, suc}
 use Rattle.std.proofs.lemmas.List.{take_all}
 use Rattle.text_line.specs.Pushes.{pushed}
 

@@ -1,134 +1,123 @@
-use Rattle.std.proofs.Common.{ℕ, ◌≡◌, ◌≢◌, ◌<◌, ◌^◌, ◌==◌, ◌&&◌, not, ap, sym, ◌∙◌, subst, arith, cond, take, get_or}
-use Rattle.std.specs.Prelude.{IsTrue, IsSomeAnd}
-use Rattle.std.specs.Int.{bit_at}
+use Rattle.std.proofs.Common.{◌≡◌, ◌∙◌, ◌^◌, ◌<◌, arith, ap, cond, rules, subst, sym, take}
+use Rattle.std.proofs.Math.Facts.{Fits-lt-pow}
+use Rattle.std.specs.Prelude.{IfSome, IsTrue, bit_and, bit_xor}
+use Rattle.std.specs.Int.{trailing_zeros, w128}
+use Rattle.std.proofs.lemmas.Bool.{cond-false, cond-true, not-false, not-true}
 use Rattle.std.proofs.lemmas.List.Quantifiers.{position-Some}
-use Rattle.std.proofs.lemmas.Option.{slice_get-get_or}
-use Rattle.ternary.specs.Word.{WordValue, covers_of, exact_word, free_of, holds, is_fixed_of}
+use Rattle.std.proofs.lemmas.Nat.Bits.{bit_at-trailing_zeros}
 use Rattle.five_tuple.specs.Header.{number_of}
 use Rattle.policy_rules.specs.Rules.{is_held}
-use Rattle.policy_rules.specs.declared.rules.Rule.{Rule}
-use Rattle.cache_maker.specs.Independent.{IsIndependent, is_apart, widened, widen}
-use Rattle.cache_maker.specs.Differing.{HaveHighest, is_told}
+use Rattle.ternary.specs.Word.{WordValue, IsWord, exact_word, free_of, holds, is_fixed_of}
+use Rattle.cache_maker.specs.Differing.{is_told}
+use Rattle.cache_maker.specs.Independent.{IsIndependent, widen, widened}
 use Rattle.cache_maker.proofs.Independence.{exact_independent}
-use Rattle.cache_maker.proofs.Widening.{turn_widened, turn_independent, turn_word, widened_holds, widest}
-use Rattle.cache_maker.proofs.Differing.{apart_unless, free_in_both, test_parts, told_by_none}
+use Rattle.cache_maker.proofs.Turns.{IsGiven, IsLeft, fewer, independent_at, left_at_first, left_next, lowest_is, word_at_last, word_is_sound}
+use Rattle.cache_maker.proofs.Widening.{widened_holds, widest}
 use Rattle.cache_maker.proofs.cache_word.widen.Goals as goal
-use Rattle.cache_maker.proofs.cache_word.widen.Goals.{then-can_free, else-can_free}
+use Rattle.cache_maker.proofs.cache_word.widen.Goals.{then-not-is_told, else-not-is_told}
 
-pub loop-bit-init : goal.loop-bit-init
-unfolding widened
-loop-bit-init c =
-    let made = c.exact-word.ensures.pair ∙ ap exact_word c.number-number.ensures.number in
+pub loop-untested-init : goal.loop-untested-init
+loop-untested-init c =
+    let same = c.number-number.ensures.number in
     let sound = c.words_are_sound.ensures in
-    let bound = subst (λ n. n < 2 ^ 104) c.number-number.ensures.number
-    c.number-number.ensures.bound in
+    let bound = subst (λ n. n < 2 ^ 104) same c.number-number.ensures.bound in
     let start = exact_independent c.covers_laws.ensures c.meet_laws.ensures c.args.region.now
     c.args.rules.now c.args.index (number_of c.args.h.now) sound.region sound.rules bound
     c.requires.region c.requires.first_hit in
-    record {
-      widened = made;
-      independent = subst (λ (w : WordValue). IsIndependent c.args.region.now c.args.rules.now
-          c.args.index w) (sym made) start;
-      word = c.exact-word.ensures.word;
-    }
-
-pub can_free-requires-clause-told : goal.can_free-requires-clause-told
-can_free-requires-clause-told c =
-    let region = c.args.region.now in
-    let rules = c.args.rules.now in
-    let n = c.loop-bit.bit in
-    let h = number_of c.args.h.now in
-    let independent = subst (λ (w : WordValue). IsIndependent region rules c.args.index w)
-    c.loop-bit.invariant.widened c.loop-bit.invariant.independent in
-    let told = told_by_none c.covers_laws.ensures c.meet_laws.ensures c.exact_laws.ensures
-    c.free_laws.ensures h region rules c.args.index n (omega arith)
-    c.words_are_sound.ensures.rules independent in
-    rw (c.loop-bit.invariant.widened, c.number-number.ensures.number) told
-
-pub can_free-requires-clause-apart : goal.can_free-requires-clause-apart
-can_free-requires-clause-apart c at_n unset =
-    let region = c.args.region.now in
-    let rules = c.args.rules.now in
-    let n = c.loop-bit.bit in
     let d = c.index-rules-index.result in
-    let free = c.free_bits-free.result in
-    let last = c.last_differences-last.result in
-    let h = number_of c.args.h.now in
-    let within = (position-Some (is_held h) rules c.args.index d c.requires.first_hit).0 in
-    let in_rule =
-    subst (λ o. IsSomeAnd o (λ (rule : Rule). IsTrue (covers_of rule.word c.loop-bit.word)))
-    (slice_get-get_or rules c.args.index d within) c.loop-bit.invariant.independent.in_rule in
-    let frees : (j : ℕ) → j < 104 → j ≢ n
-    → bit_at (widened h region rules c.args.index n).mask j ≢ 1 → bit_at free j ≡ 1 =
-    λ j below other unfixed. free_in_both c.covers_laws.ensures region
-    (get_or rules c.args.index d).word c.loop-bit.word free j c.loop-bit.invariant.independent.in_region in_rule (c.free_bits-free.ensures j below)
-    (subst (λ (w : WordValue). bit_at w.mask j ≢ 1) (sym c.loop-bit.invariant.widened) unfixed) in
-    let have = subst (λ number. HaveHighest last number free (take c.args.index rules))
-    c.number-number.ensures.number c.last_differences-last.ensures in
-    let independent = subst (λ (w : WordValue). IsIndependent region rules c.args.index w)
-    c.loop-bit.invariant.widened c.loop-bit.invariant.independent in
-    subst (λ (w : WordValue). IsTrue (is_apart (free_of w n) (take c.args.index rules)))
-    (sym c.loop-bit.invariant.widened)
-    (apart_unless c.covers_laws.ensures c.meet_laws.ensures c.exact_laws.ensures
-    c.free_laws.ensures h region rules c.args.index n free last (omega arith)
-    c.words_are_sound.ensures.rules have frees independent at_n unset)
+    let given : IsGiven c.number-number.result c.args.region.now c.args.rules.now c.args.index
+    c.free_bits-free.result c.last_differences-last.result = record {
+      covers = c.covers_laws.ensures;
+      meet = c.meet_laws.ensures;
+      exact = c.exact_laws.ensures;
+      free = c.free_laws.ensures;
+      bound = c.number-number.ensures.bound;
+      words = sound.rules;
+      start = subst (λ n. IsIndependent c.args.region.now c.args.rules.now c.args.index
+          (exact_word n)) (sym same) start;
+      within = (position-Some (is_held (number_of c.args.h.now)) c.args.rules.now c.args.index d
+          c.requires.first_hit).0;
+      d = d;
+      frees = c.free_bits-free.ensures.bits;
+      small = c.free_bits-free.ensures.bound;
+      have = c.last_differences-last.ensures;
+    } in
+    record { given = given; left = left_at_first given }
 
-pub loop-bit-preserved : goal.loop-bit-preserved
-loop-bit-preserved c =
-    let region = c.args.region.now in
-    let rules = c.args.rules.now in
-    let word = c.loop-bit.word in
-    let bit = c.loop-bit.bit in
-    let h = number_of c.args.h.now in
-    let d = c.index-rules-index.result in
-    let within = (position-Some (is_held h) rules c.args.index d c.requires.first_hit).0 in
-    let free = c.free_bits-free.ensures bit (omega arith) in
-    let tested = c.can_free.ensures
-    ∙ ap (λ t. t && is_apart (free_of word bit) (take c.args.index rules)) free
-    ∙ test_parts c.free_laws.ensures region rules c.args.index bit word d within
-    c.loop-bit.invariant.independent in
-    let made : c.if-can_free.word ≡ cond c.can_free.result (free_of word bit) word =
-    elim c.if-can_free.branch [
-      | then-can_free w ↦ w.word-is ∙ w.free-word.ensures.pair
-          ∙ ap (λ t. cond t (free_of c.loop-bit.word c.loop-bit.bit) c.loop-bit.word)
-          (sym w.if-can_free.true)
-      | else-can_free w ↦ w.word-is
-          ∙ ap (λ t. cond t (free_of c.loop-bit.word c.loop-bit.bit) c.loop-bit.word)
-          (sym w.if-can_free.false)
+pub loop-untested-preserved : goal.loop-untested-preserved
+loop-untested-preserved c =
+    let untested = c.loop-untested.untested in
+    let fixed = c.loop-untested.fixed in
+    let n = trailing_zeros w128 untested in
+    let alone = c.lowest_bit-bit.ensures in
+    let invariant = c.loop-untested.invariant in
+    let lowest = lowest_is untested n (bit_at-trailing_zeros w128 untested (omega arith)
+    (Fits-lt-pow c.loop-untested.auto.untested-fits)) in
+    let is = c.is_told.ensures ∙ ap (λ b. is_told c.number-number.result fixed b
+    (take c.args.index c.args.rules.now)) alone in
+    let freed = bit_xor fixed (2 ^ n) in
+    let made : c.if-not-is_told.fixed ≡ cond c.is_told.result fixed freed =
+    elim c.if-not-is_told.branch [
+      | then-not-is_told w ↦
+          let untold = w.if-not-is_told.true in
+          w.fixed-is ∙ ap (λ b. bit_xor c.loop-untested.fixed b) alone
+          ∙ sym (cond-false c.is_told.result fixed freed
+          (first_of (assumption untold, search (rules, not-true))))
+      | else-not-is_told w ↦
+          let told = w.if-not-is_told.false in
+          w.fixed-is ∙ sym (cond-true c.is_told.result fixed freed
+          (first_of (assumption told, search (rules, not-false))))
     ] in
     record {
-      widened = turn_widened h region rules c.args.index bit _ word _
-          c.loop-bit.invariant.widened tested made;
-      independent = turn_independent region rules c.args.index bit _ word _
-          c.loop-bit.invariant.independent tested made;
-      word = turn_word c.free_laws.ensures bit _ word _ c.loop-bit.invariant.word made;
+      given = invariant.given;
+      left = rw alone (left_next invariant.given invariant.left n lowest c.is_told.result
+          c.if-not-is_told.fixed is made);
     }
 
-pub returns-clause-widened : goal.returns-clause-widened
+pub loop-untested-smaller : goal.loop-untested-smaller
+loop-untested-smaller c =
+    let untested = c.loop-untested.untested in
+    let n = trailing_zeros w128 untested in
+    let lowest = lowest_is untested n (bit_at-trailing_zeros w128 untested (omega arith)
+    (Fits-lt-pow c.loop-untested.auto.untested-fits)) in
+    rw c.lowest_bit-bit.ensures (fewer untested n lowest.set)
+
+pub unwrap-requires : goal.unwrap-requires
+unwrap-requires c =
+    let left = subst (λ n. IsLeft c.number-number.result c.args.region.now c.args.rules.now
+    c.args.index c.free_bits-free.result c.last_differences-last.result c.loop-untested.fixed n)
+    c.loop-untested-test.false c.loop-untested.invariant.left in
+    c.new.ensures.taken.1 (word_is_sound c.loop-untested.invariant.given left)
+
+pub returns : goal.returns
 unfolding widen
-returns-clause-widened c =
-    let last : c.loop-bit.bit ≡ 104 = omega arith in
-    c.loop-bit.invariant.widened
-    ∙ ap (widened (number_of c.args.h.now) c.args.region.now c.args.rules.now c.args.index) last
-
-pub returns-clause-header : goal.returns-clause-header
-returns-clause-header c =
-    let h = number_of c.args.h.now in
-    let bound = subst (λ n. n < 2 ^ 104) c.number-number.ensures.number
-    c.number-number.ensures.bound in
-    let held = widened_holds c.covers_laws.ensures c.exact_laws.ensures c.free_laws.ensures h
-    c.args.region.now c.args.rules.now c.args.index c.loop-bit.bit bound in
-    subst (λ (w : WordValue). IsTrue (holds w (number_of c.args.h.now)))
-    (sym c.loop-bit.invariant.widened) held
-
-pub returns-clause-widest : goal.returns-clause-widest
-returns-clause-widest c bit within fixed is =
-    let last : c.loop-bit.bit ≡ 104 = omega arith in
-    let made = c.loop-bit.invariant.widened
-    ∙ ap (widened (number_of c.args.h.now) c.args.region.now c.args.rules.now c.args.index)
-    last in
-    widest c.covers_laws.ensures c.meet_laws.ensures c.free_laws.ensures (number_of c.args.h.now)
-    c.args.region.now c.args.rules.now c.args.index bit within
-    (subst (λ (w : WordValue). IsTrue (is_fixed_of w bit)) made fixed)
-    (subst (λ (w : WordValue). IsIndependent c.args.region.now c.args.rules.now c.args.index
-    (free_of w bit)) made is)
+returns c =
+    let number = c.number-number.result in
+    let region = c.args.region.now in
+    let rules = c.args.rules.now in
+    let index = c.args.index in
+    let given = c.loop-untested.invariant.given in
+    let same = c.number-number.ensures.number in
+    let left = subst (λ n. IsLeft number region rules index c.free_bits-free.result
+    c.last_differences-last.result c.loop-untested.fixed n) c.loop-untested-test.false
+    c.loop-untested.invariant.left in
+    let pair : WordValue = record {
+      value = bit_and number c.loop-untested.fixed;
+      mask = c.loop-untested.fixed;
+    } in
+    let some = subst (λ o. IfSome o (λ (w : WordValue). (w ≡ pair) × IsWord w)) c.unwrap.ensures
+    c.new.ensures.pair in
+    let made = some.0 ∙ word_at_last given left in
+    let held = widened_holds given.covers given.exact given.free number region rules index 104
+    given.bound in
+    record {
+      widened = made ∙ ap (λ n. widened n region rules index 104) same;
+      header = subst (λ (w : WordValue). IsTrue (holds w (number_of c.args.h.now))) (sym made)
+          (subst (λ n. IsTrue (holds (widened number region rules index 104) n)) same held);
+      independent = subst (λ (w : WordValue). IsIndependent region rules index w) (sym made)
+          (independent_at given 104);
+      widest = λ bit within fixed is. widest given.covers given.meet given.free number region rules
+          index bit within (subst (λ (w : WordValue). IsTrue (is_fixed_of w bit)) made fixed)
+          (subst (λ (w : WordValue). IsIndependent region rules index (free_of w bit)) made is);
+      word = some.1;
+    }

@@ -1,13 +1,11 @@
-use Rattle.std.proofs.Common.{◌≡◌}
-use Rattle.five_tuple.specs.Header.{number_of}
-use Rattle.ternary.specs.Word.{IsWord}
-use Rattle.cache_maker.specs.Independent.{IsIndependent, widened}
+use Rattle.cache_maker.proofs.Turns.{IsGiven, IsLeft}
 use Rattle.cache_maker.proofs.cache_word.widen.Given as goal
 
--- the bits so far were freed in turn
-abbrev pub invariant-loop-bit : goal.invariant-loop-bit
-invariant-loop-bit l = record {
-  widened : l.word ≡ widened (number_of l.h) l.region l.rules l.index l.bit;
-  independent : IsIndependent l.region l.rules l.index l.word;
-  word : IsWord l.word;
+abbrev pub invariant-loop-untested : goal.invariant-loop-untested
+invariant-loop-untested l = record {
+  given : IsGiven l.number l.region l.rules l.index l.free l.last;
+  left : IsLeft l.number l.region l.rules l.index l.free l.last l.fixed l.untested;
 }
+
+abbrev pub decreases-loop-untested : goal.decreases-loop-untested
+decreases-loop-untested l = l.untested
