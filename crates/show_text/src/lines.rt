@@ -1,84 +1,79 @@
-ghost use Rattle.std.specs.Prelude.{◌≡◌, ◌++◌, Some, OnOk};
-ghost use Rattle.std.specs.String.{string_bytes};
-ghost use Rattle.net_file.specs.Net.{IsNet};
+ghost use Rattle.std.specs.Prelude.{◌≡◌, ◌≤◌, ◌<◌, ◌^◌, ◌++◌, OnOk, length};
+ghost use Rattle.line_fields.specs.Sizes.{IsAction, IsNumber, IsRule};
 ghost use Rattle.show_text.specs.Text.{line, part_text, region_text, rule_lines, rule_text_of, targets_text};
+ghost use Rattle.text_line.specs.Pushes.{pushed};
 
+use line_fields::{Line, push_action, push_names, push_rule, push_word};
 use net_file::Net;
-use policy_rules::{Partition, Rule, RuleName, Targets};
+use policy_rules::{Partition, Rule, Targets};
 use std::alloc::AllocError;
-use std::fmt;
-use std::fmt::Write;
 use ternary::Word;
 
-// The start of a partition's line.
-#[derive(Clone, Copy)]
-pub struct Region<'a> {
-    pub number: usize,
-    pub region: &'a Word,
+/// Adds the start of a partition's line.
+#[tactic(auto, using(text_line::proofs::CallerLemmas::pushed_append))]
+pub fn push_region(entry: &mut Line, number: u64, region: &Word)
+    ensures { entry.new ≡ pushed entry.old (region_text number region.now) }
+{
+    entry.push("part ");
+    entry.push_number(number);
+    entry.push(" region ");
+    push_word(entry, region);
 }
 
-impl fmt::Display for Region<'_> {
-    ghost output = { λ r. Some (region_text r.number r.region.now) };
-
-    fn fmt<W: fmt::Write>(&self, f: &mut fmt::Formatter<W>) -> fmt::Result {
-        let number = self.number;
-        let region = self.region;
-        write!(f, "part {number} region {region}")
-    }
+/// Adds a partition with the number of its rules.
+#[tactic(auto, using(text_line::proofs::CallerLemmas::pushed_append))]
+pub fn push_part(entry: &mut Line, part: &Partition)
+    ensures text { entry.new ≡ pushed entry.old (part_text part.now) }
+    ensures of_type { (part.now.number < 2 ^ 64) × (length part.now.rules < 2 ^ 64) }
+{
+    push_region(entry, u64::from(part.number), &part.region);
+    entry.push(" rules ");
+    entry.push_number(part.rules.items().len() as u64);
 }
 
-// A partition with the number of its rules.
-#[derive(Clone, Copy)]
-pub struct PartText<'a>(pub &'a Partition);
-
-impl fmt::Display for PartText<'_> {
-    ghost output = { λ text. Some (part_text text.0.now) };
-
-    fn fmt<W: fmt::Write>(&self, f: &mut fmt::Formatter<W>) -> fmt::Result {
-        let part = Region {
-            number: self.0.number as usize,
-            region: &self.0.region,
-        };
-        let rules = self.0.rules.items().len();
-        write!(f, "{part} rules {rules}")
-    }
+/// Adds the names of targets, each behind a blank.
+#[tactic(auto, using(text_line::proofs::CallerLemmas::pushed_append))]
+pub fn push_targets(entry: &mut Line, net: &Net, targets: &Targets)
+    ensures text { entry.new ≡ pushed entry.old (targets_text net.now targets.now) }
+    ensures few { length targets.now ≤ 4 }
+{
+    entry.push(" targets");
+    push_names(entry, net, targets.items());
 }
 
-#[derive(Clone, Copy)]
-struct RuleText<'a>(&'a Rule);
+// Adds what a rule's line says.
+#[tactic(auto, using(text_line::proofs::CallerLemmas::pushed_append))]
+fn push_rule_text(entry: &mut Line, rule: &Rule)
+    ensures text { entry.new ≡ pushed entry.old (rule_text_of rule.now) }
+    ensures of_type { IsNumber rule.now.rank × IsRule rule.now.rule × IsAction rule.now.action }
+{
+    entry.push("  rank ");
+    entry.push_number(u64::from(rule.rank));
+    entry.push(" rule ");
+    push_rule(entry, rule.rule);
+    entry.push(" word ");
+    push_word(entry, &rule.word);
+    entry.push(" ");
+    push_action(entry, rule.action);
+}
 
-impl fmt::Display for RuleText<'_> {
-    ghost output = { λ text. Some (rule_text_of text.0.now) };
-
-    fn fmt<W: fmt::Write>(&self, f: &mut fmt::Formatter<W>) -> fmt::Result {
-        let rank = self.0.rank;
-        let rule = RuleName(self.0.rule);
-        let word = self.0.word;
-        let action = self.0.action;
-        write!(f, "  rank {rank} rule {rule} word {word} {action}")
-    }
+// Makes the line that of a rule.
+#[tactic(auto, using(text_line::proofs::CallerLemmas::pushed_append, text_line::proofs::CallerLemmas::pushed_whole, crate::proofs::Sizes::rule_fits))]
+fn set_rule(entry: &mut Line, rule: &Rule)
+    ensures { entry.new ≡ line (rule_text_of rule.now) }
+{
+    entry.clear();
+    push_rule_text(entry, rule);
+    entry.push("\n");
 }
 
 /// Adds the lines of rules.
-pub fn push_rules(text: &mut String, rules: &[Rule]) -> Result<(), AllocError>
-    ensures { OnOk result (string_bytes text.new
-        ≡ string_bytes text.old ++ rule_lines rules.now) }
+pub fn add_rules(text: &mut Vec<u8>, entry: &mut Line, rules: &[Rule]) -> Result<(), AllocError>
+    ensures { OnOk result (text.new.items ≡ text.old.items ++ rule_lines rules.now) }
 {
     for rule in rules {
-        let rule = RuleText(rule);
-        writeln!(text, "{rule}")?;
+        set_rule(entry, rule);
+        text.extend_from_slice(entry.bytes())?;
     }
-    Ok(())
-}
-
-/// Adds the names of targets, each behind a blank, and ends the line.
-pub fn push_targets(text: &mut String, net: &Net, targets: &Targets) -> Result<(), AllocError>
-    requires { IsNet net.now }
-    ensures { OnOk result (string_bytes text.new
-        ≡ string_bytes text.old ++ line (targets_text net.now targets.now)) }
-{
-    text.push_str(" targets")?;
-    net.push_names(text, targets.items())?;
-    text.push_str("\n")?;
     Ok(())
 }

@@ -1,16 +1,16 @@
-ghost use Rattle.std.specs.Prelude.{◌≡◌, ◌++◌, IfOk, OnOk};
+ghost use Rattle.std.specs.Prelude.{◌≡◌, ◌≤◌, ◌++◌, IfOk, OnOk, codes, decimal, length};
 ghost use Rattle.std.specs.List.{flat_map, enumerate_from};
-ghost use Rattle.std.specs.String.{string_bytes};
+ghost use Rattle.net_file.specs.Names.{name_of};
 ghost use Rattle.net_file.specs.Net.{IsNet};
 ghost use Rattle.switch_table.specs.Tables.{tables_of};
-ghost use Rattle.show_text.specs.Text.{authority_text, compile_text, own_lines, placed_lines, regions_text, row_line, table_text};
+ghost use Rattle.show_text.specs.Text.{authority_text, compile_text, line, own_lines, part_text, placed_lines, regions_text, row_line, table_text, targets_text};
 
-use crate::lines::{PartText, Region, push_rules, push_targets};
+use crate::lines::{add_rules, push_part, push_region, push_targets};
 use controller::{Plan, tables_of};
-use net_file::Net;
+use line_fields::{Line, push_name};
+use net_file::{Net, name_laws};
 use policy_rules::{Partition, Targets, count_words};
 use std::alloc::{AllocError, Global};
-use std::fmt::Write;
 use switch_table::{PartRow, Tables};
 
 /// The version that the tables of a command are of.
@@ -26,14 +26,14 @@ pub fn compile_text(alloc: Global, plan: &Plan, net: &Net) -> Result<Vec<u8>, Al
     ensures { IfOk result (λ bytes.
         bytes.items ≡ compile_text plan.now.policy plan.now.placed net.now) }
 {
-    let mut text = String::new(alloc);
-    let words = count_words(plan.policy());
+    let mut text = Vec::new(alloc);
+    let mut entry = Line::new();
+    let words = count_words(plan.policy()) as u64;
     let placed = plan.placed();
-    let partitions = placed.len();
-    writeln!(text, "words {words}")?;
-    writeln!(text, "partitions {partitions}")?;
-    push_placed(&mut text, net, placed)?;
-    Ok(text.into_bytes())
+    add_count(&mut text, &mut entry, "words ", words)?;
+    add_count(&mut text, &mut entry, "partitions ", placed.len() as u64)?;
+    add_placed(&mut text, &mut entry, net, placed)?;
+    Ok(text)
 }
 
 /// The text of the tables of a switch for version 1: its own partitions with their rules, and each
@@ -54,89 +54,156 @@ fn text_of_tables(alloc: Global, net: &Net, s: u32, tables: &Tables) -> Result<V
     requires { IsNet net.now }
     ensures { IfOk result (λ bytes. bytes.items ≡ table_text s tables.now net.now) }
 {
-    let mut text = String::new(alloc);
-    let name = net.name(s);
-    let version = tables.version;
-    writeln!(text, "switch {name} version {version}")?;
-    push_authority(&mut text, tables.auth.items())?;
-    push_regions(&mut text, net, tables.parts.items())?;
-    Ok(text.into_bytes())
+    let mut text = Vec::new(alloc);
+    let mut entry = Line::new();
+    set_switch(&mut entry, net, s, tables.version);
+    text.extend_from_slice(entry.bytes())?;
+    add_authority(&mut text, &mut entry, tables.auth.items())?;
+    add_regions(&mut text, &mut entry, net, tables.parts.items())?;
+    Ok(text)
 }
 
-fn push_placed(
-    text: &mut String,
+// Makes the line that of a switch and a version.
+#[tactic(auto, using(text_line::proofs::CallerLemmas::pushed_append, text_line::proofs::CallerLemmas::pushed_whole, crate::proofs::Sizes::switch_fits))]
+fn set_switch(entry: &mut Line, net: &Net, s: u32, version: u32)
+    requires { IsNet net.now }
+    ensures { entry.new
+        ≡ line (codes "switch " ++ name_of net.now s ++ codes " version " ++ decimal version) }
+{
+    name_laws();
+    entry.clear();
+    entry.push("switch ");
+    push_name(entry, net, s);
+    entry.push(" version ");
+    entry.push_number(u64::from(version));
+    entry.push("\n");
+}
+
+// Makes the line that of a number behind a word.
+#[tactic(auto, using(text_line::proofs::CallerLemmas::pushed_append, text_line::proofs::CallerLemmas::pushed_whole, crate::proofs::Sizes::count_fits))]
+fn set_count(entry: &mut Line, word: &str, count: u64)
+    requires { length word.now ≤ 100 }
+    ensures { entry.new ≡ line (word.now ++ decimal count) }
+{
+    entry.clear();
+    entry.push(word);
+    entry.push_number(count);
+    entry.push("\n");
+}
+
+fn add_count(text: &mut Vec<u8>, entry: &mut Line, word: &str, count: u64) -> Result<(), AllocError>
+    requires { length word.now ≤ 100 }
+    ensures { OnOk result (text.new.items ≡ text.old.items ++ line (word.now ++ decimal count)) }
+{
+    set_count(entry, word, count);
+    text.extend_from_slice(entry.bytes())
+}
+
+// Makes the line that of a partition with its targets.
+#[tactic(auto, using(text_line::proofs::CallerLemmas::pushed_append, text_line::proofs::CallerLemmas::pushed_whole, crate::proofs::Sizes::placed_fits))]
+fn set_placed(entry: &mut Line, net: &Net, part: &Partition, targets: &Targets)
+    requires { IsNet net.now }
+    ensures { entry.new ≡ line (part_text part.now ++ targets_text net.now targets.now) }
+{
+    name_laws();
+    entry.clear();
+    push_part(entry, part);
+    push_targets(entry, net, targets);
+    entry.push("\n");
+}
+
+fn add_placed(
+    text: &mut Vec<u8>,
+    entry: &mut Line,
     net: &Net,
     placed: &[(Partition, Targets)],
 ) -> Result<(), AllocError>
     requires { IsNet net.now }
-    ensures { OnOk result (string_bytes text.new
-        ≡ string_bytes text.old ++ flat_map (placed_lines net.now) placed.now) }
+    ensures { OnOk result (text.new.items
+        ≡ text.old.items ++ flat_map (placed_lines net.now) placed.now) }
 {
     for (part, targets) in placed {
-        let head = PartText(part);
-        write!(text, "{head}")?;
-        push_targets(text, net, targets)?;
-        push_rules(text, part.rules.items())?;
+        set_placed(entry, net, part, targets);
+        text.extend_from_slice(entry.bytes())?;
+        add_rules(text, entry, part.rules.items())?;
     }
     Ok(())
 }
 
 #[tactic(auto, unfolding(crate::specs::Text::authority_text))]
-fn push_authority(text: &mut String, parts: &[Partition]) -> Result<(), AllocError>
-    ensures { OnOk result (string_bytes text.new
-        ≡ string_bytes text.old ++ authority_text parts.now) }
+fn add_authority(
+    text: &mut Vec<u8>,
+    entry: &mut Line,
+    parts: &[Partition],
+) -> Result<(), AllocError>
+    ensures { OnOk result (text.new.items ≡ text.old.items ++ authority_text parts.now) }
 {
-    let authority = parts.len();
-    writeln!(text, "authority {authority}")?;
-    push_own(text, parts)?;
-    Ok(())
+    add_count(text, entry, "authority ", parts.len() as u64)?;
+    add_own(text, entry, parts)
 }
 
 #[tactic(auto, unfolding(crate::specs::Text::regions_text))]
-fn push_regions(text: &mut String, net: &Net, rows: &[PartRow]) -> Result<(), AllocError>
+fn add_regions(
+    text: &mut Vec<u8>,
+    entry: &mut Line,
+    net: &Net,
+    rows: &[PartRow],
+) -> Result<(), AllocError>
     requires { IsNet net.now }
-    ensures { OnOk result (string_bytes text.new
-        ≡ string_bytes text.old ++ regions_text net.now rows.now) }
+    ensures { OnOk result (text.new.items ≡ text.old.items ++ regions_text net.now rows.now) }
 {
-    let partitions = rows.len();
-    writeln!(text, "partitions {partitions}")?;
-    push_rows(text, net, rows)?;
+    add_count(text, entry, "partitions ", rows.len() as u64)?;
+    add_rows(text, entry, net, rows)?;
     Ok(())
 }
 
-fn push_own(text: &mut String, parts: &[Partition]) -> Result<(), AllocError>
-    ensures { OnOk result (string_bytes text.new
-        ≡ string_bytes text.old ++ flat_map own_lines parts.now) }
+// Makes the line that of a partition.
+#[tactic(auto, using(text_line::proofs::CallerLemmas::pushed_append, text_line::proofs::CallerLemmas::pushed_whole, crate::proofs::Sizes::part_fits))]
+fn set_part(entry: &mut Line, part: &Partition)
+    ensures { entry.new ≡ line (part_text part.now) }
+{
+    entry.clear();
+    push_part(entry, part);
+    entry.push("\n");
+}
+
+fn add_own(text: &mut Vec<u8>, entry: &mut Line, parts: &[Partition]) -> Result<(), AllocError>
+    ensures { OnOk result (text.new.items ≡ text.old.items ++ flat_map own_lines parts.now) }
 {
     for part in parts {
-        let head = PartText(part);
-        writeln!(text, "{head}")?;
-        push_rules(text, part.rules.items())?;
+        set_part(entry, part);
+        text.extend_from_slice(entry.bytes())?;
+        add_rules(text, entry, part.rules.items())?;
     }
     Ok(())
 }
 
-fn push_rows(text: &mut String, net: &Net, rows: &[PartRow]) -> Result<(), AllocError>
+// Makes the line that of the partition rule of a region.
+#[tactic(auto, using(text_line::proofs::CallerLemmas::pushed_append, text_line::proofs::CallerLemmas::pushed_whole, crate::proofs::Sizes::row_fits))]
+fn set_row(entry: &mut Line, net: &Net, number: u64, row: &PartRow)
     requires { IsNet net.now }
-    ensures { OnOk result (string_bytes text.new
-        ≡ string_bytes text.old ++ flat_map (row_line net.now) (enumerate_from 0 rows.now)) }
+    ensures { entry.new ≡ row_line net.now (number, row.now) }
+{
+    name_laws();
+    entry.clear();
+    push_region(entry, number, &row.region);
+    push_targets(entry, net, &row.targets);
+    entry.push("\n");
+}
+
+fn add_rows(
+    text: &mut Vec<u8>,
+    entry: &mut Line,
+    net: &Net,
+    rows: &[PartRow],
+) -> Result<(), AllocError>
+    requires { IsNet net.now }
+    ensures { OnOk result (text.new.items
+        ≡ text.old.items ++ flat_map (row_line net.now) (enumerate_from 0 rows.now)) }
 {
     for (number, row) in rows.iter().enumerate() {
-        push_row(text, net, number, row)?;
+        set_row(entry, net, number as u64, row);
+        text.extend_from_slice(entry.bytes())?;
     }
-    Ok(())
-}
-
-fn push_row(text: &mut String, net: &Net, number: usize, row: &PartRow) -> Result<(), AllocError>
-    requires { IsNet net.now }
-    ensures { OnOk result (string_bytes text.new
-        ≡ string_bytes text.old ++ row_line net.now (number, row.now)) }
-{
-    let head = Region {
-        number,
-        region: &row.region,
-    };
-    write!(text, "{head}")?;
-    push_targets(text, net, &row.targets)?;
     Ok(())
 }

@@ -1,9 +1,8 @@
 use Rattle.std.proofs.Common.{◌++◌, ◌∙◌, ap, append_assoc, sym, take}
 use Rattle.std.specs.List.{enumerate_from, flat_map}
-use Rattle.std.specs.String.{string_bytes}
 use Rattle.show_text.specs.Text.{row_line}
 use Rattle.show_text.proofs.RowLemmas.{rows_more}
-use Rattle.show_text.proofs.text.push_rows.Goals as goal
+use Rattle.show_text.proofs.text.add_rows.Goals as goal
 
 pub loop-number-preserved : goal.loop-number-preserved
 loop-number-preserved c =
@@ -12,8 +11,9 @@ loop-number-preserved c =
     let i = c.loop-number.number in
     let row = c.index-rows-number.result in
     let lines = flat_map (row_line net) (enumerate_from 0 (take i rows)) in
-    let text = string_bytes c.args.text.now in
-    c.in_ok-push_row.ensures
+    let text = c.args.text.now.items in
+    c.in_ok-extend_from_slice.ensures.items
+    ∙ ap (λ b. c.loop-number.text.items ++ b) (c.bytes.ensures.held ∙ c.set_row.ensures)
     ∙ ap (λ b. b ++ row_line net (i, row)) c.loop-number.invariant
     ∙ append_assoc text lines (row_line net (i, row))
     ∙ ap (λ t. text ++ t) (sym

@@ -1,9 +1,8 @@
 use Rattle.std.proofs.Common.{◌≡◌, ◌++◌, take}
 use Rattle.std.specs.List.{flat_map}
-use Rattle.std.specs.String.{string_bytes}
 use Rattle.show_text.specs.Text.{placed_lines}
-use Rattle.show_text.proofs.text.push_placed.Given as goal
+use Rattle.show_text.proofs.text.add_placed.Given as goal
 
 abbrev pub invariant-loop-part : goal.invariant-loop-part
-invariant-loop-part l = string_bytes l.text ≡ string_bytes l.initial.text ++ flat_map
+invariant-loop-part l = l.text.items ≡ l.initial.text.items ++ flat_map
     (placed_lines l.net) (take l.part-index l.placed)
