@@ -19,12 +19,11 @@ use Rattle.net_file.specs.Net.{links_of}
 use Rattle.steps.specs.Steps.{HasSwitch}
 use Rattle.journal.specs.declared.item.Item.{Item}
 use Rattle.journal.specs.declared.item.Item.TheVariants as item
-use Rattle.update_machine.specs.Adverts.{advert_known, adverts_begun, adverts_heard, other_advert, own_advert, own_if_told}
-use Rattle.update_machine.specs.Boots.{heard, is_in_first_boot, said_to}
+use Rattle.update_machine.specs.Adverts.{advert_known, own_advert, own_if_told}
+use Rattle.update_machine.specs.Boots.{heard, is_in_first_boot, said_to, message_of}
 use Rattle.update_machine.specs.Causes.{HaveCauses}
 use Rattle.update_machine.specs.Deliveries.{advert_to}
-use Rattle.update_machine.specs.Links.{near}
-use Rattle.update_machine.specs.Messages.{message_of}
+use Rattle.update_machine.specs.Links.{near, adverts_begun, adverts_heard, other_advert}
 use Rattle.update_machine.specs.Setting.{Setting, switches_of}
 use Rattle.update_machine.specs.Settling.{to_switch}
 use Rattle.update_machine.proofs.CallerLemmas.{known_link_laws, start_laws}

@@ -10,18 +10,17 @@ use Rattle.masks.specs.Masks.{has}
 use Rattle.failover.specs.Paths.{AreJoined, IsPath, IsRoute, Leads}
 use Rattle.failover.specs.declared.advert.Advert.{Advert}
 use Rattle.masks.proofs.CallerLemmas.{has-zero}
-use Rattle.failover.proofs.Rows.{has_known}
 use Rattle.net_file.specs.Net.{are_linked, joins, links_of}
 use Rattle.net_file.specs.declared.net.LinkRow.{LinkRow}
 use Rattle.net_file.specs.declared.net.Net.{Net}
 use Rattle.net_file.proofs.Masks.{in_mask, in_mask_of, in_mask_past, mask_of_small}
 use Rattle.steps.specs.Steps.{HasLink}
 use Rattle.journal.specs.declared.item.Item.{Item}
-use Rattle.update_machine.specs.Adverts.{advert_known, adverts_begun, adverts_heard, adverts_known, links_known, own_advert, own_if_told}
+use Rattle.update_machine.specs.Adverts.{advert_known, adverts_known, own_advert, own_if_told}
 use Rattle.update_machine.specs.Causes.{HaveCauses}
-use Rattle.update_machine.specs.Links.{is_usable, near}
+use Rattle.update_machine.specs.Links.{is_usable, near, adverts_begun, adverts_heard, links_known}
 use Rattle.update_machine.specs.Setting.{Setting}
-use Rattle.update_machine.proofs.CallerLemmas.{known_link_laws}
+use Rattle.update_machine.proofs.CallerLemmas.{has_known_link, known_link_laws}
 use Rattle.advert_laws.specs.Adverts.{AllAdverts, GoesOverLinks, IsOverLinks, LinksAreThere, NamesLinks}
 use Rattle.advert_laws.proofs.AllAdverts.{IsAdvertFact, all_such, own_told}
 use Rattle.advert_laws.proofs.BothCauses.{HasBothCauses}
@@ -175,8 +174,7 @@ known_linked setting journal adverts s one other down one_small other_small join
     let told : is_link
     (told_links (adverts_known setting journal s) s (near setting journal s)) down one other
     ≡ true =
-    sym (has_known (adverts_known setting journal s) s (near setting journal s) down one other
-    one_small other_small) ∙ joined in
+    sym (has_known_link setting journal s down one other one_small other_small) ∙ joined in
     linked_row setting.net (adverts_known setting journal s) s (near setting journal s) one other
     (near_linked setting journal s other)
     (λ advert known. (

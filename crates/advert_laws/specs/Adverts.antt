@@ -9,11 +9,10 @@ use Rattle.failover.specs.declared.advert.Advert.{Advert}
 use Rattle.net_file.specs.declared.net.Net.{Net}
 use Rattle.steps.specs.Steps.{HasLink, HasSwitch}
 use Rattle.journal.specs.declared.item.Item.{Item}
-use Rattle.update_machine.specs.Adverts.{advert_known, adverts_heard, links_known, own_advert, route_from}
-use Rattle.update_machine.specs.Boots.{boot_of, is_up}
+use Rattle.update_machine.specs.Adverts.{advert_known, own_advert, route_from}
+use Rattle.update_machine.specs.Boots.{boot_of, is_up, message_of}
 use Rattle.update_machine.specs.Deliveries.{advert_to}
-use Rattle.update_machine.specs.Links.{near}
-use Rattle.update_machine.specs.Messages.{message_of}
+use Rattle.update_machine.specs.Links.{near, adverts_heard, links_known}
 use Rattle.update_machine.specs.Setting.{Setting}
 
 -- ---- all adverts of a journal

@@ -14,11 +14,11 @@ use Rattle.ctrl_msg.specs.declared.message.Receiver.TheVariants as receiver
 use Rattle.journal.specs.declared.item.Item.{Item}
 use Rattle.journal.specs.declared.item.Item.TheVariants as item
 use Rattle.steps.specs.declared.step.Step.{Step}
-use Rattle.update_machine.specs.Boots.{boot_of, heard, is_for_boot, is_up, said_to}
+use Rattle.update_machine.specs.Boots.{boot_of, heard, is_for_boot, is_up, said_to, message_of}
 use Rattle.update_machine.specs.Causes.{HaveCauses}
 use Rattle.update_machine.specs.Deliveries.{after_hello, controller_items, delivery_items, is_new_boot, received_items, switch_items, to_controller}
 use Rattle.update_machine.specs.Marks.{is_over, known_boot, hello_boot, raises_known, said_to_controller}
-use Rattle.update_machine.specs.Messages.{message_of, next_message, sends, sent_from}
+use Rattle.update_machine.specs.Messages.{next_message, sends, sent_from}
 use Rattle.update_machine.specs.Moves.{in_turn}
 use Rattle.update_machine.specs.Setting.{Setting}
 use Rattle.update_machine.specs.Settling.{current_items, installs_to, open_items, retired_items, settling, to_switch}

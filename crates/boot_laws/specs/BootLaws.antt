@@ -8,9 +8,8 @@ use Rattle.ctrl_msg.specs.declared.message.Message.{Message}
 use Rattle.ctrl_msg.specs.declared.message.Receiver.{Receiver}
 use Rattle.ctrl_msg.specs.declared.message.Receiver.TheVariants as receiver
 use Rattle.journal.specs.declared.item.Item.{Item}
-use Rattle.update_machine.specs.Boots.{boot_of, is_up, serves}
+use Rattle.update_machine.specs.Boots.{boot_of, is_up, serves, message_of}
 use Rattle.update_machine.specs.Marks.{is_member, is_over, known_boot}
-use Rattle.update_machine.specs.Messages.{message_of}
 use Rattle.update_machine.specs.Quiet.{speaker}
 use Rattle.update_machine.specs.Settling.{to_switch}
 

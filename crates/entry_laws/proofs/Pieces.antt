@@ -13,9 +13,9 @@ use Rattle.update_machine.specs.Packets.{next_packet}
 use Rattle.update_machine.specs.Pieces.{packet_items, piece}
 use Rattle.update_machine.specs.Setting.{Setting}
 use Rattle.update_machine.proofs.CallerLemmas.{all_given_append}
-use Rattle.way_laws.proofs.Others.{IsNoRow}
-use Rattle.way_laws.proofs.Rests.{no_rows}
-use Rattle.entry_laws.specs.Entries.{BeginsWithEntry, EachEnters, PacketRow, gives_row, packet_row, packet_rows_in}
+use Rattle.way_laws.proofs.Others.{IsInStep, IsNoRow, lookup_in_step}
+use Rattle.way_laws.proofs.Rests.{no_entries, no_rows}
+use Rattle.entry_laws.specs.Entries.{EachEnters, PacketRow, gives_row, packet_row, packet_rows_in}
 
 -- none of the items is a row
 abbrev NoRows : List Item → List Item → Type 0
@@ -53,51 +53,52 @@ steps_rows setting before (next ∷ steps) =
 
 -- ---- the entries
 
-none_enter : (before items : List Item) → NoRows before items → EachEnters before items
-none_enter before [] none = tt
-none_enter before (item.Row row step ∷ items) none = absurd none.0
-none_enter before (first ∷ items) none = none_enter (before ++ first ∷ []) items none.1
+none_enter : (before journal items : List Item)
+    → HaveCauses (λ js next. IsInStep next) journal items → EachEnters before items
+none_enter before journal [] none = tt
+none_enter before journal (item.Row row step ∷ items) none = absurd none.0
+none_enter before journal (item.Entered packet switch header ∷ items) none = absurd none.0
+none_enter before journal (item.Closed packet switch ∷ items) none = absurd none.0
+none_enter before journal (first ∷ items) none =
+    none_enter (before ++ first ∷ []) (journal ++ first ∷ []) items none.1
 
--- what stands behind a packet row
-packet_begins : (setting : Setting) (i s : ℕ) (header : Header) (journal : List Item)
-    → BeginsWithEntry i s header (packet_items setting i s header journal)
-unfolding packet_items
-packet_begins setting i s header journal = by_serving (serves journal s)
+packet_enters : (setting : Setting) (before : List Item) (row s : ℕ) (header : Header)
+    → EachEnters before (piece setting before row (Packet s header))
+unfolding piece packet_items
+packet_enters setting before row s header = by_serving (serves here s)
   where
-    by_serving : (b : Bool) → BeginsWithEntry i s header (elim b [
+    i : ℕ
+    i = next_packet before
+
+    here : List Item
+    here = before ++ item.Row row (Packet s header) ∷ []
+
+    by_serving : (b : Bool) → EachEnters before (item.Row row (Packet s header) ∷ elim b [
       | false ↦ item.Closed i s ∷ []
-      | true ↦ put (item.Entered i s header ∷ []) (lookup_items setting i s) journal
+      | true ↦ put (item.Entered i s header ∷ []) (lookup_items setting i s) here
     ])
-    by_serving false = (refl, refl)
-    by_serving true = (refl, refl, refl)
+    by_serving false = ((refl, refl), tt)
+    by_serving true =
+        ((refl, refl, refl), none_enter _ _ _ (lookup_in_step setting i s _))
 
 piece_enters : (setting : Setting) (before : List Item) (row : ℕ) (step : Step)
     → EachEnters before (piece setting before row step)
 unfolding piece
-piece_enters setting before row (Packet s header) =
-    let here : List Item = before ++ item.Row row (Packet s header) ∷ [] in (
-      packet_begins setting (next_packet before) s header here,
-      none_enter here _ (no_rows setting before row (Packet s header)),
-    )
-piece_enters setting before row step = none_enter _ _ (no_rows setting before row step)
-
-still_begins : (i s : ℕ) (header : Header) (items more : List Item)
-    → BeginsWithEntry i s header items → BeginsWithEntry i s header (items ++ more)
-still_begins i s header [] more begins = absurd begins
-still_begins i s header (item.Entered packet switch came ∷ items) more begins = begins
-still_begins i s header (item.Closed packet switch ∷ items) more begins = begins
-still_begins i s header (first ∷ items) more begins = absurd begins
+piece_enters setting before row (Packet s header) = packet_enters setting before row s header
+piece_enters setting before row step = none_enter _ _ _ (no_entries setting before row step tt)
 
 enter_on : (before items more : List Item) → EachEnters before items
     → EachEnters (before ++ items) more → EachEnters before (items ++ more)
 enter_on before [] more first then = subst (λ js. EachEnters js more) (append-nil before) then
-enter_on before (item.Row row (Packet s header) ∷ items) more first then =
-    let here : List Item = before ++ item.Row row (Packet s header) ∷ [] in (
-      still_begins (next_packet before) s header items more first.0,
-      enter_on here items more first.1
-          (subst (λ js. EachEnters js more)
-          (sym (append_assoc before (item.Row row (Packet s header) ∷ []) items)) then),
+enter_on before (item.Row row (Packet s header) ∷ []) more first then = absurd first
+enter_on before (item.Row row (Packet s header) ∷ entry ∷ items) more first then =
+    let own : List Item = item.Row row (Packet s header) ∷ entry ∷ [] in (
+      first.0,
+      enter_on (before ++ own) items more first.1
+          (subst (λ js. EachEnters js more) (sym (append_assoc before own items)) then),
     )
+enter_on before (item.Entered packet switch header ∷ items) more first then = absurd first
+enter_on before (item.Closed packet switch ∷ items) more first then = absurd first
 enter_on before (next ∷ items) more first then =
     enter_on (before ++ next ∷ []) items more first
     (subst (λ js. EachEnters js more) (sym (append_assoc before (next ∷ []) items)) then)

@@ -1,14 +1,14 @@
--- The packets of plays, and of what begins an answer.
+-- The packets of plays.
 use Rattle.std.specs.Prelude.{◌-◌, take}
 use Rattle.std.proofs.Common.{ℕ, ◌≡◌, Option, Some, None, List, [], ap, sym, subst, ◌∙◌}
 use Rattle.journal.specs.declared.item.Item.{Item}
 use Rattle.steps.specs.declared.step.Event.{Event}
-use Rattle.update_machine.specs.Answers.{BeginsAnswer, StepOfRow, after_steps}
+use Rattle.update_machine.specs.Answers.{StepOfRow, after_steps}
 use Rattle.update_machine.specs.Full.{IsPlay}
 use Rattle.update_machine.specs.Setting.{Setting}
-use Rattle.entry_laws.specs.Entries.{AreEntered, BeginEntered, PacketRow, packet_rows, rows_played}
+use Rattle.entry_laws.specs.Entries.{AreEntered, PacketRow, packet_rows, rows_played}
 use Rattle.entry_laws.proofs.Pieces.{rows_of, steps_enter, steps_rows}
-use Rattle.entry_laws.proofs.Rows.{all_steps_rows, steps_in_front, steps_played}
+use Rattle.entry_laws.proofs.Rows.{all_steps_rows, steps_in_front}
 
 steps_entered : (setting : Setting) (steps : List StepOfRow) (journal : List Item)
     (rows : List PacketRow) → journal ≡ after_steps setting [] steps → rows_of steps ≡ rows
@@ -29,16 +29,3 @@ play_entered setting events journal (Some row) play =
     steps_entered setting play.steps journal (packet_rows 1 (take (row - 1) events)) play.written
     ((steps_in_front setting 1 events [] play.steps play.next play.allowed).rows
     ∙ ap (λ r. packet_rows 1 (take (r - 1) events)) play.of_row)
-
-pub begun_entered : (setting : Setting) (events : List Event) (journal : List Item)
-    → BeginsAnswer setting events journal → BeginEntered events journal
-begun_entered setting events journal begins =
-    let played = steps_played setting 1 events [] begins.answers.steps begins.answers.allowed in
-    record {
-      whole = begins.whole;
-      played = played.played;
-      entered = steps_entered setting begins.answers.steps begins.whole
-          (packet_rows 1 (take played.played events)) begins.answers.written played.rows;
-      length = begins.length;
-      written = begins.written;
-    }

@@ -8,7 +8,7 @@ use Rattle.steps.specs.declared.step.Step.{Step}
 use Rattle.steps.specs.declared.step.Step.TheVariants.{Deliver, Hop}
 use Rattle.update_machine.specs.Answers.{AreAll, AreFirstSteps, AreFirstStepsOf, AreSome, AreSteps, AreStepsOf, StepOfRow, after_steps, next_delivery, next_hop}
 use Rattle.update_machine.specs.Messages.{next_waiting}
-use Rattle.update_machine.specs.Packets.{next_travelling}
+use Rattle.update_machine.specs.Travels.{next_travelling}
 use Rattle.update_machine.specs.Pieces.{piece}
 use Rattle.update_machine.specs.Setting.{Setting}
 use Rattle.entry_laws.specs.Entries.{PacketRow, event_row, packet_row, packet_rows}
@@ -151,43 +151,6 @@ all_steps_rows setting row (event ∷ events) before steps (mine, rest, split, a
     ∙ ap (λ rows. rows ++ rows_of rest) (event_rows setting row event before mine all)
     ∙ ap (λ rows. event_row row event ++ rows)
     (all_steps_rows setting (row + 1) events (after_steps setting before mine) rest others)
-
--- so many of the events were played
-pub record Played (row : ℕ) (events : List Event) (steps : List StepOfRow) : Type 0 where
-  pub played : ℕ
-  pub rows : rows_of steps ≡ packet_rows row (take played events)
-
-first_played : (setting : Setting) (row : ℕ) (event : Event) (events : List Event)
-    (before : List Item) (steps : List StepOfRow)
-    → AreFirstStepsOf setting row event before steps → Played row (event ∷ events) steps
-first_played setting row (One step) events before steps (inl e) =
-    record { played = 0; rows = ap rows_of e }
-first_played setting row (One step) events before steps (inr e) =
-    record { played = 1; rows = ap rows_of e }
-first_played setting row Flush events before steps some = record {
-  played = 0;
-  rows = some_rows setting next_delivery deliveries_bring_none row before steps some;
-}
-first_played setting row Drain events before steps some = record {
-  played = 0;
-  rows = some_rows setting next_hop hops_bring_none row before steps some;
-}
-
-pub steps_played : (setting : Setting) (row : ℕ) (events : List Event) (before : List Item)
-    (steps : List StepOfRow) → AreFirstSteps setting row events before steps
-    → Played row events steps
-steps_played setting row [] before steps first = record { played = 0; rows = ap rows_of first }
-steps_played setting row (event ∷ events) before steps (inl first) =
-    first_played setting row event events before steps first
-steps_played setting row (event ∷ events) before steps (inr (mine, rest, split, all, others)) =
-    let more = steps_played setting (row + 1) events (after_steps setting before mine) rest
-    others in
-    record {
-      played = suc more.played;
-      rows = ap rows_of split.split ∙ rows_append mine rest
-          ∙ ap (λ rows. rows ++ rows_of rest) (event_rows setting row event before mine all)
-          ∙ ap (λ rows. event_row row event ++ rows) more.rows;
-    }
 
 -- ---- in front of a step
 

@@ -14,8 +14,19 @@ nothing_is_no_answer s header entered =
 
 -- a row without its entry, or with that of another switch
 no_entry : (header : Header) → EachEnters [] (item.Row 1 (Packet 0 header) ∷ []) → ⊥
-no_entry header enters = absurd enters.0
+no_entry header enters = absurd enters
 
 elsewhere : (header : Header) → EachEnters []
     (item.Row 1 (Packet 0 header) ∷ item.Entered 1 1 header ∷ []) → ⊥
 elsewhere header enters = let same : ◌≡◌ {A = ℕ} 1 0 = enters.0.1 in absurd cc
+
+-- an entry without its row, or a second one
+stray : (header : Header) → EachEnters [] (item.Entered 1 0 header ∷ []) → ⊥
+stray header enters = absurd enters
+
+stray_refusal : EachEnters [] (item.Closed 1 0 ∷ []) → ⊥
+stray_refusal enters = absurd enters
+
+twice : (header : Header) → EachEnters []
+    (item.Row 1 (Packet 0 header) ∷ item.Entered 1 0 header ∷ item.Closed 2 0 ∷ []) → ⊥
+twice header enters = absurd enters.1

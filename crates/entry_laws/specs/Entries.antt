@@ -1,5 +1,5 @@
--- The packets of a journal are the packet rows of its schedule: so an empty journal is no answer to
--- a schedule that has packets. The notion is our own.
+-- The packets of a journal are the packet rows of its schedule that were played, one by one: a
+-- journal without packets is that of a play without packet rows. The notion is our own.
 use Rattle.std.specs.Prelude.{⊤, ℕ, ◌≡◌, ◌+◌, ◌-◌, Option, Some, None, List, [], ◌∷◌, ◌++◌, take}
 use Rattle.five_tuple.specs.declared.header.Header.{Header}
 use Rattle.journal.specs.declared.item.Item.{Item}
@@ -45,32 +45,27 @@ gives_row _ = []
 abbrev pub packet_rows_in : List Item → List PacketRow
 packet_rows_in journal = all_given gives_row journal
 
--- the first item says that packet i came in at the switch with this header, or that the switch was
--- closed to it
-abbrev pub BeginsWithEntry : ℕ → ℕ → Header → List Item → Type 0
-BeginsWithEntry i s header (item.Entered packet switch came ∷ items) =
+-- the item says that packet i came in at the switch with this header, or that the switch was closed
+-- to it
+abbrev pub IsEntryOf : ℕ → ℕ → Header → Item → Type 0
+IsEntryOf i s header (item.Entered packet switch came) =
     (packet ≡ i) × (switch ≡ s) × (came ≡ header)
-BeginsWithEntry i s header (item.Closed packet switch ∷ items) = (packet ≡ i) × (switch ≡ s)
-BeginsWithEntry i s header _ = ⊥
+IsEntryOf i s header (item.Closed packet switch) = (packet ≡ i) × (switch ≡ s)
+IsEntryOf i s header _ = ⊥
 
--- behind this journal each packet row among the items is followed by its entry, under the next
--- number
+-- behind this journal each packet row among the items has its entry right behind it, under the next
+-- number, and nothing else comes in or is refused
 abbrev pub EachEnters : List Item → List Item → Type 0
 EachEnters before [] = ⊤
-EachEnters before (item.Row row (Packet s header) ∷ items) =
-    BeginsWithEntry (next_packet before) s header items
-    × EachEnters (before ++ item.Row row (Packet s header) ∷ []) items
+EachEnters before (item.Row row (Packet s header) ∷ []) = ⊥
+EachEnters before (item.Row row (Packet s header) ∷ entry ∷ items) =
+    IsEntryOf (next_packet before) s header entry
+    × EachEnters (before ++ item.Row row (Packet s header) ∷ entry ∷ []) items
+EachEnters before (item.Entered packet switch header ∷ items) = ⊥
+EachEnters before (item.Closed packet switch ∷ items) = ⊥
 EachEnters before (first ∷ items) = EachEnters (before ++ first ∷ []) items
 
--- the journal has these packet rows, and each is followed by its entry
+-- the journal has these packet rows, each with its entry, and no other entry
 pub record AreEntered (rows : List PacketRow) (journal : List Item) : Type 0 where
   pub in_order : packet_rows_in journal ≡ rows
   pub each : EachEnters [] journal
-
--- the same of a journal of which this one is the beginning, and of the first of the events
-pub record BeginEntered (events : List Event) (journal : List Item) : Type 0 where
-  pub whole : List Item
-  pub played : ℕ
-  pub entered : AreEntered (packet_rows 1 (take played events)) whole
-  pub length : ℕ
-  pub written : journal ≡ take length whole

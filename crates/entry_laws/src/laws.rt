@@ -2,18 +2,15 @@
 ghost use Rattle.std.specs.Prelude.{List, Option, ℕ};
 ghost use Rattle.journal.specs.declared.item.Item.{Item};
 ghost use Rattle.steps.specs.declared.step.Event.{Event};
-ghost use Rattle.update_machine.specs.Answers.{BeginsAnswer};
 ghost use Rattle.update_machine.specs.Full.{IsPlay};
 ghost use Rattle.update_machine.specs.Setting.{Setting};
-ghost use Rattle.entry_laws.specs.Entries.{AreEntered, BeginEntered, rows_played};
+ghost use Rattle.entry_laws.specs.Entries.{AreEntered, rows_played};
 
-/// The packet rows of a play's journal are those of its events that were played, in order, and each
-/// is followed by what became of it: its packet came in with that header at that switch, or the
-/// switch was closed. What begins an answer begins such a journal.
+/// The packet rows of a play's journal are those of its events that were played, in order. Right
+/// behind each stands what became of it: the packet with the next number came in with that header
+/// at that switch, or the switch was closed to it. No other packet comes in or is refused.
 pub fn packet_rows_are_entered()
-    ensures played { (setting : Setting) (events : List Event) (journal : List Item)
+    ensures { (setting : Setting) (events : List Event) (journal : List Item)
         (full : Option ℕ) → IsPlay setting events journal full
         → AreEntered (rows_played full events) journal }
-    ensures begun { (setting : Setting) (events : List Event) (journal : List Item)
-        → BeginsAnswer setting events journal → BeginEntered events journal }
 {}

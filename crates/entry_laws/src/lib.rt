@@ -1,4 +1,5 @@
-//! The packets of a journal are the packet rows of its schedule, in order.
+//! The packets that come into a play, or find their switch closed, are the packet rows of its
+//! schedule that were played, in order.
 //!
 //! No code: the function stands for the law that it ensures.
 #![tactic(auto)]

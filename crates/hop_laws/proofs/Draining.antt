@@ -12,11 +12,12 @@ use Rattle.steps.specs.declared.step.Step.TheVariants.{Hop}
 use Rattle.update_machine.specs.Answers.{AreAll, AreSome, StepOfRow, next_hop}
 use Rattle.update_machine.specs.Concerns.{concerns_steps}
 use Rattle.update_machine.specs.Folds.{count_of}
-use Rattle.update_machine.specs.Packets.{is_packet, next_packet, next_travelling, packets_in, travels}
+use Rattle.update_machine.specs.Packets.{is_packet, next_packet}
 use Rattle.update_machine.specs.Pieces.{piece, step_items}
 use Rattle.update_machine.specs.Sound.{IsSetting}
 use Rattle.update_machine.specs.Setting.{Setting}
-use Rattle.update_machine.specs.Steps.{present_step, tells_step}
+use Rattle.update_machine.specs.Causes.{present_step, tells_step}
+use Rattle.update_machine.specs.Travels.{next_travelling, packets_in, travels}
 use Rattle.update_machine.proofs.CallerLemmas.{Nears, last_told_append, loop_ends, step_stays}
 use Rattle.boot_laws.proofs.Facts.{AreKept, Both, fact_on, have_both}
 use Rattle.hop_laws.specs.Drains.{drain_left, hops_left}

@@ -4,7 +4,7 @@ use Rattle.std.specs.Prelude.{replicate}
 use Rattle.journal.specs.declared.item.Item.{Item}
 use Rattle.journal.specs.declared.item.Item.TheVariants as item
 use Rattle.steps.specs.declared.step.Step.TheVariants.{Hop}
-use Rattle.update_machine.specs.Packets.{travels}
+use Rattle.update_machine.specs.Travels.{travels}
 use Rattle.update_machine.proofs.Examples.{one}
 use Rattle.hop_laws.specs.Hops.{hops_taken, most_switches}
 use Rattle.hop_laws.specs.Routes.{finds_down, hops_on_route}

@@ -9,10 +9,10 @@ use Rattle.journal.specs.declared.item.Item.{Item}
 use Rattle.journal.specs.declared.item.Item.TheVariants as item
 use Rattle.update_machine.specs.Causes.{HaveCauses}
 use Rattle.update_machine.specs.Marks.{current_mark, most_versions, retired_mark}
-use Rattle.update_machine.specs.Packets.{Decision, decision_of, found_down, leg_of}
+use Rattle.update_machine.specs.Packets.{Decision, decision_of, found_down}
 use Rattle.update_machine.specs.Sound.{IsSetting}
 use Rattle.update_machine.specs.Setting.{Setting}
-use Rattle.update_machine.proofs.CallerLemmas.{last_told_append}
+use Rattle.update_machine.specs.Travels.{leg_of}
 use Rattle.boot_laws.specs.ItemCauses.{HasItemCause}
 use Rattle.boot_laws.proofs.Facts.{Behind, Both, fact_on, have_both}
 use Rattle.mark_laws.proofs.Marks.{bounded}
@@ -31,6 +31,7 @@ use Rattle.way_laws.proofs.Here.{IsHere, decision_in, here_of, leg_in, next_in, 
 use Rattle.way_laws.proofs.Kept.{Knows, seeking_after}
 use Rattle.way_laws.proofs.Rests.{IsWayItem, Past, switches_of_all}
 use Rattle.way_laws.proofs.Strong.{strongly_caused}
+use Rattle.way_laws.proofs.Served.{stage_next}
 use Rattle.hop_laws.specs.Routes.{finds_down, most_routes}
 use Rattle.hop_laws.proofs.Links.{FindsOne, few_unfound, finds_one, unfound}
 use Rattle.hop_laws.proofs.Tally.{Tally, tallied, tally_more, tally_of}
@@ -303,16 +304,11 @@ named_few setting before next i current facts more false e few =
 
 -- ---- all items
 
-pub stage_grows : (before : List Item) (next : Item) (i : ℕ)
-    → stage_of (before ++ next ∷ []) i ≡ option_or (tells_stage i next) (stage_of before i)
-unfolding stage_of
-stage_grows before next i = last_told_append (tells_stage i) before (next ∷ [])
-
 few_more : (setting : Setting) (before : List Item) (next : Item) (i : ℕ)
     → Facts setting before next → HasItemCause setting before next
     → IsFewOf setting before i → IsFewOf setting (before ++ next ∷ []) i
 few_more setting before next i facts cause few =
-    rw (words_grow i before next, stage_grows before next i, tally_more i before next)
+    rw (words_grow i before next, stage_next before next i, tally_more i before next)
     (named_few setting before next i (current_mark (before ++ next ∷ [])) facts
     (current_rises setting before next cause) (names i next) refl few)
 

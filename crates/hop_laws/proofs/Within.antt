@@ -11,7 +11,7 @@ use Rattle.journal.specs.declared.item.Item.TheVariants as item
 use Rattle.steps.specs.declared.step.Step.TheVariants.{Hop}
 use Rattle.update_machine.specs.Causes.{HaveCauses}
 use Rattle.update_machine.specs.Marks.{retired_mark}
-use Rattle.update_machine.specs.Packets.{travels}
+use Rattle.update_machine.specs.Travels.{travels}
 use Rattle.update_machine.specs.Sound.{IsSetting}
 use Rattle.update_machine.specs.Setting.{Setting}
 use Rattle.update_machine.proofs.CallerLemmas.{folded_append}
@@ -29,7 +29,8 @@ use Rattle.way_laws.proofs.Here.{travels_in}
 use Rattle.way_laws.proofs.Kept.{exiting_after, rerouted_after, seeking_after}
 use Rattle.way_laws.proofs.Rests.{IsWayItem, Past}
 use Rattle.hop_laws.specs.Routes.{changes_on_route, hops_on_route}
-use Rattle.hop_laws.proofs.Routes.{stage_grows, taken_few}
+use Rattle.hop_laws.proofs.Routes.{taken_few}
+use Rattle.way_laws.proofs.Served.{stage_next}
 use Rattle.hop_laws.proofs.Tally.{Tally, tallied, tally_more, tally_of}
 use Rattle.hop_laws.proofs.Told.{changes_told, is_told, told_more}
 
@@ -279,7 +280,7 @@ within_more : (setting : Setting) (before : List Item) (next : Item) (i : ℕ)
 within_more setting before next i facts within =
     rw (
       words_grow i before next,
-      stage_grows before next i,
+      stage_next before next i,
       told_more before next i,
       tally_more i before next,
       hops_more before next i,

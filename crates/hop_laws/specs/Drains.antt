@@ -1,7 +1,7 @@
 -- What a drain has yet to do.
 use Rattle.std.specs.Prelude.{ℕ, ◌-◌, List, sum_by}
 use Rattle.journal.specs.declared.item.Item.{Item}
-use Rattle.update_machine.specs.Packets.{packets_in}
+use Rattle.update_machine.specs.Travels.{packets_in}
 use Rattle.hop_laws.specs.Hops.{hops_taken, most_hops}
 
 -- the most hops that the packet may take yet

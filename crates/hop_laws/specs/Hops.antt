@@ -4,7 +4,7 @@ use Rattle.journal.specs.declared.item.Item.{Item}
 use Rattle.journal.specs.declared.item.Item.TheVariants as item
 use Rattle.steps.specs.declared.step.Step.TheVariants.{Hop}
 use Rattle.update_machine.specs.Folds.{count_of, folded}
-use Rattle.update_machine.specs.Packets.{travels}
+use Rattle.update_machine.specs.Travels.{travels}
 
 -- ---- hops
 

@@ -8,10 +8,11 @@ ghost use Rattle.update_machine.specs.Answers.{AreAll, AreSome, IsReached, StepO
 ghost use Rattle.update_machine.specs.Full.{HasPlay};
 ghost use Rattle.update_machine.specs.Marks.{current_mark, most_versions};
 ghost use Rattle.update_machine.specs.Messages.{next_waiting};
-ghost use Rattle.update_machine.specs.Packets.{next_packet, next_travelling};
+ghost use Rattle.update_machine.specs.Packets.{next_packet};
 ghost use Rattle.update_machine.specs.Pieces.{piece};
 ghost use Rattle.update_machine.specs.Sound.{IsSetting};
 ghost use Rattle.update_machine.specs.Setting.{Setting};
+ghost use Rattle.update_machine.specs.Travels.{next_travelling};
 ghost use Rattle.boot_laws.specs.Always.{HoldsReached};
 ghost use Rattle.hop_laws.specs.Drains.{drain_left};
 ghost use Rattle.hop_laws.specs.Hops.{detours, exits, hops_taken, most_hops, most_switches, routes_taken, searches};

@@ -11,10 +11,9 @@ use Rattle.ctrl_msg.specs.declared.message.Receiver.{Receiver}
 use Rattle.ctrl_msg.specs.declared.message.Receiver.TheVariants as receiver
 use Rattle.journal.specs.declared.item.Item.{Item}
 use Rattle.journal.specs.declared.item.Item.TheVariants as item
-use Rattle.update_machine.specs.Boots.{said_to}
+use Rattle.update_machine.specs.Boots.{said_to, message_of}
 use Rattle.update_machine.specs.Deliveries.{to_controller}
 use Rattle.update_machine.specs.Marks.{acked_stamp, members, next_retired, retired_mark, controller_heard, current_mark, first_of, known_boot, open_sent, said_to_controller, stamped_in}
-use Rattle.update_machine.specs.Messages.{message_of}
 use Rattle.update_machine.specs.Setting.{Setting}
 use Rattle.update_machine.specs.Settling.{to_switch}
 use Rattle.update_machine.specs.Versions.{stamp_in, stamp_of}

@@ -16,12 +16,12 @@ use Rattle.journal.specs.declared.item.Item.TheVariants as item
 use Rattle.steps.specs.declared.step.Step.{Step}
 use Rattle.steps.specs.declared.step.Step.TheVariants.{Packet, Hop, Lose, Deliver, Forget, Expire, Update, LinkDown, LinkUp, Crash, Restart, Confirm, Resend}
 use Rattle.update_machine.specs.Adverts.{held_adverts}
-use Rattle.update_machine.specs.Boots.{is_up, said_to}
+use Rattle.update_machine.specs.Boots.{is_up, said_to, message_of}
 use Rattle.update_machine.specs.Causes.{HaveCauses}
 use Rattle.update_machine.specs.Deliveries.{advert_to, after_hello, controller_items, delivery_items, is_new_boot, link_changes, passed_on, received_items, switch_items, to_controller}
 use Rattle.update_machine.specs.Links.{near, switches_in}
 use Rattle.update_machine.specs.Marks.{acked_stamp, current_mark, has_acked, hello_boot, is_joining, is_member, is_over, known_boot, members, retired_mark, said_to_controller}
-use Rattle.update_machine.specs.Messages.{message_of, next_message, sends, sent_from}
+use Rattle.update_machine.specs.Messages.{next_message, sends, sent_from}
 use Rattle.update_machine.specs.Moves.{in_turn, put}
 use Rattle.update_machine.specs.Packets.{next_packet}
 use Rattle.update_machine.specs.Pieces.{confirm_items, crash_items, deliver_items, hello_of, link_items, piece, resend_items, resent_by_switch, restart_items, sends_or_nothing, step_items, update_items}

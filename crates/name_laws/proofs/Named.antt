@@ -13,12 +13,11 @@ use Rattle.ctrl_msg.specs.declared.message.Receiver.TheVariants as receiver
 use Rattle.net_file.specs.Net.{IsNet}
 use Rattle.journal.specs.declared.item.Item.{Item}
 use Rattle.journal.specs.declared.item.Item.TheVariants as item
-use Rattle.update_machine.specs.Boots.{heard}
+use Rattle.update_machine.specs.Boots.{heard, message_of}
 use Rattle.update_machine.specs.Causes.{HaveCauses}
 use Rattle.update_machine.specs.Deliveries.{to_controller}
 use Rattle.update_machine.specs.Marks.{controller_heard, first_of, hello_boot, known_boot, open_sent, said_to_controller}
-use Rattle.update_machine.specs.Messages.{message_of}
-use Rattle.update_machine.specs.Packets.{ingress_of, tells_ingress}
+use Rattle.update_machine.specs.Travels.{ingress_of, tells_ingress}
 use Rattle.update_machine.specs.Setting.{Setting}
 use Rattle.update_machine.specs.Settling.{to_switch}
 use Rattle.update_machine.specs.Versions.{version_count}

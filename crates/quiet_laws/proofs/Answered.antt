@@ -11,9 +11,9 @@ use Rattle.journal.specs.declared.item.Item.{Item}
 use Rattle.journal.specs.declared.item.Item.TheVariants as item
 use Rattle.steps.specs.declared.step.Step.{Step}
 use Rattle.steps.specs.declared.step.Step.TheVariants.{Deliver, Restart}
-use Rattle.update_machine.specs.Boots.{boot_of, heard, is_up, said_to, serves}
+use Rattle.update_machine.specs.Boots.{boot_of, heard, is_up, said_to, serves, message_of}
 use Rattle.update_machine.specs.Deliveries.{delivery_items, link_changes, received_items, switch_items, to_controller}
-use Rattle.update_machine.specs.Messages.{is_deliverable, message_of, sends}
+use Rattle.update_machine.specs.Messages.{is_deliverable, sends}
 use Rattle.update_machine.specs.Moves.{put}
 use Rattle.update_machine.specs.Pieces.{deliver_items, hello_of, nothing, piece, restart_items, step_items}
 use Rattle.update_machine.specs.Setting.{Setting}
@@ -24,6 +24,7 @@ use Rattle.boot_laws.proofs.Facts.{AreKept, fact_on}
 use Rattle.boot_laws.proofs.Grown.{boot_more, heard_more, serving_more, up_more}
 use Rattle.boot_laws.proofs.SwitchBlocks.{said_parts, said_row}
 use Rattle.boot_laws.proofs.Traffic.{IsTraffic, links_traffic}
+use Rattle.mark_laws.proofs.Switches.{is_delivered}
 use Rattle.quiet_laws.proofs.Lists.{IsIn, in_either}
 use Rattle.quiet_laws.proofs.Plain.{IsPlain, Plain, delivery_plain, is_plain, sends_plain, step_plain}
 use Rattle.quiet_laws.proofs.Sendings.{IsSent, sends_all, sent_stays}
@@ -54,10 +55,6 @@ pub record HaveSpoken (journal : List Item) : Type 0 where
   pub hellos : AreGreeted (λ s. ⊥) journal
 
 -- ---- items that keep it
-
-abbrev is_delivered : Item → Bool
-is_delivered (item.Delivered number) = true
-is_delivered _ = false
 
 abbrev is_booted : Item → Bool
 is_booted (item.Booted s boot) = true

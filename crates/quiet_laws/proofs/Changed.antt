@@ -13,19 +13,19 @@ use Rattle.net_file.proofs.Places.{links}
 use Rattle.journal.specs.declared.item.Item.{Item}
 use Rattle.journal.specs.declared.item.Item.TheVariants as item
 use Rattle.steps.specs.Steps.{HasSwitch}
-use Rattle.update_machine.specs.Adverts.{advert_known, adverts_begun, adverts_heard, adverts_known, held_adverts, own_advert, own_seq}
+use Rattle.update_machine.specs.Adverts.{advert_known, adverts_known, held_adverts, own_advert, own_seq}
 use Rattle.update_machine.specs.Boots.{boot_of, heard, is_up, serves}
 use Rattle.update_machine.specs.Causes.{HaveCauses}
 use Rattle.update_machine.specs.Concerns.{concerns_links}
 use Rattle.update_machine.specs.Deliveries.{advert_to, has_changed, link_changes, told_by, told_over}
-use Rattle.update_machine.specs.Links.{near, switches_in}
+use Rattle.update_machine.specs.Links.{near, switches_in, adverts_begun, adverts_heard}
 use Rattle.update_machine.specs.Messages.{sends}
 use Rattle.update_machine.specs.Setting.{Setting, switches_of}
 use Rattle.update_machine.proofs.CallerLemmas.{known_link_laws, near_stays}
 use Rattle.boot_laws.proofs.Facts.{have_weaker}
 use Rattle.boot_laws.proofs.Grown.{boot_more, heard_more, serving_more, up_more}
 use Rattle.boot_laws.proofs.Serving.{IsKnown, known_kept}
-use Rattle.mark_laws.proofs.Switches.{turns}
+use Rattle.mark_laws.proofs.Switches.{is_delivered, turns}
 use Rattle.advert_laws.proofs.BothCauses.{HasBothCauses}
 use Rattle.advert_laws.proofs.NetLinks.{near_linked}
 use Rattle.advert_laws.proofs.Newest.{own_on}
@@ -119,10 +119,6 @@ record LivesOn (before : List Item) (next : Item) (s : ℕ) : Type 0 where
   up : is_up (before ++ next ∷ []) s ≡ is_up before s
   boot : boot_of (before ++ next ∷ []) s ≡ boot_of before s
   bodies : heard (before ++ next ∷ []) s ≡ heard before s
-
-abbrev is_delivered : Item → Bool
-is_delivered (item.Delivered number) = true
-is_delivered _ = false
 
 lives_on : (before : List Item) (next : Item) (s : ℕ) → is_delivered next ≡ false
     → turns s next ≡ false → LivesOn before next s

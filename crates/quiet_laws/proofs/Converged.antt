@@ -14,10 +14,10 @@ use Rattle.net_file.specs.Net.{IsNet}
 use Rattle.journal.specs.declared.item.Item.{Item}
 use Rattle.journal.specs.declared.item.Item.TheVariants as item
 use Rattle.steps.specs.Steps.{HasSwitch}
-use Rattle.update_machine.specs.Adverts.{advert_known, other_advert, own_advert}
+use Rattle.update_machine.specs.Adverts.{advert_known, own_advert}
 use Rattle.update_machine.specs.Boots.{boot_of, heard, is_for_boot, is_up, serves}
 use Rattle.update_machine.specs.Deliveries.{advert_to}
-use Rattle.update_machine.specs.Links.{near}
+use Rattle.update_machine.specs.Links.{near, other_advert}
 use Rattle.update_machine.specs.Messages.{next_message}
 use Rattle.update_machine.specs.Quiet.{IsQuiet, Sending, boot_at, is_later_body, matters, sendings}
 use Rattle.update_machine.specs.Setting.{Setting}

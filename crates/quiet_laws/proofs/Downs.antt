@@ -11,12 +11,11 @@ use Rattle.ctrl_msg.specs.declared.message.Body.TheVariants.{Install, OpenAt, In
 use Rattle.ctrl_msg.specs.declared.message.Message.{Message}
 use Rattle.journal.specs.declared.item.Item.{Item}
 use Rattle.journal.specs.declared.item.Item.TheVariants as item
-use Rattle.update_machine.specs.Boots.{boot_of, heard, is_up, said_to, serves}
+use Rattle.update_machine.specs.Boots.{boot_of, heard, is_up, said_to, serves, message_of}
 use Rattle.update_machine.specs.Causes.{HaveCauses}
 use Rattle.update_machine.specs.Deliveries.{to_controller}
 use Rattle.update_machine.specs.Folds.{all_given, last_told}
 use Rattle.update_machine.specs.Marks.{controller_heard, first_of, has_acked, installed_in, is_over, known_boot, open_sent, opened_at, raises_known, said_to_controller}
-use Rattle.update_machine.specs.Messages.{message_of}
 use Rattle.update_machine.specs.Quiet.{Sending, is_waited_for, sendings, tells_waited_for}
 use Rattle.update_machine.specs.Setting.{Setting}
 use Rattle.update_machine.specs.Settling.{to_switch}
@@ -31,6 +30,7 @@ use Rattle.boot_laws.proofs.SwitchBlocks.{said_parts}
 use Rattle.mark_laws.proofs.Acks.{installed_is}
 use Rattle.mark_laws.proofs.Current.{StampsAreCurrent, current_at_first, current_kept}
 use Rattle.mark_laws.proofs.Members.{opened_same}
+use Rattle.mark_laws.proofs.Switches.{is_delivered}
 use Rattle.quiet_laws.proofs.Installs.{unraised}
 use Rattle.quiet_laws.proofs.Lists.{IsIn, in_either}
 use Rattle.quiet_laws.proofs.Sendings.{IsSent, sendings_more, sent_by, sent_now, sent_stays}
@@ -328,10 +328,6 @@ waited_more before next s =
         → unwrap_or (option_or now earlier) false ≡ unwrap_or now (unwrap_or earlier false)
     by_told None earlier = refl
     by_told (Some x) earlier = refl
-
-abbrev is_delivered : Item → Bool
-is_delivered (item.Delivered number) = true
-is_delivered _ = false
 
 idle_was : (before : List Item) (next : Item) (s : ℕ) → IsFalse (is_delivered next)
     → IsIdle (before ++ next ∷ []) s → IsIdle before s

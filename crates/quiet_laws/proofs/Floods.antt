@@ -19,13 +19,13 @@ use Rattle.journal.specs.declared.item.Item.{Item}
 use Rattle.journal.specs.declared.item.Item.TheVariants as item
 use Rattle.steps.specs.declared.step.Step.{Step}
 use Rattle.steps.specs.declared.step.Step.TheVariants.{Packet, Hop, Lose, Deliver, Forget, Expire, Update, LinkDown, LinkUp, Crash, Restart, Confirm, Resend}
-use Rattle.update_machine.specs.Adverts.{advert_known, adverts_begun, adverts_heard, adverts_known, other_advert, own_advert}
+use Rattle.update_machine.specs.Adverts.{advert_known, adverts_known, own_advert}
 use Rattle.update_machine.specs.Answers.{StepOfRow, after_steps}
-use Rattle.update_machine.specs.Boots.{said_to, serves}
+use Rattle.update_machine.specs.Boots.{said_to, serves, message_of}
 use Rattle.update_machine.specs.Causes.{HaveCauses}
 use Rattle.update_machine.specs.Deliveries.{advert_to, delivery_items, is_news_to, link_changes, passed_on, received_items, switch_items, to_controller}
-use Rattle.update_machine.specs.Links.{near, switches_in}
-use Rattle.update_machine.specs.Messages.{is_deliverable, is_to_controller, message_of, sends}
+use Rattle.update_machine.specs.Links.{near, switches_in, adverts_begun, adverts_heard, other_advert}
+use Rattle.update_machine.specs.Messages.{is_deliverable, is_to_controller, sends}
 use Rattle.update_machine.specs.Moves.{put}
 use Rattle.update_machine.specs.Packets.{next_packet}
 use Rattle.update_machine.specs.Pieces.{deliver_items, nothing, piece, step_items}

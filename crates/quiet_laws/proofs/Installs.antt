@@ -8,19 +8,17 @@ use Rattle.std.proofs.lemmas.Bool.Decides.{nat_tests}
 use Rattle.ctrl_msg.specs.declared.message.Body.{Body}
 use Rattle.ctrl_msg.specs.declared.message.Body.TheVariants.{Hello, Install}
 use Rattle.ctrl_msg.specs.declared.message.Message.{Message}
-use Rattle.ctrl_msg.specs.declared.message.Receiver.{Receiver}
-use Rattle.ctrl_msg.specs.declared.message.Receiver.TheVariants as receiver
 use Rattle.switch_table.specs.declared.tables.Tables.{Tables}
 use Rattle.journal.specs.declared.item.Item.{Item}
 use Rattle.journal.specs.declared.item.Item.TheVariants as item
 use Rattle.steps.specs.declared.step.Step.{Step}
 use Rattle.steps.specs.declared.step.Step.TheVariants.{Deliver, Update, Confirm}
-use Rattle.update_machine.specs.Boots.{is_up}
+use Rattle.update_machine.specs.Boots.{is_up, message_of}
 use Rattle.update_machine.specs.Concerns.{is_message_to_controller}
 use Rattle.update_machine.specs.Deliveries.{after_hello, controller_items, delivery_items, is_new_boot, received_items, to_controller}
 use Rattle.update_machine.specs.Laws.{ControllerKeeps}
 use Rattle.update_machine.specs.Marks.{current_mark, hello_boot, is_over, known_boot, raises_known, said_to_controller}
-use Rattle.update_machine.specs.Messages.{is_deliverable, message_of, sends}
+use Rattle.update_machine.specs.Messages.{is_deliverable, sends}
 use Rattle.update_machine.specs.Moves.{put}
 use Rattle.update_machine.specs.Pieces.{confirm_items, deliver_items, nothing, piece, step_items, update_code, update_items}
 use Rattle.update_machine.specs.Setting.{Setting, switches_of}
@@ -35,6 +33,7 @@ use Rattle.boot_laws.proofs.Grown.{count_more, current_more, known_more, message
 use Rattle.boot_laws.proofs.Sends.{each, each_map}
 use Rattle.boot_laws.proofs.SwitchBlocks.{settling_settles}
 use Rattle.settle_laws.specs.Steps.{is_for_controller}
+use Rattle.settle_laws.proofs.Ends.{told_is}
 use Rattle.settle_laws.proofs.Leaves.{leaves_keep}
 use Rattle.settle_laws.proofs.Others.{ReopensAlone, installs_reopen, others_keep, sends_leave}
 use Rattle.settle_laws.proofs.Settles.{grows, in_two}
@@ -337,25 +336,6 @@ heard_installs setting before row number step body sent last is have =
         inr (inr (hello_sends setting before s hello.boot version body settled
         (same_body before number body (Hello s hello.boot) sent told) new
         (omega (arith, below, is, settling_count setting now)) above))
-
--- a message to the controller is there
-pub told_is : (before : List Item) (number : ℕ) → IsTrue (is_message_to_controller before number)
-    → (body : Body) × (message_of before number ≡ Some (to_controller body))
-told_is before number is = by_message (message_of before number) refl is
-  where
-    by_receiver : (to : Receiver) (body : Body)
-        → message_of before number ≡ Some (record { to = to; body = body })
-        → IsTrue (is_message_to_controller before number)
-        → (body : Body) × (message_of before number ≡ Some (to_controller body))
-    by_receiver receiver.Controller body e is = (body, e)
-    by_receiver (receiver.Switch s) body e is =
-        let no : false ≡ true = rw e at is in absurd cc
-
-    by_message : (o : Option Message) → message_of before number ≡ o
-        → IsTrue (is_message_to_controller before number)
-        → (body : Body) × (message_of before number ≡ Some (to_controller body))
-    by_message None e is = let no : false ≡ true = rw e at is in absurd cc
-    by_message (Some message) e is = by_receiver message.to message.body e is
 
 pub delivery_told : (setting : Setting) (before : List Item) (number : ℕ) (body : Body)
     (now : List Item) → message_of before number ≡ Some (to_controller body)

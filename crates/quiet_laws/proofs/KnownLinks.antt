@@ -1,62 +1,31 @@
 -- So of links that end where it reaches a switch knows exactly those that can be used.
-use Rattle.std.proofs.Common.{ℕ, ◌≡◌, ◌≢◌, ◌<◌, ◌⊎◌, ◌==◌, ◌&&◌, Bool, true, false, not, if◌then◌else◌, Option, None, List, [], ◌∷◌, ◌++◌, map, length, get_or, set, refl, ap, sym, subst, ◌∙◌, arith, inl, inr, get_or-set_other, get_or-set_same, length-set}
+use Rattle.std.proofs.Common.{ℕ, ◌≡◌, ◌≢◌, ◌<◌, ◌⊎◌, ◌==◌, ◌&&◌, Bool, true, false, not, Option, None, List, [], ◌∷◌, ◌++◌, map, length, get_or, set, refl, ap, sym, subst, ◌∙◌, arith, inl, inr, get_or-set_other, get_or-set_same}
 use Rattle.std.specs.Prelude.{All, IsTrue, slice_index}
 use Rattle.std.specs.List.{AllByRecursion}
 use Rattle.std.proofs.lemmas.Bool.{cases_eq, cases_lt}
 use Rattle.std.proofs.lemmas.Bool.Decides.{nat_tests}
 use Rattle.std.proofs.lemmas.List.{get_or-map, get_or_past, length-map}
 use Rattle.std.proofs.lemmas.List.Elements.{All-from_recursion}
-use Rattle.failover.specs.Adverts.{AreByOrigin, after_hearing, after_hearing_all, first_adverts, held, no_adverts}
+use Rattle.failover.specs.Adverts.{held}
 use Rattle.failover.specs.DownSet.{has_link}
 use Rattle.failover.specs.Links.{is_link, neighbours_told, told_links}
-use Rattle.failover.specs.Paths.{AreJoined, IsReachable, IsRoute, Leads}
+use Rattle.failover.specs.Paths.{AreJoined, IsReachable, Leads}
 use Rattle.failover.specs.declared.advert.Advert.{Advert}
-use Rattle.failover.proofs.Adverts.{by_origin-first, by_origin-hearing, by_origin-none}
-use Rattle.failover.proofs.Rows.{has_known}
 use Rattle.failover.proofs.Searching.{length-known_links, straight_path}
 use Rattle.masks.specs.Masks.{has}
-use Rattle.net_file.specs.Net.{are_linked, links_of}
+use Rattle.net_file.specs.Net.{are_linked}
 use Rattle.net_file.proofs.Places.{links}
 use Rattle.journal.specs.declared.item.Item.{Item}
 use Rattle.steps.specs.Steps.{HasSwitch}
-use Rattle.update_machine.specs.Adverts.{adverts_begun, adverts_heard, adverts_known, links_known, own_advert, own_if_told, route_from}
-use Rattle.update_machine.specs.Boots.{is_in_first_boot}
-use Rattle.update_machine.specs.Links.{near}
-use Rattle.update_machine.specs.Setting.{Setting, switches_of}
-use Rattle.update_machine.proofs.CallerLemmas.{known_link_laws}
+use Rattle.update_machine.specs.Adverts.{adverts_known, own_advert, route_from}
+use Rattle.update_machine.specs.Links.{near, adverts_of_others, links_known}
+use Rattle.update_machine.specs.Setting.{Setting}
+use Rattle.update_machine.proofs.CallerLemmas.{has_known_link, known_places, unreached}
 use Rattle.advert_laws.proofs.NetLinks.{near_linked, second}
 use Rattle.quiet_laws.specs.Converged.{AreUnusable, HasConverged, LeadsOver, Reaches}
 use Rattle.quiet_laws.proofs.Changed.{ends_there}
 use Rattle.quiet_laws.proofs.Converged.{AreQuiet, HoldsOwn, IsThere, adverts_reach, reached_holds, small_of, serving_up}
 use Rattle.quiet_laws.proofs.Near.{ends_serve, near_both}
-
--- ---- there are places for 64 adverts
-
-begun_by_origin : (setting : Setting) (journal : List Item) (s : ℕ)
-    → AreByOrigin (adverts_begun setting journal s)
-begun_by_origin setting journal s = by_test (is_in_first_boot journal s)
-  where
-    by_test : (b : Bool) → AreByOrigin
-        (if b then first_adverts (map (links_of setting.net.links) (switches_of setting))
-        (length setting.net.switches) else no_adverts)
-    by_test true = by_origin-first (map (links_of setting.net.links) (switches_of setting))
-        (length setting.net.switches)
-    by_test false = by_origin-none
-
-all_by_origin : (adverts : List (Option Advert)) (heard : List Advert) → AreByOrigin adverts
-    → AreByOrigin (after_hearing_all adverts heard)
-all_by_origin adverts [] sound = sound
-all_by_origin adverts (advert ∷ heard) sound = all_by_origin (after_hearing adverts advert) heard
-    (by_origin-hearing adverts advert sound)
-
-known_places : (setting : Setting) (journal : List Item) (s : ℕ)
-    → length (adverts_known setting journal s) ≡ 64
-unfolding adverts_known
-known_places setting journal s =
-    length-set (after_hearing_all (adverts_begun setting journal s) (adverts_heard journal s)) s
-    (own_if_told (own_advert setting journal s))
-    ∙ (all_by_origin (adverts_begun setting journal s) (adverts_heard journal s)
-    (begun_by_origin setting journal s)).places
 
 -- ---- what a switch is told of one that it reaches
 
@@ -130,8 +99,7 @@ known_usable setting journal are s one other down is reaches small fits joined =
     let rows : List ℕ =
     told_links (adverts_known setting journal s) s (near setting journal s) in
     let told : is_link rows down one other ≡ true =
-    sym (has_known (adverts_known setting journal s) s (near setting journal s) down one other
-    small fits) ∙ joined in
+    sym (has_known_link setting journal s down one other small fits) ∙ joined in
     let named : has (slice_index rows one) other ≡ true = second _ _ _ _ told in
     subst (λ mask. IsTrue (has mask other))
     (row_known setting journal s one (small_of setting are.net s is.there)
@@ -144,8 +112,7 @@ usable_known : (setting : Setting) (journal : List Item) → AreQuiet setting jo
     → AreJoined (links_known setting journal s down) one other
 unfolding is_link
 usable_known setting journal are s one other down is reaches unusable linked =
-    has_known (adverts_known setting journal s) s (near setting journal s) down one other small
-    fits
+    has_known_link setting journal s down one other small fits
     ∙ four (one == other) (has (slice_index rows one) other) (has (slice_index rows other) one)
     (has_link down one other) apart named back (unusable one other linked)
   where
@@ -213,14 +180,6 @@ leads_known setting journal are s target down is unusable at (next ∷ rest) rea
       (reach_more setting journal s at next reaches leads.0) leads.1,
 )
 
-none_reached : (rows : List ℕ) (from : ℕ) (targets : List ℕ) → IsRoute rows from targets None
-    → AllByRecursion (λ target. IsReachable rows from target → ⊥) targets
-unfolding IsRoute
-none_reached rows from [] is = tt
-none_reached rows from (target ∷ targets) (inl some) = absurd some
-none_reached rows from (target ∷ targets) (inr rest) =
-    (rest.0, none_reached rows from targets rest.1)
-
 each_unreached : (P Q : ℕ → Type 0) → ((x : ℕ) → P x → Q x) → (xs : List ℕ)
     → AllByRecursion P xs → AllByRecursion Q xs
 each_unreached P Q f [] all = tt
@@ -249,12 +208,10 @@ stuck_apart setting journal are s targets down there unusable none =
     (λ target. Reaches setting journal s target → ⊥)
     (λ target unreached reaches. unreached
     (straight_path (links_known setting journal s down) s target reaches.rest
-    (length-known_links (adverts_known setting journal s) s (near setting journal s) down)
+    (length-known_links (adverts_of_others setting journal s) s (near setting journal s) down)
     (small_of setting are.net s there)
     (way_known setting journal are s target down unusable reaches.rest reaches.leads))) targets
-    (none_reached (links_known setting journal s down) s targets
-    (subst (IsRoute (links_known setting journal s down) s targets) none
-    (known_link_laws.route setting journal s targets down))))
+    (unreached setting journal s targets down none))
 
 -- ---- together
 

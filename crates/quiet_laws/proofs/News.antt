@@ -21,7 +21,7 @@ use Rattle.update_machine.specs.Laws.{LinksKeep}
 use Rattle.update_machine.specs.Links.{is_link_up, near, tells_link}
 use Rattle.update_machine.specs.Messages.{sends}
 use Rattle.update_machine.specs.Moves.{put}
-use Rattle.update_machine.specs.Packets.{packets_at}
+use Rattle.update_machine.specs.Travels.{packets_at}
 use Rattle.update_machine.specs.Pieces.{confirm_items, crash_items, hello_of, link_items, nothing, resend_items, restart_items, sends_or_nothing, update_items}
 use Rattle.update_machine.specs.Setting.{Setting}
 use Rattle.update_machine.specs.Settling.{installs_to, installs_to_all, settling, submitted_items}

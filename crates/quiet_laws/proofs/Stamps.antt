@@ -33,10 +33,11 @@ use Rattle.boot_laws.proofs.Serving.{member_parts}
 use Rattle.mark_laws.proofs.Current.{StampsAreCurrent, current_kept}
 use Rattle.mark_laws.proofs.Members.{LeavesMember, member_was, opened_same}
 use Rattle.settle_laws.specs.Steps.{is_for_controller}
+use Rattle.settle_laws.proofs.Ends.{told_is}
 use Rattle.settle_laws.proofs.Leaves.{leaves_keep}
 use Rattle.settle_laws.proofs.Others.{ReopensAlone, others_keep, sends_leave}
 use Rattle.settle_laws.proofs.Settles.{in_two}
-use Rattle.quiet_laws.proofs.Installs.{all_keep, delivery_told, installs_keep, told_is, unraised}
+use Rattle.quiet_laws.proofs.Installs.{all_keep, delivery_told, installs_keep, unraised}
 use Rattle.quiet_laws.proofs.Lists.{in_filter, in_map, in_range}
 use Rattle.quiet_laws.proofs.Plain.{IsSending, all_sendings}
 use Rattle.quiet_laws.proofs.Sendings.{IsSent, sends_all, sent_on}

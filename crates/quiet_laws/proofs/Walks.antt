@@ -20,10 +20,11 @@ use Rattle.update_machine.specs.Causes.{HaveCauses}
 use Rattle.update_machine.specs.Links.{near}
 use Rattle.update_machine.specs.Messages.{sends, sent_from}
 use Rattle.update_machine.specs.Moves.{AuthorityRule, arrive_by, arrive_items, authority_items, authority_rule, cache_items, cache_rule, end_items, first_place, found_items, go_on, header_at, in_turn, leaves, leg_items, lookup_items, move_items, put, reroute_by, reroute_items, route_for, stuck_on, takes_route}
-use Rattle.update_machine.specs.Packets.{found_down, ingress_of, is_at, leg_of, next_switch, owner, standing, targets_of, travels}
+use Rattle.update_machine.specs.Packets.{found_down, next_switch, owner, standing, targets_of}
 use Rattle.update_machine.specs.Pieces.{hop_items, nothing, packet_items}
 use Rattle.update_machine.specs.Setting.{Setting}
 use Rattle.update_machine.specs.Versions.{holds_version, stamp_of}
+use Rattle.update_machine.specs.Travels.{ingress_of, is_at, leg_of, travels}
 use Rattle.update_machine.proofs.CallerLemmas.{have_first, have_in_turn}
 
 -- the switch knows no route without the links that the packet found down

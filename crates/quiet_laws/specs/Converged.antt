@@ -7,9 +7,9 @@ use Rattle.failover.specs.Paths.{AreJoined}
 use Rattle.masks.specs.Masks.{has}
 use Rattle.journal.specs.declared.item.Item.{Item}
 use Rattle.steps.specs.Steps.{HasSwitch}
-use Rattle.update_machine.specs.Adverts.{advert_known, links_known, own_advert, route_from}
+use Rattle.update_machine.specs.Adverts.{advert_known, own_advert, route_from}
 use Rattle.update_machine.specs.Boots.{is_up}
-use Rattle.update_machine.specs.Links.{near}
+use Rattle.update_machine.specs.Links.{near, links_known}
 use Rattle.update_machine.specs.Setting.{Setting}
 
 -- from a switch over these, each by a link that can be used, to the target

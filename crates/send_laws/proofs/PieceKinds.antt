@@ -12,17 +12,18 @@ use Rattle.journal.specs.declared.item.Item.{Item}
 use Rattle.journal.specs.declared.item.Item.TheVariants as item
 use Rattle.steps.specs.declared.step.Step.{Step}
 use Rattle.steps.specs.declared.step.Step.TheVariants.{Packet, Hop, Lose, Deliver, Forget, Expire, Update, LinkDown, LinkUp, Crash, Restart, Confirm, Resend}
-use Rattle.update_machine.specs.Boots.{boot_of, is_up, said_to, serves}
+use Rattle.update_machine.specs.Boots.{boot_of, is_up, said_to, serves, message_of}
 use Rattle.update_machine.specs.Concerns.{NoneConcern, concerns_links}
 use Rattle.update_machine.specs.Deliveries.{controller_items, delivery_items, is_news_to, link_changes, passed_on, received_items, switch_items}
 use Rattle.update_machine.specs.Links.{is_link_up}
-use Rattle.update_machine.specs.Messages.{is_deliverable, message_of, sends}
+use Rattle.update_machine.specs.Messages.{is_deliverable, sends}
 use Rattle.update_machine.specs.Moves.{put}
-use Rattle.update_machine.specs.Packets.{next_packet, packets_at}
+use Rattle.update_machine.specs.Packets.{next_packet}
 use Rattle.update_machine.specs.Pieces.{crash_items, deliver_items, hello_of, link_items, nothing, piece, resend_items, resent_by_switch, restart_items, sends_or_nothing, step_items}
 use Rattle.update_machine.specs.Setting.{Setting}
 use Rattle.update_machine.specs.Settling.{resent_by_controller}
 use Rattle.update_machine.specs.Versions.{stamp_of, version_count}
+use Rattle.update_machine.specs.Travels.{packets_at}
 use Rattle.boot_laws.proofs.Grown.{count_more}
 use Rattle.advert_laws.proofs.LinkCauses.{ChangedNoLinks}
 use Rattle.advert_laws.proofs.Plain.{confirm_plain, controller_plain, expire_plain, forget_plain, hop_plain, lose_plain, packet_plain, plain_keeps_links, sends_silent, update_plain}

@@ -12,12 +12,12 @@ use Rattle.journal.specs.declared.item.Item.TheVariants as item
 use Rattle.steps.specs.declared.step.Step.{Step}
 use Rattle.steps.specs.declared.step.Step.TheVariants.{Deliver, Update, Confirm}
 use Rattle.update_machine.specs.Answers.{StepOfRow, after_steps}
-use Rattle.update_machine.specs.Boots.{is_up}
+use Rattle.update_machine.specs.Boots.{is_up, message_of}
 use Rattle.update_machine.specs.Causes.{HaveCauses}
 use Rattle.update_machine.specs.Concerns.{is_message_to_controller}
 use Rattle.update_machine.specs.Deliveries.{after_hello, controller_items, delivery_items, received_items, to_controller}
 use Rattle.update_machine.specs.Marks.{AreSettled, is_member, is_over}
-use Rattle.update_machine.specs.Messages.{is_deliverable, message_of}
+use Rattle.update_machine.specs.Messages.{is_deliverable}
 use Rattle.update_machine.specs.Moves.{put}
 use Rattle.update_machine.specs.Pieces.{confirm_items, deliver_items, nothing, piece, step_items, update_code, update_items}
 use Rattle.update_machine.specs.Setting.{Setting, switches_of}
@@ -81,7 +81,7 @@ heard_settled setting before body now =
     (settled_in setting now (have_front (HasItemCause setting) [] one hello have)))
 
 -- a message to the controller is there
-told_is : (before : List Item) (number : ℕ) → IsTrue (is_message_to_controller before number)
+pub told_is : (before : List Item) (number : ℕ) → IsTrue (is_message_to_controller before number)
     → (body : Body) × (message_of before number ≡ Some (to_controller body))
 told_is before number is = by_message (message_of before number) refl is
   where

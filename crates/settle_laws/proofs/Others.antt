@@ -13,14 +13,14 @@ use Rattle.journal.specs.declared.item.Item.TheVariants as item
 use Rattle.steps.specs.declared.step.Step.{Step}
 use Rattle.steps.specs.declared.step.Step.TheVariants.{Packet, Hop, Lose, Deliver, Forget, Expire, Update, LinkDown, LinkUp, Crash, Restart, Confirm, Resend}
 use Rattle.update_machine.specs.Adverts.{held_adverts}
-use Rattle.update_machine.specs.Boots.{is_up}
+use Rattle.update_machine.specs.Boots.{is_up, message_of}
 use Rattle.update_machine.specs.Causes.{HaveCauses}
 use Rattle.update_machine.specs.Concerns.{is_message_to_controller}
 use Rattle.update_machine.specs.Deliveries.{advert_to, delivery_items, link_changes, received_items, switch_items, passed_on}
 use Rattle.update_machine.specs.Laws.{ControllerKeeps}
 use Rattle.update_machine.specs.Links.{near, switches_in}
 use Rattle.update_machine.specs.Marks.{acked_stamp, current_mark, has_acked, is_member, is_over, retired_mark}
-use Rattle.update_machine.specs.Messages.{message_of, next_message, sends, sent_from}
+use Rattle.update_machine.specs.Messages.{next_message, sends, sent_from}
 use Rattle.update_machine.specs.Moves.{put}
 use Rattle.update_machine.specs.Packets.{next_packet}
 use Rattle.update_machine.specs.Pieces.{crash_items, deliver_items, hello_of, link_items, piece, resend_items, resent_by_switch, restart_items, sends_or_nothing, step_items}

@@ -1,9 +1,6 @@
 -- What always holds, holds between steps too; so all of it holds there.
-use Rattle.std.proofs.Common.{ℕ, List, [], All, length, sym, subst}
+use Rattle.std.proofs.Common.{ℕ, List, [], sym, subst}
 use Rattle.journal.specs.declared.item.Item.{Item}
-use Rattle.steps.specs.Steps.{IsEvent}
-use Rattle.steps.specs.declared.step.Event.{Event}
-use Rattle.update_machine.specs.Answers.{Answers, AnswersSoFar, IsReached}
 use Rattle.update_machine.specs.Causes.{HaveCauses}
 use Rattle.update_machine.specs.Setting.{Setting}
 use Rattle.update_machine.specs.Sound.{IsSetting}

@@ -10,7 +10,7 @@ use Rattle.steps.specs.declared.step.Step.{Step}
 use Rattle.steps.specs.declared.step.Step.TheVariants.{Deliver, Hop}
 use Rattle.update_machine.specs.Answers.{AreAll, AreFirstSteps, AreFirstStepsOf, AreSome, AreStepsOf, StepOfRow, after_steps, next_delivery, next_hop}
 use Rattle.update_machine.specs.Messages.{next_waiting}
-use Rattle.update_machine.specs.Packets.{next_travelling}
+use Rattle.update_machine.specs.Travels.{next_travelling}
 use Rattle.update_machine.specs.Pieces.{piece}
 use Rattle.update_machine.specs.Setting.{Setting}
 

@@ -1,22 +1,26 @@
 -- What a switch knows of the network's links, by the laws of adverts and routes.
-use Rattle.std.proofs.Common.{ℕ, ◌≡◌, ◌≢◌, ◌<◌, ◌≤◌, Bool, true, false, Option, Some, None, List, [], ◌∷◌, ◌++◌, inl, inr, refl, ap, sym, subst, ◌∙◌, arith, length, get_or-set_other, get_or-set_same, length-set}
-use Rattle.std.specs.Prelude.{◌↔◌, ◌==◌, IsTrue, if◌then◌else◌, map, option_to_list, unwrap_or}
+use Rattle.std.proofs.Common.{ℕ, zero, suc, ◌≡◌, ◌≢◌, ◌<◌, ◌≤◌, Bool, true, false, Option, Some, None, List, [], ◌∷◌, ◌++◌, inl, inr, refl, ap, sym, subst, ◌∙◌, arith, length, set, get_or-set_other, get_or-set_same, length-set}
+use Rattle.std.specs.Prelude.{◌↔◌, ◌==◌, IsTrue, if◌then◌else◌, map, option_to_list, slice_index, unwrap_or}
+use Rattle.std.specs.List.{AllByRecursion}
+use Rattle.std.proofs.lemmas.List.{map-set}
 use Rattle.std.proofs.lemmas.Bool.Decides.{nat_tests}
 use Rattle.failover.specs.Adverts.{AreByOrigin, IsNewest, after_hearing, after_hearing_all, first_adverts, held, no_adverts}
-use Rattle.failover.specs.Paths.{IsIsolated, IsPath, IsRoute, Leads}
+use Rattle.failover.specs.Links.{is_link, known_links, link_row, neighbours_told, told_links}
+use Rattle.failover.specs.Paths.{IsIsolated, IsPath, IsReachable, IsRoute, Leads}
 use Rattle.failover.specs.declared.advert.Advert.{Advert}
 use Rattle.failover.proofs.Adverts.{by_origin-first, by_origin-hearing, by_origin-none}
 use Rattle.failover.proofs.Newest.{held_newest}
-use Rattle.failover.proofs.Rows.{isolated_tells}
+use Rattle.failover.proofs.Rows.{has_known, isolated_tells}
 use Rattle.failover.proofs.Searching.{known_route_is_route}
+use Rattle.masks.specs.Masks.{has, switches}
 use Rattle.net_file.specs.Net.{links_of, owner_of}
 use Rattle.policy_rules.specs.declared.packet.Leg.TheVariants.{Exit}
 use Rattle.policy_rules.specs.declared.policy.Action.TheVariants.{Out}
 use Rattle.journal.specs.declared.item.Item.{Item}
-use Rattle.update_machine.specs.Adverts.{advert_known, adverts_begun, adverts_heard, adverts_known, is_cut_off, links_known, own_advert, own_if_told, route_from}
+use Rattle.update_machine.specs.Adverts.{advert_known, adverts_known, is_cut_off, own_advert, own_if_told, route_from}
 use Rattle.update_machine.specs.Boots.{is_in_first_boot}
 use Rattle.update_machine.specs.Laws.{KnownLinkLaws}
-use Rattle.update_machine.specs.Links.{near}
+use Rattle.update_machine.specs.Links.{near, adverts_begun, adverts_heard, adverts_of_others, links_known}
 use Rattle.update_machine.specs.Moves.{end_items, leaves, leg_items, stuck_on, takes_route}
 use Rattle.update_machine.specs.Packets.{found_down, no_switch, owner}
 use Rattle.update_machine.specs.Setting.{Setting, switches_of}
@@ -39,16 +43,15 @@ all_by_origin adverts (advert ∷ heard) sound = all_by_origin (after_hearing ad
     (by_origin-hearing adverts advert sound)
 
 heard_by_origin : (setting : Setting) (journal : List Item) (s : ℕ)
-    → AreByOrigin (after_hearing_all (adverts_begun setting journal s) (adverts_heard journal s))
+    → AreByOrigin (adverts_of_others setting journal s)
 heard_by_origin setting journal s = all_by_origin (adverts_begun setting journal s)
     (adverts_heard journal s) (begun_by_origin setting journal s)
 
-known_places : (setting : Setting) (journal : List Item) (s : ℕ)
+pub known_places : (setting : Setting) (journal : List Item) (s : ℕ)
     → length (adverts_known setting journal s) ≡ 64
 unfolding adverts_known
 known_places setting journal s =
-    length-set (after_hearing_all (adverts_begun setting journal s) (adverts_heard journal s)) s
-    (own_if_told (own_advert setting journal s))
+    length-set (adverts_of_others setting journal s) s (own_if_told (own_advert setting journal s))
     ∙ (heard_by_origin setting journal s).places
 
 newest_known : (setting : Setting) (journal : List Item) (s origin : ℕ) → origin ≢ s → origin < 64 →
@@ -58,9 +61,8 @@ unfolding adverts_known
 newest_known setting journal s origin other small =
     subst (IsNewest origin (option_to_list (held (adverts_begun setting journal s) origin)
     ++ adverts_heard journal s))
-    (sym (get_or-set_other (after_hearing_all (adverts_begun setting journal s)
-    (adverts_heard journal s)) s origin (own_if_told (own_advert setting journal s)) None
-    other))
+    (sym (get_or-set_other (adverts_of_others setting journal s) s origin
+    (own_if_told (own_advert setting journal s)) None other))
     (held_newest (adverts_begun setting journal s) (adverts_heard journal s) origin
     (begun_by_origin setting journal s) small)
 
@@ -68,25 +70,75 @@ own_known : (setting : Setting) (journal : List Item) (s : ℕ) → s < 64
     → advert_known setting journal s s ≡ own_if_told (own_advert setting journal s)
 unfolding adverts_known
 own_known setting journal s small =
-    let there : s < length (after_hearing_all (adverts_begun setting journal s)
-    (adverts_heard journal s)) = subst (λ n. s < n)
-    (sym (heard_by_origin setting journal s).places) small in
-    get_or-set_same (after_hearing_all (adverts_begun setting journal s) (adverts_heard journal s))
-    s (own_if_told (own_advert setting journal s)) None there
+    let there : s < length (adverts_of_others setting journal s) =
+    subst (λ n. s < n) (sym (heard_by_origin setting journal s).places) small in
+    get_or-set_same (adverts_of_others setting journal s) s
+    (own_if_told (own_advert setting journal s)) None there
+
+-- ---- its own advert tells it nothing of its own links
+
+set_twice : {X : Type 0} (xs : List X) (i : ℕ) (a b : X) → set (set xs i a) i b ≡ set xs i b
+set_twice [] i a b = refl
+set_twice (x ∷ xs) zero a b = refl
+set_twice (x ∷ xs) (suc i) a b = ap (λ rest. x ∷ rest) (set_twice xs i a b)
+
+links_are : (setting : Setting) (journal : List Item) (s : ℕ) (down : List ℕ)
+    → links_known setting journal s down
+    ≡ known_links (adverts_known setting journal s) s (near setting journal s) down
+unfolding adverts_known known_links told_links
+links_are setting journal s down =
+    let others : List (Option Advert) = adverts_of_others setting journal s in
+    let own : Option Advert = own_if_told (own_advert setting journal s) in
+    ap (λ rows. map (link_row rows down) switches)
+    (sym (set_twice (map neighbours_told others) s (neighbours_told own) (near setting journal s))
+    ∙ ap (λ rows. set rows s (near setting journal s)) (sym (map-set neighbours_told others s own)))
+
+pub has_known_link : (setting : Setting) (journal : List Item) (s : ℕ) (down : List ℕ)
+    (one other : ℕ) → one < 64 → other < 64
+    → has (slice_index (links_known setting journal s down) one) other
+    ≡ is_link (told_links (adverts_known setting journal s) s (near setting journal s)) down one
+    other
+has_known_link setting journal s down one other one_small other_small =
+    ap (λ links. has (slice_index links one) other) (links_are setting journal s down)
+    ∙ has_known (adverts_known setting journal s) s (near setting journal s) down one other
+    one_small other_small
 
 route_known : (setting : Setting) (journal : List Item) (s : ℕ) (targets down : List ℕ)
     → IsRoute (links_known setting journal s down) s targets
     (route_from setting journal s targets down)
 unfolding route_from
-route_known setting journal s targets down = known_route_is_route (adverts_known setting journal s)
-    s targets (near setting journal s) down
+route_known setting journal s targets down =
+    subst (λ links. IsRoute links s targets (route_from setting journal s targets down))
+    (sym (links_are setting journal s down))
+    (known_route_is_route (adverts_known setting journal s) s targets (near setting journal s)
+    down)
+
+none_reached : (links : List ℕ) (from : ℕ) (targets : List ℕ) → IsRoute links from targets None
+    → AllByRecursion (λ target. ¬ IsReachable links from target) targets
+unfolding IsRoute
+none_reached links from [] is = tt
+none_reached links from (target ∷ targets) (inl some) = absurd some
+none_reached links from (target ∷ targets) (inr rest) =
+    (rest.0, none_reached links from targets rest.1)
+
+-- where it has no route, no path leads to any target
+pub unreached : (setting : Setting) (journal : List Item) (s : ℕ) (targets down : List ℕ)
+    → route_from setting journal s targets down ≡ None
+    → AllByRecursion (λ target. ¬ IsReachable (links_known setting journal s down) s target) targets
+unreached setting journal s targets down none =
+    none_reached (links_known setting journal s down) s targets
+    (subst (IsRoute (links_known setting journal s down) s targets) none
+    (route_known setting journal s targets down))
 
 cut_off_known : (setting : Setting) (journal : List Item) (s target : ℕ) (down : List ℕ)
     → IsTrue (is_cut_off setting journal s down target)
     ↔ IsIsolated (links_known setting journal s down) s target
 unfolding is_cut_off
-cut_off_known setting journal s target down = isolated_tells (adverts_known setting journal s) s
-    target (near setting journal s) down (known_places setting journal s)
+cut_off_known setting journal s target down =
+    subst (λ links. IsTrue (is_cut_off setting journal s down target) ↔ IsIsolated links s target)
+    (sym (links_are setting journal s down))
+    (isolated_tells (adverts_known setting journal s) s target (near setting journal s) down
+    (known_places setting journal s))
 
 -- ---- ports that no switch has
 

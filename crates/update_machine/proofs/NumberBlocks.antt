@@ -17,7 +17,7 @@ use Rattle.update_machine.specs.Messages.{is_sending, next_message, sends, sent_
 use Rattle.update_machine.specs.Moves.{AuthorityRule, arrive_by, arrive_items, authority_items, authority_rule, cache_items, end_items, found_items, go_on, header_at, in_turn, leg_items, lookup_items, move_items, reroute_by, reroute_items}
 use Rattle.update_machine.specs.Numbers.{TakesNext}
 use Rattle.update_machine.specs.Caches.{lookup_at}
-use Rattle.update_machine.specs.Packets.{leg_of}
+use Rattle.update_machine.specs.Travels.{leg_of}
 use Rattle.update_machine.specs.Versions.{stamp_of}
 use Rattle.update_machine.specs.Setting.{Setting}
 use Rattle.update_machine.specs.Settling.{current_items, installs_to, installs_to_all, open_items, retired_items, settling, submitted_items}

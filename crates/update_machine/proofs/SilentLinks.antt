@@ -14,9 +14,9 @@ use Rattle.update_machine.specs.Laws.{KnownKeeps, LinksKeep, PoliciesKeep, Switc
 use Rattle.update_machine.specs.Folds.{first_told}
 use Rattle.update_machine.specs.Links.{near}
 use Rattle.update_machine.specs.Quiet.{is_waited_for, tells_waited_for}
-use Rattle.update_machine.specs.Setting.{Setting, placed_in, policy_of_file}
+use Rattle.update_machine.specs.Setting.{Setting, placed_in, policy_of_file, file_of, plan_at, tells_file}
 use Rattle.update_machine.specs.Steps.{StepItems, steps_in}
-use Rattle.update_machine.specs.Versions.{file_of, is_submission, plan_at, policy_at, stamp_of, tells_file, version_count}
+use Rattle.update_machine.specs.Versions.{is_submission, policy_at, stamp_of, version_count}
 use Rattle.update_machine.proofs.Silent.{count_stays, fewer, first_stays, last_stays, neither_left, neither_right, stays}
 use Rattle.update_machine.proofs.SilentSteps.{weight_stays}
 use Rattle.update_machine.proofs.SilentSwitches.{link_stays, near_stays, switch_keeps}
@@ -161,10 +161,12 @@ known_keeps setting s before items none =
     known_stays setting s before items own links in
     let near_same : near setting (before ++ items) s ≡ near setting before s =
     near_stays setting s before items links in
+    let switch : SwitchKeeps setting s before (before ++ items) =
+    switch_keeps setting s before items own in
     record {
       known = known;
       held = rw known refl;
-      links = λ down. rw (known, near_same) refl;
+      links = λ down. rw (switch.boot, switch.up, switch.heard, near_same) refl;
       route = λ targets down. rw (known, near_same) refl;
       cut_off = λ down target. rw (known, near_same) refl;
     }

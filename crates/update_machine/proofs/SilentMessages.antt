@@ -8,10 +8,12 @@ use Rattle.journal.specs.declared.item.Item.TheVariants as item
 use Rattle.update_machine.specs.Concerns.{NoneConcern, concerns_message, concerns_messages, concerns_packets, concerns_steps}
 use Rattle.update_machine.specs.Folds.{count_of}
 use Rattle.update_machine.specs.Laws.{MessageKeeps, MessagesKeep, PacketsKeep}
-use Rattle.update_machine.specs.Messages.{is_deliverable, is_delivery, is_forgetting, is_forgotten, is_sending, is_waiting, message_of, next_message, next_waiting, tells_message, was_delivered}
-use Rattle.update_machine.specs.Packets.{is_packet, next_packet, next_travelling, tells_travelling, travels}
+use Rattle.update_machine.specs.Messages.{is_deliverable, is_delivery, is_forgetting, is_forgotten, is_sending, is_waiting, next_message, next_waiting, was_delivered}
+use Rattle.update_machine.specs.Packets.{is_packet, next_packet}
 use Rattle.update_machine.specs.Quiet.{Sending, changes_sendings, sendings}
-use Rattle.update_machine.specs.Steps.{present_step, tells_step}
+use Rattle.update_machine.specs.Causes.{present_step, tells_step}
+use Rattle.update_machine.specs.Boots.{message_of, tells_message}
+use Rattle.update_machine.specs.Travels.{next_travelling, tells_travelling, travels}
 use Rattle.update_machine.proofs.Silent.{count_stays, fewer, folded_stays, last_stays}
 
 -- ---- a message

@@ -9,7 +9,7 @@ use Rattle.steps.specs.declared.step.Step.TheVariants.{Hop}
 use Rattle.update_machine.specs.Concerns.{NoneConcern, concerns_calls}
 use Rattle.update_machine.specs.Folds.{count_of, folded_from}
 use Rattle.update_machine.specs.Handled.{handled_count, hop_calls, is_entry_at, is_move, stays_on_way, stuck_at_link}
-use Rattle.update_machine.specs.Packets.{travels_at}
+use Rattle.update_machine.specs.Travels.{travels_at}
 use Rattle.update_machine.specs.Steps.{StepItems, changes_steps, steps_in, with_item}
 use Rattle.update_machine.proofs.FoldLemmas.{folded_append}
 use Rattle.update_machine.proofs.Silent.{count_stays, stays}

@@ -11,11 +11,12 @@ use Rattle.journal.specs.declared.item.Item.TheVariants as item
 use Rattle.update_machine.specs.Answers.{IsReached, StepOfRow}
 use Rattle.update_machine.specs.Machine.{Machine, Submits}
 use Rattle.update_machine.specs.Marks.{retired_mark}
-use Rattle.update_machine.specs.Messages.{is_deliverable, message_of}
+use Rattle.update_machine.specs.Messages.{is_deliverable}
 use Rattle.update_machine.specs.Numbers.{VersionsAreNumbered}
 use Rattle.update_machine.specs.Pieces.{forget_items, piece, update_code}
-use Rattle.update_machine.specs.Setting.{Setting, policy_of_file}
-use Rattle.update_machine.specs.Versions.{file_of, is_version, plan_at, policy_at, version_count}
+use Rattle.update_machine.specs.Setting.{Setting, policy_of_file, file_of, plan_at}
+use Rattle.update_machine.specs.Versions.{is_version, policy_at, version_count}
+use Rattle.update_machine.specs.Boots.{message_of}
 use Rattle.update_machine.proofs.Examples.{all_to, at, by_action, open_net, out_or_drop, plan_p, two_switches, versions}
 
 -- ---- files

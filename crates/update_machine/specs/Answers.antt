@@ -8,7 +8,7 @@ use Rattle.steps.specs.declared.step.Event.TheVariants.{One, Flush, Drain}
 use Rattle.steps.specs.declared.step.Step.{Step}
 use Rattle.steps.specs.declared.step.Step.TheVariants.{Deliver, Hop}
 use Rattle.update_machine.specs.Messages.{next_waiting}
-use Rattle.update_machine.specs.Packets.{next_travelling}
+use Rattle.update_machine.specs.Travels.{next_travelling}
 use Rattle.update_machine.specs.Pieces.{piece}
 use Rattle.update_machine.specs.Setting.{Setting}
 

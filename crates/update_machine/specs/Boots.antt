@@ -1,14 +1,16 @@
 -- The life of a switch: its boots, whether it is up and serves, and what it heard in its boot. A
 -- switch that restarts has forgotten everything; that is our own, as the papers on DIFANE and on
--- updates in two phases tell of no restart.
+-- updates in two phases tell of no restart. A message is read where it was sent.
 use Rattle.std.specs.Prelude.{ℕ, Bool, true, false, ◌&&◌, ◌==◌, if◌then◌else◌, Option, Some, None, unwrap_or, List, [], ◌∷◌, ◌++◌}
 use Rattle.std.specs.Option.{option_map_or}
 use Rattle.ctrl_msg.specs.Bodies.{body_boot}
 use Rattle.ctrl_msg.specs.declared.message.Body.{Body}
+use Rattle.ctrl_msg.specs.declared.message.Message.{Message}
+use Rattle.ctrl_msg.specs.declared.message.Receiver.{Receiver}
 use Rattle.journal.specs.declared.item.Item.{Item}
 use Rattle.journal.specs.declared.item.Item.TheVariants as item
 use Rattle.update_machine.specs.Folds.{folded, last_told}
-use Rattle.update_machine.specs.Messages.{is_to_switch, message_of}
+use Rattle.ctrl_msg.specs.declared.message.Receiver.TheVariants as receiver
 
 -- ---- boots
 
@@ -44,6 +46,18 @@ abbrev pub is_in_first_boot : List Item → ℕ → Bool
 is_in_first_boot journal s = is_up journal s && boot_of journal s == 1
 
 -- ---- what a switch hears
+
+abbrev pub tells_message : ℕ → Item → Option Message
+tells_message n (item.Sent number message) = if number == n then Some message else None
+tells_message n _ = None
+
+-- the message of a number, if it was sent
+unfoldable pub message_of : List Item → ℕ → Option Message
+message_of journal number = last_told (tells_message number) journal
+
+abbrev pub is_to_switch : ℕ → Receiver → Bool
+is_to_switch s (receiver.Switch switch) = switch == s
+is_to_switch s receiver.Controller = false
 
 -- a body that carries a boot is for that boot alone
 abbrev pub is_for_boot : ℕ → Body → Bool

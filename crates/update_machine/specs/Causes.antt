@@ -1,26 +1,31 @@
 -- The causes of packets' ends: what stood in the journal before each item that ends a packet, or
--- finds a link of its way down. The notion is our own; the routes are those of `Adverts`.
-use Rattle.std.specs.Prelude.{⊤, ℕ, ◌≡◌, ◌⊎◌, Some, None, List, [], ◌∷◌, ◌++◌, find, option_map, IsFalse}
+-- finds a link of its way down. The notion is our own.
+use Rattle.std.specs.Prelude.{⊤, ℕ, ◌≡◌, ◌⊎◌, Some, List, [], ◌∷◌, ◌++◌, find, option_map, All, IsFalse, Option, None}
+use Rattle.failover.specs.Paths.{IsReachable}
 use Rattle.masks.specs.Masks.{has}
 use Rattle.net_file.specs.Net.{owner_of}
 use Rattle.policy_rules.specs.Partitions.{is_in}
-use Rattle.policy_rules.specs.declared.packet.Cause.{Cause}
 use Rattle.policy_rules.specs.declared.packet.Leaving.{Leaving}
 use Rattle.policy_rules.specs.declared.packet.Leg.{Leg}
 use Rattle.policy_rules.specs.declared.packet.Leg.TheVariants.{Seek, Exit}
 use Rattle.policy_rules.specs.declared.policy.Action.TheVariants.{Out}
 use Rattle.five_tuple.specs.declared.header.Header.{Header}
-use Rattle.switch_table.specs.Tables.{part_of}
 use Rattle.journal.specs.declared.item.Item.{Item}
 use Rattle.journal.specs.declared.item.Item.TheVariants as item
 use Rattle.steps.specs.declared.step.Step.TheVariants.{Crash, Lose}
-use Rattle.update_machine.specs.Adverts.{route_from}
-use Rattle.update_machine.specs.Links.{near}
-use Rattle.update_machine.specs.Moves.{cause_at}
+use Rattle.steps.specs.declared.step.Step.{Step}
+use Rattle.update_machine.specs.Links.{near, links_known}
 use Rattle.update_machine.specs.Packets.{Decision, decision_of, found_down, header_in, next_switch, standing, targets_of}
-use Rattle.update_machine.specs.Setting.{Setting}
-use Rattle.update_machine.specs.Steps.{present_step}
-use Rattle.update_machine.specs.Versions.{plan_at}
+use Rattle.update_machine.specs.Setting.{Setting, plan_at}
+use Rattle.update_machine.specs.Folds.{last_told}
+
+abbrev pub tells_step : Item → Option Step
+tells_step (item.Row row step) = Some step
+tells_step _ = None
+
+-- the step that is being taken
+unfoldable pub present_step : List Item → Option Step
+present_step journal = last_told tells_step journal
 
 -- a packet leaves where it stands, by a port of that switch, with its own header, version and rule
 pub record LeavesRightly (setting : Setting) (before : List Item) (packet port : ℕ)
@@ -55,21 +60,20 @@ abbrev pub IsOwnLeg : Setting → List Item → ℕ → Leg → Type 0
 IsOwnLeg setting before packet (Seek version partition) =
     (header : Header) × (header_in before packet ≡ Some header)
     × (option_map (λ placed. placed.0.number)
-    (find (λ placed. is_in header (part_of placed)) (plan_at setting before version))
+    (find (λ placed. is_in header placed.0) (plan_at setting before version))
     ≡ Some partition)
 IsOwnLeg setting before packet (Exit port) =
     (decision : Decision) × (decision_of before packet ≡ Some decision)
     × (decision.action ≡ Out port)
 
--- a packet is stuck where it stands: its switch knows no route to any target of its leg without the
--- links that the packet found down
-pub record IsStuckRightly (setting : Setting) (before : List Item) (packet switch : ℕ)
-    (cause : Cause) (leg : Leg) (down : List ℕ) : Type 0 where
+-- a packet is stuck where it stands: over the links that its switch knows, less those that the
+-- packet found down, no path leads to any target of its leg
+pub record IsStuckRightly (setting : Setting) (before : List Item) (packet switch : ℕ) (leg : Leg)
+    : Type 0 where
   pub stands : standing before packet ≡ Some switch
-  pub found : down ≡ found_down before packet
   pub own_leg : IsOwnLeg setting before packet leg
-  pub no_route : route_from setting before switch (targets_of setting before leg) down ≡ None
-  pub why : cause ≡ cause_at setting before switch down leg
+  pub no_path : (let links = links_known setting before switch (found_down before packet) in
+      All (λ target. ¬ IsReachable links switch target) (targets_of setting before leg))
 
 -- an item that ends a packet, or finds a link down, has its cause in the journal before it
 abbrev pub HasCause : Setting → List Item → Item → Type 0
@@ -78,7 +82,7 @@ HasCause setting before (item.Left packet port leaving) =
 HasCause setting before (item.Lost packet) = IsLostRightly before packet
 HasCause setting before (item.FoundDown packet one two) = FindsDown setting before packet one two
 HasCause setting before (item.Stuck packet switch cause leg down) =
-    IsStuckRightly setting before packet switch cause leg down
+    IsStuckRightly setting before packet switch leg
 HasCause setting before _ = ⊤
 
 -- behind this journal, each of the items has its cause in what stands before it: for any table of

@@ -8,9 +8,10 @@ use Rattle.journal.specs.declared.item.Item.{Item}
 use Rattle.journal.specs.declared.item.Item.TheVariants as item
 use Rattle.steps.specs.declared.step.Step.TheVariants.{Hop}
 use Rattle.update_machine.specs.Causes.{HaveCauses}
-use Rattle.update_machine.specs.Messages.{is_to_controller, is_to_switch, message_of}
-use Rattle.update_machine.specs.Packets.{travels_at}
+use Rattle.update_machine.specs.Messages.{is_to_controller}
+use Rattle.update_machine.specs.Travels.{travels_at}
 use Rattle.update_machine.specs.Versions.{is_submission}
+use Rattle.update_machine.specs.Boots.{is_to_switch, message_of}
 
 -- none of these items, behind this journal, is one that concerns it
 abbrev pub NoneConcern : (List Item → Item → Bool) → List Item → List Item → Type 0

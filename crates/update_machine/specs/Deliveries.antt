@@ -12,10 +12,10 @@ use Rattle.failover.specs.declared.advert.Advert.{Advert}
 use Rattle.journal.specs.declared.item.Item.{Item}
 use Rattle.journal.specs.declared.item.Item.TheVariants as item
 use Rattle.update_machine.specs.Adverts.{adverts_known, held_adverts, own_advert}
-use Rattle.update_machine.specs.Boots.{is_up, said_to, serves}
+use Rattle.update_machine.specs.Boots.{is_up, said_to, serves, message_of}
 use Rattle.update_machine.specs.Links.{near, switches_in}
 use Rattle.update_machine.specs.Marks.{known_boot}
-use Rattle.update_machine.specs.Messages.{message_of, sends}
+use Rattle.update_machine.specs.Messages.{sends}
 use Rattle.update_machine.specs.Moves.{in_turn, put}
 use Rattle.update_machine.specs.Setting.{Setting, switches_of}
 use Rattle.update_machine.specs.Settling.{installs_to, settling, to_switch}

@@ -6,7 +6,7 @@ use Rattle.journal.specs.declared.item.Item.{Item}
 use Rattle.journal.specs.declared.item.Item.TheVariants as item
 use Rattle.steps.specs.declared.step.Step.TheVariants.{Hop}
 use Rattle.update_machine.specs.Folds.{count_of}
-use Rattle.update_machine.specs.Packets.{travels_at}
+use Rattle.update_machine.specs.Travels.{travels_at}
 use Rattle.update_machine.specs.Steps.{StepItems, steps_in}
 
 -- a packet was taken in, or refused

@@ -9,6 +9,7 @@ pub mod Steps
 pub mod Adverts
 pub mod Caches
 pub mod Packets
+pub mod Travels
 pub mod Moves
 pub mod Settling
 pub mod Deliveries

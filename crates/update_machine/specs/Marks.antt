@@ -9,9 +9,10 @@ use Rattle.ctrl_msg.specs.declared.message.Body.TheVariants.{OpenAt, Hello, Inst
 use Rattle.journal.specs.declared.item.Item.{Item}
 use Rattle.journal.specs.declared.item.Item.TheVariants as item
 use Rattle.update_machine.specs.Folds.{all_given, folded, last_told}
-use Rattle.update_machine.specs.Messages.{is_to_controller, is_to_switch, message_of}
+use Rattle.update_machine.specs.Messages.{is_to_controller}
 use Rattle.update_machine.specs.Setting.{Setting, switches_of}
 use Rattle.update_machine.specs.Versions.{version_count}
+use Rattle.update_machine.specs.Boots.{is_to_switch, message_of}
 
 -- ---- what the controller hears
 

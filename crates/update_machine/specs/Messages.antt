@@ -1,13 +1,14 @@
 -- The messages of a journal. They are numbered from 1 in the order in which they were sent, may be
 -- delivered in any order and more than once, and may be forgotten: the notion is our own.
-use Rattle.std.specs.Prelude.{ℕ, ◌+◌, Bool, true, false, not, ◌&&◌, ◌==◌, nat_lt, if◌then◌else◌, Option, Some, None, is_some, List, [], ◌∷◌, find}
+use Rattle.std.specs.Prelude.{ℕ, ◌+◌, Bool, true, false, not, ◌&&◌, ◌==◌, nat_lt, Option, is_some, List, [], ◌∷◌, find}
 use Rattle.std.specs.List.{range_with_len}
 use Rattle.ctrl_msg.specs.declared.message.Message.{Message}
 use Rattle.ctrl_msg.specs.declared.message.Receiver.{Receiver}
 use Rattle.ctrl_msg.specs.declared.message.Receiver.TheVariants as receiver
 use Rattle.journal.specs.declared.item.Item.{Item}
 use Rattle.journal.specs.declared.item.Item.TheVariants as item
-use Rattle.update_machine.specs.Folds.{count_of, last_told}
+use Rattle.update_machine.specs.Folds.{count_of}
+use Rattle.update_machine.specs.Boots.{message_of}
 
 abbrev pub is_sending : Item → Bool
 is_sending (item.Sent number message) = true
@@ -16,14 +17,6 @@ is_sending _ = false
 -- the number of the next message that is sent
 unfoldable pub next_message : List Item → ℕ
 next_message journal = count_of is_sending journal + 1
-
-abbrev pub tells_message : ℕ → Item → Option Message
-tells_message n (item.Sent number message) = if number == n then Some message else None
-tells_message n _ = None
-
--- the message of a number, if it was sent
-unfoldable pub message_of : List Item → ℕ → Option Message
-message_of journal number = last_told (tells_message number) journal
 
 abbrev pub is_forgetting : ℕ → Item → Bool
 is_forgetting n (item.Forgotten number) = number == n
@@ -53,10 +46,6 @@ is_waiting journal number =
 unfoldable pub next_waiting : List Item → Option ℕ
 next_waiting journal =
     find (is_waiting journal) (range_with_len 1 (count_of is_sending journal))
-
-abbrev pub is_to_switch : ℕ → Receiver → Bool
-is_to_switch s (receiver.Switch switch) = switch == s
-is_to_switch s receiver.Controller = false
 
 abbrev pub is_to_controller : Receiver → Bool
 is_to_controller (receiver.Switch switch) = false

@@ -6,8 +6,9 @@ use Rattle.journal.specs.declared.item.Item.{Item}
 use Rattle.journal.specs.declared.item.Item.TheVariants as item
 use Rattle.update_machine.specs.Folds.{all_given, count_of}
 use Rattle.update_machine.specs.Messages.{is_sending, next_message}
-use Rattle.update_machine.specs.Packets.{next_packet, packets_in}
+use Rattle.update_machine.specs.Packets.{next_packet}
 use Rattle.update_machine.specs.Versions.{is_version, version_count}
+use Rattle.update_machine.specs.Travels.{packets_in}
 
 abbrev pub packet_number : Item → List ℕ
 packet_number (item.Entered packet switch header) = packet ∷ []

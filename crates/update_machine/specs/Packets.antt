@@ -1,22 +1,19 @@
--- The packets of a journal: where each stands, whereto it is on its way, and by which route. They
--- come in at an ingress switch, seek an authority switch and exit by a switch of their port, as in
--- Yu, Rexford, Freedman and Wang, "Scalable Flow-Based Networking with DIFANE", SIGCOMM 2010; legs
--- and their numbers, from 1 in the order of their rows, are our own.
-use Rattle.std.specs.Prelude.{ℕ, ◌+◌, Bool, true, false, ◌&&◌, ◌==◌, if◌then◌else◌, Option, Some, None, option_and_then, option_map, unwrap_or, List, [], ◌∷◌, filter, find, slice_get}
-use Rattle.std.specs.List.{range_with_len}
+-- The packets of a journal: where each stands, its decision, its route and its targets. They come
+-- in at an ingress switch, seek an authority switch and exit by a switch of their port, as in Yu,
+-- Rexford, Freedman and Wang, "Scalable Flow-Based Networking with DIFANE", SIGCOMM 2010; their
+-- numbers, from 1 in the order of their rows, are our own.
+use Rattle.std.specs.Prelude.{ℕ, ◌+◌, Bool, true, false, ◌==◌, if◌then◌else◌, Option, Some, None, option_map, unwrap_or, List, [], ◌∷◌, slice_get}
 use Rattle.failover.specs.DownSet.{no_links, with_link}
 use Rattle.five_tuple.specs.declared.header.Header.{Header}
 use Rattle.net_file.specs.Net.{owner_of}
 use Rattle.policy_rules.specs.declared.packet.Leg.{Leg}
 use Rattle.policy_rules.specs.declared.packet.Leg.TheVariants.{Seek, Exit}
 use Rattle.policy_rules.specs.declared.policy.Action.{Action}
-use Rattle.policy_rules.specs.declared.policy.Action.TheVariants as action
 use Rattle.switch_table.specs.Tables.{Placed}
 use Rattle.journal.specs.declared.item.Item.{Item}
 use Rattle.journal.specs.declared.item.Item.TheVariants as item
 use Rattle.update_machine.specs.Folds.{count_of, folded, last_told}
-use Rattle.update_machine.specs.Setting.{Setting}
-use Rattle.update_machine.specs.Versions.{plan_at}
+use Rattle.update_machine.specs.Setting.{Setting, plan_at}
 
 -- ---- numbers
 
@@ -39,14 +36,6 @@ tells_header i _ = None
 unfoldable pub header_in : List Item → ℕ → Option Header
 header_in journal i = last_told (tells_header i) journal
 
-abbrev pub tells_ingress : ℕ → Item → Option ℕ
-tells_ingress i (item.Entered packet switch header) = if packet == i then Some switch else None
-tells_ingress i _ = None
-
--- the switch where it came in
-unfoldable pub ingress_of : List Item → ℕ → Option ℕ
-ingress_of journal i = last_told (tells_ingress i) journal
-
 abbrev pub tells_place : ℕ → Item → Option ℕ
 tells_place i (item.Entered packet switch header) = if packet == i then Some switch else None
 tells_place i (item.Hopped packet switch) = if packet == i then Some switch else None
@@ -55,39 +44,6 @@ tells_place i _ = None
 -- the switch where it stands: that of its last `Entered` or `Hopped`
 unfoldable pub standing : List Item → ℕ → Option ℕ
 standing journal i = last_told (tells_place i) journal
-
-abbrev pub tells_travelling : ℕ → Item → Option Bool
-tells_travelling i (item.Entered packet switch header) = if packet == i then Some true else None
-tells_travelling i (item.Dropped packet) = if packet == i then Some false else None
-tells_travelling i (item.Left packet port leaving) = if packet == i then Some false else None
-tells_travelling i (item.Lost packet) = if packet == i then Some false else None
-tells_travelling i (item.Stuck packet switch cause leg down) =
-    if packet == i then Some false else None
-tells_travelling i _ = None
-
--- it came in and hasn't ended
-unfoldable pub travels : List Item → ℕ → Bool
-travels journal i = unwrap_or (last_told (tells_travelling i) journal) false
-
--- the numbers of all packets, ascending
-abbrev pub packets_in : List Item → List ℕ
-packets_in journal = range_with_len 1 (count_of is_packet journal)
-
--- the least number of a travelling packet
-unfoldable pub next_travelling : List Item → Option ℕ
-next_travelling journal = find (travels journal) (packets_in journal)
-
-abbrev pub is_at : ℕ → Option ℕ → Bool
-is_at s None = false
-is_at s (Some place) = place == s
-
--- it travels, and stands at the switch
-abbrev pub travels_at : List Item → ℕ → ℕ → Bool
-travels_at journal s i = travels journal i && is_at s (standing journal i)
-
--- the packets that stand at a switch on their way, ascending
-abbrev pub packets_at : List Item → ℕ → List ℕ
-packets_at journal s = filter (travels_at journal s) (packets_in journal)
 
 -- ---- its decision
 
@@ -107,28 +63,7 @@ tells_decision i _ = None
 unfoldable pub decision_of : List Item → ℕ → Option Decision
 decision_of journal i = last_told (tells_decision i) journal
 
--- the port of an action, if it has one
-abbrev pub port_in : Action → Option ℕ
-port_in action.Drop = None
-port_in (action.Out port) = Some port
-
--- the port by which the packet is to leave; 0 where it has none
-abbrev pub exit_port : List Item → ℕ → ℕ
-exit_port journal i =
-    unwrap_or (option_and_then (λ decision. port_in decision.action) (decision_of journal i)) 0
-
 -- ---- its way
-
--- the leg of its last `Seeking` or `Exiting`; it exits by the port of its decision
-abbrev pub changes_leg : ℕ → List Item → Option Leg → Item → Option Leg
-changes_leg i before leg (item.Seeking packet version partition route) =
-    if packet == i then Some (Seek version partition) else leg
-changes_leg i before leg (item.Exiting packet route) =
-    if packet == i then Some (Exit (exit_port before i)) else leg
-changes_leg i before leg _ = leg
-
-unfoldable pub leg_of : List Item → ℕ → Option Leg
-leg_of journal i = folded (changes_leg i) None journal
 
 abbrev pub tells_route : ℕ → Item → Option (List ℕ)
 tells_route i (item.Seeking packet version partition route) =

@@ -19,10 +19,11 @@ use Rattle.update_machine.specs.Links.{is_link_up, near, switches_in}
 use Rattle.update_machine.specs.Marks.{most_live, most_versions, retired_mark}
 use Rattle.update_machine.specs.Messages.{is_deliverable, sends}
 use Rattle.update_machine.specs.Moves.{lookup_items, move_items, put}
-use Rattle.update_machine.specs.Packets.{next_packet, packets_at, standing, travels}
+use Rattle.update_machine.specs.Packets.{next_packet, standing}
 use Rattle.update_machine.specs.Setting.{Setting, plan_of_file}
 use Rattle.update_machine.specs.Settling.{resent_by_controller, settling, submitted_items}
 use Rattle.update_machine.specs.Versions.{version_count}
+use Rattle.update_machine.specs.Travels.{packets_at, travels}
 
 abbrev pub nothing : List Item
 nothing = item.Nothing ∷ []

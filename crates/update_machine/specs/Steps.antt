@@ -1,9 +1,8 @@
 -- The steps of a journal: the stretches from one row to the next, the last of which may go on.
-use Rattle.std.specs.Prelude.{Option, Some, None, List, [], ◌∷◌, ◌++◌}
+use Rattle.std.specs.Prelude.{List, [], ◌∷◌, ◌++◌}
 use Rattle.journal.specs.declared.item.Item.{Item}
 use Rattle.journal.specs.declared.item.Item.TheVariants as item
-use Rattle.steps.specs.declared.step.Step.{Step}
-use Rattle.update_machine.specs.Folds.{folded, last_told}
+use Rattle.update_machine.specs.Folds.{folded}
 
 -- the items of a step, the row's first, and the journal before them
 pub record StepItems : Type 0 where
@@ -23,11 +22,3 @@ changes_steps before steps item = with_item steps item
 -- the steps of a journal, the newest first
 unfoldable pub steps_in : List Item → List StepItems
 steps_in journal = folded changes_steps [] journal
-
-abbrev pub tells_step : Item → Option Step
-tells_step (item.Row row step) = Some step
-tells_step _ = None
-
--- the step that is being taken
-unfoldable pub present_step : List Item → Option Step
-present_step journal = last_told tells_step journal

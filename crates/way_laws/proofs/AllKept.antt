@@ -15,16 +15,16 @@ use Rattle.journal.specs.declared.item.Item.TheVariants as item
 use Rattle.steps.specs.declared.step.Step.{Step}
 use Rattle.steps.specs.declared.step.Step.TheVariants.{Packet}
 use Rattle.update_machine.specs.Caches.{cache_of}
-use Rattle.update_machine.specs.Causes.{HaveCauses}
+use Rattle.update_machine.specs.Causes.{HaveCauses, present_step}
 use Rattle.update_machine.specs.Marks.{retired_mark}
-use Rattle.update_machine.specs.Messages.{message_of}
+use Rattle.update_machine.specs.Boots.{message_of}
 use Rattle.update_machine.specs.Moves.{AuthorityRule}
-use Rattle.update_machine.specs.Packets.{decision_of, found_down, header_in, leg_of, next_packet, travels}
+use Rattle.update_machine.specs.Packets.{decision_of, found_down, header_in, next_packet}
 use Rattle.update_machine.specs.Sound.{IsSetting}
-use Rattle.update_machine.specs.Setting.{Setting}
-use Rattle.update_machine.specs.Steps.{present_step, tells_step}
-use Rattle.update_machine.specs.Versions.{plan_at, policy_at}
-use Rattle.update_machine.proofs.CallerLemmas.{last_told_append, step_stays}
+use Rattle.update_machine.specs.Setting.{Setting, plan_at}
+use Rattle.update_machine.specs.Versions.{policy_at}
+use Rattle.update_machine.specs.Travels.{leg_of, travels}
+use Rattle.update_machine.proofs.CallerLemmas.{step_stays}
 use Rattle.boot_laws.proofs.Facts.{AreKept, Behind, fact_on, have_weaker, with_fact}
 use Rattle.boot_laws.proofs.Grown.{message_more}
 use Rattle.boot_laws.proofs.Reached.{NamesOwn}
@@ -48,17 +48,13 @@ use Rattle.way_laws.proofs.Lookups.{deciding}
 use Rattle.way_laws.proofs.PacketBlocks.{stage_more, stage_stays}
 use Rattle.way_laws.proofs.Rests.{IsAsked, IsWayItem, Past, numbered, switches_of_all, ways_of_all, with_past}
 use Rattle.way_laws.proofs.Served.{packet_more}
+use Rattle.way_laws.proofs.Pieces.{step_now}
 
 -- ---- steps that were asked for
 
 abbrev AreAsked : Setting → List Item → Type 0
 AreAsked setting journal = (step : Step) → present_step journal ≡ Some step
     → NamesOwn setting step
-
-step_now : (before : List Item) (row : ℕ) (step : Step)
-    → present_step (before ++ item.Row row step ∷ []) ≡ Some step
-unfolding present_step
-step_now before row step = last_told_append tells_step before (item.Row row step ∷ [])
 
 asked_kept : (setting : Setting) → AreKept (IsAsked setting) (AreAsked setting)
 asked_kept setting before (item.Row row step) asked are other present =

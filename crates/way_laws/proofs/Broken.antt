@@ -3,8 +3,11 @@
 -- plainer sort too, that one holds.
 use Rattle.std.proofs.Common.{ℕ, ◌≡◌, false, true, Option, Some, List, [], ◌∷◌, refl, ap, sym, subst, arith, inl, inr}
 use Rattle.std.specs.Prelude.{IsTrue, IsFalse, ◌⊎◌}
+use Rattle.std.specs.List.{AllByRecursion}
+use Rattle.std.proofs.lemmas.List.Elements.{All-from_recursion}
 use Rattle.failover.specs.Adverts.{is_news, after_hearing, first_adverts}
 use Rattle.failover.specs.DownSet.{has_link, no_links}
+use Rattle.failover.specs.Paths.{IsReachable}
 use Rattle.failover.specs.Links.{names, told_links, is_link, known_links, is_isolated}
 use Rattle.failover.specs.Routes.{wider, ball, nearer, onward, links_away, route_to, first_route, route_of}
 use Rattle.five_tuple.specs.Header.{number_of}
@@ -19,12 +22,13 @@ use Rattle.steps.specs.declared.step.Step.TheVariants.{Packet, Hop, LinkDown, Up
 use Rattle.ternary.specs.Word.{holds}
 use Rattle.update_machine.specs.Adverts.{own_seq, own_advert, adverts_known, route_from, is_cut_off}
 use Rattle.update_machine.specs.Boots.{boot_of, heard, is_up, serves}
-use Rattle.update_machine.specs.Causes.{HasCause}
-use Rattle.update_machine.specs.Links.{is_link_up, near}
+use Rattle.update_machine.specs.Causes.{HasCause, IsOwnLeg, present_step}
+use Rattle.update_machine.specs.Links.{is_link_up, near, links_known}
 use Rattle.update_machine.specs.Marks.{acked_stamp, controller_heard, current_mark, is_member, is_over, known_boot, next_retired, opened_at, retired_mark}
-use Rattle.update_machine.specs.Packets.{Decision, decision_of, found_down, header_in, next_switch, route_in, route_place, standing}
-use Rattle.update_machine.specs.Steps.{present_step, steps_in}
-use Rattle.update_machine.specs.Versions.{file_of, plan_at}
+use Rattle.update_machine.specs.Packets.{Decision, decision_of, found_down, header_in, next_switch, route_in, route_place, standing, targets_of}
+use Rattle.update_machine.specs.Steps.{steps_in}
+use Rattle.update_machine.specs.Setting.{file_of, plan_at}
+use Rattle.update_machine.proofs.CallerLemmas.{unreached}
 use Rattle.update_machine.proofs.Examples.{one, open_net, other, ring, row_of_three}
 use Rattle.way_laws.specs.Words.{entry_mark}
 use Rattle.way_laws.specs.StrongCauses.{StrongCause}
@@ -52,17 +56,41 @@ decided = cut (item.Row 2 (Packet 0 one) ∷ item.Entered 1 0 one
 abbrev seeking : ℕ → Item
 seeking version = item.Stuck 1 0 NoAuthority (Seek version 0) no_links
 
-stuck_have_causes : HasCause open_net retired (seeking 1)
-    × HasCause open_net to_come (seeking 2) × HasCause open_net decided (seeking 1)
+-- no path leads to any target
+abbrev HasNoPath : List Item → ℕ → Type 0
+HasNoPath journal version =
+    AllByRecursion
+    (λ target. ¬ IsReachable (links_known open_net journal 0 (found_down journal 1)) 0 target)
+    (targets_of open_net journal (Seek version 0))
+
+no_paths : HasNoPath retired 1 × HasNoPath to_come 2 × HasNoPath decided 1
 unfolding standing found_down header_in plan_at file_of route_from is_cut_off adverts_known
     own_advert own_seq near is_link_up serves is_up boot_of heard steps_in first_adverts
     after_hearing is_news mask_of mask_where switches names told_links is_link known_links
     is_isolated wider ball nearer onward links_away route_to first_route route_of has has_link
     least_in holds lib.Count.count_trailing_zeros
+no_paths = (
+  unreached open_net retired 0 (targets_of open_net retired (Seek 1 0)) no_links refl,
+  unreached open_net to_come 0 (targets_of open_net to_come (Seek 2 0)) no_links refl,
+  unreached open_net decided 0 (targets_of open_net decided (Seek 1 0)) no_links refl,
+)
+
+stuck_at : (journal : List Item) (version : ℕ) → HasNoPath journal version
+    → standing journal 1 ≡ Some 0 → IsOwnLeg open_net journal 1 (Seek version 0)
+    → HasCause open_net journal (seeking version)
+stuck_at journal version none stands own = record {
+  stands = stands;
+  own_leg = own;
+  no_path = All-from_recursion _ _ none;
+}
+
+stuck_have_causes : HasCause open_net retired (seeking 1)
+    × HasCause open_net to_come (seeking 2) × HasCause open_net decided (seeking 1)
+unfolding standing header_in plan_at file_of holds
 stuck_have_causes = (
-  record { stands = refl; found = refl; own_leg = (one, refl, refl); no_route = refl; why = refl },
-  record { stands = refl; found = refl; own_leg = (one, refl, refl); no_route = refl; why = refl },
-  record { stands = refl; found = refl; own_leg = (one, refl, refl); no_route = refl; why = refl },
+  stuck_at retired 1 no_paths.0 refl (one, refl, refl),
+  stuck_at to_come 2 no_paths.1 refl (one, refl, refl),
+  stuck_at decided 1 no_paths.2 refl (one, refl, refl),
 )
 
 not_stuck_by_a_retired_version : StrongCause open_net retired (seeking 1) → ⊥

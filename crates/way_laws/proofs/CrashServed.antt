@@ -12,9 +12,10 @@ use Rattle.update_machine.specs.Deliveries.{link_changes}
 use Rattle.update_machine.specs.Folds.{count_of}
 use Rattle.update_machine.specs.Messages.{next_message, sent_from}
 use Rattle.update_machine.specs.Moves.{put}
-use Rattle.update_machine.specs.Packets.{is_packet, next_packet, packets_at, standing, travels, travels_at}
+use Rattle.update_machine.specs.Packets.{is_packet, next_packet, standing}
 use Rattle.update_machine.specs.Pieces.{crash_items, nothing}
 use Rattle.update_machine.specs.Setting.{Setting}
+use Rattle.update_machine.specs.Travels.{packets_at, travels, travels_at}
 use Rattle.boot_laws.proofs.Grown.{serving_more}
 use Rattle.way_laws.specs.Rest.{AreServed, IsServed}
 use Rattle.way_laws.proofs.Served.{AreNumbered, place_more, stays_served, still_serves, travels_more}

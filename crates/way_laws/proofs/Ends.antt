@@ -4,7 +4,9 @@ use Rattle.std.specs.Prelude.{IsTrue, find, nat_eq, option_map, slice_get, unwra
 use Rattle.std.specs.List.{list_any}
 use Rattle.std.proofs.lemmas.Bool.{cases_lt, eqb-true}
 use Rattle.std.proofs.lemmas.Bool.Decides.{nat_tests}
+use Rattle.std.proofs.lemmas.List.Elements.{All-from_recursion}
 use Rattle.std.proofs.lemmas.Option.{slice_get_within, slice_get-get_or}
+use Rattle.failover.specs.Paths.{IsReachable}
 use Rattle.net_file.specs.Net.{owner_of}
 use Rattle.policy_rules.specs.Partitions.{is_in}
 use Rattle.policy_rules.specs.declared.packet.Cause.{Cause}
@@ -13,15 +15,16 @@ use Rattle.policy_rules.specs.declared.packet.Leg.{Leg}
 use Rattle.policy_rules.specs.declared.packet.Leg.TheVariants.{Seek, Exit}
 use Rattle.policy_rules.specs.declared.policy.Action.{Action}
 use Rattle.policy_rules.specs.declared.policy.Action.TheVariants as action
-use Rattle.switch_table.specs.Tables.{Placed, part_of}
+use Rattle.switch_table.specs.Tables.{Placed}
 use Rattle.journal.specs.declared.item.Item.{Item}
 use Rattle.journal.specs.declared.item.Item.TheVariants as item
+use Rattle.update_machine.specs.Links.{links_known}
 use Rattle.update_machine.specs.Caches.{lookup_at}
 use Rattle.update_machine.specs.Causes.{FindsDown, HasCause, IsLostRightly, IsOwnLeg, IsStuckRightly, LeavesRightly}
 use Rattle.update_machine.specs.Moves.{header_at}
-use Rattle.update_machine.specs.Packets.{Decision, decision_of, header_in, owner, standing}
-use Rattle.update_machine.specs.Setting.{Setting}
-use Rattle.update_machine.specs.Versions.{plan_at}
+use Rattle.update_machine.specs.Packets.{Decision, decision_of, found_down, header_in, owner, standing, targets_of}
+use Rattle.update_machine.specs.Setting.{Setting, plan_at}
+use Rattle.update_machine.proofs.CallerLemmas.{unreached}
 use Rattle.way_laws.specs.OnWay.{IsExiting, IsOnWay, IsSeeking}
 use Rattle.way_laws.specs.Words.{PacketWords, words_of}
 use Rattle.way_laws.specs.Kept.{IsJudged}
@@ -84,7 +87,7 @@ own_leg setting before i s (Seek version partition) knows here takes =
       here.under.header,
       entered_as setting before i s here,
       subst (λ v. option_map (λ (p : Placed). p.0.number)
-          (find (λ (p : Placed). is_in here.under.header (part_of p)) (plan_at setting before v))
+          (find (λ (p : Placed). is_in here.under.header p.0) (plan_at setting before v))
           ≡ Some partition) (sym takes.stamp)
           (ap (option_map (λ (p : Placed). p.0.number)) told.part.finds.first
           ∙ ap Some told.part.number),
@@ -114,19 +117,22 @@ blocked_leg setting before i s (Exit port) knows here blocked =
 pub stuck_rightly : (setting : Setting) (before : List Item) (i s : ℕ) (cause : Cause) (leg : Leg)
     (down : List ℕ) → Knows setting before i (stage_of before i)
     → FindsNoRoute setting before i s cause leg down
-    → IsStuckRightly setting before i s cause leg down
+    → IsStuckRightly setting before i s leg
 stuck_rightly setting before i s cause leg down knows finds =
     let here : IsHere setting before i s =
     here_of setting before i s (stage_of before i) knows.is knows.have knows.kept finds.at in
     record {
       stands = stands_at setting before i s here;
-      found = finds.found;
       own_leg = elim finds.on [
         | inl takes ↦ own_leg setting before i s leg knows here takes
         | inr blocked ↦ blocked_leg setting before i s leg knows here blocked
       ];
-      no_route = rw finds.found finds.none;
-      why = rw finds.found finds.why;
+      no_path =
+          let down : List ℕ = found_down before i in
+          All-from_recursion
+          (λ target. ¬ IsReachable (links_known setting before s down) s target)
+          (targets_of setting before leg)
+          (unreached setting before s (targets_of setting before leg) down finds.none);
     }
 
 -- ---- packets that leave

@@ -6,13 +6,12 @@ use Rattle.std.proofs.lemmas.List.{get_or_past}
 use Rattle.failover.specs.Links.{is_link, neighbours_told, told_links}
 use Rattle.masks.specs.Masks.{has}
 use Rattle.failover.specs.Paths.{AreJoined, IsPath, IsRoute}
-use Rattle.failover.proofs.Rows.{has_known}
 use Rattle.masks.proofs.CallerLemmas.{has-zero}
 use Rattle.journal.specs.declared.item.Item.{Item}
-use Rattle.update_machine.specs.Adverts.{adverts_known, links_known, route_from}
-use Rattle.update_machine.specs.Links.{near}
+use Rattle.update_machine.specs.Adverts.{adverts_known, route_from}
+use Rattle.update_machine.specs.Links.{near, links_known}
 use Rattle.update_machine.specs.Setting.{Setting}
-use Rattle.update_machine.proofs.CallerLemmas.{known_link_laws}
+use Rattle.update_machine.proofs.CallerLemmas.{has_known_link, known_link_laws}
 use Rattle.advert_laws.proofs.NetLinks.{second}
 
 -- of its own links a switch knows what it sees
@@ -36,8 +35,7 @@ unfolding is_link told_links
 joined_sees setting journal s next down small fits joined =
     own_row (map neighbours_told (adverts_known setting journal s)) s (near setting journal s) next
     (second _ _ _ _
-    (sym (has_known (adverts_known setting journal s) s (near setting journal s) down s next small
-    fits) ∙ joined))
+    (sym (has_known_link setting journal s down s next small fits) ∙ joined))
 
 path_begins : (links : List ℕ) (from target next : ℕ) (route : List ℕ)
     → IsPath links from target route → slice_get route 1 ≡ Some next

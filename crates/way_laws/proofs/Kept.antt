@@ -37,8 +37,8 @@ use Rattle.update_machine.specs.Moves.{AuthorityRule}
 use Rattle.update_machine.specs.Adverts.{route_from}
 use Rattle.update_machine.specs.Packets.{Decision, found_down, no_switch, owner, targets_of}
 use Rattle.update_machine.specs.Sound.{IsSetting, NamesOwnPort}
-use Rattle.update_machine.specs.Setting.{Setting}
-use Rattle.update_machine.specs.Versions.{plan_at, policy_at, stamp_of, tables_at}
+use Rattle.update_machine.specs.Setting.{Setting, plan_at}
+use Rattle.update_machine.specs.Versions.{policy_at, stamp_of, tables_at}
 use Rattle.boot_laws.specs.ItemCauses.{HasItemCause}
 use Rattle.advert_laws.specs.Adverts.{LinksAreThere}
 use Rattle.way_laws.specs.Rules.{IsRightEntry}

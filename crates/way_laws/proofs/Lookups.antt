@@ -20,8 +20,8 @@ use Rattle.update_machine.specs.Causes.{HaveCauses}
 use Rattle.update_machine.specs.Marks.{current_mark, retired_mark}
 use Rattle.update_machine.specs.Moves.{AuthorityRule, authority_rule}
 use Rattle.update_machine.specs.Sound.{IsSetting}
-use Rattle.update_machine.specs.Setting.{Setting}
-use Rattle.update_machine.specs.Versions.{plan_at, policy_at, stamp_of, tables_at}
+use Rattle.update_machine.specs.Setting.{Setting, plan_at}
+use Rattle.update_machine.specs.Versions.{policy_at, stamp_of, tables_at}
 use Rattle.boot_laws.specs.ItemCauses.{HasItemCause}
 use Rattle.mark_laws.proofs.Marks.{bounded}
 use Rattle.version_laws.specs.Serving.{HoldsStamp}

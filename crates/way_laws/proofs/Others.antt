@@ -1,6 +1,7 @@
 -- What a step leaves of packets that it isn't about: they are on their way as before.
-use Rattle.std.proofs.Common.{ℕ, ◌≡◌, ◌==◌, Bool, true, false, Option, Some, None, List, [], ◌∷◌, ◌++◌, map, refl, sym, ◌∙◌, arith, inl, inr, ◌⊎◌}
+use Rattle.std.proofs.Common.{ℕ, ◌≡◌, ◌+◌, ◌==◌, Bool, true, false, Option, Some, None, List, [], ◌∷◌, ◌++◌, map, refl, sym, ◌∙◌, arith, inl, inr, ◌⊎◌}
 use Rattle.std.specs.Prelude.{⊤, if◌then◌else◌}
+use Rattle.std.proofs.lemmas.Bool.{ne_eqb}
 use Rattle.five_tuple.specs.declared.header.Header.{Header}
 use Rattle.policy_rules.specs.declared.packet.Leg.{Leg}
 use Rattle.policy_rules.specs.declared.policy.Action.{Action}
@@ -14,7 +15,7 @@ use Rattle.update_machine.specs.Causes.{HaveCauses}
 use Rattle.update_machine.specs.Deliveries.{link_changes}
 use Rattle.update_machine.specs.Messages.{sent_from}
 use Rattle.update_machine.specs.Moves.{AuthorityRule, arrive_by, arrive_items, authority_items, cache_items, end_items, found_items, go_on, header_at, leg_items, lookup_items, move_items, put, reroute_by, reroute_items}
-use Rattle.update_machine.specs.Packets.{leg_of, packets_at, tells_travelling, travels}
+use Rattle.update_machine.specs.Travels.{leg_of, packets_at, tells_travelling, travels}
 use Rattle.update_machine.specs.Pieces.{crash_items, hop_items, lose_items, nothing, packet_items}
 use Rattle.update_machine.specs.Setting.{Setting}
 use Rattle.update_machine.proofs.CallerLemmas.{have_append, have_put, last_told_append}
@@ -31,9 +32,35 @@ abbrev pub IsNoRow : Item → Type 0
 IsNoRow (item.Row row step) = ⊥
 IsNoRow _ = ⊤
 
+-- nor does a packet come in, nor is one refused
+abbrev pub IsInStep : Item → Type 0
+IsInStep (item.Row row step) = ⊥
+IsInStep (item.Entered packet switch header) = ⊥
+IsInStep (item.Closed packet switch) = ⊥
+IsInStep _ = ⊤
+
 -- the item doesn't bring the packet in or on, and begins no step
 abbrev pub Spares : ℕ → List Item → Item → Type 0
 Spares i before next = (tells_stage i next ≡ None) × IsNoRow next
+
+-- nor does it bring in or refuse any packet
+abbrev pub SparesAll : ℕ → List Item → Item → Type 0
+SparesAll i before next = (tells_stage i next ≡ None) × IsInStep next
+
+in_step_no_row : (next : Item) → IsInStep next → IsNoRow next
+in_step_no_row (item.Row row step) within = absurd within
+in_step_no_row _ within = tt
+
+pub spare : (i : ℕ) (before items : List Item) → HaveCauses (SparesAll i) before items
+    → HaveCauses (Spares i) before items
+spare i before items all =
+    have_weaker (SparesAll i) (Spares i) (λ js next is. (is.0, in_step_no_row next is.1)) before
+    items all
+
+pub in_step : (i : ℕ) (before items : List Item) → HaveCauses (SparesAll i) before items
+    → HaveCauses (λ js next. IsInStep next) before items
+in_step i before items all =
+    have_weaker (SparesAll i) (λ js next. IsInStep next) (λ js next is. is.1) before items all
 
 pub ends_or_not : (b : Bool) → ((if b then Some false else None) ≡ None)
     ⊎ ((if b then Some false else None) ≡ Some false)
@@ -74,7 +101,7 @@ spared i before items spares done =
 -- ---- the blocks of another packet
 
 abbrev Spared : ℕ → List Item → List Item → Type 0
-Spared j journal items = HaveCauses (Spares j) journal items
+Spared j journal items = HaveCauses (SparesAll j) journal items
 
 -- the packets are two
 abbrev Apart : ℕ → ℕ → Type 0
@@ -145,10 +172,21 @@ move_spares : (setting : Setting) (j i s : ℕ) (journal : List Item) → Apart 
 unfolding move_items
 move_spares setting j i s journal apart = grind (arith, arrive_spares, reroute_spares, apart)
 
+pub lookup_in_step : (setting : Setting) (i s : ℕ) (journal : List Item)
+    → HaveCauses (λ js next. IsInStep next) journal (lookup_items setting i s journal)
+lookup_in_step setting i s journal =
+    in_step (i + 1) journal _
+    (lookup_spares setting (i + 1) i s journal (ne_eqb i (i + 1) (λ same. omega (arith, same))))
+
+lookup_spare : (setting : Setting) (j i s : ℕ) (journal : List Item) → Apart i j
+    → HaveCauses (Spares j) journal (lookup_items setting i s journal)
+lookup_spare setting j i s journal apart =
+    spare j journal _ (lookup_spares setting j i s journal apart)
+
 pub packet_spares : (setting : Setting) (j i s : ℕ) (header : Header) (journal : List Item)
-    → Apart i j → Spared j journal (packet_items setting i s header journal)
+    → Apart i j → HaveCauses (Spares j) journal (packet_items setting i s header journal)
 unfolding packet_items
-packet_spares setting j i s header journal apart = grind (arith, lookup_spares, apart)
+packet_spares setting j i s header journal apart = grind (arith, lookup_spare, apart)
 
 pub hop_spares : (setting : Setting) (j i : ℕ) (journal : List Item) → Apart i j
     → Spared j journal (hop_items setting i journal)
@@ -162,8 +200,9 @@ unfolding lose_items
 lose_spares j i journal = grind arith
 
 aside_spares_one : (j : ℕ) (before : List Item) (next : Item) → IsAside before next
-    → Spares j before next
+    → SparesAll j before next
 aside_spares_one j before (item.Entered packet switch header) aside = absurd aside
+aside_spares_one j before (item.Closed packet switch) aside = absurd aside
 aside_spares_one j before (item.Decided packet version rule act by) aside = absurd aside
 aside_spares_one j before (item.FoundDown packet one two) aside = absurd aside
 aside_spares_one j before (item.Seeking packet version partition route) aside = absurd aside
@@ -176,7 +215,7 @@ aside_spares_one j before _ aside = (refl, tt)
 pub aside_spares : (j : ℕ) (before items : List Item) → AreAside before items
     → Spared j before items
 aside_spares j before items aside =
-    have_weaker IsAside (Spares j) (aside_spares_one j) before items aside
+    have_weaker IsAside (SparesAll j) (aside_spares_one j) before items aside
 
 losts_spare : (j : ℕ) (packets : List ℕ) (journal : List Item)
     → Spared j journal (map item.Lost packets)
@@ -196,7 +235,7 @@ crash_spares setting j before s journal = by_up (is_up before s)
     ])
     by_up false = ((refl, tt), tt)
     by_up true =
-        have_put (Spares j) (item.Down s ∷ map item.Lost (packets_at before s))
+        have_put (SparesAll j) (item.Down s ∷ map item.Lost (packets_at before s))
         (link_changes setting before) journal
         ((refl, tt), losts_spare j (packets_at before s) (journal ++ item.Down s ∷ []))
         (aside_spares j _ _ (changes_aside setting before _))

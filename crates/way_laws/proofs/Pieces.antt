@@ -13,10 +13,11 @@ use Rattle.update_machine.specs.Deliveries.{link_changes}
 use Rattle.update_machine.specs.Folds.{count_of, last_told}
 use Rattle.update_machine.specs.Laws.{PacketKeeps}
 use Rattle.update_machine.specs.Moves.{put}
-use Rattle.update_machine.specs.Packets.{is_at, is_packet, next_packet, packets_at, standing, travels, travels_at}
+use Rattle.update_machine.specs.Packets.{is_packet, next_packet, standing}
 use Rattle.update_machine.specs.Pieces.{crash_items, nothing, piece, step_items}
 use Rattle.update_machine.specs.Setting.{Setting}
-use Rattle.update_machine.specs.Steps.{present_step, tells_step}
+use Rattle.update_machine.specs.Causes.{present_step, tells_step}
+use Rattle.update_machine.specs.Travels.{is_at, packets_at, travels, travels_at}
 use Rattle.update_machine.proofs.CallerLemmas.{have_first, have_put, last_told_append, packet_keeps, packets_keep, step_stays}
 use Rattle.boot_laws.proofs.Grown.{serving_more, up_more}
 use Rattle.way_laws.specs.Rest.{AreResting, IsServed}
@@ -140,7 +141,7 @@ crash_ways setting before s journal crashes same = by_up (is_up before s)
 
 -- ---- all steps
 
-step_now : (before : List Item) (row : ℕ) (step : Step)
+pub step_now : (before : List Item) (row : ℕ) (step : Step)
     → present_step (before ++ item.Row row step ∷ []) ≡ Some step
 unfolding present_step
 step_now before row step = last_told_append tells_step before (item.Row row step ∷ [])

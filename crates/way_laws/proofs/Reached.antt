@@ -6,7 +6,7 @@ use Rattle.steps.specs.Steps.{IsEvent}
 use Rattle.steps.specs.declared.step.Event.{Event}
 use Rattle.update_machine.specs.Answers.{AnswersSoFar, BeginsAnswer, IsReached, StepOfRow, after_steps}
 use Rattle.update_machine.specs.Causes.{HaveCauses}
-use Rattle.update_machine.specs.Packets.{travels}
+use Rattle.update_machine.specs.Travels.{travels}
 use Rattle.update_machine.specs.Pieces.{piece}
 use Rattle.update_machine.specs.Sound.{IsSetting}
 use Rattle.update_machine.specs.Setting.{Setting}

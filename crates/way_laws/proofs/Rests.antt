@@ -14,11 +14,12 @@ use Rattle.update_machine.specs.Boots.{serves}
 use Rattle.update_machine.specs.Caches.{lookup_at}
 use Rattle.update_machine.specs.Causes.{HaveCauses}
 use Rattle.update_machine.specs.Moves.{authority_rule, header_at}
-use Rattle.update_machine.specs.Packets.{header_in, next_packet, tells_header, travels}
+use Rattle.update_machine.specs.Packets.{header_in, next_packet, tells_header}
 use Rattle.update_machine.specs.Pieces.{packet_items, piece, step_items}
 use Rattle.update_machine.specs.Sound.{IsSetting}
 use Rattle.update_machine.specs.Setting.{Setting}
 use Rattle.update_machine.specs.Versions.{stamp_of}
+use Rattle.update_machine.specs.Travels.{travels}
 use Rattle.update_machine.proofs.CallerLemmas.{have_append, last_told_append, packet_keeps}
 use Rattle.boot_laws.specs.ItemCauses.{HasItemCause}
 use Rattle.boot_laws.proofs.Facts.{Both, fact_on, have_both, have_weaker}
@@ -36,7 +37,7 @@ use Rattle.way_laws.proofs.CrashServed.{crash_served}
 use Rattle.way_laws.proofs.Done.{hop_done, packet_done}
 use Rattle.way_laws.proofs.Lookups.{FindsRule, authority_told, rule_there, stamped}
 use Rattle.way_laws.proofs.OtherBlocks.{AreAside, IsAside, confirm_aside, deliver_aside, expire_aside, forget_aside, link_aside, resend_aside, restart_aside, update_aside}
-use Rattle.way_laws.proofs.Others.{IsNoRow, Spares, aside_spares, crash_spares, hop_spares, lose_spares, packet_spares, spared}
+use Rattle.way_laws.proofs.Others.{IsInStep, IsNoRow, Spares, SparesAll, aside_spares, crash_spares, hop_spares, in_step, lose_spares, packet_spares, spare, spared}
 use Rattle.way_laws.proofs.Pieces.{piece_ways, row_rests}
 use Rattle.way_laws.proofs.Served.{AreNumbered, HaveLegs, IsCausedUp, NotDown, legs_kept, numbered_kept, served_kept}
 
@@ -142,42 +143,72 @@ packet_of before (Packet s header) = Some (next_packet before)
 packet_of before (Hop i) = Some i
 packet_of before _ = None
 
+-- the step brings no packet in
+abbrev pub BringsNoPacket : Step → Type 0
+BringsNoPacket (Packet s header) = ⊥
+BringsNoPacket _ = ⊤
+
+-- the step is about no packet but this one
+abbrev IsApart : ℕ → List Item → Step → Type 0
+IsApart j before step = (i : ℕ) → packet_of before step ≡ Some i → (i == j) ≡ false
+
 -- it spares each other one
-pub step_spares : (setting : Setting) (j : ℕ) (before : List Item) (row : ℕ) (step : Step)
-    → ((i : ℕ) → packet_of before step ≡ Some i → (i == j) ≡ false)
+others_spare : (setting : Setting) (j : ℕ) (before : List Item) (row : ℕ) (step : Step)
+    → BringsNoPacket step → IsApart j before step
     → let here = before ++ item.Row row step ∷ [] in
+    HaveCauses (SparesAll j) here (step_items setting before step here)
+others_spare setting j before row (Packet s header) none apart = absurd none
+others_spare setting j before row (Hop i) none apart = hop_spares setting j i _ (apart i refl)
+others_spare setting j before row (Lose i) none apart = lose_spares j i _
+others_spare setting j before row (Deliver number) none apart =
+    aside_spares j _ _ (deliver_aside setting before number _)
+others_spare setting j before row (Forget number) none apart =
+    aside_spares j _ _ (forget_aside number _)
+others_spare setting j before row (Expire s place) none apart =
+    aside_spares j _ _ (expire_aside setting s place _)
+others_spare setting j before row (Update file) none apart =
+    aside_spares j _ _ (update_aside setting file _)
+others_spare setting j before row (LinkDown one two) none apart =
+    aside_spares j _ _ (link_aside setting before one two false _)
+others_spare setting j before row (LinkUp one two) none apart =
+    aside_spares j _ _ (link_aside setting before one two true _)
+others_spare setting j before row (Crash s) none apart = crash_spares setting j before s _
+others_spare setting j before row (Restart s) none apart = aside_spares j _ _ (restart_aside s _)
+others_spare setting j before row (Confirm s) none apart =
+    aside_spares j _ _ (confirm_aside setting s _)
+others_spare setting j before row (Resend s) none apart =
+    aside_spares j _ _ (resend_aside setting s _)
+
+step_spares : (setting : Setting) (j : ℕ) (before : List Item) (row : ℕ) (step : Step)
+    → IsApart j before step → let here = before ++ item.Row row step ∷ [] in
     HaveCauses (Spares j) here (step_items setting before step here)
 step_spares setting j before row (Packet s header) apart =
     packet_spares setting j (next_packet before) s header _ (apart (next_packet before) refl)
-step_spares setting j before row (Hop i) apart = hop_spares setting j i _ (apart i refl)
-step_spares setting j before row (Lose i) apart = lose_spares j i _
-step_spares setting j before row (Deliver number) apart =
-    aside_spares j _ _ (deliver_aside setting before number _)
-step_spares setting j before row (Forget number) apart =
-    aside_spares j _ _ (forget_aside number _)
-step_spares setting j before row (Expire s place) apart =
-    aside_spares j _ _ (expire_aside setting s place _)
-step_spares setting j before row (Update file) apart =
-    aside_spares j _ _ (update_aside setting file _)
-step_spares setting j before row (LinkDown one two) apart =
-    aside_spares j _ _ (link_aside setting before one two false _)
-step_spares setting j before row (LinkUp one two) apart =
-    aside_spares j _ _ (link_aside setting before one two true _)
-step_spares setting j before row (Crash s) apart = crash_spares setting j before s _
-step_spares setting j before row (Restart s) apart = aside_spares j _ _ (restart_aside s _)
-step_spares setting j before row (Confirm s) apart =
-    aside_spares j _ _ (confirm_aside setting s _)
-step_spares setting j before row (Resend s) apart = aside_spares j _ _ (resend_aside setting s _)
+step_spares setting j before row step apart =
+    spare j _ _ (others_spare setting j before row step tt apart)
+
+-- a number that isn't the packet's
+another : (before : List Item) (step : Step)
+    → IsApart (unwrap_or (packet_of before step) 0 + 1) before step
+another before step i is =
+    ne_eqb i (unwrap_or (packet_of before step) 0 + 1)
+    (λ same. omega (arith, same, ap (λ o. unwrap_or o 0) is))
 
 -- behind its row a step begins no other
 pub no_rows : (setting : Setting) (before : List Item) (row : ℕ) (step : Step)
     → let here = before ++ item.Row row step ∷ [] in
     HaveCauses (λ js next. IsNoRow next) here (step_items setting before step here)
 no_rows setting before row step =
-    let j : ℕ = unwrap_or (packet_of before step) 0 + 1 in
-    have_weaker (Spares j) (λ js next. IsNoRow next) (λ js next spares. spares.1) _ _
-    (step_spares setting j before row step
-    (λ i is. ne_eqb i j (λ same. omega (arith, same, ap (λ o. unwrap_or o 0) is))))
+    have_weaker (Spares (unwrap_or (packet_of before step) 0 + 1)) (λ js next. IsNoRow next)
+    (λ js next spares. spares.1) _ _
+    (step_spares setting _ before row step (another before step))
+
+-- and only that of a packet row brings one in or refuses one
+pub no_entries : (setting : Setting) (before : List Item) (row : ℕ) (step : Step)
+    → BringsNoPacket step → let here = before ++ item.Row row step ∷ [] in
+    HaveCauses (λ js next. IsInStep next) here (step_items setting before step here)
+no_entries setting before row step none =
+    in_step _ _ _ (others_spare setting _ before row step none (another before step))
 
 no_row_asked : (setting : Setting) (before : List Item) (next : Item) → IsNoRow next
     → IsAsked setting before next

@@ -8,15 +8,14 @@ use Rattle.failover.specs.DownSet.{has_link}
 use Rattle.failover.specs.Links.{is_link, told_links}
 use Rattle.masks.specs.Masks.{has}
 use Rattle.failover.specs.Paths.{AreJoined, IsPath, IsRoute, Leads}
-use Rattle.failover.proofs.Rows.{has_known}
 use Rattle.failover.proofs.Searching.{path_is_route_list}
 use Rattle.net_file.specs.Net.{are_linked, links_of}
 use Rattle.net_file.proofs.Masks.{in_mask_of}
 use Rattle.journal.specs.declared.item.Item.{Item}
-use Rattle.update_machine.specs.Adverts.{adverts_known, links_known, route_from}
-use Rattle.update_machine.specs.Links.{near}
+use Rattle.update_machine.specs.Adverts.{adverts_known, route_from}
+use Rattle.update_machine.specs.Links.{near, links_known}
 use Rattle.update_machine.specs.Setting.{Setting}
-use Rattle.update_machine.proofs.CallerLemmas.{known_link_laws}
+use Rattle.update_machine.proofs.CallerLemmas.{has_known_link, known_link_laws}
 use Rattle.advert_laws.specs.Adverts.{LinksAreThere}
 use Rattle.way_laws.specs.OnWay.{IsFirst, LeadsTo}
 use Rattle.way_laws.specs.Kept.{Avoids}
@@ -47,8 +46,7 @@ unfolding has
 good_link setting journal at one two down there one_small two_small joined =
     let known : is_link (told_links (adverts_known setting journal at) at (near setting journal at))
     down one two ≡ true =
-    sym (has_known (adverts_known setting journal at) at (near setting journal at) down one two
-    one_small two_small) ∙ joined in
+    sym (has_known_link setting journal at down one two one_small two_small) ∙ joined in
     record {
       linked = in_mask_of (are_linked setting.net.links one) two two_small
           ∙ there.known at one two down one_small two_small joined;

@@ -17,8 +17,9 @@ use Rattle.journal.specs.declared.item.Item.TheVariants as item
 use Rattle.update_machine.specs.Boots.{is_up, serves, tells_serving}
 use Rattle.update_machine.specs.Folds.{count_of, last_told}
 use Rattle.update_machine.specs.Links.{is_usable, near}
-use Rattle.update_machine.specs.Packets.{changes_leg, exit_port, is_packet, leg_of, next_packet, standing, tells_place, tells_travelling, travels}
+use Rattle.update_machine.specs.Packets.{is_packet, next_packet, standing, tells_place}
 use Rattle.update_machine.specs.Setting.{Setting}
+use Rattle.update_machine.specs.Travels.{changes_leg, exit_port, leg_of, tells_travelling, travels}
 use Rattle.update_machine.proofs.CallerLemmas.{count_of_append, folded_append, last_told_append}
 use Rattle.boot_laws.specs.BootLaws.{ServingIsKnown}
 use Rattle.boot_laws.specs.ItemCauses.{HasItemCause}
@@ -301,7 +302,7 @@ leg_more : (before : List Item) (next : Item) (i : ℕ)
 unfolding leg_of
 leg_more before next i = folded_append (changes_leg i) None before (next ∷ [])
 
-stage_next : (before : List Item) (next : Item) (i : ℕ)
+pub stage_next : (before : List Item) (next : Item) (i : ℕ)
     → stage_of (before ++ next ∷ []) i ≡ option_or (tells_stage i next) (stage_of before i)
 unfolding stage_of
 stage_next before next i = last_told_append (tells_stage i) before (next ∷ [])

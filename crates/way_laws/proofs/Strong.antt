@@ -10,10 +10,11 @@ use Rattle.journal.specs.declared.item.Item.{Item}
 use Rattle.journal.specs.declared.item.Item.TheVariants as item
 use Rattle.update_machine.specs.Causes.{HaveCauses}
 use Rattle.update_machine.specs.Moves.{route_for}
-use Rattle.update_machine.specs.Packets.{found_down, leg_of, targets_of}
+use Rattle.update_machine.specs.Packets.{found_down, targets_of}
 use Rattle.update_machine.specs.Sound.{IsSetting}
 use Rattle.update_machine.specs.Setting.{Setting}
 use Rattle.update_machine.specs.Versions.{holds_version, stamp_of}
+use Rattle.update_machine.specs.Travels.{leg_of}
 use Rattle.boot_laws.specs.ItemCauses.{HasItemCause}
 use Rattle.boot_laws.proofs.Facts.{Behind, have_weaker}
 use Rattle.version_laws.proofs.Serving.{serving_hold}
@@ -99,6 +100,9 @@ stuck_on_leg : (setting : Setting) (before : List Item) (i s : ℕ) (cause : Cau
     → IsStuckOnLeg setting before i s cause leg down
 stuck_on_leg setting before i s cause leg down knows_it finds = record {
   stuck = stuck_rightly setting before i s cause leg down knows_it finds;
+  found = finds.found;
+  no_route = rw finds.found finds.none;
+  why = rw finds.found finds.why;
   rightly = by_leg leg finds.on;
 }
   where

@@ -3,8 +3,9 @@ use Rattle.std.specs.Prelude.{ℕ, ◌≡◌, Some, List, IsTrue}
 use Rattle.five_tuple.specs.declared.header.Header.{Header}
 use Rattle.policy_rules.specs.declared.packet.Leg.{Leg}
 use Rattle.journal.specs.declared.item.Item.{Item}
-use Rattle.update_machine.specs.Packets.{header_in, leg_of, standing, travels}
+use Rattle.update_machine.specs.Packets.{header_in, standing}
 use Rattle.update_machine.specs.Setting.{Setting}
+use Rattle.update_machine.specs.Travels.{leg_of, travels}
 use Rattle.version_laws.specs.Authorities.{EndsAt}
 use Rattle.way_laws.specs.WayCauses.{Arrives}
 

@@ -11,7 +11,7 @@ use Rattle.switch_table.specs.Tables.{Placed}
 use Rattle.journal.specs.declared.item.Item.{Item}
 use Rattle.update_machine.specs.Caches.{cache_of}
 use Rattle.update_machine.specs.Marks.{current_mark}
-use Rattle.update_machine.specs.Messages.{message_of}
+use Rattle.update_machine.specs.Boots.{message_of}
 use Rattle.update_machine.specs.Packets.{Decision, next_packet}
 use Rattle.update_machine.specs.Sound.{NamesOwnPort}
 use Rattle.update_machine.specs.Setting.{Setting}

@@ -2,7 +2,8 @@
 use Rattle.std.specs.Prelude.{ℕ, ◌≡◌, Some, List, IsTrue}
 use Rattle.journal.specs.declared.item.Item.{Item}
 use Rattle.update_machine.specs.Boots.{serves}
-use Rattle.update_machine.specs.Packets.{standing, travels}
+use Rattle.update_machine.specs.Packets.{standing}
+use Rattle.update_machine.specs.Travels.{travels}
 use Rattle.way_laws.specs.Stages.{OnWay, stage_of}
 
 -- the packet stands at a switch that serves

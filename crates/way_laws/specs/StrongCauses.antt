@@ -11,11 +11,14 @@ use Rattle.policy_rules.specs.declared.policy.Action.{Action}
 use Rattle.journal.specs.declared.item.Item.{Item}
 use Rattle.journal.specs.declared.item.Item.TheVariants as item
 use Rattle.steps.specs.Steps.{HasLink}
+use Rattle.update_machine.specs.Adverts.{route_from}
 use Rattle.update_machine.specs.Boots.{serves}
 use Rattle.update_machine.specs.Causes.{FindsDown, IsStuckRightly, LeavesRightly}
 use Rattle.update_machine.specs.Marks.{current_mark}
-use Rattle.update_machine.specs.Packets.{decision_of, found_down, leg_of}
+use Rattle.update_machine.specs.Moves.{cause_at}
+use Rattle.update_machine.specs.Packets.{decision_of, found_down, targets_of}
 use Rattle.update_machine.specs.Setting.{Setting}
+use Rattle.update_machine.specs.Travels.{leg_of}
 use Rattle.boot_laws.specs.ItemCauses.{RetiresRightly, SubmitsRightly}
 use Rattle.way_laws.specs.Words.{entry_mark}
 use Rattle.way_laws.specs.Kept.{Avoids}
@@ -39,9 +42,14 @@ abbrev pub IsOnRightLeg : List Item → ℕ → Leg → Type 0
 IsOnRightLeg before packet (Seek version partition) = SeeksRightly before packet version
 IsOnRightLeg before packet (Exit port) = ⊤
 
+-- the packet is stuck with the links that it found down, and by the one cause: its switch finds no
+-- route
 pub record IsStuckOnLeg (setting : Setting) (before : List Item) (packet switch : ℕ)
     (cause : Cause) (leg : Leg) (down : List ℕ) : Type 0 where
-  pub stuck : IsStuckRightly setting before packet switch cause leg down
+  pub stuck : IsStuckRightly setting before packet switch leg
+  pub found : down ≡ found_down before packet
+  pub no_route : route_from setting before switch (targets_of setting before leg) down ≡ None
+  pub why : cause ≡ cause_at setting before switch down leg
   pub rightly : IsOnRightLeg before packet leg
 
 -- the packet is decided where it stands, by a version that wasn't retired as it came in and is at

@@ -25,10 +25,11 @@ use Rattle.update_machine.specs.Caches.{lookup_at}
 use Rattle.update_machine.specs.Folds.{last_told}
 use Rattle.update_machine.specs.Links.{near}
 use Rattle.update_machine.specs.Moves.{AuthorityRule, authority_rule, cache_rule, cause_at, first_place, header_at, leaves, route_for}
-use Rattle.update_machine.specs.Packets.{Decision, decision_of, found_down, ingress_of, is_at, leg_of, next_packet, next_switch, owner, standing, travels}
+use Rattle.update_machine.specs.Packets.{Decision, decision_of, found_down, next_packet, next_switch, owner, standing}
 use Rattle.update_machine.specs.Setting.{Setting}
-use Rattle.update_machine.specs.Steps.{present_step}
+use Rattle.update_machine.specs.Causes.{present_step}
 use Rattle.update_machine.specs.Versions.{holds_version, stamp_of}
+use Rattle.update_machine.specs.Travels.{ingress_of, is_at, leg_of, travels}
 use Rattle.way_laws.specs.Stages.{Blocked, CameIn, Judged, OnWay, stage_of}
 
 -- ---- where it is

@@ -8,7 +8,8 @@ use Rattle.journal.specs.declared.item.Item.{Item}
 use Rattle.journal.specs.declared.item.Item.TheVariants as item
 use Rattle.update_machine.specs.Folds.{folded}
 use Rattle.update_machine.specs.Marks.{retired_mark}
-use Rattle.update_machine.specs.Packets.{Decision, decision_of, found_down, header_in, ingress_of, leg_of, port_in, route_in, route_place, standing, travels}
+use Rattle.update_machine.specs.Packets.{Decision, decision_of, found_down, header_in, route_in, route_place, standing}
+use Rattle.update_machine.specs.Travels.{ingress_of, leg_of, port_in, travels}
 
 -- ---- one more word of a packet
 

@@ -1,0 +1,74 @@
+-- Which packets travel, where they came in, and on which leg they are: of those of
+-- `Packets`.
+use Rattle.std.specs.Prelude.{ℕ, Bool, true, false, ◌&&◌, ◌==◌, if◌then◌else◌, Option, Some, None, option_and_then, unwrap_or, List, filter, find}
+use Rattle.std.specs.List.{range_with_len}
+use Rattle.policy_rules.specs.declared.packet.Leg.{Leg}
+use Rattle.policy_rules.specs.declared.packet.Leg.TheVariants.{Seek, Exit}
+use Rattle.policy_rules.specs.declared.policy.Action.{Action}
+use Rattle.journal.specs.declared.item.Item.{Item}
+use Rattle.update_machine.specs.Folds.{count_of, folded, last_told}
+use Rattle.update_machine.specs.Packets.{is_packet, standing, decision_of}
+use Rattle.policy_rules.specs.declared.policy.Action.TheVariants as action
+use Rattle.journal.specs.declared.item.Item.TheVariants as item
+
+abbrev pub tells_ingress : ℕ → Item → Option ℕ
+tells_ingress i (item.Entered packet switch header) = if packet == i then Some switch else None
+tells_ingress i _ = None
+
+-- the switch where it came in
+unfoldable pub ingress_of : List Item → ℕ → Option ℕ
+ingress_of journal i = last_told (tells_ingress i) journal
+
+abbrev pub tells_travelling : ℕ → Item → Option Bool
+tells_travelling i (item.Entered packet switch header) = if packet == i then Some true else None
+tells_travelling i (item.Dropped packet) = if packet == i then Some false else None
+tells_travelling i (item.Left packet port leaving) = if packet == i then Some false else None
+tells_travelling i (item.Lost packet) = if packet == i then Some false else None
+tells_travelling i (item.Stuck packet switch cause leg down) =
+    if packet == i then Some false else None
+tells_travelling i _ = None
+
+-- it came in and hasn't ended
+unfoldable pub travels : List Item → ℕ → Bool
+travels journal i = unwrap_or (last_told (tells_travelling i) journal) false
+
+-- the numbers of all packets, ascending
+abbrev pub packets_in : List Item → List ℕ
+packets_in journal = range_with_len 1 (count_of is_packet journal)
+
+-- the least number of a travelling packet
+unfoldable pub next_travelling : List Item → Option ℕ
+next_travelling journal = find (travels journal) (packets_in journal)
+
+abbrev pub is_at : ℕ → Option ℕ → Bool
+is_at s None = false
+is_at s (Some place) = place == s
+
+-- it travels, and stands at the switch
+abbrev pub travels_at : List Item → ℕ → ℕ → Bool
+travels_at journal s i = travels journal i && is_at s (standing journal i)
+
+-- the packets that stand at a switch on their way, ascending
+abbrev pub packets_at : List Item → ℕ → List ℕ
+packets_at journal s = filter (travels_at journal s) (packets_in journal)
+
+-- the port of an action, if it has one
+abbrev pub port_in : Action → Option ℕ
+port_in action.Drop = None
+port_in (action.Out port) = Some port
+
+-- the port by which the packet is to leave; 0 where it has none
+abbrev pub exit_port : List Item → ℕ → ℕ
+exit_port journal i =
+    unwrap_or (option_and_then (λ decision. port_in decision.action) (decision_of journal i)) 0
+
+-- the leg of its last `Seeking` or `Exiting`; it exits by the port of its decision
+abbrev pub changes_leg : ℕ → List Item → Option Leg → Item → Option Leg
+changes_leg i before leg (item.Seeking packet version partition route) =
+    if packet == i then Some (Seek version partition) else leg
+changes_leg i before leg (item.Exiting packet route) =
+    if packet == i then Some (Exit (exit_port before i)) else leg
+changes_leg i before leg _ = leg
+
+unfoldable pub leg_of : List Item → ℕ → Option Leg
+leg_of journal i = folded (changes_leg i) None journal
