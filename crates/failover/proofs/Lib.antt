@@ -1,10 +1,10 @@
 pub mod Balls
 pub mod LeastPaths
 pub mod Searching
-pub mod Loops
 pub mod Adverts
 pub mod LinkSets
 pub mod Walking
 pub mod Rows
 pub mod Newest
 pub mod RowLoop
+pub mod WiderLoop

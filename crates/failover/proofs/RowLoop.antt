@@ -62,12 +62,12 @@ sum_bit a b fits e h = grind (arith, nat_tests)
 same_sum : (a b : ℕ) → a < 2 → b ≡ 0 → ((a + b) % 2 == 1) ≡ (a == 1)
 same_sum a b fits e = grind (arith, nat_tests)
 
-has_less-same : (rest k : ℕ) → has rest k ≡ true → has (bit_xor rest (2 ^ k)) k ≡ false
+pub has_less-same : (rest k : ℕ) → has rest k ≡ true → has (bit_xor rest (2 ^ k)) k ≡ false
 unfolding has
 has_less-same rest k h = rw (bit_at_xor rest (2 ^ k) k)
     (sum_bit (bit_at rest k) (bit_at (2 ^ k) k) (bit_at-lt rest k) (bit_at-pow_same k) h)
 
-has_less-other : (rest k j : ℕ) → j ≢ k → has (bit_xor rest (2 ^ k)) j ≡ has rest j
+pub has_less-other : (rest k j : ℕ) → j ≢ k → has (bit_xor rest (2 ^ k)) j ≡ has rest j
 unfolding has
 has_less-other rest k j apart =
     rw (bit_at_xor rest (2 ^ k) j)

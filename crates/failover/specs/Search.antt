@@ -21,3 +21,8 @@ unfoldable pub along : List ℕ → List ℕ → ℕ → ℕ → List ℕ
 along links balls zero at = []
 along links balls (suc k) at = let next =
     nearer links (slice_index balls k) at in next ∷ along links balls k next
+
+-- each link is known from both its ends
+abbrev pub AreBothWays : List ℕ → Type 0
+AreBothWays links = (one other : ℕ) →
+    has (slice_index links one) other ≡ has (slice_index links other) one

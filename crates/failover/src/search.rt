@@ -1,7 +1,7 @@
 ghost use Rattle.std.specs.Prelude.{◌≡◌, ◌<◌, ◌∷◌, IfSome, IfNone};
 ghost use Rattle.failover.specs.Routes.{wider, first_route, route_to};
 ghost use Rattle.failover.specs.RouteList.{IsRouteList};
-ghost use Rattle.failover.specs.Search.{IsAway, IsOutOfReach, AreBalls, along};
+ghost use Rattle.failover.specs.Search.{IsAway, IsOutOfReach, AreBalls, AreBothWays, along};
 
 use crate::SWITCHES;
 use crate::path::Route;
@@ -10,6 +10,7 @@ use masks::{has, only_if};
 /// The least path to the first of the targets that a path reaches; `None` exactly where no path
 /// reaches any.
 pub fn first_route(links: &[u64; 64], from: u32, targets: &[u32]) -> Option<Route>
+    requires { AreBothWays links.now }
     ensures { result ≡ first_route links.now from targets.now }
 {
     for target in targets {
@@ -22,6 +23,7 @@ pub fn first_route(links: &[u64; 64], from: u32, targets: &[u32]) -> Option<Rout
 
 // The least path to the target.
 fn route_to(links: &[u64; 64], from: u32, target: u32) -> Option<Route>
+    requires { AreBothWays links.now }
     ensures { result ≡ route_to links.now from target }
 {
     if from >= SWITCHES || target >= SWITCHES {
@@ -37,6 +39,7 @@ fn route_to(links: &[u64; 64], from: u32, target: u32) -> Option<Route>
 fn distance(links: &[u64; 64], balls: &mut [u64; 64], from: u32, target: u32) -> Option<usize>
     requires from { from < 64 }
     requires target { target < 64 }
+    requires both { AreBothWays links.now }
     ensures away { IfSome result (λ k. IsAway links.now target k from) }
     ensures balls { IfSome result (AreBalls links.now target balls.new) }
     ensures none { IfNone result (IsOutOfReach links.now target from) }
@@ -56,13 +59,17 @@ fn distance(links: &[u64; 64], balls: &mut [u64; 64], from: u32, target: u32) ->
     None
 }
 
-// The ball, and the switches that have a link into it.
+// The ball, and the switches to which one of it has a link.
 fn wider(links: &[u64; 64], ball: u64) -> u64
+    requires { AreBothWays links.now }
     ensures { result ≡ wider links.now ball }
 {
     let mut wide = ball;
-    for (place, row) in links.iter().enumerate() {
-        wide |= only_if(row & ball != 0, place as u32);
+    let mut rest = ball;
+    while rest != 0 {
+        let at = rest.trailing_zeros();
+        wide |= links[at as usize];
+        rest ^= only_if(true, at);
     }
     wide
 }

@@ -7,6 +7,7 @@ use Rattle.std.proofs.lemmas.List.Quantifiers.{position-Some}
 use Rattle.std.proofs.lemmas.Option.{slice_get-get_or}
 use Rattle.five_tuple.specs.Header.{number_of}
 use Rattle.five_tuple.specs.declared.header.Header.{Header}
+use Rattle.failover.specs.DownSet.{no_links}
 use Rattle.policy_rules.proofs.CallerLemmas.{find-position}
 use Rattle.policy_rules.specs.Rules.{is_held}
 use Rattle.policy_rules.specs.declared.packet.Cause.{Cause}
@@ -221,3 +222,19 @@ entry_uncached s site number header = by_test (serves s)
         (entry.Answered (looked_up s site (incoming s number header))) entry.Closed)
     by_test true = lookup_uncached s site (incoming s number header) refl
     by_test false = tt
+
+-- the answer to a packet that comes in at a switch that serves
+pub entered_by : (s : SwitchValue) (site : Site) (number : ℕ) (header : Header) (ingress : ℕ)
+    (down : List ℕ) (answer : Answer) → ingress ≡ s.number → down ≡ no_links → serves s ≡ true
+    → answer ≡ looked_up s site
+    (record { number = number; header = header; ingress = ingress; down = down })
+    → entry.Answered answer ≡ entered s site (incoming s number header)
+unfolding entered
+entered_by s site number header ingress down answer here none serving is =
+    subst (λ t. entry.Answered answer ≡ cond t
+    (entry.Answered (looked_up s site (incoming s number header))) entry.Closed) (sym serving)
+    (ap entry.Answered (is
+    ∙ ap (λ i. looked_up s site
+    (record { number = number; header = header; ingress = i; down = down })) here
+    ∙ ap (λ d. looked_up s site
+    (record { number = number; header = header; ingress = s.number; down = d })) none))

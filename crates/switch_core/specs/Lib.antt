@@ -2,6 +2,7 @@ pub mod State
 pub mod Ends
 pub mod Deciding
 pub mod Answering
+pub mod Verdicts
 pub mod Moving
 pub mod Hearing
 pub mod Life

@@ -1,6 +1,6 @@
 -- What becomes of a packet that is on its way at a switch, as a function. What it says is the
 -- relation `IsHop`, which allows nothing else.
-use Rattle.std.specs.Prelude.{ℕ, Option, Some, None, if◌then◌else◌, List}
+use Rattle.std.specs.Prelude.{ℕ, Bool, true, Option, Some, None, if◌then◌else◌, List}
 use Rattle.masks.specs.Masks.{has}
 use Rattle.tunnel.specs.Tunnel.{TunnelValue}
 use Rattle.tunnel.specs.Moves.{next, advanced, marked_down, on_route, route_from_here}
@@ -43,3 +43,8 @@ hopped_to s near t (Some other) = rerouted s near (marked_down t other)
 
 unfoldable pub hopped : SwitchValue → ℕ → TunnelValue → Moved
 hopped s near t = hopped_to s near t (found_down near (next t))
+
+-- a packet with this next switch finds no link down
+abbrev pub is_free : ℕ → Option ℕ → Bool
+is_free near None = true
+is_free near (Some other) = has near other

@@ -1,15 +1,17 @@
-ghost use Rattle.std.specs.Prelude.{◌≡◌, IsSomeAnd, IsTrue};
+ghost use Rattle.std.specs.Prelude.{◌≡◌, ℕ, IsSomeAnd, IsTrue};
 ghost use Rattle.policy_rules.specs.Partitions.{is_in};
 ghost use Rattle.switch_core.specs.Answering.{CanLookUp, IsAtAuthority, IsUncached, answer_by, arrived, decided_at, decided_in, entered, incoming, looked_up, packet_of};
 ghost use Rattle.switch_core.specs.Deciding.{IsFirstHit, IsFound, own_part};
 ghost use Rattle.switch_core.specs.Ends.{around};
 ghost use Rattle.switch_core.specs.State.{counted, holds_version, serves};
+ghost use Rattle.switch_core.specs.Verdicts.{answer_of};
 
 use crate::answers::{Answer, Arrived, Decision, Entered};
 use crate::deciding::{cache_rule, found_in, own_part, rule_in};
 use crate::kept::KeptTables;
 use crate::packet::Packet;
 use crate::switch::Switch;
+use crate::verdicts::Verdict;
 use failover::DownSet;
 use five_tuple::Header;
 use net_file::Ports;
@@ -32,19 +34,35 @@ impl Switch {
         ensures uncached { IsUncached result }
         ensures after { self.new ≡ counted self.old }
     {
-        let entered = if self.serves() {
-            let packet = Packet {
-                number: packet,
-                header: *h,
-                ingress: self.number,
-                down: DownSet::empty(),
-            };
-            Entered::Answered(self.look_up(near, ports, &packet))
-        } else {
-            Entered::Closed
+        if !self.serves() {
+            self.count();
+            return Entered::Closed;
+        }
+        let packet = Packet {
+            number: packet,
+            header: *h,
+            ingress: self.number,
+            down: DownSet::empty(),
         };
-        self.count();
-        entered
+        match self.look_up(ports, &packet) {
+            Verdict::Here {
+                decision,
+                cache,
+                end,
+            } => {
+                self.count();
+                Entered::Answered(Answer::Decided {
+                    decision,
+                    cache,
+                    next: end.next(),
+                })
+            }
+            verdict => {
+                let answer = self.answer(near, &packet, verdict);
+                self.count();
+                Entered::Answered(answer)
+            }
+        }
     }
 
     /// A packet is at the end of its route here. On its way to a port it leaves. On its way to an
@@ -60,66 +78,56 @@ impl Switch {
         ensures answer { result ≡ arrived self.old (around near ports.now) t.now }
         ensures after { self.new ≡ counted self.old }
     {
-        let arrived = match t.leg {
-            Leg::Exit { port } => Arrived::Out(port),
+        match t.leg {
+            Leg::Exit { port } => {
+                self.count();
+                Arrived::Out(port)
+            }
             Leg::Seek { version, partition } => {
                 let packet = carried(t);
-                let answer = match self.held_tables(version) {
-                    Some(tables) => self.decide_in(near, ports, &packet, partition, tables),
-                    None => self.look_up(near, ports, &packet),
+                let verdict = match self.held_tables(version) {
+                    Some(tables) => self.decide_in(ports, &packet, partition, tables),
+                    None => self.look_up(ports, &packet),
                 };
+                let answer = self.answer(near, &packet, verdict);
+                self.count();
                 Arrived::Answered(answer)
             }
-        };
-        self.count();
-        arrived
+        }
     }
 
     // By a lookup under the switch's stamp.
     #[tactic(auto, unfolding(crate::specs::Answering::looked_up))]
-    fn look_up(&self, near: u64, ports: &Ports, packet: &Packet) -> Answer
+    fn look_up(&self, ports: &Ports, packet: &Packet) -> Verdict
         requires { IsTrue (holds_version self.now self.now.stamp) }
-        ensures { result ≡ looked_up self.now (around near ports.now) packet.now }
+        ensures { (near : ℕ) → answer_of self.now near packet.now result
+            ≡ looked_up self.now (around near ports.now) packet.now }
     {
         let tables = self.stamp_tables();
         let found = found_in(&self.cache, tables, &packet.header);
-        self.answer(near, ports, packet, tables.tables(), &found)
+        self.by_found(ports, packet, tables.tables(), &found)
     }
 
     // By what was found in these tables.
     #[tactic(auto, unfolding(crate::specs::Answering::answer_by))]
-    fn answer(
-        &self,
-        near: u64,
-        ports: &Ports,
-        packet: &Packet,
-        tables: &Tables,
-        found: &Found,
-    ) -> Answer
+    fn by_found(&self, ports: &Ports, packet: &Packet, tables: &Tables, found: &Found) -> Verdict
         requires { IsFound tables.now packet.now.header found.now }
-        ensures { result
+        ensures { (near : ℕ) → answer_of self.now near packet.now result
             ≡ answer_by self.now (around near ports.now) packet.now tables.now found.now }
     {
         match found {
-            Found::Cached(entry) => Answer::Decided {
-                decision: Decision::by_entry(entry),
-                cache: None,
-                next: self.next(near, ports, packet, entry.action),
-            },
+            Found::Cached(entry) => self.decided(ports, Decision::by_entry(entry), None),
             Found::Authority { partition, rule } => {
                 let part = own_part(tables, *partition).unwrap();
-                self.decide_at(near, ports, packet, tables.version, part, *rule)
+                self.decide_at(ports, packet, tables.version, part, *rule)
             }
-            Found::Redirect { partition, targets } => {
-                let leg = Leg::Seek {
+            Found::Redirect { partition, targets } => Verdict::Seek {
+                leg: Leg::Seek {
                     version: tables.version,
                     partition: *partition,
-                };
-                match self.set_out(near, packet, leg, targets) {
-                    Ok(tunnel) => Answer::Seek(tunnel),
-                    Err(cause) => Answer::Stuck { cause, leg },
-                }
-            }
+                },
+                targets: *targets,
+            },
         }
     }
 
@@ -127,44 +135,42 @@ impl Switch {
     #[tactic(auto, unfolding(crate::specs::Answering::decided_in))]
     fn decide_in(
         &self,
-        near: u64,
         ports: &Ports,
         packet: &Packet,
         partition: u32,
         tables: &KeptTables,
-    ) -> Answer
+    ) -> Verdict
         requires { IsSomeAnd (own_part tables.now partition)
             (λ part. IsTrue (is_in packet.now.header part)) }
-        ensures { result
+        ensures { (near : ℕ) → answer_of self.now near packet.now result
             ≡ decided_in self.now (around near ports.now) packet.now partition tables.now }
     {
         let place = tables.first_place(partition, &packet.header);
         let tables = tables.tables();
         let part = own_part(tables, partition).unwrap();
-        self.decide_at(near, ports, packet, tables.version, part, place)
+        self.decide_at(ports, packet, tables.version, part, place)
     }
 
     // The rule at this place decides.
     #[tactic(auto, unfolding(crate::specs::Answering::decided_at))]
     fn decide_at(
         &self,
-        near: u64,
         ports: &Ports,
         packet: &Packet,
         version: u32,
         part: &Partition,
         place: u32,
-    ) -> Answer
+    ) -> Verdict
         requires { IsFirstHit packet.now.header part.now place }
-        ensures { result
+        ensures { (near : ℕ) → answer_of self.now near packet.now result
             ≡ decided_at self.now (around near ports.now) packet.now version part.now place }
     {
         let rule = rule_in(part, place);
-        Answer::Decided {
-            decision: Decision::by_rule(self.number, version, part.number, rule),
-            cache: cache_rule(self.number, packet, version, part, place),
-            next: self.next(near, ports, packet, rule.action),
-        }
+        self.decided(
+            ports,
+            Decision::by_rule(self.number, version, part.number, rule),
+            cache_rule(self.number, packet, version, part, place),
+        )
     }
 }
 

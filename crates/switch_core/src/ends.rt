@@ -1,44 +1,13 @@
-ghost use Rattle.std.specs.Prelude.{◌≡◌, Option, ℕ};
-ghost use Rattle.switch_core.specs.Ends.{are_isolated, around, cause_of, leave_by, next_of, set_out};
+ghost use Rattle.std.specs.Prelude.{◌≡◌};
+ghost use Rattle.switch_core.specs.Ends.{are_isolated, cause_of, set_out};
 
-use crate::answers::Next;
 use crate::packet::Packet;
 use crate::switch::Switch;
 use failover::DownSet;
-use net_file::Ports;
-use policy_rules::{Action, Cause, Leg, Targets};
+use policy_rules::{Cause, Leg, Targets};
 use tunnel::Tunnel;
 
 impl Switch {
-    /// Where a packet goes that was decided in this way.
-    #[tactic(auto, unfolding(crate::specs::Ends::next_of))]
-    pub(crate) fn next(&self, near: u64, ports: &Ports, packet: &Packet, action: Action) -> Next
-        ensures { result ≡ next_of self.now (around near ports.now) packet.now action }
-    {
-        match action {
-            Action::Drop => Next::Dropped,
-            Action::Out(port) => self.leave_by(near, packet, port, ports.owner(port)),
-        }
-    }
-
-    // Out by the port of this owner.
-    #[tactic(auto, unfolding(crate::specs::Ends::leave_by))]
-    fn leave_by(&self, near: u64, packet: &Packet, port: u32, owner: Option<u32>) -> Next
-        ensures { result ≡ leave_by self.now near packet.now port owner }
-    {
-        match owner {
-            None => Next::Stuck(Cause::NoRoute),
-            Some(owner) if owner == self.number => Next::Out(port),
-            Some(owner) => {
-                let targets = Targets::new(&[owner]).unwrap();
-                match self.set_out(near, packet, Leg::Exit { port }, &targets) {
-                    Ok(tunnel) => Next::Exit(tunnel),
-                    Err(cause) => Next::Stuck(cause),
-                }
-            }
-        }
-    }
-
     /// The packet at the beginning of its route to the first of these targets that it reaches.
     ///
     /// # Errors

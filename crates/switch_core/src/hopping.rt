@@ -1,6 +1,6 @@
-ghost use Rattle.std.specs.Prelude.{◌≡◌};
+ghost use Rattle.std.specs.Prelude.{◌≡◌, ◌<◌, IfSome, if◌then◌else◌};
 ghost use Rattle.tunnel.specs.Moves.{next};
-ghost use Rattle.switch_core.specs.Moving.{found_down, hopped, rerouted};
+ghost use Rattle.switch_core.specs.Moving.{found_down, hopped, is_free, rerouted};
 ghost use Rattle.switch_core.specs.State.{counted};
 
 use crate::answers::{Hop, HopEnd};
@@ -45,6 +45,22 @@ impl Switch {
         hop
     }
 
+    /// Whether a packet finds no link down, by the next switch of its route alone: no tunnel is made
+    /// for it. It is counted exactly where the answer is true; otherwise `hop` says what becomes of
+    /// it.
+    pub fn pass(&mut self, next: Option<u32>, near: u64) -> bool
+        requires { IfSome next (λ other. other < 64) }
+        ensures free { result ≡ is_free near next }
+        ensures after { self.new ≡ (if result then counted self.old else self.old) }
+    {
+        if is_free(next, near) {
+            self.count();
+            true
+        } else {
+            false
+        }
+    }
+
     // Along a new route, once a link was found down.
     #[tactic(auto, unfolding(crate::specs::Moving::rerouted))]
     fn reroute(&self, near: u64, t: &mut Tunnel) -> HopEnd
@@ -61,5 +77,16 @@ impl Switch {
                 HopEnd::Move(next)
             }
         }
+    }
+}
+
+// Whether the link to this switch, if there is one, is usable.
+fn is_free(next: Option<u32>, near: u64) -> bool
+    requires { IfSome next (λ other. other < 64) }
+    ensures { result ≡ is_free near next }
+{
+    match next {
+        None => true,
+        Some(other) => has(near, other),
     }
 }

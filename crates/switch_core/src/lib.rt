@@ -27,6 +27,7 @@ mod laws;
 mod life;
 mod packet;
 mod switch;
+mod verdicts;
 
 pub use answers::{Answer, Arrived, Decision, Entered, Heard, Hop, HopEnd, Next, Replies};
 pub use laws::{

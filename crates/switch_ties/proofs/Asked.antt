@@ -24,11 +24,10 @@ use Rattle.switch_core.specs.State.{held_tables, holds_version, serves}
 use Rattle.switch_core.proofs.SwitchLaws.{heard_keeps}
 use Rattle.switch_table.specs.Tables.{AreSoundTables, Placed, has_target, part_of, tables_of}
 use Rattle.switch_table.specs.declared.tables.Tables.{Tables}
-use Rattle.update_machine.specs.Boots.{is_up, serves as serves_in}
-use Rattle.update_machine.specs.Messages.{message_of}
-use Rattle.update_machine.specs.Setting.{Setting}
+use Rattle.update_machine.specs.Boots.{is_up, serves as serves_in, message_of}
+use Rattle.update_machine.specs.Setting.{Setting, plan_at}
 use Rattle.update_machine.specs.Settling.{to_switch}
-use Rattle.update_machine.specs.Versions.{plan_at, stamp_of}
+use Rattle.update_machine.specs.Versions.{stamp_of}
 use Rattle.boot_laws.specs.BootLaws.{ServingIsKnown}
 use Rattle.send_laws.specs.Sends.{NumbersFit}
 use Rattle.version_laws.specs.Authorities.{EndsAt, IsSoughtAt}
@@ -68,7 +67,7 @@ restarts setting journal s fit down = record { down = down; boot = fit.boots s }
 
 -- ---- lookups
 
-open_shown : (setting : Setting) (journal : List Item) (s : ℕ)
+pub open_shown : (setting : Setting) (journal : List Item) (s : ℕ)
     → serves (switch_of setting journal s) ≡ (is_up journal s && serves_in journal s)
 unfolding switch_of
 open_shown setting journal s = refl
@@ -88,7 +87,7 @@ looks_up setting journal s hold there serving =
 
 -- ---- at an authority
 
-any_at : {X : Type 0} (test : X → Bool) (xs : List X) (k : ℕ) (x : X) → slice_get xs k ≡ Some x
+pub any_at : {X : Type 0} (test : X → Bool) (xs : List X) (k : ℕ) (x : X) → slice_get xs k ≡ Some x
     → test x ≡ true → list_any test xs ≡ true
 any_at test [] k x there passes = absurd cc
 any_at test (y ∷ ys) zero x there passes =

@@ -21,12 +21,12 @@ use Rattle.switch_core.specs.Life.{next_advert}
 use Rattle.switch_core.specs.State.{SwitchValue}
 use Rattle.switch_core.proofs.SwitchLaws.{heard_keeps}
 use Rattle.update_machine.specs.Adverts.{own_advert, own_seq}
-use Rattle.update_machine.specs.Boots.{boot_of, heard, is_for_boot, is_up, serves, tells_boot, tells_up}
+use Rattle.update_machine.specs.Boots.{boot_of, heard, is_for_boot, is_up, serves, tells_boot, tells_up, message_of}
 use Rattle.update_machine.specs.Concerns.{is_message_to}
 use Rattle.update_machine.specs.Deliveries.{advert_to, delivery_items, has_changed, is_news_to, link_changes, passed_on, received_items, switch_items, to_controller}
 use Rattle.update_machine.specs.Laws.{LinksKeep}
 use Rattle.update_machine.specs.Links.{near}
-use Rattle.update_machine.specs.Messages.{message_of, sends, sent_from}
+use Rattle.update_machine.specs.Messages.{sends, sent_from}
 use Rattle.update_machine.specs.Moves.{put}
 use Rattle.update_machine.specs.Setting.{Setting, switches_of}
 use Rattle.update_machine.specs.Settling.{to_switch}

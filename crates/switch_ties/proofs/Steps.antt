@@ -10,7 +10,7 @@ use Rattle.switch_core.specs.State.{SwitchValue, counted}
 use Rattle.update_machine.specs.Concerns.{NoneConcern, concerns_known}
 use Rattle.update_machine.specs.Folds.{count_of, folded_from}
 use Rattle.update_machine.specs.Handled.{handled_count, hop_calls, is_entry_at, most_handled, stays_on_way}
-use Rattle.update_machine.specs.Packets.{travels_at}
+use Rattle.update_machine.specs.Travels.{travels_at}
 use Rattle.update_machine.specs.Setting.{Setting}
 use Rattle.update_machine.specs.Steps.{StepItems, changes_steps, steps_in}
 use Rattle.update_machine.proofs.CallerLemmas.{count_of_append, folded_append}

@@ -8,8 +8,7 @@ use Rattle.journal.specs.declared.item.Item.{Item}
 use Rattle.switch_core.specs.Answering.{CanLookUp, IsAtAuthority}
 use Rattle.switch_core.specs.Hearing.{IsSoundBody, heard}
 use Rattle.switch_core.specs.State.{SwitchValue, serves}
-use Rattle.update_machine.specs.Boots.{is_up, serves as serves_in}
-use Rattle.update_machine.specs.Messages.{message_of}
+use Rattle.update_machine.specs.Boots.{is_up, serves as serves_in, message_of}
 use Rattle.update_machine.specs.Setting.{Setting}
 use Rattle.update_machine.specs.Settling.{to_switch}
 use Rattle.boot_laws.specs.BootLaws.{ServingIsKnown}

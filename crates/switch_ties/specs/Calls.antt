@@ -7,7 +7,7 @@ use Rattle.steps.specs.declared.step.Step.TheVariants.{Packet, Hop}
 use Rattle.switch_core.specs.State.{counted}
 use Rattle.update_machine.specs.Concerns.{NoneConcern, concerns_known}
 use Rattle.update_machine.specs.Handled.{stays_on_way}
-use Rattle.update_machine.specs.Packets.{travels_at}
+use Rattle.update_machine.specs.Travels.{travels_at}
 use Rattle.update_machine.specs.Setting.{Setting}
 use Rattle.switch_ties.specs.SwitchOf.{switch_of}
 

@@ -1,3 +1,4 @@
 pub mod Tables
 pub mod Marked
+pub mod Blocks
 pub mod Numbers

@@ -1,5 +1,6 @@
 -- The masks of where packets stand.
-use Rattle.std.proofs.Common.{ℕ, zero, suc, ◌≡◌, ◌≢◌, ◌+◌, ◌-◌, ◌*◌, ◌/◌, ◌%◌, ◌^◌, ◌<◌, ◌≤◌, ◌==◌, ◌&&◌, ◌⊎◌, inl, inr, Bool, true, false, not, Option, Some, None, List, [], ◌∷◌, ◌++◌, refl, ap, sym, subst, ◌∙◌, length, get_or, set, max, arith, eqb-true, eq-eqb, ne_eqb, get_or-set_same, get_or-set_other}
+use Rattle.std.proofs.Common.{ℕ, zero, suc, ◌≡◌, ◌≢◌, ◌+◌, ◌-◌, ◌*◌, ◌/◌, ◌%◌, ◌^◌, ◌<◌, ◌≤◌, ◌==◌, ◌&&◌, ◌⊎◌, inl, inr, Bool, true, false, not, None, List, [], ◌∷◌, ◌++◌, refl, ap, sym, subst, ◌∙◌, length, get_or, set, max, arith, eqb-true, eq-eqb, get_or-set_same, get_or-set_other}
+use mathlib.Core.Bool.{beq}
 use Rattle.std.specs.Prelude.{IsSomeAnd, is_some}
 use Rattle.std.specs.Int.{bit_at}
 use Rattle.std.specs.Int.Bits.{bit_xor}
@@ -8,9 +9,9 @@ use Rattle.std.proofs.lemmas.Bool.Decides.{nat_tests}
 use Rattle.std.proofs.lemmas.List.{get_or_past}
 use Rattle.std.proofs.lemmas.Nat.{shr_le, shr-shr}
 use Rattle.std.proofs.lemmas.Nat.Bits.{bit_at_xor, bit_at-lt, bit_at-pow_same, bit_at-pow_other}
-use Rattle.masks.specs.Masks.{has, least_in, only_if}
-use Rattle.masks.proofs.CallerLemmas.{has-zero, has_above, has_least, least_below, least_lt}
-use Rattle.travelling.specs.Marks.{IsNextMarked, flipped_if, is_marked}
+use Rattle.masks.specs.Masks.{has, least_in}
+use Rattle.masks.proofs.CallerLemmas.{has-zero, has_above, has_least, least_below}
+use Rattle.travelling.specs.Marks.{flipped_if, has_marks, is_marked}
 use Rattle.travelling.specs.Travelling.{AreMarked, Travellers, stands_at, traveller}
 use Rattle.travelling.specs.declared.travelling.Traveller.{Traveller}
 
@@ -86,9 +87,8 @@ has-xor_other mask k j apart = even_more _ _ (bit_at-lt mask j)
 parts_same : (i n : ℕ) → i / 64 ≡ n / 64 → i % 64 ≡ n % 64 → i ≡ n
 parts_same i n high low = omega (arith, high, low)
 
-place_apart : (i n s t : ℕ) → s < 64 → t < 64 → i / 64 * 64 + s ≡ n / 64 * 64 + t
-    → (i / 64 ≡ n / 64) × (s ≡ t)
-place_apart i n s t s_below t_below e = (omega (arith, e), omega (arith, e))
+place_apart : (a b s t : ℕ) → s < 64 → t < 64 → a * 64 + s ≡ b * 64 + t → (a ≡ b) × (s ≡ t)
+place_apart a b s t s_below t_below e = (omega (arith, e), omega (arith, e))
 
 cases_eq : (a b : ℕ) → (a ≡ b) ⊎ (a ≢ b)
 cases_eq a b = by_test (a == b) refl
@@ -126,7 +126,7 @@ module _ (masks : List ℕ) (n t : ℕ) (t_below : t < 64)
     where
       by_place : (i / 64 * 64 + s ≡ p) ⊎ (i / 64 * 64 + s ≢ p) → Turns i s false
       by_place (inl e) =
-          let both = place_apart i n s t below t_below e in
+          let both = place_apart (i / 64) (n / 64) s t below t_below e in
           ap (λ m. has m (i % 64)) (same_word i s e)
           ∙ has-xor_other (get_or masks (i / 64 * 64 + s) 0) (n % 64) (i % 64)
           (λ low. other (parts_same i n both.0 low) (sym both.1))
@@ -142,6 +142,53 @@ module _ (masks : List ℕ) (n t : ℕ) (t_below : t < 64)
           turns_none i s below (λ _ e. absurd (let yes : (t == s) ≡ true = eq-eqb t s e in cc))
       by_tests false b same at = turns_none i s below
           (λ e. absurd (let yes : (i == n) ≡ true = eq-eqb i n e in cc))
+
+  abbrev old : ℕ
+  old = get_or masks p 0
+
+  abbrev new : ℕ
+  new = bit_xor old (2 ^ (n % 64))
+
+  abbrev Changes : ℕ → ℕ → Bool → Type 0
+  Changes block s test = has_marks turned block s
+      ≡ flipped_if (not (beq (old == 0) (new == 0)) && test) (has_marks masks block s)
+
+  changed : (was is : Bool) → not is ≡ flipped_if (not (beq was is) && true) (not was)
+  changed true true = refl
+  changed true false = refl
+  changed false true = refl
+  changed false false = refl
+
+  unchanged : (b had : Bool) → had ≡ flipped_if (b && false) had
+  unchanged true had = refl
+  unchanged false had = refl
+
+  changes_one : (block s : ℕ) → block * 64 + s ≡ p → Changes block s true
+  changes_one block s e = subst (λ q. not (get_or turned q 0 == 0)
+      ≡ flipped_if (not (beq (old == 0) (new == 0)) && true) (not (get_or masks q 0 == 0))) (sym e)
+      (ap (λ mask. not (mask == 0)) (get_or-set_same masks p new 0 there)
+      ∙ changed (old == 0) (new == 0))
+
+  changes_none : (block s : ℕ) → block * 64 + s ≢ p → Changes block s false
+  changes_none block s apart =
+      ap (λ mask. not (mask == 0)) (get_or-set_other masks p (block * 64 + s) new 0 apart)
+      ∙ unchanged (not (beq (old == 0) (new == 0))) (has_marks masks block s)
+
+  pub changes : (block s : ℕ) → s < 64 → Changes block s (block == n / 64 && t == s)
+  changes block s below = by_tests (block == n / 64) (t == s) refl refl
+    where
+      at : block ≡ n / 64 → t ≡ s → block * 64 + s ≡ p
+      at same here = ap (λ b. b * 64 + s) same ∙ ap (λ u. n / 64 * 64 + u) (sym here)
+
+      by_tests : (a b : Bool) → (block == n / 64) ≡ a → (t == s) ≡ b → Changes block s (a && b)
+      by_tests true true same here =
+          changes_one block s (at (eqb-true block (n / 64) same) (eqb-true t s here))
+      by_tests true false same here = changes_none block s (λ e. absurd (
+          let is = sym (place_apart block (n / 64) s t below t_below e).1 in
+          let clash : (t == s) ≡ true = eq-eqb t s is in cc))
+      by_tests false b same here = changes_none block s (λ e. absurd (
+          let is = (place_apart block (n / 64) s t below t_below e).0 in
+          let clash : (block == n / 64) ≡ true = eq-eqb block (n / 64) is in cc))
 
 -- ---- the next mark
 

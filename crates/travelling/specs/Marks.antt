@@ -1,18 +1,49 @@
 -- Where packets stand, as masks: bit i % 64 of the mask of i / 64 and a switch says that packet i
--- stands at the switch.
-use Rattle.std.specs.Prelude.{ℕ, ◌≡◌, ◌+◌, ◌*◌, ◌/◌, ◌%◌, ◌<◌, ◌≤◌, Bool, true, false, not, if◌then◌else◌, Option, List, MatchOption, slice_index_or}
+-- stands at the switch. Masks of the same form say which of these masks have a bit.
+use Rattle.std.specs.Prelude.{ℕ, ◌≡◌, ◌+◌, ◌*◌, ◌/◌, ◌%◌, ◌<◌, ◌≤◌, ◌==◌, Bool, true, false, not, if◌then◌else◌, Option, List, MatchOption, length, slice_index_or}
 use Rattle.masks.specs.Masks.{has}
 
+-- the mask of the numbers of this block of 64 at the switch
+abbrev pub mask_at : List ℕ → ℕ → ℕ → ℕ
+mask_at masks block s = slice_index_or masks (block * 64 + s) 0
+
 abbrev pub is_marked : List ℕ → ℕ → ℕ → Bool
-is_marked masks i s = has (slice_index_or masks (i / 64 * 64 + s) 0) (i % 64)
+is_marked masks i s = has (mask_at masks (i / 64) s) (i % 64)
+
+-- one of the block's numbers is marked at the switch
+abbrev pub has_marks : List ℕ → ℕ → ℕ → Bool
+has_marks masks block s = not (mask_at masks block s == 0)
 
 -- the other way, where it turns
 abbrev pub flipped_if : Bool → Bool → Bool
 flipped_if turns was = if turns then not was else was
 
--- the least number at or above `from` of a packet that is marked at the switch; none where none is
+-- none from one number up to another is marked at the switch
+abbrev pub IsNoneMarked : List ℕ → ℕ → ℕ → ℕ → Type 0
+IsNoneMarked masks switch from end =
+    (i : ℕ) → from ≤ i → i < end → is_marked masks i switch ≡ false
+
+-- the least number at or above `from` that is marked at the switch
+abbrev pub IsLeastMarked : List ℕ → ℕ → ℕ → ℕ → Type 0
+IsLeastMarked masks switch from least = (from ≤ least) × (is_marked masks least switch ≡ true)
+    × IsNoneMarked masks switch from least
+
+-- the least number at or above `from` that is marked at the switch; none where none is
 abbrev pub IsNextMarked : List ℕ → ℕ → ℕ → Option ℕ → Type 0
 IsNextMarked masks switch from next = MatchOption next
-    ((i : ℕ) → from ≤ i → is_marked masks i switch ≡ false)
-    (λ least. (from ≤ least) × (is_marked masks least switch ≡ true)
-    × ((i : ℕ) → from ≤ i → i < least → is_marked masks i switch ≡ false))
+    ((i : ℕ) → from ≤ i → is_marked masks i switch ≡ false) (IsLeastMarked masks switch from)
+
+-- that number, where it is of the block of `from`; none where none of that block is marked
+abbrev pub IsNextInBlock : List ℕ → ℕ → ℕ → Option ℕ → Type 0
+IsNextInBlock masks switch from next = MatchOption next
+    (IsNoneMarked masks switch from ((from / 64 + 1) * 64)) (IsLeastMarked masks switch from)
+
+-- `above` marks the blocks that have marks, and has room for each
+pub record AreOfBlocks (masks above : List ℕ) : Type 0 where
+  pub marks : (block s : ℕ) → s < 64 → is_marked above block s ≡ has_marks masks block s
+  pub room : (i : ℕ) → i + 64 ≤ length masks → i / 64 + 64 ≤ length above
+
+-- the marks of packets, of their blocks, and of the blocks of these
+pub record AreLevels (packets blocks groups : List ℕ) : Type 0 where
+  pub low : AreOfBlocks packets blocks
+  pub high : AreOfBlocks blocks groups

@@ -3,6 +3,7 @@ use Rattle.std.specs.Prelude.{ℕ, ◌≡◌, ◌+◌, ◌<◌, ◌≤◌, ◌==
 use Rattle.std.specs.List.{range_with_len}
 use Rattle.failover.specs.DownSet.{no_links}
 use Rattle.tunnel.specs.Moves.{here}
+use Rattle.tunnel.specs.Tunnel.{TunnelValue}
 use Rattle.travelling.specs.Marks.{is_marked}
 use Rattle.travelling.specs.declared.kept.Kept.TheInside.{Inside}
 use Rattle.travelling.specs.declared.travelling.Traveller.{Traveller}
@@ -30,6 +31,10 @@ IsNextFrom travellers from next = MatchOption next
 abbrev pub OthersStay : Travellers → ℕ → Travellers → Type 0
 OthersStay before packet after =
     (i : ℕ) → (i == packet) ≡ false → traveller after i ≡ traveller before i
+
+-- the packet of this tunnel, with the version and the rule of its decision
+abbrev pub travels_by : TunnelValue → ℕ → Option ℕ → Traveller
+travels_by tunnel version rule = record { tunnel = tunnel; version = version; rule = rule }
 
 -- its route has this place
 abbrev pub HasPlace : ℕ → Traveller → Type 0

@@ -1,6 +1,6 @@
-ghost use Rattle.std.specs.Prelude.{◌≡◌, ◌<◌, IfOk};
-ghost use Rattle.tunnel.specs.Moves.{here};
-ghost use Rattle.travelling.specs.Travelling.{HasPlace, placed_at};
+ghost use Rattle.std.specs.Prelude.{◌≡◌, ◌+◌, ◌<◌, IfOk, IfSome, length};
+ghost use Rattle.tunnel.specs.Moves.{here, next};
+ghost use Rattle.travelling.specs.Travelling.{HasPlace, placed_at, travels_by};
 
 use crate::travelling::Traveller;
 use five_tuple::Header;
@@ -41,15 +41,21 @@ impl Model for Kept {
 }
 
 impl Kept {
-    /// What is kept of this traveller, whose route is shared.
+    /// What is kept of the packet of this tunnel, whose route is shared, with the version and the
+    /// rule of its decision.
     ///
     /// # Errors
     /// Want of memory alone, which is taken only where it found links down.
-    pub fn new(alloc: Global, traveller: &Traveller, route: SharedRoute) -> Result<Kept, AllocError>
-        requires { route ≡ traveller.now.tunnel.route }
-        ensures { IfOk result (λ kept. kept ≡ traveller.now) }
+    pub fn new(
+        alloc: Global,
+        tunnel: &Tunnel,
+        version: u32,
+        rule: Option<u32>,
+        route: SharedRoute,
+    ) -> Result<Kept, AllocError>
+        requires { route ≡ tunnel.now.route }
+        ensures { IfOk result (λ kept. kept ≡ travels_by tunnel.now version rule) }
     {
-        let tunnel = &traveller.tunnel;
         let _here = tunnel.here();
         let down = if tunnel.down == DownSet::empty() {
             None
@@ -65,8 +71,8 @@ impl Kept {
             route,
             place: tunnel.place,
             down,
-            version: traveller.version,
-            rule: traveller.rule,
+            version,
+            rule,
         })
     }
 
@@ -100,6 +106,27 @@ impl Kept {
         ensures switch { result < 64 }
     {
         self.route.route().items()[self.place as usize]
+    }
+
+    /// The switch after that one on its route; `None` exactly at the route's end.
+    pub fn next(&self) -> Option<u32>
+        ensures next { result ≡ next self.now.tunnel }
+        ensures place { IfSome result (λ other.
+            (self.now.tunnel.place + 1 < length self.now.tunnel.route) × (other < 64)) }
+    {
+        self.route
+            .route()
+            .items()
+            .get(self.place as usize + 1)
+            .copied()
+    }
+
+    /// The place on its route, from 0.
+    pub fn place(&self) -> u32
+        ensures place { result ≡ self.now.tunnel.place }
+        ensures few { result < 64 }
+    {
+        self.place
     }
 
     /// It stands at this place of its route. It takes no memory.

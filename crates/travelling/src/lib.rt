@@ -6,7 +6,7 @@
 //!
 //! ```text
 //! let mut travelling = Travelling::new(alloc);
-//! travelling.put(7, Kept::new(alloc, &traveller, route)?)?;
+//! travelling.put(7, Kept::new(alloc, &tunnel, 0, None, route)?)?;
 //! travelling.move_to(7, 1);
 //! while let Some(packet) = travelling.next(1) {
 //!     travelling.remove(packet);

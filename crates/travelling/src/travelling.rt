@@ -8,11 +8,11 @@
 //! packet's slot.
 //! No slot is given back before the end, as in a journal.
 ghost use Rattle.std.specs.Prelude.{◌≡◌, ◌+◌, ◌<◌, ◌≤◌, ℕ, max, [], Some, None, is_some, option_map, length, slice_set, IsSome, OnOk};
-ghost use Rattle.std.specs.Option.{IsSomeAnd};
+ghost use Rattle.std.specs.Option.{IsSomeAnd, option_copied};
 ghost use Rattle.travelling.specs.Travelling.{AreMarked, HasPlace, IsNextAt, IsNextFrom, StandBelow, WithOne, placed_at, traveller};
 
 use crate::kept::Kept;
-use crate::marks::{make_marks, mark_slot, next_marked};
+use crate::marks::Marks;
 use std::alloc::{AllocError, Global};
 use std::marker::Model;
 use tunnel::Tunnel;
@@ -35,7 +35,7 @@ pub struct Travelling {
     // No packet below it travels.
     first: usize,
     // Where packets stand.
-    marks: Vec<u64>,
+    marks: Marks,
 }
 
 impl Model for Travelling {
@@ -45,7 +45,7 @@ impl Model for Travelling {
 
     ghost view = { λ t. t.slots.items };
 
-    ghost invariant = { λ t. IsTable t.slots.items t.first t.marks.items };
+    ghost invariant = { λ t. IsTable t.slots.items t.first t.marks };
 }
 
 impl Travelling {
@@ -56,7 +56,7 @@ impl Travelling {
         Travelling {
             slots: Vec::new(alloc),
             first: 0,
-            marks: Vec::new(alloc),
+            marks: Marks::new(alloc),
         }
     }
 
@@ -65,6 +65,16 @@ impl Travelling {
         ensures { result ≡ is_some (traveller self.now packet) }
     {
         matches!(self.slots.get(packet as usize), Some(Some(_)))
+    }
+
+    /// What is kept of the packet, if it travels.
+    pub fn look(&self, packet: u32) -> Option<&Kept>
+        ensures { option_copied result ≡ traveller self.now packet }
+    {
+        match self.slots.get(packet as usize) {
+            Some(Some(kept)) => Some(kept),
+            _ => None,
+        }
     }
 
     /// What is known of the packet, if it travels. It takes no memory.
@@ -90,7 +100,7 @@ impl Travelling {
         } else {
             number
         };
-        make_marks(&mut self.marks, number)?;
+        self.marks.make_bits(number)?;
         make_room(&mut self.slots, number)?;
         set_slot(&mut self.slots, &mut self.marks, number, Some(kept));
         self.first = first;
@@ -139,7 +149,7 @@ impl Travelling {
         if switch >= 64 {
             return None;
         }
-        match next_marked(marks, from, switch) {
+        match marks.next(from, switch) {
             Some(number) => Some(number as u32),
             None => None,
         }
@@ -174,36 +184,36 @@ fn first_held(slots: &[Option<Kept>], from: usize) -> usize
 }
 
 // The slot holds this from now on, and its packet is marked where it stands.
-fn set_slot(slots: &mut Vec<Option<Kept>>, marks: &mut Vec<u64>, number: usize, slot: Option<Kept>)
+fn set_slot(slots: &mut Vec<Option<Kept>>, marks: &mut Marks, number: usize, slot: Option<Kept>)
     requires within { number < length slots.old.items }
-    requires room { number + 64 ≤ length marks.old.items }
-    requires marked { AreMarked slots.old.items marks.old.items }
+    requires room { number + 64 ≤ length marks.old }
+    requires marked { AreMarked slots.old.items marks.old }
     requires places { StandBelow slots.old.items }
     ensures slots { slots.new.items ≡ slice_set slots.old.items number slot }
-    ensures room { length marks.new.items ≡ length marks.old.items }
-    ensures marked { AreMarked slots.new.items marks.new.items }
+    ensures room { length marks.new ≡ length marks.old }
+    ensures marked { AreMarked slots.new.items marks.new }
     ensures places { StandBelow slots.new.items }
 {
-    mark_slot(marks, number, &slots[number]);
-    mark_slot(marks, number, &slot);
+    marks.mark_slot(number, &slots[number]);
+    marks.mark_slot(number, &slot);
     slots[number] = slot;
 }
 
 // The packet of the slot stands at this place of its route, and is marked there.
-fn move_slot(slots: &mut Vec<Option<Kept>>, marks: &mut Vec<u64>, number: usize, place: u32)
+fn move_slot(slots: &mut Vec<Option<Kept>>, marks: &mut Marks, number: usize, place: u32)
     requires held { IsSomeAnd (traveller slots.old.items number) (HasPlace place) }
-    requires room { number + 64 ≤ length marks.old.items }
-    requires marked { AreMarked slots.old.items marks.old.items }
+    requires room { number + 64 ≤ length marks.old }
+    requires marked { AreMarked slots.old.items marks.old }
     requires places { StandBelow slots.old.items }
     ensures slots { slots.new.items ≡ slice_set slots.old.items number
         (option_map (placed_at place) (traveller slots.old.items number)) }
-    ensures room { length marks.new.items ≡ length marks.old.items }
-    ensures marked { AreMarked slots.new.items marks.new.items }
+    ensures room { length marks.new ≡ length marks.old }
+    ensures marked { AreMarked slots.new.items marks.new }
     ensures places { StandBelow slots.new.items }
 {
-    mark_slot(marks, number, &slots[number]);
+    marks.mark_slot(number, &slots[number]);
     if let Some(kept) = &mut slots[number] {
         kept.move_to(place);
     }
-    mark_slot(marks, number, &slots[number]);
+    marks.mark_slot(number, &slots[number]);
 }

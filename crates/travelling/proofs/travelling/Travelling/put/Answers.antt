@@ -1,4 +1,4 @@
-use Rattle.std.proofs.Common.{ℕ, ◌≡◌, ◌+◌, ◌<◌, ◌≤◌, ◌∙◌, inl, inr, None, refl, ap, arith, length, length-set, get_or-set_other}
+use Rattle.std.proofs.Common.{ℕ, ◌≡◌, ◌<◌, ◌≤◌, ◌∙◌, inl, inr, None, refl, ap, arith, length, length-set, get_or-set_other}
 use Rattle.std.proofs.lemmas.Bool.{cases_lt}
 use Rattle.std.proofs.lemmas.List.{get_or_past}
 use Rattle.travelling.specs.Travelling.{Travellers, stands_at, traveller}
@@ -10,10 +10,10 @@ pub invariant_of-self : goal.invariant_of-self
 invariant_of-self c = record {
   few = c.self.invariant.few;
   none = c.self.invariant.none;
-  room = λ i below. omega (arith, c.self.invariant.room i below, c.make_marks.ensures.grown);
+  room = λ i below. omega (arith, c.self.invariant.room i below, c.make_bits.ensures.grown);
   marked = marked_on c.self.inside.slots.items c.self.inside.slots.items
-      c.self.inside.marks.items c.make_marks.new.masks.items c.self.invariant.marked (λ i. refl)
-      c.make_marks.ensures.same;
+      c.self.inside.marks c.make_bits.new.self c.self.invariant.marked (λ i. refl)
+      c.make_bits.ensures.same;
   places = c.self.invariant.places;
 }
 
@@ -22,20 +22,20 @@ invariant_of-self-in_err-make_room c = record {
   few = omega (arith, c.make_room.ensures.few, c.self.invariant.few, c.ranges.packet.fits);
   none = λ i below. c.make_room.ensures.same i ∙ c.self.invariant.none i below;
   room = room_on c.self.inside.slots.items c.make_room.new.slots.items
-      c.self.inside.marks.items c.make_marks.new.masks.items c.args.packet c.self.invariant.room
-      c.make_room.ensures.few c.make_marks.ensures.grown c.in_ok-make_marks.ensures.room;
+      c.self.inside.marks c.make_bits.new.self c.args.packet c.self.invariant.room
+      c.make_room.ensures.few c.make_bits.ensures.grown c.in_ok-make_bits.ensures.room;
   marked = marked_on c.self.inside.slots.items c.make_room.new.slots.items
-      c.self.inside.marks.items c.make_marks.new.masks.items c.self.invariant.marked
-      c.make_room.ensures.same c.make_marks.ensures.same;
+      c.self.inside.marks c.make_bits.new.self c.self.invariant.marked
+      c.make_room.ensures.same c.make_bits.ensures.same;
   places = λ i s past. ap (stands_at s) (c.make_room.ensures.same i)
       ∙ c.self.invariant.places i s past;
 }
 
 pub set_slot-requires-clause-marked : goal.set_slot-requires-clause-marked
 set_slot-requires-clause-marked c =
-    marked_on c.self.inside.slots.items c.make_room.new.slots.items c.self.inside.marks.items
-    c.make_marks.new.masks.items c.self.invariant.marked c.make_room.ensures.same
-    c.make_marks.ensures.same
+    marked_on c.self.inside.slots.items c.make_room.new.slots.items c.self.inside.marks
+    c.make_bits.new.self c.self.invariant.marked c.make_room.ensures.same
+    c.make_bits.ensures.same
 
 pub set_slot-requires-clause-places : goal.set_slot-requires-clause-places
 set_slot-requires-clause-places c = λ i s past.
@@ -62,8 +62,8 @@ invariant_of-self-2 c =
       ]
     ] in
     let all = room_on c.self.inside.slots.items c.make_room.new.slots.items
-    c.self.inside.marks.items c.make_marks.new.masks.items c.args.packet c.self.invariant.room
-    c.make_room.ensures.few c.make_marks.ensures.grown c.in_ok-make_marks.ensures.room in
+    c.self.inside.marks c.make_bits.new.self c.args.packet c.self.invariant.room
+    c.make_room.ensures.few c.make_bits.ensures.grown c.in_ok-make_bits.ensures.room in
     record {
       few = omega (
         arith,

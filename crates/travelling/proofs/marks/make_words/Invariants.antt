@@ -1,9 +1,10 @@
-use Rattle.std.proofs.Common.{ℕ, ◌≡◌, ◌+◌, ◌-◌, ◌≤◌, length, get_or}
-use Rattle.travelling.proofs.marks.make_marks.Given as goal
+use Rattle.std.proofs.Common.{ℕ, ◌≡◌, ◌+◌, ◌-◌, ◌≤◌, length, max, get_or}
+use Rattle.travelling.proofs.marks.make_words.Given as goal
 
 abbrev pub invariant-loop-masks : goal.invariant-loop-masks
 invariant-loop-masks l = record {
   grown : length l.initial.masks.items ≤ length l.masks.items;
+  few : length l.masks.items ≤ max (length l.initial.masks.items) (l.number + 64);
   same : (j : ℕ) → get_or l.masks.items j 0 ≡ get_or l.initial.masks.items j 0;
 }
 

@@ -1,0 +1,79 @@
+-- The loop over the switches of a ball, where each link is known from both its ends.
+use Rattle.std.proofs.Common.{◌≡◌, ℕ, ◌^◌, ◌<◌, ◌⊎◌, Bool, true, false, List, length, get_or, refl, sym, ◌∙◌, ap, arith, inl, inr}
+use Rattle.std.specs.Int.Bits.{bit_or, bit_xor, or_lt, xor_lt}
+use Rattle.std.proofs.lemmas.Bool.{cases_eq}
+use Rattle.std.proofs.lemmas.Nat.{pow_below}
+use Rattle.masks.specs.Masks.{has}
+use Rattle.failover.specs.Routes.{wider, nearer}
+use Rattle.failover.specs.Search.{AreBothWays}
+use Rattle.masks.proofs.CallerLemmas.{has-or, has-zero, same_masks}
+use Rattle.failover.proofs.Balls.{added_is_nearer, apart_tests, or_cases, or_left, or_right, wider_gains, wider_keeps, wider_lt}
+use Rattle.failover.proofs.RowLoop.{has_less-same, has_less-other}
+
+-- only switches of the wider ball are there, and each other one has a link to a switch that is left
+pub record IsWideSoFar (links : List ℕ) (ball wide rest : ℕ) : Type 0 where
+  pub wide_fits : wide < 2 ^ 64
+  pub rest_fits : rest < 2 ^ 64
+  pub inside : (k : ℕ) → has rest k ≡ true → has ball k ≡ true
+  pub sound : (j : ℕ) → j < 64 → has wide j ≡ true → has (wider links ball) j ≡ true
+  pub left : (j : ℕ) → j < 64 → has (wider links ball) j ≡ true → (has wide j ≡ true)
+      ⊎ ((k : ℕ) × (has (get_or links j 0) k ≡ true) × (has rest k ≡ true))
+
+holds_or_not : (b : Bool) → (b ≡ true) ⊎ (b ≡ false)
+holds_or_not true = inl refl
+holds_or_not false = inr refl
+
+pub wide_begins : (links : List ℕ) (ball : ℕ) → length links ≡ 64 → ball < 2 ^ 64
+    → IsWideSoFar links ball ball ball
+wide_begins links ball rows fits = record {
+  wide_fits = fits;
+  rest_fits = fits;
+  inside = λ k h. h;
+  sound = λ j below h. wider_keeps links ball j (omega arith) h;
+  left = λ j below h. elim (holds_or_not (has ball j)) [
+    | inl there ↦ inl there
+    | inr absent ↦ (let near = added_is_nearer links ball j (omega arith) fits h absent in
+        inr (nearer links ball j, near.joined, near.inside))
+  ];
+}
+
+pub wide_goes_on : (links : List ℕ) (ball wide rest at gone : ℕ) → length links ≡ 64
+    → AreBothWays links → IsWideSoFar links ball wide rest → has rest at ≡ true → at < 64
+    → get_or links at 0 < 2 ^ 64 → gone ≡ 2 ^ at
+    → IsWideSoFar links ball (bit_or wide (get_or links at 0)) (bit_xor rest gone)
+wide_goes_on links ball wide rest at gone rows both so_far here fits row_fits goes = rw goes (record {
+  wide_fits = or_lt 64 _ _ so_far.wide_fits row_fits;
+  rest_fits = xor_lt 64 _ _ so_far.rest_fits (pow_below at 64 fits);
+  inside = λ k h. elim (cases_eq k at) [
+    | inl same ↦ apart_tests _ h (ap (has (bit_xor rest (2 ^ at))) same ∙ has_less-same rest at here)
+    | inr apart ↦ so_far.inside k (sym (has_less-other rest at k apart) ∙ h)
+  ];
+  sound = λ j below h. elim (or_cases _ _ (sym (has-or wide (get_or links at 0) j) ∙ h)) [
+    | inl there ↦ so_far.sound j below there
+    | inr link ↦ wider_gains links ball j at (omega arith) (both j at ∙ link)
+        (so_far.inside at here)
+  ];
+  left = λ j below h. elim (so_far.left j below h) [
+    | inl there ↦ inl (has-or wide (get_or links at 0) j ∙ or_left _ _ there)
+    | inr more ↦ elim (cases_eq more.0 at) [
+      | inl same ↦ inl (has-or wide (get_or links at 0) j ∙ or_right _ _
+          (both at j ∙ ap (has (get_or links j 0)) (sym same) ∙ more.1))
+      | inr apart ↦ inr (more.0, more.1, has_less-other rest at more.0 apart ∙ more.2)
+    ]
+  ];
+})
+
+same_test : (a b : Bool) → (a ≡ true → b ≡ true) → (b ≡ true → a ≡ true) → a ≡ b
+same_test true b there back = sym (there refl)
+same_test false true there back = back refl
+same_test false false there back = refl
+
+pub wide_ends : (links : List ℕ) (ball wide rest : ℕ) → length links ≡ 64 → ball < 2 ^ 64
+    → IsWideSoFar links ball wide rest → rest ≡ 0 → wide ≡ wider links ball
+wide_ends links ball wide rest rows fits so_far none =
+    same_masks wide _ so_far.wide_fits (wider_lt links ball (omega arith) fits)
+    (λ j below. same_test (has wide j) (has (wider links ball) j) (so_far.sound j below)
+    (λ h. elim (so_far.left j below h) [
+      | inl there ↦ there
+      | inr more ↦ apart_tests _ more.2 (ap (λ n. has n more.0) none ∙ has-zero more.0)
+    ]))

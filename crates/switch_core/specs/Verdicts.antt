@@ -1,0 +1,28 @@
+-- What becomes of a packet by what a lookup or a rule says of it, before a route is taken.
+use Rattle.std.specs.Prelude.{ℕ, [], ◌∷◌}
+use Rattle.policy_rules.specs.declared.packet.Cause.TheVariants.{NoRoute}
+use Rattle.policy_rules.specs.declared.packet.Leg.TheVariants.{Exit as ExitLeg}
+use Rattle.switch_core.specs.Answering.{seek_by}
+use Rattle.switch_core.specs.Ends.{exit_by, set_out}
+use Rattle.switch_core.specs.State.{SwitchValue}
+use Rattle.switch_core.specs.declared.answers.Answer.{Answer}
+use Rattle.switch_core.specs.declared.answers.Answer.TheVariants.{Decided}
+use Rattle.switch_core.specs.declared.answers.Next.{Next}
+use Rattle.switch_core.specs.declared.answers.Next.TheVariants as way
+use Rattle.switch_core.specs.declared.packet.Packet.{Packet}
+use Rattle.switch_core.specs.declared.verdicts.End.{End}
+use Rattle.switch_core.specs.declared.verdicts.End.TheVariants.{Dropped, Out, Unowned}
+use Rattle.switch_core.specs.declared.verdicts.Verdict.{Verdict}
+use Rattle.switch_core.specs.declared.verdicts.Verdict.TheVariants.{Here, Away, Seek}
+
+abbrev pub next_at : End → Next
+next_at Dropped = way.Dropped
+next_at (Out port) = way.Out port
+next_at Unowned = way.Stuck NoRoute
+
+-- the answer, with the route that is to be taken
+abbrev pub answer_of : SwitchValue → ℕ → Packet → Verdict → Answer
+answer_of s near packet (Here decision cache end) = Decided decision cache (next_at end)
+answer_of s near packet (Away decision cache port owner) =
+    Decided decision cache (exit_by (set_out s near packet (ExitLeg port) (owner ∷ [])))
+answer_of s near packet (Seek leg targets) = seek_by leg (set_out s near packet leg targets)

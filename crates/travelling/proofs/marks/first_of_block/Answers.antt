@@ -1,0 +1,29 @@
+use Rattle.std.proofs.Common.{◌+◌, ◌*◌, ◌^◌, ◌<◌, arith}
+use Rattle.masks.specs.Masks.{least_in}
+use Rattle.masks.proofs.CallerLemmas.{least_lt}
+use Rattle.travelling.specs.Marks.{mask_at}
+use Rattle.travelling.proofs.Blocks.{block_within, first_marked, some_of}
+use Rattle.travelling.proofs.marks.first_of_block.Goals as goal
+
+pub overflow_add-result-2 : goal.overflow_add-result-2
+unfolding least_in
+overflow_add-result-2 c =
+    let masks = c.args.masks.now in
+    let block = c.args.block in
+    let s = c.args.switch in
+    let fits : mask_at masks block s < 2 ^ 64 =
+    (let fit = c.type_inv.masks (block * 64 + s) in omega (arith, fit.fits)) in
+    let within = block_within masks block s c.requires.some in
+    let some = some_of (mask_at masks block s) c.requires.some in
+    let few = least_lt (mask_at masks block s) some fits in
+    omega (arith, within, few, c.well_formed)
+
+pub returns : goal.returns
+unfolding least_in
+returns c =
+    let masks = c.args.masks.now in
+    let block = c.args.block in
+    let s = c.args.switch in
+    let fits : mask_at masks block s < 2 ^ 64 =
+    (let fit = c.type_inv.masks (block * 64 + s) in omega (arith, fit.fits)) in
+    first_marked masks block s c.requires.some fits
