@@ -1,8 +1,9 @@
 -- What becomes of the waiting messages when the list of statuses changes, and which one is found.
-use Rattle.std.proofs.Common.{◌≡◌, ◌+◌, ◌-◌, ◌^◌, ◌<◌, ◌≤◌, ◌∙◌, inl, inr, ap, sym, subst, refl, ℕ, Bool, true, false, cond, Option, Some, None, List, [], ◌∷◌, ◌++◌, zero, suc, length, set, get_or, max, eq-eqb, arith, length-append}
+use Rattle.std.proofs.Common.{◌≡◌, ◌+◌, ◌-◌, ◌^◌, ◌<◌, ◌≤◌, ◌∙◌, inl, inr, ap, sym, subst, refl, ℕ, Bool, true, false, cond, Option, Some, None, List, [], ◌∷◌, ◌++◌, zero, suc, length, set, get_or, take, max, eq-eqb, arith, length-append}
 use Rattle.std.specs.Prelude.{slice_get, option_map, find, IsTrue, ◌==◌, if◌then◌else◌}
 use Rattle.std.specs.Option.{option_map_or}
 use Rattle.std.specs.List.{range_with_len}
+use Rattle.std.proofs.Math.Seq.{take-append_seam}
 use Rattle.std.proofs.lemmas.Bool.{cases_lt, cases_eq, ne_eqb}
 use Rattle.std.proofs.lemmas.Grind.{common_steps}
 use Rattle.std.proofs.lemmas.Option.{get_or_from_slice_get}
@@ -44,6 +45,37 @@ pushed_passed passed statuses few are =
       ];
       none = λ number below. waits_as statuses after number false
           (status_before statuses waiting number (omega (arith, are.within)))
+          (are.none number below);
+    }
+
+-- statuses but for the last one
+pub without_last : (n : ℕ) (all before : List Status) → all ≡ before ++ waiting ∷ []
+    → n ≡ length all - 1 → take n all ≡ before
+without_last n all before is last =
+    let many : n ≡ length before =
+    omega (arith, last, ap length is, length-append before (waiting ∷ [])) in
+    rw (is, many) (take-append_seam before (waiting ∷ []))
+
+-- so it is without a status that waits behind the others
+pub taken_back : (passed : ℕ) (statuses : List Status) → ArePassed passed (statuses ++ waiting ∷ [])
+    → ArePassed passed statuses
+taken_back passed statuses are =
+    let longer = length-append statuses (waiting ∷ []) in
+    let within : passed ≤ length statuses = elim (cases_lt (length statuses) passed) [
+      | inl past ↦ absurd (let last : is_waiting (statuses ++ waiting ∷ []) (length statuses + 1)
+          ≡ true = ap (λ o. option_map_or waits o false)
+          (status_last statuses waiting (length statuses + 1) refl) in
+          let not_last = are.none (length statuses + 1) (omega (arith, past)) in cc)
+      | inr within ↦ within
+    ] in
+    record {
+      few = omega (arith, are.few, longer);
+      within = within;
+      here = λ below. waits_as (statuses ++ waiting ∷ []) statuses (passed + 1) true
+          (sym (status_before statuses waiting (passed + 1) (omega (arith, below))))
+          (are.here (omega (arith, below, longer)));
+      none = λ number below. waits_as (statuses ++ waiting ∷ []) statuses number false
+          (sym (status_before statuses waiting number (omega (arith, below, within))))
           (are.none number below);
     }
 

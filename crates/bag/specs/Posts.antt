@@ -1,34 +1,45 @@
--- The messages that were posted, each with what became of it, numbered from 1 in the order in which
--- they were posted.
-use Rattle.std.specs.Prelude.{ℕ, Bool, if◌then◌else◌, Option, Some, None, is_some, List, map}
+-- The messages that were posted, as the frames that travel, each with what became of it, numbered
+-- from 1 in the order in which they were posted.
+use Rattle.std.specs.Prelude.{ℕ, ◌≡◌, Bool, true, if◌then◌else◌, Option, Some, None, is_some, List, [], map}
 use Rattle.std.specs.Option.{option_and_then}
 use Rattle.ctrl_msg.specs.declared.message.Message.{Message}
+use Rattle.wire.specs.Frames.{frames}
+use Rattle.wire.specs.Messages.{message as form}
 use Rattle.bag.specs.Deliveries as statuses
 use Rattle.bag.specs.Numbered.{numbered, with_changed}
 use Rattle.bag.specs.declared.deliveries.Status.{Status}
 
+-- the frames of a message; one that has no spelling has none
+unfoldable pub framed : Message → List (List ℕ)
+framed message = if form.fits message then frames message else []
+
 abbrev pub Post : Type 0
-Post = Message × Status
+Post = List (List ℕ) × Status
 
 -- a message that is posted now
 abbrev pub posted : Message → Post
-posted message = (message, statuses.waiting)
+posted message = (framed message, statuses.waiting)
 
 -- what became of each
 abbrev pub statuses_of : List Post → List Status
 statuses_of posts = map (λ (post : Post). post.1) posts
 
--- the message of a post that isn't forgotten
-abbrev pub remembered : Post → Option Message
+-- the frames of a post that isn't forgotten
+abbrev pub remembered : Post → Option (List (List ℕ))
 remembered post = if post.1.forgotten then None else Some post.0
 
--- the message of a number, if it was posted and isn't forgotten
-abbrev pub message_of : List Post → ℕ → Option Message
-message_of posts number = option_and_then remembered (numbered posts number)
+-- the frames of the message of a number, if it was posted and isn't forgotten
+abbrev pub frames_of : List Post → ℕ → Option (List (List ℕ))
+frames_of posts number = option_and_then remembered (numbered posts number)
 
 -- there is such a message
 abbrev pub is_deliverable : List Post → ℕ → Bool
-is_deliverable posts number = is_some (message_of posts number)
+is_deliverable posts number = is_some (frames_of posts number)
+
+-- the message has a spelling, and its frames are those of this number
+pub record IsMessageOf (posts : List Post) (number : ℕ) (message : Message) : Type 0 where
+  pub fits : form.fits message ≡ true
+  pub frames_are : frames_of posts number ≡ Some (framed message)
 
 -- the least number at or above `from` of a message that was never delivered and isn't forgotten
 abbrev pub next_waiting : List Post → ℕ → Option ℕ

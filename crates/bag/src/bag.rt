@@ -1,17 +1,19 @@
-ghost use Rattle.std.specs.Prelude.{◌≡◌, ◌<◌, ◌+◌, ◌-◌, ◌^◌, [], ◌∷◌, ◌++◌, length, IsTrue, IfOk, OnOk, OnErr};
-ghost use Rattle.bag.specs.Posts.{is_deliverable, message_of, next_waiting, posted, with_delivered, with_forgotten};
+ghost use Rattle.std.specs.Prelude.{◌≡◌, ◌<◌, ◌+◌, ◌-◌, ◌^◌, [], ◌∷◌, ◌++◌, length, is_some, IsTrue, IfOk, IfSome, OnOk, OnErr};
+ghost use Rattle.bag.specs.Posts.{IsMessageOf, is_deliverable, next_waiting, posted, with_delivered, with_forgotten};
+ghost use Rattle.frame_laws.specs.Feeding.{HasShortSpelling};
 
 use crate::deliveries::Deliveries;
 use ctrl_msg::Message;
-use journal::SharedMessage;
+use frame_bag::FrameBag;
 use std::alloc::{AllocError, Global};
 use std::marker::Model;
 
 /// The messages that were posted, numbered from 1 in their order: at most 2^32 - 1. Contracts see
-/// the list of them, each with whether it was delivered and whether it is forgotten.
+/// the list of their frames, each message with whether it was delivered and whether it is
+/// forgotten.
 #[derive(Drop)]
 pub struct Bag {
-    messages: Vec<SharedMessage>,
+    frames: FrameBag,
     deliveries: Deliveries,
 }
 
@@ -22,9 +24,9 @@ impl Model for Bag {
 
     ghost Value = { List Post };
 
-    ghost view = { λ b. zip b.messages.items b.deliveries };
+    ghost view = { λ b. zip b.frames b.deliveries };
 
-    ghost invariant = { λ b. length b.messages.items ≡ length b.deliveries };
+    ghost invariant = { λ b. length b.frames ≡ length b.deliveries };
 }
 
 impl Bag {
@@ -33,7 +35,7 @@ impl Bag {
         ensures { result ≡ [] }
     {
         Bag {
-            messages: Vec::new(alloc),
+            frames: FrameBag::new(alloc),
             deliveries: Deliveries::new(alloc),
         }
     }
@@ -42,17 +44,18 @@ impl Bag {
     ///
     /// # Errors
     /// Want of memory alone; nothing changes then.
-    pub fn post(&mut self, message: SharedMessage) -> Result<u32, AllocError>
-        requires { length self.old < 2 ^ 32 - 1 }
+    pub fn post(&mut self, alloc: Global, message: &Message) -> Result<u32, AllocError>
+        requires spelling { HasShortSpelling message.now }
+        requires few { length self.old < 2 ^ 32 - 1 }
         ensures number { IfOk result (λ number. number ≡ length self.old + 1) }
-        ensures posted { OnOk result (self.new ≡ self.old ++ posted message ∷ []) }
+        ensures posted { OnOk result (self.new ≡ self.old ++ posted message.now ∷ []) }
         ensures unchanged { OnErr result (self.new ≡ self.old) }
     {
-        self.messages.push(message)?;
-        match self.deliveries.add() {
-            Ok(()) => Ok(self.deliveries.count()),
+        self.deliveries.add()?;
+        match self.frames.post(alloc, message) {
+            Ok(number) => Ok(number),
             Err(error) => {
-                let _ = self.messages.pop();
+                self.deliveries.take_back();
                 Err(error)
             }
         }
@@ -65,20 +68,20 @@ impl Bag {
         self.deliveries.count()
     }
 
-    /// A copy of the message of this number, which shares its tables; `None` exactly where none of
-    /// this number was posted, or it is forgotten.
+    /// The message of this number, out of its frames; `None` exactly where none of this number was
+    /// posted, or it is forgotten.
     ///
     /// # Errors
     /// Want of memory alone.
-    pub fn get(&self, number: u32) -> Result<Option<Message>, AllocError>
-        ensures { IfOk result (λ message. message ≡ message_of self.now number) }
+    pub fn get(&self, alloc: Global, number: u32) -> Result<Option<Message>, AllocError>
+        ensures found { IfOk result (λ answer. is_some answer ≡ is_deliverable self.now number) }
+        ensures message { IfOk result (λ answer. IfSome answer (IsMessageOf self.now number)) }
     {
-        if !self.may_be_delivered(number) {
-            return Ok(None);
+        if self.may_be_delivered(number) {
+            self.frames.take(alloc, number)
+        } else {
+            Ok(None)
         }
-        let message = self.messages[number as usize - 1].message();
-        let copy = message.clone()?;
-        Ok(Some(copy))
     }
 
     /// Whether a message of this number was posted and isn't forgotten.

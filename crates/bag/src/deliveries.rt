@@ -1,6 +1,7 @@
-ghost use Rattle.std.specs.Prelude.{◌≡◌, ◌<◌, ◌+◌, ◌-◌, ◌^◌, [], ◌∷◌, ◌++◌, length, IsTrue, OnOk, OnErr};
+ghost use Rattle.std.specs.Prelude.{◌≡◌, ◌<◌, ◌+◌, ◌-◌, ◌^◌, [], ◌∷◌, ◌++◌, List, length, IsTrue, OnOk, OnErr};
 ghost use Rattle.bag.specs.Deliveries.{delivered, forgotten, is_deliverable, may_be_delivered, next_waiting, waiting, waits, IsFirstWaiting};
 ghost use Rattle.bag.specs.Numbered.{with_changed};
+ghost use Rattle.bag.specs.declared.deliveries.Status.{Status};
 
 use std::alloc::{AllocError, Global};
 use std::marker::Model;
@@ -79,6 +80,15 @@ impl Deliveries {
     {
         self.statuses.push(Status::waiting())?;
         Ok(())
+    }
+
+    /// The last message, which waits, isn't there after all.
+    pub(crate) fn take_back(&mut self)
+        requires { (before : List Status) × (self.old ≡ before ++ waiting ∷ []) }
+        ensures { (before : List Status) → self.old ≡ before ++ waiting ∷ []
+            → self.new ≡ before }
+    {
+        self.statuses.truncate(self.statuses.len() - 1);
     }
 
     /// How many messages there are.

@@ -1,4 +1,4 @@
-ghost use Rattle.std.specs.Prelude.{◌≡◌, ◌<◌, ◌+◌, ◌^◌, ◌++◌, ◌∷◌, ◌↔◌, ◌⊎◌, [], None, Some, length, IfOk, IfSome, IsNone, OnErr, OnOk};
+ghost use Rattle.std.specs.Prelude.{◌≡◌, ◌<◌, ◌+◌, ◌-◌, ◌^◌, ◌++◌, ◌∷◌, ◌↔◌, ◌⊎◌, [], None, Some, true, length, IfOk, IfSome, IsNone, OnErr, OnOk};
 ghost use Rattle.wire.specs.Frames.{frames};
 ghost use Rattle.wire.specs.Messages.{HasSpelling, message as form};
 ghost use Rattle.frame_bag.specs.Kept.{IsPosted, tables_version};
@@ -58,7 +58,8 @@ impl FrameBag {
     pub fn post(&mut self, alloc: Global, message: &Message) -> Result<u32, AllocError>
         requires spelling { HasSpelling message.now }
         requires short { length (form.spell message.now) < 2 ^ 40 }
-        requires few { length self.old < 1_000_000 }
+        requires few { length self.old < 2 ^ 32 - 1 }
+        ensures fits { OnOk result (form.fits message.now ≡ true) }
         ensures number { IfOk result (λ number. number ≡ length self.old + 1) }
         ensures posted { OnOk result (self.new ≡ self.old ++ frames message.now ∷ []) }
         ensures unchanged { OnErr result (self.new ≡ self.old) }
@@ -75,6 +76,7 @@ impl FrameBag {
         requires spelling { HasSpelling message.now }
         requires short { length (form.spell message.now) < 2 ^ 40 }
         requires alone { tables_version message.now.body ≡ None }
+        ensures fits { OnOk result (form.fits message.now ≡ true) }
         ensures posted { OnOk result (self.new ≡ self.old ++ frames message.now ∷ []) }
         ensures unchanged { OnErr result (self.new ≡ self.old) }
     {
@@ -93,6 +95,7 @@ impl FrameBag {
     ) -> Result<(), AllocError>
         requires spelling { HasSpelling message.now }
         requires short { length (form.spell message.now) < 2 ^ 40 }
+        ensures fits { OnOk result (form.fits message.now ≡ true) }
         ensures posted { OnOk result (self.new ≡ self.old ++ frames message.now ∷ []) }
         ensures unchanged { OnErr result (self.new ≡ self.old) }
     {

@@ -1,5 +1,5 @@
 -- How long spellings are: those of all messages but installations are short.
-use Rattle.std.proofs.Common.{◌≡◌, ℕ, ◌+◌, ◌≤◌, Bool, true, false, ◌++◌, length, Option, Some, None, refl, arith}
+use Rattle.std.proofs.Common.{◌≡◌, ℕ, ◌+◌, ◌<◌, ◌≤◌, ◌^◌, Bool, true, false, ◌++◌, length, Option, Some, None, refl, arith}
 use Rattle.std.proofs.lemmas.List.{length-append}
 use Rattle.ctrl_msg.specs.declared.message.Receiver.{Receiver}
 use Rattle.ctrl_msg.specs.declared.message.Receiver.TheVariants.{Switch, Controller}
@@ -58,16 +58,16 @@ advert_len : (a : Advert) → length (advert.spell a) ≡ 17
 unfolding advert switch n1 n4 n8 spelled_number
 advert_len a = refl
 
-word_len : (w : WordValue) → length (word.spell w) ≡ 32
+pub word_len : (w : WordValue) → length (word.spell w) ≡ 32
 unfolding word n16 n8 spelled_number
 word_len w = refl
 
-rule_len : (o : Option ℕ) → length (rule_name.spell o) ≤ 5
+pub rule_len : (o : Option ℕ) → length (rule_name.spell o) ≤ 5
 unfolding rule_name n1 n4 spelled_number
 rule_len None = omega arith
 rule_len (Some n) = omega arith
 
-action_len : (a : Action) → length (action.spell a) ≤ 5
+pub action_len : (a : Action) → length (action.spell a) ≤ 5
 unfolding action n1 n4 spelled_number
 action_len Drop = omega arith
 action_len (Out port) = omega arith
@@ -103,3 +103,7 @@ pub install_long : (boot : ℕ) (t : Tables) → 4 ≤ length (spelled_fields (I
 unfolding install
 install_long boot t =
     omega (arith, length-append (n4.spell boot) (tables.spell t), length_n4 boot)
+
+-- so a message that brings no tables is short
+pub alone_short : (m : Message) → is_alone m.body ≡ true → length (message.spell m) < 2 ^ 40
+alone_short m alone = omega (arith, length_message m, fields_short m.body alone)

@@ -1,4 +1,4 @@
-mod Lengths
+pub mod Lengths
 pub mod Sized
 mod Parts
 pub mod Coming

@@ -4,11 +4,16 @@ use Rattle.std.specs.List.{Contains}
 use Rattle.ctrl_msg.specs.declared.message.Message.{Message}
 use Rattle.wire.specs.Assembly.{with_frame}
 use Rattle.wire.specs.Frames.{frames}
-use Rattle.wire.specs.Messages.{message}
+use Rattle.wire.specs.Messages.{HasSpelling, message}
 
 -- a message that is sent in frames: it has a spelling, of fewer than 2^40 bytes
 pub record HasFrames (m : Message) : Type 0 where
   pub fits : message.fits m ≡ true
+  pub short : length (message.spell m) < 2 ^ 40
+
+-- what a message must be so that it has such a spelling, as each number fits the bytes of its type
+pub record HasShortSpelling (m : Message) : Type 0 where
+  pub spelling : HasSpelling m
   pub short : length (message.spell m) < 2 ^ 40
 
 -- each of these is a frame of the message, in whatever order, and with whatever repeats

@@ -17,8 +17,9 @@ use Rattle.switch_core.specs.declared.packet.Packet.{Packet}
 use Rattle.update_machine.specs.Messages.{is_sending, next_message, sends, sent_from}
 use Rattle.update_machine.specs.Moves.{AuthorityRule, authority_items, cache_items, end_items, header_at, in_turn}
 use Rattle.update_machine.specs.Moves.{cache_rule as rule_message}
-use Rattle.update_machine.specs.Packets.{found_down, is_at}
+use Rattle.update_machine.specs.Packets.{found_down}
 use Rattle.update_machine.specs.Setting.{Setting}
+use Rattle.update_machine.specs.Travels.{is_at}
 use Rattle.update_machine.proofs.CallerLemmas.{count_of_append}
 use Rattle.way_laws.specs.Words.{words_of}
 use Rattle.way_laws.proofs.Words.{words_grow}

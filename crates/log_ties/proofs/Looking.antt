@@ -33,8 +33,8 @@ use Rattle.update_machine.specs.Messages.{next_message, sent_from}
 use Rattle.update_machine.specs.Moves.{authority_items, authority_rule, found_items, lookup_items}
 use Rattle.update_machine.specs.Packets.{targets_of}
 use Rattle.update_machine.specs.Sound.{IsSetting}
-use Rattle.update_machine.specs.Setting.{Setting}
-use Rattle.update_machine.specs.Versions.{plan_at, policy_at, stamp_of, tables_at}
+use Rattle.update_machine.specs.Setting.{Setting, plan_at}
+use Rattle.update_machine.specs.Versions.{policy_at, stamp_of, tables_at}
 use Rattle.boot_laws.specs.ItemCauses.{HasItemCause}
 use Rattle.way_laws.proofs.Lookups.{FindsRule, FindsTargets, IsStamped, authority_told, deciding, redirect_told, rule_there, stamped}
 use Rattle.way_laws.proofs.Plans.{Finds, IsPlanned}

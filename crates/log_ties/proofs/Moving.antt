@@ -32,8 +32,9 @@ use Rattle.update_machine.specs.Handled.{stays_on_way}
 use Rattle.update_machine.specs.Links.{near}
 use Rattle.update_machine.specs.Messages.{next_message}
 use Rattle.update_machine.specs.Moves.{arrive_items, cause_at, go_on, move_items, put, reroute_by, reroute_items, route_for, stuck_on}
-use Rattle.update_machine.specs.Packets.{found_down, leg_of, next_switch, no_switch, owner, targets_of}
+use Rattle.update_machine.specs.Packets.{found_down, next_switch, no_switch, owner, targets_of}
 use Rattle.update_machine.specs.Setting.{Setting}
+use Rattle.update_machine.specs.Travels.{leg_of}
 use Rattle.update_machine.proofs.CallerLemmas.{have_append, messages_keep, switch_keeps}
 use Rattle.boot_laws.specs.ItemCauses.{HasItemCause}
 use Rattle.way_laws.specs.OnWay.{IsOnLeg}

@@ -72,6 +72,7 @@ pub record Stands (setting : Setting) (journal : List Item) (i place : ℕ) (hea
   pub came : (words_of journal i).ingress ≡ Some ingress
   pub stands : (words_of journal i).place ≡ Some place
   pub takes : (words_of journal i).leg ≡ Some leg
+  pub at_first : ingress < length setting.net.switches
   pub there : place < length setting.net.switches
   pub serving : IsTrue (serves journal place)
   pub sound : IsHeader header
@@ -118,6 +119,7 @@ standing_by setting journal i t knows by =
         came = way.under_way.came;
         stands = way.under_way.stands;
         takes = way.takes;
+        at_first = way.under_way.at_first;
         there = way.under_way.now;
         serving = serves_here setting journal i way.under_way.place travelling.served
             way.under_way.stands;

@@ -1,4 +1,4 @@
--- The messages of a world are those that its journal says.
+-- The bag of a world has the frames of the messages that its journal says.
 use Rattle.std.proofs.Common.{ℕ, zero, suc, ◌≡◌, ◌+◌, ◌<◌, ◌≤◌, ◌==◌, Bool, true, false, if◌then◌else◌, Option, Some, None, List, [], ◌∷◌, ◌++◌, refl, ap, sym, subst, ◌∙◌, length, length-append, append-nil, append_assoc, arith, eq-eqb, eqb-true, ne_eqb}
 use Rattle.std.specs.Prelude.{⊤, IsFalse, is_some, nat_lt, option_map, slice_get}
 use Rattle.std.specs.Option.{option_and_then, option_or}
@@ -6,7 +6,7 @@ use Rattle.std.proofs.lemmas.Bool.Decides.{nat_tests}
 use Rattle.std.proofs.lemmas.Option.{slice_get_within}
 use Rattle.bag.specs.Deliveries.{delivered, forgotten}
 use Rattle.bag.specs.Numbered.{numbered, with_changed}
-use Rattle.bag.specs.Posts.{Post, message_of as message_in, posted, remembered, with_delivered, with_forgotten, with_status}
+use Rattle.bag.specs.Posts.{Post, framed, frames_of, is_deliverable as is_deliverable_in, posted, remembered, with_delivered, with_forgotten, with_status}
 use Rattle.bag.proofs.Numbered.{length_changed, numbered_changed, numbered_pushed}
 use Rattle.ctrl_msg.specs.declared.message.Message.{Message}
 use Rattle.journal.specs.declared.item.Item.{Item}
@@ -14,7 +14,8 @@ use Rattle.journal.specs.declared.item.Item.TheVariants as item
 use Rattle.update_machine.specs.Concerns.{NoneConcern, concerns_known, concerns_links, concerns_message, concerns_messages, concerns_policies}
 use Rattle.update_machine.specs.Folds.{count_of, last_told}
 use Rattle.update_machine.specs.Laws.{MessageKeeps}
-use Rattle.update_machine.specs.Messages.{is_forgotten, is_forgetting, is_delivery, is_sending, message_of, next_message, tells_message, was_delivered}
+use Rattle.update_machine.specs.Messages.{is_forgotten, is_forgetting, is_delivery, is_sending, next_message, was_delivered}
+use Rattle.update_machine.specs.Boots.{message_of, tells_message}
 use Rattle.update_machine.proofs.CallerLemmas.{count_of_append, last_told_append, fewer, message_keeps, messages_keep, start_laws}
 use Rattle.log_ties.specs.Bags.{IsBagOf, post_in}
 
@@ -149,24 +150,24 @@ bag_sent before posts message bag =
 -- ---- a message is delivered or forgotten
 
 -- what was posted has a number up to their count
-pub within_posts : (posts : List Post) (n : ℕ) (message : Message)
-    → message_in posts n ≡ Some message → n ≤ length posts
-within_posts posts zero message is = omega arith
-within_posts posts (suc place) message is = by_post (slice_get posts place) refl is
+pub within_posts : (posts : List Post) (n : ℕ) (fs : List (List ℕ))
+    → frames_of posts n ≡ Some fs → n ≤ length posts
+within_posts posts zero fs is = omega arith
+within_posts posts (suc place) fs is = by_post (slice_get posts place) refl is
   where
     by_post : (o : Option Post) → slice_get posts place ≡ o
-        → option_and_then remembered o ≡ Some message → suc place ≤ length posts
+        → option_and_then remembered o ≡ Some fs → suc place ≤ length posts
     by_post None e none = absurd cc
     by_post (Some post) e some = omega (arith, slice_get_within posts place post e)
 
-pub some_within : (posts : List Post) (n : ℕ) → is_some (message_in posts n) ≡ true
+pub some_within : (posts : List Post) (n : ℕ) → is_deliverable_in posts n ≡ true
     → n ≤ length posts
-some_within posts n there = by_message (message_in posts n) refl there
+some_within posts n there = by_frames (frames_of posts n) refl there
   where
-    by_message : (o : Option Message) → message_in posts n ≡ o → is_some o ≡ true
+    by_frames : (o : Option (List (List ℕ))) → frames_of posts n ≡ o → is_some o ≡ true
         → n ≤ length posts
-    by_message None e none = absurd cc
-    by_message (Some message) e some = within_posts posts n message e
+    by_frames None e none = absurd cc
+    by_frames (Some fs) e some = within_posts posts n fs e
 
 -- the post of one number changes as the item changes its words
 abbrev ChangesOne : (Post → Post) → ℕ → List Item → Item → Type 0
@@ -209,11 +210,11 @@ bag_changed change k before posts item changes posted_it as_many bag =
 
 -- what is said of a message that an item doesn't send, by its flags
 flagged : (o : Option Message) (change : Post → Post) (was now : Bool × Bool)
-    → ((m : Message) → change (m, record { delivered = was.0; forgotten = was.1 })
-    ≡ (m, record { delivered = now.0; forgotten = now.1 }))
-    → option_map (λ (m : Message). (m, record { delivered = now.0; forgotten = now.1 })) o
+    → ((m : Message) → change (framed m, record { delivered = was.0; forgotten = was.1 })
+    ≡ (framed m, record { delivered = now.0; forgotten = now.1 }))
+    → option_map (λ (m : Message). (framed m, record { delivered = now.0; forgotten = now.1 })) o
     ≡ option_map change
-    (option_map (λ (m : Message). (m, record { delivered = was.0; forgotten = was.1 })) o)
+    (option_map (λ (m : Message). (framed m, record { delivered = was.0; forgotten = was.1 })) o)
 flagged None change was now same = refl
 flagged (Some m) change was now same = ap Some (sym (same m))
 

@@ -1,5 +1,5 @@
 -- A switch's own partition of a number is that of the plan.
-use Rattle.std.proofs.Common.{ℕ, zero, suc, ◌≡◌, ◌<◌, ◌==◌, Bool, true, false, ◌&&◌, ◌||◌, if◌then◌else◌, Option, Some, None, List, [], ◌∷◌, refl, ap, sym, ◌∙◌, length, map, find, filter, slice_get, All, get_or, arith, eq-eqb, eqb-true}
+use Rattle.std.proofs.Common.{ℕ, ◌≡◌, ◌<◌, ◌==◌, Bool, true, false, ◌&&◌, ◌||◌, if◌then◌else◌, Option, Some, None, List, [], ◌∷◌, refl, ap, sym, ◌∙◌, length, map, find, filter, slice_get, All, get_or, arith, eq-eqb, eqb-true}
 use Rattle.std.specs.Prelude.{IsTrue, unwrap_or}
 use Rattle.std.specs.List.{AllByRecursion, list_any}
 use Rattle.std.specs.Option.{IsSomeAnd}
@@ -10,20 +10,7 @@ use Rattle.policy_rules.specs.Partitions.{AreNumbered}
 use Rattle.policy_rules.specs.declared.rules.Partition.{Partition}
 use Rattle.switch_core.specs.Deciding.{no_part, own_part, part_numbered}
 use Rattle.switch_table.specs.Tables.{Placed, has_target, part_of, tables_of}
-
-any_at : {X : Type 0} (test : X → Bool) (xs : List X) (k : ℕ) (x : X) → slice_get xs k ≡ Some x
-    → test x ≡ true → list_any test xs ≡ true
-any_at test [] k x there passes = absurd cc
-any_at test (y ∷ ys) zero x there passes =
-    let same : y ≡ x = cc in
-    let here : test y ≡ true = ap test same ∙ passes in
-    rw here refl
-any_at test (y ∷ ys) (suc k) x there passes =
-    ap (λ b. test y || b) (any_at test ys k x there passes) ∙ true_last (test y)
-  where
-    true_last : (b : Bool) → (b || true) ≡ true
-    true_last true = refl
-    true_last false = refl
+use Rattle.switch_ties.proofs.Asked.{any_at}
 
 -- where each partition of the number is this one, the switch's own one is
 own_found : (s partition : ℕ) (this : Partition) (plan : List Placed)

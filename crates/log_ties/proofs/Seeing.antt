@@ -10,15 +10,16 @@ use Rattle.switch_table.specs.Lookup.{lookup_of}
 use Rattle.switch_table.specs.declared.tables.Tables.{Tables}
 use Rattle.switch_ties.specs.SwitchOf.{switch_of}
 use Rattle.switch_ties.proofs.Knowing.{know_ties}
-use Rattle.switch_ties.proofs.Words.{stamp_shown}
+use Rattle.switch_ties.proofs.Words.{stamp_shown, number_shown}
+use Rattle.switch_ties.proofs.Asked.{open_shown}
 use Rattle.update_machine.specs.Adverts.{is_cut_off, route_from}
 use Rattle.update_machine.specs.Boots.{is_up, serves as serves_in}
 use Rattle.update_machine.specs.Caches.{lookup_at}
 use Rattle.update_machine.specs.Concerns.{concerns_links, concerns_policies, concerns_switch}
 use Rattle.update_machine.specs.Laws.{KnownKeeps, SwitchKeeps}
 use Rattle.update_machine.specs.Links.{near}
-use Rattle.update_machine.specs.Setting.{Setting}
-use Rattle.update_machine.specs.Versions.{holds_version as holds_in, plan_at, stamp_of, tables_at}
+use Rattle.update_machine.specs.Setting.{Setting, plan_at}
+use Rattle.update_machine.specs.Versions.{holds_version as holds_in, stamp_of, tables_at}
 use Rattle.update_machine.proofs.CallerLemmas.{known_keeps, lookup_stays, near_stays, policies_keep, switch_keeps}
 use Rattle.switch_table.specs.Tables.{tables_of}
 use Rattle.log_ties.proofs.Known.{Known}
@@ -42,16 +43,6 @@ pub record Sees (setting : Setting) (journal : List Item) (s : ℕ) (w : SwitchV
       ≡ is_cut_off setting journal s down target
   pub usable : mask ≡ near setting journal s
 
-number_of : (setting : Setting) (journal : List Item) (s : ℕ)
-    → (switch_of setting journal s).number ≡ s
-unfolding switch_of
-number_of setting journal s = refl
-
-open_of : (setting : Setting) (journal : List Item) (s : ℕ)
-    → serves (switch_of setting journal s) ≡ (is_up journal s && serves_in journal s)
-unfolding switch_of
-open_of setting journal s = refl
-
 serving_of : (up serving : Bool) → (serving ≡ true → up ≡ true)
     → (up && serving) ≡ serving
 serving_of true serving is = refl
@@ -65,10 +56,10 @@ sees setting journal s knows there =
     let w : SwitchValue = switch_of setting journal s in
     let mask : ℕ = near setting journal s in
     let stamp : w.stamp ≡ stamp_of journal s = stamp_shown setting journal s in
-    let number : w.number ≡ s = number_of setting journal s in
+    let number : w.number ≡ s = number_shown setting journal s in
     record {
       number = number;
-      serving = open_of setting journal s
+      serving = open_shown setting journal s
           ∙ serving_of (is_up journal s) (serves_in journal s) (knows.serving.up s);
       stamp = stamp;
       held = know_ties.held setting journal s;

@@ -11,10 +11,11 @@ use Rattle.hop_laws.specs.Drains.{drain_left}
 use Rattle.update_machine.specs.Answers.{IsReached}
 use Rattle.update_machine.specs.Full.{HasRoom}
 use Rattle.update_machine.specs.Messages.{next_waiting}
-use Rattle.update_machine.specs.Packets.{next_packet, next_travelling}
+use Rattle.update_machine.specs.Packets.{next_packet}
 use Rattle.update_machine.specs.Pieces.{piece}
 use Rattle.update_machine.specs.Sound.{IsSetting}
 use Rattle.update_machine.specs.Setting.{Setting}
+use Rattle.update_machine.specs.Travels.{next_travelling}
 use Rattle.world.specs.State.{IsTied, WorldValue, comes_in, setting_at}
 use Rattle.replay.specs.Playing.{brought_in, next_step}
 use Rattle.replay.proofs.Small.{least_is_packet, least_is_small}

@@ -6,8 +6,9 @@ use Rattle.journal.specs.declared.item.Item.{Item}
 use Rattle.update_machine.specs.Folds.{count_of}
 use Rattle.update_machine.specs.Full.{HasRoom}
 use Rattle.update_machine.specs.Messages.{is_sending, is_waiting, next_message, next_waiting}
-use Rattle.update_machine.specs.Packets.{next_packet, next_travelling, travels}
+use Rattle.update_machine.specs.Packets.{next_packet}
 use Rattle.update_machine.specs.declared.full.TheConstants.{FULL_AT}
+use Rattle.update_machine.specs.Travels.{next_travelling, travels}
 
 one_more : (from count i : ℕ) (found : Option ℕ) (b : Bool)
     → (found ≡ Some i → i < from + 1 + count) → cond b (Some from) found ≡ Some i

@@ -4,8 +4,9 @@ use Rattle.std.specs.Prelude.{find, IsSome}
 use Rattle.std.specs.List.{range_with_len}
 use Rattle.std.proofs.lemmas.Bool.{cases_lt}
 use Rattle.journal.specs.declared.item.Item.{Item}
-use Rattle.update_machine.specs.Packets.{next_packet, next_travelling, travels}
+use Rattle.update_machine.specs.Packets.{next_packet}
 use Rattle.update_machine.specs.Setting.{Setting}
+use Rattle.update_machine.specs.Travels.{next_travelling, travels}
 use Rattle.way_laws.specs.Words.{words_of}
 use Rattle.world.specs.State.{IsTied, WorldValue, setting_at}
 use Rattle.world_ties.specs.Tied.{AreTied}

@@ -11,7 +11,8 @@ use Rattle.bag.specs.declared.deliveries.Status.{Status}
 use Rattle.ctrl_msg.specs.declared.message.Message.{Message}
 use Rattle.journal.specs.declared.item.Item.{Item}
 use Rattle.update_machine.specs.Folds.{count_of}
-use Rattle.update_machine.specs.Messages.{is_deliverable, is_forgotten, is_sending, is_waiting, message_of, next_message, next_waiting, was_delivered}
+use Rattle.update_machine.specs.Messages.{is_deliverable, is_forgotten, is_sending, is_waiting, next_message, next_waiting, was_delivered}
+use Rattle.update_machine.specs.Boots.{message_of}
 use Rattle.world.specs.State.{IsTied, WorldValue}
 use Rattle.world_ties.specs.Tied.{AreTied}
 use Rattle.log_ties.specs.Bags.{IsBagOf, post_in}
@@ -26,7 +27,7 @@ find_same one other same (n ∷ numbers) =
 -- a post waits as the journal says of its message
 post_waits : (sent : Option Message) (delivered forgotten : Bool) →
     option_map_or statuses.waits (option_map (λ (post : bag.Post). post.1)
-    (option_map (λ message. (message, record { delivered = delivered; forgotten = forgotten }))
+    (option_map (λ message. (bag.framed message, record { delivered = delivered; forgotten = forgotten }))
     sent)) false
     ≡ ((is_some sent && not forgotten) && not delivered)
 post_waits None delivered forgotten = refl

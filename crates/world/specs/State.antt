@@ -18,7 +18,7 @@ pub record WorldValue : Type 0 where
   pub journal : List Item
   pub switches : List SwitchValue
   pub travelling : Travellers
-  -- the messages that were sent
+  -- the frames of the messages that were sent, and what became of each
   pub bag : List Post
   -- how many packets came in or were refused
   pub packets : ℕ

@@ -7,7 +7,7 @@ ghost use Rattle.steps.specs.declared.step.Step.TheVariants.{Deliver as DeliverS
 ghost use Rattle.update_machine.specs.Messages.{sent_from};
 ghost use Rattle.usable_links.specs.Linking.{AreRelinked, all_told, near_all};
 ghost use Rattle.world.specs.Parts.{HasBegun, KeepRest, Plays};
-ghost use Rattle.world_log.specs.Sending.{act_items, act_posts};
+ghost use Rattle.world_log.specs.Sending.{MayNote, MaySend, act_items, act_posts};
 ghost use Rattle.world_log.specs.Writing.{IsPart};
 
 use crate::parts::Parts;
@@ -27,7 +27,7 @@ impl Parts {
         requires { HasBegun (DeliverStep number) self.old }
         ensures { Plays (DeliverStep number) result self.old self.new }
     {
-        let message = match self.log.bag.get(number)? {
+        let message = match self.log.bag.get(alloc, number)? {
             None => return self.log.journal.push(Item::Nothing),
             Some(message) => message,
         };
@@ -58,8 +58,8 @@ impl Parts {
     pub fn change_links(&mut self, alloc: Global) -> Result<(), AllocError>
         requires many { length self.old.switches.items ≤ 64 }
         requires next { All (λ switch. switch.seq < 2 ^ 32 - 1) self.old.switches.items }
-        requires few { length self.old.log.bag + length (all_told self.old.near
-            (near_all self.old.links self.old.switches.items) self.old.switches.items) < 2 ^ 32 }
+        requires may { MaySend self.old.log.bag (all_told self.old.near
+            (near_all self.old.links self.old.switches.items) self.old.switches.items) }
         ensures near { OnOk result
             (self.new.near ≡ near_all self.old.links self.old.switches.items) }
         ensures switches { OnOk result (AreRelinked self.old.near
@@ -92,10 +92,9 @@ fn tell_controller(
     body: &Body,
 ) -> Result<(), AllocError>
     requires there { NamesThere body.now controller.old.marks }
-    requires few { (new : ControllerValue)
+    requires may { (new : ControllerValue)
         → SettlesWith (after_hearing body.now controller.old.marks) controller.old.plans new
-        → length log.old.bag + length (act_posts (hearing body.now controller.old.marks new))
-        < 2 ^ 32 }
+        → MayNote log.old.bag (hearing body.now controller.old.marks new) }
     ensures after { SettlesWith
         (after_hearing body.now controller.old.marks) controller.old.plans controller.new }
     ensures written { OnOk result (log.new.journal ≡ log.old.journal

@@ -10,7 +10,7 @@ use policy_store::Files;
 use std::alloc::{AllocError, Global};
 use steps::Step;
 use switch_core::Switch;
-use world_log::{Log, enter, hop};
+use world_log::{Log, enter, hop_kept};
 
 /// What a world is made of.
 #[derive(Drop)]
@@ -78,15 +78,14 @@ impl Parts {
         requires { HasBegun (HopStep packet) self.old }
         ensures { Plays (HopStep packet) result self.old self.new }
     {
-        let mut traveller = match self.log.travelling.get(packet) {
+        let here = match self.log.travelling.look(packet) {
             None => return self.log.journal.push(Item::Nothing),
-            Some(traveller) => traveller,
+            Some(kept) => kept.here() as usize,
         };
-        let here = traveller.tunnel.here() as usize;
-        hop(
+        hop_kept(
             alloc,
             &mut self.log,
-            &mut traveller,
+            packet,
             &mut self.switches[here],
             self.near[here],
             &self.ports,

@@ -1,4 +1,4 @@
--- What a switch's move makes of a packet: it keeps its number and its leg, and where no link was
+-- What a switch's move makes of a packet: it keeps its number, its leg and its ingress, and where no link was
 -- found down all but its place.
 use Rattle.std.proofs.Common.{ℕ, ◌≡◌, Option, Some, None, List, refl, sym, subst}
 use Rattle.five_tuple.specs.declared.header.Header.{Header}
@@ -15,17 +15,18 @@ pub record SamePacket (old new : TunnelValue) : Type 0 where
   pub packet : new.packet ≡ old.packet
   pub header : new.header ≡ old.header
   pub leg : new.leg ≡ old.leg
+  pub ingress : new.ingress ≡ old.ingress
 
 moved_same : (t : TunnelValue) (onward : Option ℕ) → SamePacket t (moved t onward).tunnel
-moved_same t None = record { packet = refl; header = refl; leg = refl }
-moved_same t (Some other) = record { packet = refl; header = refl; leg = refl }
+moved_same t None = record { packet = refl; header = refl; leg = refl; ingress = refl }
+moved_same t (Some other) = record { packet = refl; header = refl; leg = refl; ingress = refl }
 
 along_same : (w : SwitchValue) (near : ℕ) (t : TunnelValue) (route : Option (List ℕ))
     → SamePacket t (moved_along w near t route).tunnel
-along_same w near t None = record { packet = refl; header = refl; leg = refl }
+along_same w near t None = record { packet = refl; header = refl; leg = refl; ingress = refl }
 along_same w near t (Some route) =
     let same = moved_same (on_route t route) (next (on_route t route)) in
-    record { packet = same.packet; header = same.header; leg = same.leg }
+    record { packet = same.packet; header = same.header; leg = same.leg; ingress = same.ingress }
 
 pub hopped_same : (w : SwitchValue) (near : ℕ) (t : TunnelValue)
     → SamePacket t (hopped w near t).tunnel
@@ -37,7 +38,7 @@ hopped_same w near t = by_link (found_down near (next t))
     by_link (Some other) =
         let met : TunnelValue = marked_down t other in
         let same = along_same w near met (route_from_here met w.database near) in
-        record { packet = same.packet; header = same.header; leg = same.leg }
+        record { packet = same.packet; header = same.header; leg = same.leg; ingress = same.ingress }
 
 -- where no link was found down, its place alone may change
 abbrev pub OnlyPlace : TunnelValue → TunnelValue → Type 0

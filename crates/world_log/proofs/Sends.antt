@@ -1,14 +1,16 @@
 -- What messages and acts write, one part after another.
-use Rattle.std.proofs.Common.{ℕ, ◌≡◌, ◌+◌, ◌<◌, ◌≤◌, List, [], ◌∷◌, ◌++◌, refl, ap, sym, ◌∙◌, length, length-append, length-take-le, append-nil, append_assoc, drop, get_or, map, take, take-append-drop, arith}
-use Rattle.std.proofs.lemmas.List.{length-map, map-append, take_more}
+use Rattle.std.proofs.Common.{ℕ, ◌≡◌, ◌+◌, ◌<◌, ◌≤◌, List, [], ◌∷◌, ◌++◌, refl, ap, sym, ◌∙◌, length, length-append, length-take-le, append-nil, append_assoc, drop, get_or, map, subst, take, take-append-drop, arith}
+use Rattle.std.specs.Prelude.{All}
+use Rattle.std.proofs.lemmas.List.{get_or-append-add, get_or-map, get_or_append_left, length-map, map-append, take_more}
 use Rattle.bag.specs.Posts.{Post, posted}
 use Rattle.controller.specs.declared.sends.Act.{Act}
 use Rattle.controller.specs.declared.sends.Act.TheVariants as act
 use Rattle.ctrl_msg.specs.declared.message.Message.{Message}
+use Rattle.frame_laws.specs.Feeding.{HasShortSpelling}
 use Rattle.journal.specs.declared.item.Item.{Item}
 use Rattle.journal.specs.declared.item.Item.TheVariants as item
 use Rattle.update_machine.specs.Messages.{sent_from}
-use Rattle.world_log.specs.Sending.{act_item, act_items, act_post, act_posts, number_after}
+use Rattle.world_log.specs.Sending.{IsSpelled, act_item, act_items, act_post, act_posts, number_after}
 use Rattle.world_log.specs.Writing.{IsPart}
 
 pub sent_append : (number : ℕ) (first later : List Message)
@@ -68,6 +70,11 @@ posts_one (act.Retired version) = refl
 posts_one (act.Post message) = refl
 
 -- ---- loops
+
+-- what holds of all holds of the one at a place
+pub spelled_at : {A : Type 0} (P : A → Type 0) (xs : List A) (k : ℕ) (one : A) → k < length xs
+    → one ≡ get_or xs k one → All P xs → P one
+spelled_at P xs k one within is all = subst P (sym is) (all k one within)
 
 -- the first messages are posted, behind this journal and these posts
 pub record AreSent (journal : List Item) (bag : List Post) (messages : List Message)
@@ -212,6 +219,26 @@ done_begun journal bag acts = record {
 }
 
 -- ---- messages, and then acts
+
+-- if the acts are spelled, the messages of the first ones are
+pub messages_spelled : (messages : List Message) (later : List Act)
+    → All IsSpelled (map act.Post messages ++ later) → All HasShortSpelling messages
+messages_spelled messages later all = λ k d within.
+    subst IsSpelled (get_or_append_left (map act.Post messages) later (act.Post d) k
+    (omega (arith, within, length-map messages act.Post))
+    ∙ get_or-map act.Post messages k d (act.Post d) within)
+    (all k (act.Post d) (omega (
+      arith,
+      within,
+      length-map messages act.Post,
+      length-append (map act.Post messages) later,
+    )))
+
+pub later_spelled : (first later : List Act) → All IsSpelled (first ++ later)
+    → All IsSpelled later
+later_spelled first later all = λ k d within.
+    subst IsSpelled (get_or-append-add first later k d)
+    (all (length first + k) d (omega (arith, within, length-append first later)))
 
 -- messages alone
 pub sent_as_acts : (number : ℕ) (messages : List Message)

@@ -133,6 +133,12 @@ module _ (w : SwitchValue) (near : ℕ) (ports : Ports) (t : Traveller) (s : Swi
   same_packet = ap (λ (u : TunnelValue). u.packet) is.moved_it
       ∙ (hopped_same w near t.tunnel).packet
 
+  pub hop_ingress : t.tunnel.ingress < 64 → tunnel.ingress < 64
+  hop_ingress below =
+      let same : tunnel.ingress ≡ t.tunnel.ingress =
+      ap (λ (u : TunnelValue). u.ingress) is.moved_it ∙ (hopped_same w near t.tunnel).ingress in
+      subst (λ k. k < 64) (sym same) below
+
   -- where no link was found down the packet is kept but for its place
   pub hop_kept : (travellers : Travellers) → traveller travellers t.tunnel.packet ≡ Some t
       → found ≡ None → IsKeptOn travellers (record t { tunnel = tunnel })

@@ -1,5 +1,5 @@
 -- What becomes of the journal and of the packets on their way as a packet comes in or moves on.
-use Rattle.std.specs.Prelude.{ℕ, ◌≡◌, Option, Some, None, List, [], ◌∷◌, ◌++◌}
+use Rattle.std.specs.Prelude.{ℕ, ◌≡◌, ◌+◌, Option, Some, None, List, [], ◌∷◌, ◌++◌, Result, OnOk, OnErr, length}
 use Rattle.bag.specs.Posts.{Post}
 use Rattle.failover.specs.DownSet.{no_links}
 use Rattle.five_tuple.specs.declared.header.Header.{Header}
@@ -15,7 +15,8 @@ use Rattle.switch_core.specs.declared.answers.HopEnd.{HopEnd}
 use Rattle.switch_core.specs.declared.answers.HopEnd.TheVariants as hop
 use Rattle.tunnel.specs.Moves.{next}
 use Rattle.travelling.specs.Travelling.{OthersStay, Travellers, WithOne}
-use Rattle.world_log.specs.Writing.{arrived_items, arrived_posts, arrived_traveller}
+use Rattle.world_log.specs.Writing.{IsPart, arrived_items, arrived_posts, arrived_traveller}
+use Rattle.world_log.specs.declared.log.Log.{Log}
 use Rattle.world_log.specs.declared.log.Standing.{Standing}
 use Rattle.travelling.specs.declared.travelling.Traveller.{Traveller}
 
@@ -124,3 +125,16 @@ hop_traveller s near ports t =
 
 abbrev pub hopped_switch : SwitchValue → ℕ → Traveller → SwitchValue
 hopped_switch s near t = ended_switch (counted s) (hopped s near t.tunnel).end
+
+-- what a hop leaves: all of its items and posts, the packet where it is then, and the switch that
+-- was asked; or a part of the items, where memory ran out
+pub record Hops {T E : Type 0} (result : Result T E) (s : SwitchValue) (near : ℕ) (ports : Ports)
+    (t : Traveller) (old new : Log) (asked : SwitchValue) : Type 0 where
+  pub written : OnOk result (new.journal
+      ≡ old.journal ++ hop_items (length old.bag + 1) s near ports t)
+  pub posted : OnOk result (new.bag ≡ old.bag ++ hop_posts s near ports t)
+  pub travels : OnOk result (WithOne old.travelling t.tunnel.packet
+      (hop_traveller s near ports t) new.travelling)
+  pub part : OnErr result (IsPart old.journal (hop_items (length old.bag + 1) s near ports t)
+      new.journal)
+  pub counted : OnOk result (asked ≡ hopped_switch s near t)

@@ -1,8 +1,10 @@
 -- Messages that are sent one after another, and what a controller does, as items of the journal.
-use Rattle.std.specs.Prelude.{ℕ, ◌+◌, List, [], ◌∷◌, ◌++◌}
+use Rattle.std.specs.Prelude.{⊤, ℕ, ◌+◌, ◌^◌, ◌<◌, List, [], ◌∷◌, ◌++◌, length, All}
 use Rattle.bag.specs.Posts.{Post, posted}
 use Rattle.controller.specs.declared.sends.Act.{Act}
 use Rattle.controller.specs.declared.sends.Act.TheVariants as act
+use Rattle.ctrl_msg.specs.declared.message.Message.{Message}
+use Rattle.frame_laws.specs.Feeding.{HasShortSpelling}
 use Rattle.journal.specs.declared.item.Item.{Item}
 use Rattle.journal.specs.declared.item.Item.TheVariants as item
 
@@ -30,3 +32,20 @@ act_post _ = []
 unfoldable pub act_posts : List Act → List Post
 act_posts [] = []
 act_posts (first ∷ acts) = act_post first ++ act_posts acts
+
+-- ---- what may be sent
+
+-- the bag has room for these messages, each of which has a short spelling
+pub record MaySend (bag : List Post) (messages : List Message) : Type 0 where
+  pub few : length bag + length messages < 2 ^ 32
+  pub spelled : All HasShortSpelling messages
+
+-- what the act sends, if it sends something, has a short spelling
+abbrev pub IsSpelled : Act → Type 0
+IsSpelled (act.Post message) = HasShortSpelling message
+IsSpelled _ = ⊤
+
+-- so it is with all that is sent as these acts are done
+pub record MayNote (bag : List Post) (acts : List Act) : Type 0 where
+  pub few : length bag + length (act_posts acts) < 2 ^ 32
+  pub spelled : All IsSpelled acts

@@ -82,6 +82,14 @@ abbrev pub answer_message : Standing → Answer → Option Message
 answer_message at (answer.Decided decision cache onward) = cache_message at.ingress cache
 answer_message at _ = None
 
+abbrev pub entered_message : Standing → Entered → Option Message
+entered_message at entered.Closed = None
+entered_message at (entered.Answered what) = answer_message at what
+
+abbrev pub arrived_message : Standing → Arrived → Option Message
+arrived_message at (arrived.Out port) = None
+arrived_message at (arrived.Answered what) = answer_message at what
+
 -- where the next message has this number
 abbrev pub answer_items : ℕ → Standing → Answer → List Item
 answer_items number at (answer.Decided decision cache onward) =

@@ -8,8 +8,8 @@
 //!
 //! ```text
 //! enter(alloc, &mut log, 1, &header, &mut switch, near, &ports)?;
-//! if let Some(mut traveller) = log.travelling.get(1) {
-//!     hop(alloc, &mut log, &mut traveller, &mut switch, near, &ports)?;
+//! if log.travelling.has(1) {
+//!     hop_kept(alloc, &mut log, 1, &mut switch, near, &ports)?;
 //! }
 //! log.send(alloc, message)?;
 //! ```
@@ -21,4 +21,4 @@ mod packets;
 mod sending;
 
 pub use log::{Log, Standing};
-pub use packets::{enter, hop};
+pub use packets::{enter, hop, hop_kept};

@@ -1,10 +1,11 @@
-ghost use Rattle.std.specs.Prelude.{◌≡◌, ◌+◌, ◌-◌, ◌^◌, ◌<◌, [], ◌∷◌, ◌++◌, Some, None, IfSome, OnOk, OnErr, length, map};
+ghost use Rattle.std.specs.Prelude.{◌≡◌, ◌+◌, ◌-◌, ◌^◌, ◌<◌, [], ◌∷◌, ◌++◌, Some, None, IfSome, IsSomeAnd, OnOk, OnErr, length, map, option_map};
 ghost use Rattle.bag.specs.Posts.{posted};
-ghost use Rattle.journal.specs.declared.item.Item.TheVariants.{Rerouted, Sent as SentItem, Stuck as StuckItem};
+ghost use Rattle.frame_laws.specs.Feeding.{HasShortSpelling};
+ghost use Rattle.journal.specs.declared.item.Item.TheVariants.{Hopped as HoppedItem, Rerouted, Sent as SentItem, Stuck as StuckItem};
 ghost use Rattle.update_machine.specs.Messages.{sent_from};
 ghost use Rattle.update_machine.specs.Moves.{takes_route};
 ghost use Rattle.world_log.specs.Packets.{IsTurned, turned_items};
-ghost use Rattle.travelling.specs.Travelling.{IsKeptOn, WithOne};
+ghost use Rattle.travelling.specs.Travelling.{HasPlace, IsKeptOn, WithOne, placed_at, traveller, travels_by};
 ghost use Rattle.world_log.specs.Writing.{IsPart, decided_items, decided_traveller, end_of, exit_leg, leaves, messages_in};
 
 use bag::Bag;
@@ -13,7 +14,7 @@ use journal::{DownSet, Item, Journal, Leaving, Message, SharedLinks, SharedMessa
 use policy_rules::{Action, Cause, Leg};
 use std::alloc::{AllocError, Global};
 use switch_core::{Decision, Hop, HopEnd, Next};
-use travelling::{Kept, Traveller, Travelling};
+use travelling::{Kept, Traveller, Travelling, Tunnel};
 
 /// What happened so far, the packets that are on their way, and the messages that were sent.
 #[derive(Drop)]
@@ -54,7 +55,8 @@ impl Standing {
 }
 
 impl Log {
-    /// The packet takes the route of its tunnel, which the item and the table share.
+    /// The packet takes the route of its tunnel, which the item and the table share, with this
+    /// version and rule of its decision.
     ///
     /// # Errors
     /// Want of memory alone; nothing is written then.
@@ -62,20 +64,40 @@ impl Log {
         &mut self,
         alloc: Global,
         packet: u32,
-        traveller: &Traveller,
+        tunnel: &Tunnel,
+        version: u32,
+        rule: Option<u32>,
     ) -> Result<(), AllocError>
-        ensures written { OnOk result (self.new.journal ≡ self.old.journal
-            ++ takes_route packet traveller.now.tunnel.leg traveller.now.tunnel.route ∷ []) }
-        ensures travels { OnOk result
-            (WithOne self.old.travelling packet (Some traveller.now) self.new.travelling) }
+        ensures written { OnOk result (self.new.journal
+            ≡ self.old.journal ++ takes_route packet tunnel.now.leg tunnel.now.route ∷ []) }
+        ensures travels { OnOk result (WithOne self.old.travelling packet
+            (Some (travels_by tunnel.now version rule)) self.new.travelling) }
         ensures unwritten { OnErr result (self.new.journal ≡ self.old.journal) }
         ensures unsent { self.new.bag ≡ self.old.bag }
     {
-        let route = SharedRoute::new(alloc, traveller.tunnel.route)?;
-        let kept = Kept::new(alloc, traveller, route.clone()?)?;
+        let route = SharedRoute::new(alloc, tunnel.route)?;
+        let kept = Kept::new(alloc, tunnel, version, rule, route.clone()?)?;
         self.travelling.put(packet, kept)?;
-        self.journal
-            .push(takes_route(packet, traveller.tunnel.leg, route))
+        self.journal.push(takes_route(packet, tunnel.leg, route))
+    }
+
+    /// The packet moves on to this place of its route, at this switch. It takes no memory but the
+    /// journal's.
+    ///
+    /// # Errors
+    /// Want of memory alone; nothing is written then.
+    pub fn move_on(&mut self, packet: u32, place: u32, switch: u32) -> Result<(), AllocError>
+        requires { IsSomeAnd (traveller self.old.travelling packet) (HasPlace place) }
+        ensures written { OnOk result (self.new.journal
+            ≡ self.old.journal ++ HoppedItem packet switch ∷ []) }
+        ensures moved { WithOne self.old.travelling packet
+            (option_map (placed_at place) (traveller self.old.travelling packet))
+            self.new.travelling }
+        ensures unwritten { OnErr result (self.new.journal ≡ self.old.journal) }
+        ensures unsent { self.new.bag ≡ self.old.bag }
+    {
+        self.travelling.move_to(packet, place);
+        self.journal.push(Item::Hopped { packet, switch })
     }
 
     /// The packet stands where its hop ended: at its place of its route; or a link was found down,
@@ -132,8 +154,15 @@ impl Log {
         ensures unsent { self.new.bag ≡ self.old.bag }
     {
         let packet = traveller.tunnel.packet;
-        let route = SharedRoute::new(alloc, traveller.tunnel.route)?;
-        let kept = Kept::new(alloc, traveller, route.clone()?)?;
+        let tunnel = &traveller.tunnel;
+        let route = SharedRoute::new(alloc, tunnel.route)?;
+        let kept = Kept::new(
+            alloc,
+            tunnel,
+            traveller.version,
+            traveller.rule,
+            route.clone()?,
+        )?;
         self.travelling.put(packet, kept)?;
         self.journal.push(Item::Rerouted { packet, route })
     }
@@ -188,6 +217,7 @@ impl Log {
     /// # Errors
     /// Want of memory alone; nothing is written then.
     pub fn send(&mut self, alloc: Global, message: Message) -> Result<(), AllocError>
+        requires spelling { HasShortSpelling message }
         requires few { length self.old.bag < 2 ^ 32 - 1 }
         ensures written { OnOk result (self.new.journal
             ≡ self.old.journal ++ SentItem (length self.old.bag + 1) message ∷ []) }
@@ -195,13 +225,14 @@ impl Log {
         ensures unwritten { OnErr result (self.new.journal ≡ self.old.journal) }
         ensures travelling { self.new.travelling ≡ self.old.travelling }
     {
+        let number = self.bag.post(alloc, &message)?;
         let message = SharedMessage::new(alloc, message)?;
-        let number = self.bag.post(message.clone()?)?;
         self.journal.push(Item::Sent { number, message })
     }
 
     // The message is sent, if there is one.
     fn send_if(&mut self, alloc: Global, message: Option<Message>) -> Result<(), AllocError>
+        requires spelling { IfSome message HasShortSpelling }
         requires few { IfSome message (λ message. length self.old.bag < 2 ^ 32 - 1) }
         ensures written { OnOk result (self.new.journal ≡ self.old.journal
             ++ sent_from (length self.old.bag + 1) (messages_in message)) }
@@ -227,18 +258,19 @@ impl Log {
         at: &Standing,
         decision: Decision,
         message: Option<Message>,
-        next: Next,
+        next: &Next,
     ) -> Result<(), AllocError>
+        requires spelling { IfSome message HasShortSpelling }
         requires few { IfSome message (λ message. length self.old.bag < 2 ^ 32 - 1) }
         ensures written { OnOk result (self.new.journal ≡ self.old.journal
             ++ decided_items at.now decision
-            (sent_from (length self.old.bag + 1) (messages_in message)) next) }
+            (sent_from (length self.old.bag + 1) (messages_in message)) next.now) }
         ensures posted { OnOk result (self.new.bag
             ≡ self.old.bag ++ map posted (messages_in message)) }
         ensures travels { OnOk result (WithOne self.old.travelling at.now.packet
-            (decided_traveller decision next) self.new.travelling) }
+            (decided_traveller decision next.now) self.new.travelling) }
         ensures part { OnErr result (IsPart self.old.journal (decided_items at.now decision
-            (sent_from (length self.old.bag + 1) (messages_in message)) next) self.new.journal) }
+            (sent_from (length self.old.bag + 1) (messages_in message)) next.now) self.new.journal) }
     {
         self.journal.push(Item::Decided {
             packet: at.packet,
@@ -257,29 +289,24 @@ impl Log {
         alloc: Global,
         at: &Standing,
         decision: Decision,
-        next: Next,
+        next: &Next,
     ) -> Result<(), AllocError>
         ensures written { OnOk result (self.new.journal
-            ≡ self.old.journal ++ end_of at.now decision next ∷ []) }
+            ≡ self.old.journal ++ end_of at.now decision next.now ∷ []) }
         ensures travels { OnOk result (WithOne self.old.travelling at.now.packet
-            (decided_traveller decision next) self.new.travelling) }
+            (decided_traveller decision next.now) self.new.travelling) }
         ensures unwritten { OnErr result (self.new.journal ≡ self.old.journal) }
         ensures unsent { self.new.bag ≡ self.old.bag }
     {
         match next {
             Next::Dropped => self.end(at.packet, Item::Dropped { packet: at.packet }),
             Next::Out(port) => {
-                self.end(at.packet, at.leaves(decision.version, decision.rule, port))
+                self.end(at.packet, at.leaves(decision.version, decision.rule, *port))
             }
             Next::Exit(tunnel) => {
-                let traveller = Traveller {
-                    tunnel,
-                    version: decision.version,
-                    rule: decision.rule,
-                };
-                self.set_out(alloc, at.packet, &traveller)
+                self.set_out(alloc, at.packet, tunnel, decision.version, decision.rule)
             }
-            Next::Stuck(cause) => self.stuck(alloc, at, cause, exit_leg(decision.action)),
+            Next::Stuck(cause) => self.stuck(alloc, at, *cause, exit_leg(decision.action)),
         }
     }
 }

@@ -9,8 +9,8 @@ use journal::Item;
 use std::alloc::AllocError;
 
 impl Log {
-    /// The packets that stand at the switch are lost, ascending by number. A search that goes on
-    /// behind each of them passes each number once.
+    /// The packets that stand at the switch are lost, ascending by number. The search for the next
+    /// goes on behind each of them, and reads no other packet.
     ///
     /// # Errors
     /// Want of memory alone; a part of the items is written then.

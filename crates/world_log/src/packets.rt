@@ -1,11 +1,13 @@
-ghost use Rattle.std.specs.Prelude.{◌≡◌, ◌+◌, ◌-◌, ◌^◌, ◌<◌, ◌++◌, Some, None, IsTrue, OnOk, OnErr, length};
+ghost use Rattle.std.specs.Prelude.{◌≡◌, ◌+◌, ◌-◌, ◌^◌, ◌<◌, ◌++◌, Some, None, IfOk, IfSome, IsSomeAnd, IsTrue, OnOk, OnErr, length};
+ghost use Rattle.frame_laws.specs.Feeding.{HasShortSpelling};
 ghost use Rattle.switch_core.specs.Answering.{CanLookUp, IsAtAuthority};
 ghost use Rattle.switch_core.specs.Moving.{hopped};
 ghost use Rattle.switch_core.specs.State.{counted, serves};
 ghost use Rattle.switch_core.specs.declared.answers.HopEnd.TheVariants.{Arrive};
-ghost use Rattle.world_log.specs.Packets.{IsEnded, arrival, arrival_items, arrival_posts, coming_in, ended_items, ended_posts, ended_switch, entry, hop_items, hop_posts, hop_traveller, hopped_switch, standing_at};
+ghost use Rattle.world_log.specs.Packets.{Hops, IsEnded, arrival, arrival_items, arrival_posts, coming_in, ended_items, ended_posts, ended_switch, entry, hop_items, hop_posts, hop_traveller, hopped_switch, standing_at};
 ghost use Rattle.travelling.specs.Travelling.{WithOne, traveller as traveller_of};
-ghost use Rattle.world_log.specs.Writing.{IsPart, answer_items, answer_posts, answer_traveller, arrived_items, arrived_posts, arrived_traveller, cache_message, entered_items, entered_posts, entered_traveller};
+ghost use Rattle.travelling.specs.declared.travelling.Traveller.{Traveller as TravellerValue};
+ghost use Rattle.world_log.specs.Writing.{IsPart, answer_items, answer_message, answer_posts, answer_traveller, arrived_items, arrived_message, arrived_posts, arrived_traveller, cache_message, entered_items, entered_message, entered_posts, entered_traveller};
 
 use crate::log::{Log, Standing};
 use five_tuple::Header;
@@ -54,7 +56,7 @@ pub fn enter(
         down: DownSet::empty(),
     };
     let entered = switch.enter(packet, header, near, ports);
-    note_entered(alloc, log, &at, entered)
+    note_entered(alloc, log, &at, &entered)
 }
 
 // The packet came in, and the switch gave this answer.
@@ -62,17 +64,18 @@ fn note_entered(
     alloc: Global,
     log: &mut Log,
     at: &Standing,
-    entered: Entered,
+    entered: &Entered,
 ) -> Result<(), AllocError>
+    requires spelling { IfSome (entered_message at.now entered.now) HasShortSpelling }
     requires few { length log.old.bag < 2 ^ 32 - 1 }
     ensures written { OnOk result (log.new.journal
-        ≡ log.old.journal ++ entered_items (length log.old.bag + 1) at.now entered) }
+        ≡ log.old.journal ++ entered_items (length log.old.bag + 1) at.now entered.now) }
     ensures posted { OnOk result (log.new.bag
-        ≡ log.old.bag ++ entered_posts at.now entered) }
+        ≡ log.old.bag ++ entered_posts at.now entered.now) }
     ensures travels { OnOk result (WithOne log.old.travelling at.now.packet
-        (entered_traveller entered) log.new.travelling) }
+        (entered_traveller entered.now) log.new.travelling) }
     ensures part { OnErr result (IsPart log.old.journal
-        (entered_items (length log.old.bag + 1) at.now entered) log.new.journal) }
+        (entered_items (length log.old.bag + 1) at.now entered.now) log.new.journal) }
 {
     match entered {
         Entered::Closed => {
@@ -102,16 +105,17 @@ fn note_answer(
     at: &Standing,
     version: u32,
     rule: Option<u32>,
-    answer: Answer,
+    answer: &Answer,
 ) -> Result<(), AllocError>
+    requires spelling { IfSome (answer_message at.now answer.now) HasShortSpelling }
     requires few { length log.old.bag < 2 ^ 32 - 1 }
     ensures written { OnOk result (log.new.journal ≡ log.old.journal
-        ++ answer_items (length log.old.bag + 1) at.now answer) }
-    ensures posted { OnOk result (log.new.bag ≡ log.old.bag ++ answer_posts at.now answer) }
+        ++ answer_items (length log.old.bag + 1) at.now answer.now) }
+    ensures posted { OnOk result (log.new.bag ≡ log.old.bag ++ answer_posts at.now answer.now) }
     ensures travels { OnOk result (WithOne log.old.travelling at.now.packet
-        (answer_traveller version rule answer) log.new.travelling) }
+        (answer_traveller version rule answer.now) log.new.travelling) }
     ensures part { OnErr result (IsPart log.old.journal
-        (answer_items (length log.old.bag + 1) at.now answer) log.new.journal) }
+        (answer_items (length log.old.bag + 1) at.now answer.now) log.new.journal) }
 {
     match answer {
         Answer::Decided {
@@ -119,18 +123,11 @@ fn note_answer(
             cache,
             next,
         } => {
-            let message = cache_message(at.ingress, cache);
-            log.decided(alloc, at, decision, message, next)
+            let message = cache_message(at.ingress, cache)?;
+            log.decided(alloc, at, *decision, message, next)
         }
-        Answer::Seek(tunnel) => {
-            let traveller = Traveller {
-                tunnel,
-                version,
-                rule,
-            };
-            log.set_out(alloc, at.packet, &traveller)
-        }
-        Answer::Stuck { cause, leg } => log.stuck(alloc, at, cause, leg),
+        Answer::Seek(tunnel) => log.set_out(alloc, at.packet, tunnel, version, rule),
+        Answer::Stuck { cause, leg } => log.stuck(alloc, at, *cause, *leg),
     }
 }
 
@@ -155,6 +152,7 @@ pub fn hop(
     requires stamped { CanLookUp switch.old }
     requires authority { (hopped switch.old near traveller.old.tunnel).end ≡ Arrive →
         IsAtAuthority switch.old traveller.old.tunnel.header traveller.old.tunnel.leg }
+    requires ingress { traveller.old.tunnel.ingress < 64 }
     requires few { length log.old.bag < 2 ^ 32 - 1 }
     ensures written { OnOk result (log.new.journal ≡ log.old.journal
         ++ hop_items (length log.old.bag + 1) switch.old near ports.now traveller.old) }
@@ -172,6 +170,48 @@ pub fn hop(
     end_hop(alloc, log, traveller, switch, near, ports, hop.end)
 }
 
+/// `hop` of the packet of this number, as it is kept: for a move over a link that is usable no
+/// tunnel is made.
+///
+/// # Errors
+/// Want of memory alone; a part of the items is written then.
+pub fn hop_kept(
+    alloc: Global,
+    log: &mut Log,
+    packet: u32,
+    switch: &mut Switch,
+    near: u64,
+    ports: &Ports,
+) -> Result<(), AllocError>
+    requires known { IsSomeAnd (traveller_of log.old.travelling packet)
+        (λ t. t.tunnel.packet ≡ packet) }
+    requires serving { IsTrue (serves switch.old) }
+    requires stamped { CanLookUp switch.old }
+    requires authority { (t : TravellerValue) → traveller_of log.old.travelling packet ≡ Some t
+        → (hopped switch.old near t.tunnel).end ≡ Arrive
+        → IsAtAuthority switch.old t.tunnel.header t.tunnel.leg }
+    requires ingress { (t : TravellerValue) → traveller_of log.old.travelling packet ≡ Some t
+        → t.tunnel.ingress < 64 }
+    requires few { length log.old.bag < 2 ^ 32 - 1 }
+    ensures { (t : TravellerValue) → traveller_of log.old.travelling packet ≡ Some t
+        → Hops result switch.old near ports.now t log.old log.new switch.new }
+{
+    let kept = log.travelling.look(packet).unwrap();
+    let place = kept.place() + 1;
+    let onward = kept.next();
+    if !switch.pass(onward, near) {
+        let mut traveller = kept.traveller();
+        return hop(alloc, log, &mut traveller, switch, near, ports);
+    }
+    match onward {
+        Some(other) => log.move_on(packet, place, other),
+        None => {
+            let traveller = kept.traveller();
+            arrive(alloc, log, &traveller, switch, near, ports)
+        }
+    }
+}
+
 // The packet is where its hop ended.
 fn end_hop(
     alloc: Global,
@@ -186,6 +226,7 @@ fn end_hop(
     requires stamped { CanLookUp switch.old }
     requires authority { end ≡ Arrive →
         IsAtAuthority switch.old traveller.now.tunnel.header traveller.now.tunnel.leg }
+    requires ingress { traveller.now.tunnel.ingress < 64 }
     requires few { length log.old.bag < 2 ^ 32 - 1 }
     ensures written { OnOk result (log.new.journal ≡ log.old.journal
         ++ ended_items (length log.old.bag + 1) switch.old near ports.now traveller.now end) }
@@ -243,6 +284,7 @@ fn arrive(
     requires stamped { CanLookUp switch.old }
     requires authority { IsAtAuthority switch.old traveller.now.tunnel.header
         traveller.now.tunnel.leg }
+    requires ingress { traveller.now.tunnel.ingress < 64 }
     requires few { length log.old.bag < 2 ^ 32 - 1 }
     ensures written { OnOk result (log.new.journal ≡ log.old.journal
         ++ arrival_items (length log.old.bag + 1) switch.old near ports.now traveller.now) }
@@ -257,7 +299,7 @@ fn arrive(
 {
     let at = standing(traveller, switch);
     let arrived = switch.arrive(&traveller.tunnel, near, ports);
-    note_arrived(alloc, log, &at, traveller, arrived)
+    note_arrived(alloc, log, &at, traveller, &arrived)
 }
 
 // The packet arrived, and the switch gave this answer.
@@ -266,22 +308,23 @@ fn note_arrived(
     log: &mut Log,
     at: &Standing,
     traveller: &Traveller,
-    arrived: Arrived,
+    arrived: &Arrived,
 ) -> Result<(), AllocError>
+    requires spelling { IfSome (arrived_message at.now arrived.now) HasShortSpelling }
     requires few { length log.old.bag < 2 ^ 32 - 1 }
     ensures written { OnOk result (log.new.journal ≡ log.old.journal
-        ++ arrived_items (length log.old.bag + 1) at.now traveller.now arrived) }
-    ensures posted { OnOk result (log.new.bag ≡ log.old.bag ++ arrived_posts at.now arrived) }
+        ++ arrived_items (length log.old.bag + 1) at.now traveller.now arrived.now) }
+    ensures posted { OnOk result (log.new.bag ≡ log.old.bag ++ arrived_posts at.now arrived.now) }
     ensures travels { OnOk result (WithOne log.old.travelling at.now.packet
-        (arrived_traveller traveller.now arrived) log.new.travelling) }
+        (arrived_traveller traveller.now arrived.now) log.new.travelling) }
     ensures part { OnErr result (IsPart log.old.journal
-        (arrived_items (length log.old.bag + 1) at.now traveller.now arrived) log.new.journal) }
+        (arrived_items (length log.old.bag + 1) at.now traveller.now arrived.now) log.new.journal) }
 {
     match arrived {
         Arrived::Out(port) => {
             log.end(
                 at.packet,
-                at.leaves(traveller.version, traveller.rule, port),
+                at.leaves(traveller.version, traveller.rule, *port),
             )
         }
         Arrived::Answered(answer) => {
@@ -291,14 +334,15 @@ fn note_arrived(
 }
 
 // The message that brings a cache rule to the switch where its packet came in.
-fn cache_message(ingress: u32, cache: Option<Body>) -> Option<Message>
-    ensures { result ≡ cache_message ingress cache }
+fn cache_message(ingress: u32, cache: &Option<Body>) -> Result<Option<Message>, AllocError>
+    ensures { IfOk result (λ message. message ≡ cache_message ingress cache.now) }
 {
-    match cache {
+    let message = match cache {
         Some(body) => Some(Message {
             to: Receiver::Switch(ingress),
-            body,
+            body: body.clone()?,
         }),
         None => None,
-    }
+    };
+    Ok(message)
 }

@@ -3,7 +3,7 @@ ghost use Rattle.std.specs.Prelude.{◌≡◌, ◌+◌, ◌^◌, ◌<◌, ◌++�
 ghost use Rattle.bag.specs.Posts.{posted};
 ghost use Rattle.controller.specs.declared.sends.Act.TheVariants.{Post};
 ghost use Rattle.update_machine.specs.Messages.{sent_from};
-ghost use Rattle.world_log.specs.Sending.{act_item, act_items, act_post, act_posts};
+ghost use Rattle.world_log.specs.Sending.{IsSpelled, MayNote, MaySend, act_item, act_items, act_post, act_posts};
 ghost use Rattle.world_log.specs.Writing.{IsPart};
 
 use crate::log::Log;
@@ -17,7 +17,7 @@ impl Log {
     /// # Errors
     /// Want of memory alone; a part of the items is written then.
     pub fn send_all(&mut self, alloc: Global, messages: &[Message]) -> Result<(), AllocError>
-        requires few { length self.old.bag + length messages.now < 2 ^ 32 }
+        requires { MaySend self.old.bag messages.now }
         ensures written { OnOk result (self.new.journal
             ≡ self.old.journal ++ sent_from (length self.old.bag + 1) messages.now) }
         ensures posted { OnOk result (self.new.bag
@@ -37,7 +37,7 @@ impl Log {
     /// # Errors
     /// Want of memory alone; a part of the items is written then.
     pub fn note_acts(&mut self, alloc: Global, acts: &[Act]) -> Result<(), AllocError>
-        requires few { length self.old.bag + length (act_posts acts.now) < 2 ^ 32 }
+        requires { MayNote self.old.bag acts.now }
         ensures written { OnOk result (self.new.journal
             ≡ self.old.journal ++ act_items (length self.old.bag + 1) acts.now) }
         ensures posted { OnOk result (self.new.bag ≡ self.old.bag ++ act_posts acts.now) }
@@ -61,8 +61,7 @@ impl Log {
         messages: &[Message],
         acts: &[Act],
     ) -> Result<(), AllocError>
-        requires few { length self.old.bag + length (act_posts (map Post messages.now ++ acts.now))
-            < 2 ^ 32 }
+        requires { MayNote self.old.bag (map Post messages.now ++ acts.now) }
         ensures written { OnOk result (self.new.journal ≡ self.old.journal
             ++ act_items (length self.old.bag + 1) (map Post messages.now ++ acts.now)) }
         ensures posted { OnOk result (self.new.bag
@@ -78,6 +77,7 @@ impl Log {
     // One mark rises, or one message is sent.
     fn note_act(&mut self, alloc: Global, act: &Act) -> Result<(), AllocError>
         requires few { length self.old.bag + length (act_post act.now) < 2 ^ 32 }
+        requires spelled { IsSpelled act.now }
         ensures written { OnOk result (self.new.journal
             ≡ self.old.journal ++ act_item (length self.old.bag + 1) act.now ∷ []) }
         ensures posted { OnOk result (self.new.bag ≡ self.old.bag ++ act_post act.now) }

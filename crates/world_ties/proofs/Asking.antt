@@ -62,6 +62,14 @@ can_look_up control setting journal switches before count s w tied there its =
     looks_up_as setting journal s w (known_of control setting journal switches before count tied)
     there (switch_is control setting journal switches before count s w tied there its)
 
+-- its number is below 64
+pub below_64 : (control : Control) (setting : Setting) (journal : List Item)
+    (switches : List SwitchValue) (before : Travellers) (count s : ℕ)
+    → AreTied setting journal switches before count control → s < length switches → s < 64
+unfolding AreTied
+below_64 control setting journal switches before count s tied there =
+    omega (arith, there, tied.many, tied.sound.net.few_switches)
+
 -- ---- a packet on its way
 
 pub standing_of : (control : Control) (setting : Setting) (journal : List Item)
@@ -80,6 +88,22 @@ pub number_of_packet : (control : Control) (setting : Setting) (journal : List I
 number_of_packet control setting journal switches before count i t tied its =
     ap (λ (u : Traveller). u.tunnel.packet)
     (standing_of control setting journal switches before count i t tied its).is
+
+-- the switch where it came in is below 64
+pub ingress_below : (control : Control) (setting : Setting) (journal : List Item)
+    (switches : List SwitchValue) (before : Travellers) (count i : ℕ) (t : Traveller)
+    → AreTied setting journal switches before count control → traveller before i ≡ Some t
+    → t.tunnel.ingress < 64
+unfolding AreTied
+ingress_below control setting journal switches before count i t tied its =
+    let standing : IsStanding setting journal i t =
+    standing_of control setting journal switches before count i t tied its in
+    omega (
+      arith,
+      ap (λ (u : Traveller). u.tunnel.ingress) standing.is,
+      standing.stands.at_first,
+      tied.sound.net.few_switches,
+    )
 
 -- its switch is there
 pub within_here : (control : Control) (setting : Setting) (journal : List Item)

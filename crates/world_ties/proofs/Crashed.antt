@@ -26,13 +26,14 @@ use Rattle.update_machine.specs.Folds.{count_of}
 use Rattle.update_machine.specs.Links.{is_link_up, near}
 use Rattle.update_machine.specs.Messages.{sent_from}
 use Rattle.update_machine.specs.Moves.{put}
-use Rattle.update_machine.specs.Packets.{is_packet, packets_at, targets_of}
+use Rattle.update_machine.specs.Packets.{is_packet, targets_of}
 use Rattle.update_machine.specs.Pieces.{crash_items, nothing, piece}
 use Rattle.update_machine.specs.Setting.{Setting}
+use Rattle.update_machine.specs.Travels.{packets_at}
 use Rattle.update_machine.proofs.CallerLemmas.{have_append, last_told_append, links_keep}
 use Rattle.usable_links.specs.Linking.{AreRelinked, all_told, near_all}
 use Rattle.steps.specs.Steps.{IsStep}
-use Rattle.world_log.specs.Sending.{act_items}
+use Rattle.world_log.specs.Sending.{MaySend, act_items}
 use Rattle.world_ties.specs.Tied.{AreTied, Control, is_up_link, up_links}
 use Rattle.log_ties.specs.Travellers.{traveller_in}
 use Rattle.travelling.specs.Travelling.{Travellers, WithoutAt, numbers_at, traveller}
@@ -43,7 +44,7 @@ use Rattle.log_ties.proofs.Posting.{bag_on}
 use Rattle.world_ties.proofs.Standing.{among, among_numbers, numbers_are}
 use Rattle.world_ties.proofs.Tying.{same_links}
 use Rattle.log_ties.proofs.Words.{traveller_along, traveller_now}
-use Rattle.world_ties.proofs.LinksChange.{one_relinks, one_advert, one_next, LinksChange, change_piece, change_few, change_tied}
+use Rattle.world_ties.proofs.LinksChange.{one_relinks, one_advert, one_next, LinksChange, change_piece, change_may, change_tied}
 
 -- ---- what it writes
 
@@ -278,9 +279,9 @@ module _ (control : Control) (setting : Setting) (journal : List Item)
       ∙ ap (λ all. item.Row row (Crash s) ∷ item.Down s
       ∷ map item.Lost all ++ sent_from number messages) (sym numbers)
 
-  pub crash_few : length control.posts < 990_000
-      → length control.posts + length messages < 2 ^ 32
-  crash_few = change_few control setting journal switches others before count row (Crash s)
+  pub crash_may : length control.posts < 990_000
+      → MaySend control.posts messages
+  crash_may = change_may control setting journal switches others before count row (Crash s)
       told control.links control.posts tied changes
 
   -- each switch has a next number for its own advert

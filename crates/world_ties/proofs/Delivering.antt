@@ -1,8 +1,9 @@
 -- What the bag says of a message, and a message that is forgotten.
 use Rattle.std.proofs.Common.{ℕ, ◌≡◌, Bool, true, false, if◌then◌else◌, Option, Some, None, List, [], ◌∷◌, ◌++◌, refl, ap, sym, subst, ◌∙◌, append_assoc, length}
-use Rattle.std.specs.Prelude.{IsFalse, not, ◌&&◌, is_some, option_map}
+use Rattle.std.specs.Prelude.{IfSome, IsFalse, not, ◌&&◌, is_some, option_map}
 use Rattle.std.specs.Option.{option_and_then}
-use Rattle.bag.specs.Posts.{Post, message_of as message_in, remembered, with_forgotten}
+use Rattle.bag.specs.Posts.{IsMessageOf, Post, framed, is_deliverable as is_deliverable_in, remembered, with_forgotten}
+use Rattle.bag.proofs.Framed.{known_by_frames}
 use Rattle.ctrl_msg.specs.declared.message.Message.{Message}
 use Rattle.journal.specs.declared.item.Item.{Item}
 use Rattle.journal.specs.declared.item.Item.TheVariants as item
@@ -10,10 +11,11 @@ use Rattle.steps.specs.declared.step.Step.{Step}
 use Rattle.steps.specs.declared.step.Step.TheVariants.{Forget}
 use Rattle.switch_core.specs.State.{SwitchValue}
 use Rattle.update_machine.specs.Concerns.{concerns_calls}
-use Rattle.update_machine.specs.Messages.{is_deliverable, is_forgotten, message_of, was_delivered}
+use Rattle.update_machine.specs.Messages.{is_deliverable, is_forgotten, was_delivered}
 use Rattle.update_machine.specs.Pieces.{forget_items, nothing, piece}
 use Rattle.steps.specs.Steps.{IsStep}
 use Rattle.update_machine.specs.Setting.{Setting}
+use Rattle.update_machine.specs.Boots.{message_of}
 use Rattle.update_machine.proofs.CallerLemmas.{message_keeps}
 use Rattle.world_ties.specs.Tied.{AreTied, Control}
 use Rattle.log_ties.specs.Bags.{IsBagOf, post_in}
@@ -26,10 +28,10 @@ use Rattle.world_ties.proofs.Tying.{switches_stay}
 
 abbrev flagged : Bool → Bool → Option Message → Option Post
 flagged was gone o =
-    option_map (λ (m : Message). (m, record { delivered = was; forgotten = gone })) o
+    option_map (λ (m : Message). (framed m, record { delivered = was; forgotten = gone })) o
 
 pub deliverable_as : (journal : List Item) (posts : List Post) (n : ℕ) → IsBagOf journal posts
-    → is_deliverable journal n ≡ is_some (message_in posts n)
+    → is_deliverable journal n ≡ is_deliverable_in posts n
 unfolding is_deliverable post_in
 deliverable_as journal posts n bag =
     sym (ap (λ o. is_some (option_and_then remembered o)) (bag.each n)
@@ -42,18 +44,26 @@ deliverable_as journal posts n bag =
     by_flag (Some m) was false = refl
 
 pub sent_as : (journal : List Item) (posts : List Post) (n : ℕ) (message : Message)
-    → IsBagOf journal posts → message_in posts n ≡ Some message
+    → IsBagOf journal posts → IsMessageOf posts n message
     → message_of journal n ≡ Some message
 unfolding post_in
 sent_as journal posts n message bag is =
     by_flag (message_of journal n) (was_delivered journal n) (is_forgotten journal n)
-    (sym (ap (option_and_then remembered) (bag.each n)) ∙ is)
+    (sym (ap (option_and_then remembered) (bag.each n)) ∙ is.frames_are)
   where
     by_flag : (o : Option Message) (was gone : Bool)
-        → option_and_then remembered (flagged was gone o) ≡ Some message → o ≡ Some message
+        → option_and_then remembered (flagged was gone o) ≡ Some (framed message)
+        → o ≡ Some message
     by_flag None was gone none = absurd cc
     by_flag (Some m) was true none = absurd cc
-    by_flag (Some m) was false some = some
+    by_flag (Some m) was false some =
+        let same : framed m ≡ framed message = cc in
+        ap Some (known_by_frames message m is.fits same)
+
+-- a message that was found
+pub found_there : (posts : List Post) (n : ℕ) (message : Message) (o : Option Message)
+    → o ≡ Some message → IfSome o (IsMessageOf posts n) → IsMessageOf posts n message
+found_there posts n message o is all = subst (λ o. IfSome o (IsMessageOf posts n)) is all
 
 -- ---- pieces
 
@@ -105,7 +115,7 @@ nothing_tied control setting journal switches before count row step tied may unc
 pub forgotten_tied : (control : Control) (setting : Setting) (journal : List Item)
     (switches : List SwitchValue) (before : Travellers) (count row n : ℕ)
     → AreTied setting journal switches before count control → IsStep setting.net (length setting.policies) (Forget n)
-    → is_some (message_in control.posts n) ≡ true
+    → is_deliverable_in control.posts n ≡ true
     → (piece setting journal row (Forget n)
     ≡ item.Row row (Forget n) ∷ item.Forgotten n ∷ [])
     × AreTied setting (grown journal row (Forget n) (item.Forgotten n)) switches before count
@@ -143,7 +153,7 @@ forgotten_tied control setting journal switches before count row n tied may ther
 pub unforgotten : (control : Control) (setting : Setting) (journal : List Item)
     (switches : List SwitchValue) (before : Travellers) (count row n : ℕ)
     → AreTied setting journal switches before count control → IsStep setting.net (length setting.policies) (Forget n)
-    → is_some (message_in control.posts n) ≡ false
+    → is_deliverable_in control.posts n ≡ false
     → (piece setting journal row (Forget n) ≡ item.Row row (Forget n) ∷ nothing)
     × AreTied setting (grown journal row (Forget n) item.Nothing) switches before count control
 unfolding AreTied

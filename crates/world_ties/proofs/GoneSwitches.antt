@@ -1,6 +1,6 @@
 -- A switch that is down is confirmed to be gone: what is written then, and what the parts are
 -- behind it.
-use Rattle.std.proofs.Common.{ℕ, ◌≡◌, ◌+◌, ◌^◌, ◌<◌, true, false, List, [], ◌∷◌, ◌++◌, refl, ap, sym, ◌∙◌, length, get_or, arith}
+use Rattle.std.proofs.Common.{ℕ, ◌≡◌, ◌+◌, ◌<◌, true, false, List, [], ◌∷◌, ◌++◌, refl, ap, sym, ◌∙◌, length, get_or, arith}
 use Rattle.control_ties.specs.Written.{AreWritten}
 use Rattle.control_ties.proofs.CallerLemmas.{confirms}
 use Rattle.controller.specs.Controller.{ControllerValue, SettlesWith}
@@ -21,18 +21,18 @@ use Rattle.update_machine.specs.Settling as machine
 use Rattle.update_machine.proofs.CallerLemmas.{switch_keeps}
 use Rattle.version_update.specs.Marks.{at_switch}
 use Rattle.version_update.specs.Record.{after_over}
-use Rattle.world_log.specs.Sending.{act_items, act_posts}
+use Rattle.world_log.specs.Sending.{MayNote, act_items, act_posts}
 use Rattle.world_ties.specs.Tied.{AreTied, Control}
 use Rattle.log_ties.specs.Bags.{IsBagOf}
 use Rattle.travelling.specs.Travelling.{Travellers}
 use Rattle.world_ties.proofs.ActItems.{written_is}
 use Rattle.world_ties.proofs.Delivering.{nothing_tied}
-use Rattle.world_ties.proofs.HearReady.{sends_few}
 use Rattle.log_ties.proofs.Known.{reached_known}
 use Rattle.world_ties.proofs.OneItem.{grown}
 use Rattle.log_ties.proofs.Posting.{bag_on}
-use Rattle.world_ties.proofs.Told.{acts_fit, tied_told}
+use Rattle.world_ties.proofs.Told.{tied_told}
 use Rattle.world_ties.proofs.Tying.{links_stay, up_stay}
+use Rattle.world_ties.proofs.Sendable.{may_note}
 
 -- a switch is up as the journal says
 pub up_as : (setting : Setting) (journal : List Item) (s : ℕ)
@@ -133,13 +133,6 @@ module _ (control : Control) (setting : Setting) (journal : List Item)
               (refl, (refl, tt));
         })
 
-    pub gone_few : length control.posts < 990_000
-        → length control.posts + length (act_posts acts) < 2 ^ 32
-    unfolding AreTied
-    gone_few room = omega (
-      arith,
-      room,
-      acts_fit setting journal row (Confirm s) (item.OverNow s ∷ []) (length control.posts + 1)
-          acts (sends_few setting journal (reached_known setting journal tied.sound tied.reached))
-          gone_piece,
-    )
+    pub gone_may : length control.posts < 990_000 → MayNote control.posts acts
+    gone_may = may_note control setting journal switches before count row (Confirm s)
+        (item.OverNow s ∷ []) control.posts acts tied may gone_piece refl

@@ -1,6 +1,6 @@
 -- What a delivered message finds: few messages are sent upon it, and its switch can hear it.
 use Rattle.std.proofs.Common.{ℕ, ◌≡◌, ◌<◌, ◌≤◌, Some, List, ap, ◌∙◌, get_or, length, arith}
-use Rattle.bag.specs.Posts.{message_of as message_in}
+use Rattle.bag.specs.Posts.{IsMessageOf}
 use Rattle.ctrl_msg.specs.declared.message.Message.{Message}
 use Rattle.ctrl_msg.specs.declared.message.Receiver.TheVariants as receiver
 use Rattle.journal.specs.declared.item.Item.{Item}
@@ -12,7 +12,7 @@ use Rattle.switch_core.specs.State.{SwitchValue}
 use Rattle.switch_ties.specs.Knowing.{TablesAreKnown}
 use Rattle.switch_ties.proofs.Asked.{asked_ties}
 use Rattle.update_machine.specs.Links.{near}
-use Rattle.update_machine.specs.Messages.{message_of}
+use Rattle.update_machine.specs.Boots.{message_of}
 use Rattle.update_machine.specs.Setting.{Setting}
 use Rattle.update_machine.specs.Settling.{to_switch}
 use Rattle.world_ties.specs.Tied.{AreTied, Control}
@@ -29,7 +29,7 @@ sends_few setting journal knows = λ row step. piece_few setting knows.is.net jo
 pub hear_ready : (control : Control) (setting : Setting) (journal : List Item)
     (switches : List SwitchValue) (before : Travellers) (count n s : ℕ) (message : Message)
     → AreTied setting journal switches before count control
-    → message_in control.posts n ≡ Some message → message.to ≡ receiver.Switch s
+    → IsMessageOf control.posts n message → message.to ≡ receiver.Switch s
     → (s < length switches) × (s < 64) × IsSoundBody message.body
 unfolding AreTied
 hear_ready control setting journal switches before count n s message tied there to =

@@ -1,9 +1,9 @@
 -- A message that is delivered is heard: what is written then, and what the parts are behind it.
-use Rattle.std.proofs.Common.{ℕ, ◌≡◌, ◌+◌, ◌^◌, ◌<◌, ◌==◌, true, false, Some, None, List, [], ◌∷◌, ◌++◌, refl, ap, sym, subst, ◌∙◌, length, get_or, map, set, append_assoc, arith}
+use Rattle.std.proofs.Common.{ℕ, ◌≡◌, ◌+◌, ◌<◌, ◌==◌, true, false, Some, None, List, [], ◌∷◌, ◌++◌, refl, ap, sym, subst, ◌∙◌, length, get_or, map, set, append_assoc}
 use Rattle.std.specs.Prelude.{is_some, ◌||◌}
 use Rattle.std.specs.Option.{option_map_or}
-use Rattle.std.proofs.lemmas.List.{length-map, length-set}
-use Rattle.bag.specs.Posts.{Post, message_of as message_in, posted, with_delivered, with_status}
+use Rattle.std.proofs.lemmas.List.{length-set}
+use Rattle.bag.specs.Posts.{IsMessageOf, Post, is_deliverable as is_deliverable_in, posted, with_delivered, with_status}
 use Rattle.bag.specs.Deliveries.{delivered}
 use Rattle.bag.proofs.Numbered.{length_changed}
 use Rattle.control_ties.specs.Written.{AreWritten}
@@ -26,25 +26,26 @@ use Rattle.switch_ties.proofs.Links.{kept_is}
 use Rattle.update_machine.specs.Concerns.{is_message_to, is_message_to_controller}
 use Rattle.update_machine.specs.Deliveries.{delivery_items, to_controller}
 use Rattle.update_machine.specs.Links.{near}
-use Rattle.update_machine.specs.Messages.{is_deliverable, is_to_controller, is_to_switch, message_of, next_message, sent_from}
+use Rattle.update_machine.specs.Messages.{is_deliverable, is_to_controller, next_message, sent_from}
 use Rattle.update_machine.specs.Pieces.{deliver_items, nothing, piece}
 use Rattle.steps.specs.Steps.{IsStep}
 use Rattle.update_machine.specs.Setting.{Setting}
 use Rattle.update_machine.specs.Settling.{to_switch}
+use Rattle.update_machine.specs.Boots.{is_to_switch, message_of}
 use Rattle.update_machine.proofs.CallerLemmas.{message_keeps}
-use Rattle.world_log.specs.Sending.{act_items, act_posts}
+use Rattle.world_log.specs.Sending.{MayNote, MaySend, act_items, act_posts}
 use Rattle.world_ties.specs.Tied.{AreTied, Control}
 use Rattle.log_ties.specs.Bags.{IsBagOf}
 use Rattle.travelling.specs.Travelling.{Travellers}
 use Rattle.world_log.proofs.Sends.{posts_as_acts, sent_as_acts}
 use Rattle.world_ties.proofs.ActItems.{written_is}
 use Rattle.world_ties.proofs.Delivering.{deliverable_as, nothing_tied, sent_as}
-use Rattle.world_ties.proofs.HearReady.{sends_few}
 use Rattle.log_ties.proofs.Known.{reached_known}
 use Rattle.world_ties.proofs.OneItem.{grown}
 use Rattle.log_ties.proofs.Posting.{bag_delivered, bag_on, within_posts}
-use Rattle.world_ties.proofs.Told.{IsTold, acts_fit, tied_told}
+use Rattle.world_ties.proofs.Told.{IsTold, tied_told}
 use Rattle.world_ties.proofs.Tying.{links_stay, one_changes, up_stay}
+use Rattle.world_ties.proofs.Sendable.{may_note, may_send}
 
 -- ---- what a delivery writes
 
@@ -79,7 +80,7 @@ none_piece setting journal row n may =
 pub undelivered : (control : Control) (setting : Setting) (journal : List Item)
     (switches : List SwitchValue) (before : Travellers) (count row n : ℕ)
     → AreTied setting journal switches before count control → IsStep setting.net (length setting.policies) (Deliver n)
-    → is_some (message_in control.posts n) ≡ false
+    → is_deliverable_in control.posts n ≡ false
     → (piece setting journal row (Deliver n) ≡ item.Row row (Deliver n) ∷ nothing)
     × AreTied setting (grown journal row (Deliver n) item.Nothing) switches before count control
 unfolding AreTied
@@ -104,16 +105,16 @@ pub record IsThere (setting : Setting) (journal : List Item) (posts : List Post)
 pub is_there : (control : Control) (setting : Setting) (journal : List Item)
     (switches : List SwitchValue) (before : Travellers) (count row n : ℕ) (message : Message)
     → AreTied setting journal switches before count control
-    → message_in control.posts n ≡ Some message
+    → IsMessageOf control.posts n message
     → IsThere setting journal control.posts row n message
 unfolding AreTied
 is_there control setting journal switches before count row n message tied there = record {
   sent = sent_as journal control.posts n message tied.bag there;
-  deliverable = deliverable_as journal control.posts n tied.bag ∙ ap is_some there;
+  deliverable = deliverable_as journal control.posts n tied.bag ∙ ap is_some there.frames_are;
   bag = subst (λ js. IsBagOf js (with_delivered control.posts n))
       (append_assoc journal (item.Row row (Deliver n) ∷ []) (item.Delivered n ∷ []))
       (bag_delivered (journal ++ item.Row row (Deliver n) ∷ []) control.posts n
-      (within_posts control.posts n message there)
+      (within_posts control.posts n _ there.frames_are)
       (bag_on journal (item.Row row (Deliver n) ∷ []) control.posts (refl, tt) tied.bag));
   as_many = length_changed (with_status delivered) control.posts n;
 }
@@ -122,7 +123,7 @@ is_there control setting journal switches before count row n message tied there 
 pub first_piece : (control : Control) (setting : Setting) (journal : List Item)
     (switches : List SwitchValue) (before : Travellers) (count row n : ℕ) (message : Message)
     → AreTied setting journal switches before count control
-    → message_in control.posts n ≡ Some message
+    → IsMessageOf control.posts n message
     → piece setting journal row (Deliver n) ≡ item.Row row (Deliver n) ∷ item.Delivered n
     ∷ delivery_items setting journal n (grown journal row (Deliver n) (item.Delivered n))
 first_piece control setting journal switches before count row n message tied there =
@@ -156,7 +157,7 @@ as_told message to = ap (λ p. record { to = p; body = message.body }) to
 pub names_known : (control : Control) (setting : Setting) (journal : List Item)
     (switches : List SwitchValue) (before : Travellers) (count n : ℕ) (message : Message)
     → AreTied setting journal switches before count control
-    → message_in control.posts n ≡ Some message → message.to ≡ receiver.Controller
+    → IsMessageOf control.posts n message → message.to ≡ receiver.Controller
     → NamesThere message.body control.controller.marks
 unfolding AreTied
 names_known control setting journal switches before count n message tied there to =
@@ -167,7 +168,7 @@ names_known control setting journal switches before count n message tied there t
 module _ (control : Control) (setting : Setting) (journal : List Item)
     (switches : List SwitchValue) (before : Travellers) (count row n : ℕ) (message : Message)
     (new : ControllerValue) (tied : AreTied setting journal switches before count control)
-    (may : IsStep setting.net (length setting.policies) (Deliver n)) (there : message_in control.posts n ≡ Some message)
+    (may : IsStep setting.net (length setting.policies) (Deliver n)) (there : IsMessageOf control.posts n message)
     (to : message.to ≡ receiver.Controller)
     (settles : SettlesWith (after_hearing message.body control.controller.marks)
     control.controller.plans new) where
@@ -226,17 +227,12 @@ module _ (control : Control) (setting : Setting) (journal : List Item)
       journal switches switches before count row (Deliver n) (item.Delivered n ∷ []) acts tied
       control_told
 
-  -- and there is room for it
-  pub control_few : length control.posts < 990_000
-      → length (with_delivered control.posts n) + length (act_posts acts) < 2 ^ 32
-  unfolding AreTied
-  control_few room = omega (
-    arith,
-    its.as_many,
-    room,
-    acts_fit setting journal row (Deliver n) (item.Delivered n ∷ []) (length control.posts + 1) acts
-        (sends_few setting journal (reached_known setting journal tied.sound tied.reached)) control_piece,
-  )
+  -- and it may be written
+  pub control_may : length control.posts < 990_000
+      → MayNote (with_delivered control.posts n) acts
+  control_may = may_note control setting journal switches before count row (Deliver n)
+      (item.Delivered n ∷ []) (with_delivered control.posts n) acts tied may control_piece
+      its.as_many
 
 -- ---- at a switch that doesn't open
 
@@ -248,7 +244,7 @@ module _ (control : Control) (setting : Setting) (journal : List Item)
     (switches : List SwitchValue) (before : Travellers) (count row n s : ℕ) (message : Message)
     (own changed : SwitchValue) (mask : ℕ)
     (tied : AreTied setting journal switches before count control)
-    (may : IsStep setting.net (length setting.policies) (Deliver n)) (there : message_in control.posts n ≡ Some message)
+    (may : IsStep setting.net (length setting.policies) (Deliver n)) (there : IsMessageOf control.posts n message)
     (to : message.to ≡ receiver.Switch s) (within : s < length switches)
     (own_at : own ≡ get_or switches s own) (near_is : mask ≡ near setting journal s)
     (changed_is : changed ≡ heard own n message.body)
@@ -343,15 +339,9 @@ module _ (control : Control) (setting : Setting) (journal : List Item)
       journal switches (set switches s changed) before count row (Deliver n)
       (item.Delivered n ∷ []) reply_acts tied shut_told))
 
-  pub shut_few : length control.posts < 990_000
-      → length (with_delivered control.posts n) + length messages < 2 ^ 32
-  unfolding AreTied
-  shut_few room = omega (
-    arith,
-    mine.as_many,
-    room,
-    ap length (posts_as_acts messages),
-    length-map messages posted,
-    acts_fit setting journal row (Deliver n) (item.Delivered n ∷ []) (length control.posts + 1)
-        reply_acts (sends_few setting journal (reached_known setting journal tied.sound tied.reached)) shut_piece_acts,
-  )
+  pub shut_may : length control.posts < 990_000
+      → MaySend (with_delivered control.posts n) messages
+  shut_may room = may_send (with_delivered control.posts n) messages
+      (may_note control setting journal switches before count row (Deliver n)
+      (item.Delivered n ∷ []) (with_delivered control.posts n) reply_acts tied may shut_piece_acts
+      mine.as_many room)

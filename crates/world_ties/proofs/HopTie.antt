@@ -12,10 +12,11 @@ use Rattle.switch_core.specs.State.{SwitchValue, counted}
 use Rattle.switch_core.specs.declared.answers.HopEnd.{HopEnd}
 use Rattle.switch_ties.specs.SwitchOf.{switch_of}
 use Rattle.update_machine.specs.Messages.{next_message}
-use Rattle.update_machine.specs.Packets.{is_at, travels, standing as place_of}
+use Rattle.update_machine.specs.Packets.{standing as place_of}
 use Rattle.update_machine.specs.Pieces.{piece}
 use Rattle.steps.specs.Steps.{IsStep}
 use Rattle.update_machine.specs.Setting.{Setting}
+use Rattle.update_machine.specs.Travels.{is_at, travels}
 use Rattle.world_log.specs.Packets.{ended_switch, hop_items, hop_posts, hop_traveller, hopped_switch}
 use Rattle.world_ties.specs.Tied.{AreTied, Control}
 use Rattle.log_ties.specs.Travellers.{traveller_in}

@@ -5,6 +5,7 @@ pub mod ActItems
 pub mod Told
 pub mod HeardBy
 pub mod HearReady
+pub mod Sendable
 pub mod Submitting
 pub mod GoneSwitches
 pub mod Booting

@@ -39,7 +39,8 @@ use Rattle.travelling.specs.Travelling.{Travellers}
 use Rattle.world_ties.proofs.Delivering.{nothing_tied}
 use Rattle.world_ties.proofs.OneItem.{grown}
 use Rattle.log_ties.proofs.Posting.{bag_on}
-use Rattle.world_ties.proofs.LinksChange.{LinksChange, change_piece, change_few, unmoved, change_tied}
+use Rattle.world_ties.proofs.LinksChange.{LinksChange, change_piece, change_may, unmoved, change_tied}
+use Rattle.world_log.specs.Sending.{MaySend}
 
 -- ---- links that are up
 
@@ -334,9 +335,9 @@ module _ (control : Control) (setting : Setting) (journal : List Item)
     set_piece = change_piece control setting journal switches switches before count row step told
         links control.posts tied changes
 
-    pub set_few : length control.posts < 990_000
-        → length control.posts + length messages < 2 ^ 32
-    set_few = change_few control setting journal switches switches before count row step told
+    pub set_may : length control.posts < 990_000
+        → MaySend control.posts messages
+    set_may = change_may control setting journal switches switches before count row step told
         links control.posts tied changes
 
     -- the parts behind the step, where these are the switches

@@ -3,10 +3,11 @@
 use Rattle.std.proofs.Common.{ℕ, ◌≡◌, ◌+◌, ◌-◌, ◌^◌, ◌<◌, ◌==◌, Bool, true, false, List, [], ◌∷◌, ◌++◌, refl, ap, sym, subst, ◌∙◌, length, get_or, map, filter, set, append_assoc, arith, eq-eqb, eqb-true}
 use Rattle.std.specs.Prelude.{IsFalse, All}
 use Rattle.std.specs.List.{flat_map}
-use Rattle.std.proofs.lemmas.List.{get_or-set_other, get_or-set_same, length-map, length-set}
+use Rattle.std.proofs.lemmas.List.{get_or-set_other, get_or-set_same, length-set}
 use Rattle.bag.specs.Posts.{Post, posted}
 use Rattle.boot_laws.proofs.Serving.{caused_known, serving_known}
 use Rattle.boot_laws.specs.ItemCauses.{HasItemCause}
+use Rattle.boot_laws.proofs.Facts.{have_front}
 use Rattle.controller.specs.declared.sends.Act.{Act}
 use Rattle.controller.specs.declared.sends.Act.TheVariants.{Post as PostAct}
 use Rattle.ctrl_msg.specs.declared.message.Message.{Message}
@@ -45,21 +46,14 @@ use Rattle.update_machine.specs.Pieces.{piece}
 use Rattle.update_machine.specs.Setting.{Setting, switches_of}
 use Rattle.update_machine.proofs.CallerLemmas.{count_of_append}
 use Rattle.usable_links.specs.Linking.{AreRelinked, all_told, near_all}
-use Rattle.world_log.specs.Sending.{act_items, act_posts}
+use Rattle.world_log.specs.Sending.{MaySend, act_items, act_posts}
 use Rattle.world_log.proofs.Sends.{posts_as_acts, sent_as_acts}
 use Rattle.world_ties.specs.Tied.{AreTied, AreUp, AreUsable, Control, up_links}
 use Rattle.world_ties.proofs.ActItems.{acts_bring_none, acts_posted, acts_send, acts_unnamed}
-use Rattle.world_ties.proofs.HearReady.{sends_few}
 use Rattle.world_ties.proofs.Relinked.{CanRelink, near_now, switches_now, told_now, up_ends}
-use Rattle.world_ties.proofs.Told.{acts_fit, acts_leave, links_left}
+use Rattle.world_ties.proofs.Told.{acts_leave, links_left}
 use Rattle.world_ties.proofs.Tying.{controller_stays, tied_taken}
-
--- the first items have their causes
-have_first_ones : (cause : List Item → Item → Type 0) (before xs ys : List Item)
-    → HaveCauses cause before (xs ++ ys) → HaveCauses cause before xs
-have_first_ones cause before [] ys have = tt
-have_first_ones cause before (x ∷ xs) ys have =
-    (have.0, have_first_ones cause (before ++ x ∷ []) xs ys have.1)
+use Rattle.world_ties.proofs.Sendable.{may_note, may_send}
 
 -- so have those behind the row
 pub caused_first : (control : Control) (setting : Setting) (journal : List Item)
@@ -70,7 +64,7 @@ pub caused_first : (control : Control) (setting : Setting) (journal : List Item)
     → HaveCauses (HasItemCause setting) [] (journal ++ item.Row row step ∷ first)
 unfolding AreTied
 caused_first control setting journal switches before count row step first rest tied may is =
-    have_first_ones (HasItemCause setting) [] (journal ++ item.Row row step ∷ first) rest
+    have_front (HasItemCause setting) [] (journal ++ item.Row row step ∷ first) rest
     (subst (HaveCauses (HasItemCause setting) [])
     (ap (λ items. journal ++ items) is
     ∙ sym (append_assoc journal (item.Row row step ∷ first) rest))
@@ -254,19 +248,10 @@ module _ (control : Control) (setting : Setting) (journal : List Item)
   acts_piece = change_piece ∙ ap (λ items. item.Row row step ∷ first ++ items)
       (sym (sent_as_acts number messages))
 
-  pub change_few : length control.posts < 990_000 → length posts
-      + length (all_told control.near (near_all links others) others) < 2 ^ 32
-  unfolding AreTied
-  change_few room = omega (
-    arith,
-    room,
-    changes.number,
-    ap length (posts_as_acts messages),
-    length-map messages posted,
-    acts_fit setting journal row step first number acts
-        (sends_few setting journal (reached_known setting journal tied.sound tied.reached))
-        acts_piece,
-  )
+  pub change_may : length control.posts < 990_000
+      → MaySend posts (all_told control.near (near_all links others) others)
+  change_may room = may_send posts messages (may_note control setting journal switches before count
+      row step first posts acts tied changes.may acts_piece changes.number room)
 
   -- ---- the parts behind it
 

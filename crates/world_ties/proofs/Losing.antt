@@ -7,7 +7,7 @@ use Rattle.journal.specs.declared.item.Item.TheVariants as item
 use Rattle.steps.specs.declared.step.Step.{Step}
 use Rattle.steps.specs.declared.step.Step.TheVariants.{Lose}
 use Rattle.switch_core.specs.State.{SwitchValue}
-use Rattle.update_machine.specs.Packets.{travels}
+use Rattle.update_machine.specs.Travels.{travels}
 use Rattle.update_machine.specs.Pieces.{lose_items, nothing, piece}
 use Rattle.steps.specs.Steps.{IsStep}
 use Rattle.update_machine.specs.Setting.{Setting}

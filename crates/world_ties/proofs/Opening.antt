@@ -4,7 +4,7 @@ use Rattle.std.proofs.Common.{ℕ, ◌≡◌, ◌+◌, ◌-◌, ◌^◌, ◌<◌
 use Rattle.std.specs.Prelude.{All}
 use Rattle.std.specs.Option.{option_map_or}
 use Rattle.std.proofs.lemmas.List.{length-set}
-use Rattle.bag.specs.Posts.{message_of as message_in, posted, with_delivered, Post}
+use Rattle.bag.specs.Posts.{IsMessageOf, Post, posted, with_delivered}
 use Rattle.ctrl_msg.specs.declared.message.Message.{Message}
 use Rattle.ctrl_msg.specs.declared.message.Receiver.TheVariants as receiver
 use Rattle.journal.specs.declared.item.Item.{Item}
@@ -21,10 +21,11 @@ use Rattle.switch_ties.specs.SwitchOf.{switch_of}
 use Rattle.switch_ties.proofs.Delivered.{hear_ties}
 use Rattle.update_machine.specs.Deliveries.{link_changes}
 use Rattle.update_machine.specs.Links.{is_link_up, near}
-use Rattle.update_machine.specs.Messages.{is_to_controller, is_to_switch, sent_from}
+use Rattle.update_machine.specs.Messages.{is_to_controller, sent_from}
 use Rattle.update_machine.specs.Pieces.{piece}
 use Rattle.steps.specs.Steps.{IsStep}
 use Rattle.update_machine.specs.Setting.{Setting}
+use Rattle.update_machine.specs.Boots.{is_to_switch}
 use Rattle.update_machine.proofs.CallerLemmas.{last_told_append}
 use Rattle.usable_links.specs.Linking.{AreRelinked, all_told, near_all}
 use Rattle.world_ties.specs.Tied.{AreTied, Control, is_up_link, up_links}
@@ -35,7 +36,8 @@ use Rattle.world_ties.proofs.OneItem.{grown}
 use Rattle.log_ties.proofs.Known.{reached_known}
 use Rattle.log_ties.proofs.Posting.{bag_on}
 use Rattle.world_ties.proofs.Tying.{same_links}
-use Rattle.world_ties.proofs.LinksChange.{one_relinks, one_advert, one_next, LinksChange, change_piece, change_few, unmoved, change_tied}
+use Rattle.world_ties.proofs.LinksChange.{one_relinks, one_advert, one_next, LinksChange, change_piece, change_may, unmoved, change_tied}
+use Rattle.world_log.specs.Sending.{MaySend}
 
 -- links are up as before, where none is told to be up or down
 same_up : (journal : List Item) (row n s stamp : ℕ) (link : LinkRow)
@@ -49,7 +51,7 @@ module _ (control : Control) (setting : Setting) (journal : List Item)
     (message : Message) (own changed : SwitchValue)
     (tied : AreTied setting journal switches before count control)
     (may : IsStep setting.net (length setting.policies) (Deliver n))
-    (there : message_in control.posts n ≡ Some message)
+    (there : IsMessageOf control.posts n message)
     (to : message.to ≡ receiver.Switch s) (within : s < length switches)
     (own_at : own ≡ get_or switches s own) (changed_is : changed ≡ heard own n message.body)
     (opens : opened own message.body ≡ Some stamp) where
@@ -144,9 +146,9 @@ module _ (control : Control) (setting : Setting) (journal : List Item)
   opening_piece = change_piece control setting journal switches others before count row
       (Deliver n) told control.links posts tied changes
 
-  pub opening_few : length control.posts < 990_000
-      → length (with_delivered control.posts n) + length messages < 2 ^ 32
-  opening_few = change_few control setting journal switches others before count row
+  pub opening_may : length control.posts < 990_000
+      → MaySend (with_delivered control.posts n) messages
+  opening_may = change_may control setting journal switches others before count row
       (Deliver n) told control.links posts tied changes
 
   -- each switch has a next number for its own advert

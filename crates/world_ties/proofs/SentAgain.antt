@@ -1,6 +1,6 @@
 -- What a switch and the controller send again: what is written then, and what the parts are behind
 -- it.
-use Rattle.std.proofs.Common.{ℕ, ◌≡◌, ◌≢◌, ◌+◌, ◌^◌, ◌<◌, ◌==◌, Bool, true, false, List, [], ◌∷◌, ◌++◌, refl, ap, sym, subst, ◌∙◌, length, get_or, map, arith, eqb-true}
+use Rattle.std.proofs.Common.{ℕ, ◌≡◌, ◌≢◌, ◌+◌, ◌<◌, ◌==◌, Bool, true, false, List, [], ◌∷◌, ◌++◌, refl, ap, sym, subst, ◌∙◌, length, get_or, map, arith, eqb-true}
 use Rattle.std.specs.Prelude.{if◌then◌else◌}
 use Rattle.std.specs.List.{flat_map}
 use Rattle.bag.specs.Posts.{Post as BagPost}
@@ -28,18 +28,18 @@ use Rattle.update_machine.specs.Setting.{Setting}
 use Rattle.update_machine.proofs.CallerLemmas.{near_stays}
 use Rattle.usable_links.specs.Linking.{told_again}
 use Rattle.steps.specs.Steps.{IsStep}
-use Rattle.world_log.specs.Sending.{act_items, act_posts}
+use Rattle.world_log.specs.Sending.{MayNote, act_items, act_posts}
 use Rattle.world_ties.specs.Tied.{AreTied, Control}
 use Rattle.log_ties.specs.Bags.{IsBagOf}
 use Rattle.travelling.specs.Travelling.{Travellers}
 use Rattle.world_ties.proofs.ActItems.{written_is}
 use Rattle.world_ties.proofs.Delivering.{nothing_tied}
-use Rattle.world_ties.proofs.HearReady.{sends_few}
 use Rattle.log_ties.proofs.Known.{reached_known}
 use Rattle.world_ties.proofs.OneItem.{grown}
 use Rattle.log_ties.proofs.Posting.{bag_on}
-use Rattle.world_ties.proofs.Told.{acts_fit, tied_told}
+use Rattle.world_ties.proofs.Told.{tied_told}
 use Rattle.world_ties.proofs.Tying.{links_stay, up_stay}
+use Rattle.world_ties.proofs.Sendable.{may_note}
 
 -- nothing is there to send, or something
 none_there : (acts : List Act) → (length acts == 0) ≡ true → acts ≡ []
@@ -223,13 +223,6 @@ module _ (control : Control) (setting : Setting) (journal : List Item)
               (item.Row row (Resend s) ∷ []) tied (refl, tt);
         })
 
-    pub again_few : length control.posts < 990_000
-        → length control.posts + length (act_posts acts) < 2 ^ 32
-    unfolding AreTied
-    again_few room = omega (
-      arith,
-      room,
-      acts_fit setting journal row (Resend s) [] (length control.posts + 1) acts
-          (sends_few setting journal (reached_known setting journal tied.sound tied.reached))
-          again_piece,
-    )
+    pub again_may : length control.posts < 990_000 → MayNote control.posts acts
+    again_may = may_note control setting journal switches before count row (Resend s) []
+        control.posts acts tied may again_piece refl

@@ -7,9 +7,10 @@ use Rattle.std.proofs.lemmas.List.Elements.{filter_agree}
 use Rattle.journal.specs.declared.item.Item.{Item}
 use Rattle.switch_core.specs.State.{SwitchValue}
 use Rattle.update_machine.specs.Folds.{count_of}
-use Rattle.update_machine.specs.Packets.{is_at, is_packet, next_packet, packets_at, travels, travels_at}
+use Rattle.update_machine.specs.Packets.{is_packet, next_packet}
 use Rattle.update_machine.specs.Packets.{standing as place_of}
 use Rattle.update_machine.specs.Setting.{Setting}
+use Rattle.update_machine.specs.Travels.{is_at, packets_at, travels, travels_at}
 use Rattle.way_laws.specs.Words.{words_of}
 use Rattle.way_laws.proofs.Rests.{numbered, ways_of_all}
 use Rattle.world_ties.specs.Tied.{AreTied, Control}

@@ -1,5 +1,5 @@
 -- A policy is submitted or refused: what is written then, and what the parts are behind it.
-use Rattle.std.proofs.Common.{ℕ, ◌≡◌, ◌≢◌, ◌+◌, ◌-◌, ◌^◌, ◌<◌, ◌≤◌, Some, None, List, [], ◌∷◌, ◌++◌, refl, ap, sym, subst, ◌∙◌, length, get_or, append-nil, arith, ne_eqb}
+use Rattle.std.proofs.Common.{ℕ, ◌≡◌, ◌≢◌, ◌+◌, ◌-◌, ◌<◌, ◌≤◌, Some, None, List, [], ◌∷◌, ◌++◌, refl, ap, sym, subst, ◌∙◌, length, get_or, append-nil, arith, ne_eqb}
 use Rattle.std.specs.Prelude.{Err, Ok, if◌then◌else◌, slice_get, Result}
 use Rattle.std.proofs.lemmas.Option.{slice_get-get_or}
 use Rattle.control_ties.specs.Controller.{IsControllerOf, IsPlanOfFile}
@@ -24,17 +24,17 @@ use Rattle.steps.specs.Steps.{IsStep}
 use Rattle.update_machine.specs.Setting.{Setting, plan_of_file, policy_of_file, setting_of}
 use Rattle.update_machine.specs.Settling.{submitted_items}
 use Rattle.update_machine.specs.Versions.{version_count}
-use Rattle.world_log.specs.Sending.{act_items, act_posts}
+use Rattle.world_log.specs.Sending.{MayNote, act_items, act_posts}
 use Rattle.world_ties.specs.Tied.{AreTied, Control}
 use Rattle.log_ties.specs.Bags.{IsBagOf}
 use Rattle.travelling.specs.Travelling.{Travellers}
 use Rattle.world_ties.proofs.ActItems.{written_is}
-use Rattle.world_ties.proofs.HearReady.{sends_few}
 use Rattle.log_ties.proofs.Known.{reached_known}
 use Rattle.world_ties.proofs.OneItem.{grown}
 use Rattle.log_ties.proofs.Posting.{bag_on}
-use Rattle.world_ties.proofs.Told.{acts_fit, tied_told}
+use Rattle.world_ties.proofs.Told.{tied_told}
 use Rattle.world_ties.proofs.Tying.{links_stay, up_stay}
+use Rattle.world_ties.proofs.Sendable.{may_note}
 
 -- ---- files
 
@@ -175,16 +175,10 @@ module _ (control : Control) (setting : Setting) (journal : List Item)
               (refl, (refl, tt));
         })
 
-    -- and there is room for it
-    pub submitted_few : length control.posts < 990_000
-        → length control.posts + length (act_posts acts) < 2 ^ 32
-    unfolding AreTied
-    submitted_few room = omega (
-      arith,
-      room,
-      acts_fit setting journal row (Update file) (one ∷ []) (length control.posts + 1) acts
-          (sends_few setting journal (reached_known setting journal tied.sound tied.reached)) submitted_piece,
-    )
+    -- and it may be written
+    pub submitted_may : length control.posts < 990_000 → MayNote control.posts acts
+    submitted_may = may_note control setting journal switches before count row (Update file)
+        (one ∷ []) control.posts acts tied may submitted_piece refl
 
 -- ---- what the marks refuse
 

@@ -6,7 +6,7 @@ use Rattle.switch_core.specs.State.{SwitchValue}
 use Rattle.world_log.specs.Packets.{hop_items}
 use Rattle.travelling.specs.Travelling.{WithOne}
 use Rattle.world_log.specs.Writing.{IsPart}
-use Rattle.world_log.proofs.Turning.{IsAnswered, both_written, ended, hop_authority, hop_items_are, hop_kept, hop_traveller_is, part_back, part_front, same_packet}
+use Rattle.world_log.proofs.Turning.{IsAnswered, both_written, ended, hop_authority, hop_ingress, hop_items_are, hop_kept, hop_traveller_is, part_back, part_front, same_packet}
 use Rattle.world_log.proofs.Writing.{by_error}
 use Rattle.world_log.proofs.packets.hop.Goals as goal
 
@@ -43,6 +43,19 @@ end_hop-requires-clause-authority c = λ arrive.
     hop_authority c.args.switch.now c.args.near c.args.ports.now c.args.traveller.now
     c.hop-hop.new.self c.hop-hop.new.t c.number.result c.hop-hop.result.found
     c.hop-hop.result.end is (c.requires.authority (sym c.hop-hop.ensures.end ∙ arrive))
+
+pub end_hop-requires-clause-ingress : goal.end_hop-requires-clause-ingress
+end_hop-requires-clause-ingress c =
+    hop_ingress c.args.switch.now c.args.near c.args.ports.now c.args.traveller.now
+    c.hop-hop.new.self c.hop-hop.new.t c.number.result c.hop-hop.result.found
+    c.hop-hop.result.end (record {
+      after = c.hop-hop.ensures.after;
+      moved_it = c.hop-hop.ensures.tunnel;
+      here_is = c.number.ensures.number
+          ∙ ap (λ (s : SwitchValue). s.number) c.hop-hop.ensures.after;
+      found_is = c.hop-hop.ensures.found;
+      end_is = c.hop-hop.ensures.end;
+    }) c.requires.ingress
 
 pub returns-in_err-turn-clause-part : goal.returns-in_err-turn-clause-part
 returns-in_err-turn-clause-part c =

@@ -7,13 +7,13 @@ use Rattle.bag.proofs.bag.Bag.forget.Goals as goal
 
 pub forget-requires : goal.forget-requires
 forget-requires c =
-    deliverable_same c.self.inside.messages.items c.self.inside.deliveries c.args.number
+    deliverable_same c.self.inside.frames c.self.inside.deliveries c.args.number
     c.self.invariant
     ∙ ap (λ (posts : List Post). is_deliverable posts c.args.number) c.self.view_is ∙ c.requires
 
 pub returns : goal.returns
 returns c =
-    ap (zip c.self.inside.messages.items) c.forget.ensures
-    ∙ zip_changed forgotten c.self.inside.messages.items c.self.inside.deliveries c.args.number
+    ap (zip c.self.inside.frames) c.forget.ensures
+    ∙ zip_changed forgotten c.self.inside.frames c.self.inside.deliveries c.args.number
     c.self.invariant
     ∙ ap (λ (posts : List Post). with_forgotten posts c.args.number) c.self.view_is

@@ -1,30 +1,29 @@
-use Rattle.std.proofs.Common.{◌≡◌, ◌-◌, true, Some, List, get_or, ap, sym, ◌∙◌, arith}
+use Rattle.std.proofs.Common.{◌≡◌, true, Option, List, ap, sym, subst, ◌∙◌}
+use Rattle.std.specs.Prelude.{IfOk, IfSome, is_some}
+use Rattle.ctrl_msg.specs.declared.message.Message.{Message}
 use Rattle.bag.specs.Deliveries as statuses
-use Rattle.bag.specs.Posts.{Post, is_deliverable, message_of}
-use Rattle.bag.proofs.Zipped.{deliverable_same, deliverable_within, the_message}
+use Rattle.bag.specs.Posts.{IsMessageOf, Post, is_deliverable}
+use Rattle.bag.proofs.Taken.{found_known, found_there}
+use Rattle.bag.proofs.Zipped.{deliverable_same}
 use Rattle.bag.proofs.bag.Bag.get.Goals as goal
 
-pub index-requires : goal.index-requires
-index-requires c =
-    let is : statuses.is_deliverable c.self.inside.deliveries c.args.number ≡ true =
-    deliverable_same c.self.inside.messages.items c.self.inside.deliveries c.args.number
-    c.self.invariant
+is_there : (c : goal.After-take)
+    → statuses.is_deliverable c.self.inside.deliveries c.args.number ≡ true
+is_there c =
+    deliverable_same c.self.inside.frames c.self.inside.deliveries c.args.number c.self.invariant
     ∙ ap (λ (posts : List Post). is_deliverable posts c.args.number) c.self.view_is
-    ∙ sym c.may_be_delivered.ensures ∙ c.if-not-may_be_delivered.false in
-    let there = deliverable_within c.self.inside.deliveries c.args.number is in
-    omega (arith, there.0, there.1, c.self.invariant)
+    ∙ sym c.may_be_delivered.ensures ∙ c.if-may_be_delivered.true
 
-pub returns : goal.returns
-returns c =
-    let is : statuses.is_deliverable c.self.inside.deliveries c.args.number ≡ true =
-    deliverable_same c.self.inside.messages.items c.self.inside.deliveries c.args.number
-    c.self.invariant
-    ∙ ap (λ (posts : List Post). is_deliverable posts c.args.number) c.self.view_is
-    ∙ sym c.may_be_delivered.ensures ∙ c.if-not-may_be_delivered.false in
-    let same : c.in_ok-copy.copy
-    ≡ get_or c.self.inside.messages.items (c.args.number - 1) c.index.result.now =
-    c.in_ok-copy.ensures.cases ∙ c.message-message.ensures ∙ c.index.ensures in
-    ap Some same
-    ∙ sym (the_message c.self.inside.messages.items c.self.inside.deliveries c.args.number
-    c.index.result.now c.self.invariant is)
-    ∙ ap (λ (posts : List Post). message_of posts c.args.number) c.self.view_is
+pub returns-then-may_be_delivered-clause-found : goal.returns-then-may_be_delivered-clause-found
+returns-then-may_be_delivered-clause-found c =
+    subst (λ (posts : List Post). IfOk c.take.result (λ answer. is_some answer
+    ≡ is_deliverable posts c.args.number)) c.self.view_is
+    (found_known c.self.inside.frames c.self.inside.deliveries c.args.number c.self.invariant
+    (is_there c) c.take.result c.take.ensures.none)
+
+pub returns-then-may_be_delivered-clause-message : goal.returns-then-may_be_delivered-clause-message
+returns-then-may_be_delivered-clause-message c =
+    subst (λ (posts : List Post). IfOk c.take.result (λ (answer : Option Message).
+    IfSome answer (IsMessageOf posts c.args.number))) c.self.view_is
+    (found_there c.self.inside.frames c.self.inside.deliveries c.args.number c.self.invariant
+    (is_there c) c.take.result c.take.ensures.message)

@@ -6,6 +6,6 @@ use Rattle.bag.proofs.bag.Bag.may_be_delivered.Goals as goal
 pub returns : goal.returns
 returns c =
     c.may_be_delivered.ensures
-    ∙ deliverable_same c.self.inside.messages.items c.self.inside.deliveries c.args.number
+    ∙ deliverable_same c.self.inside.frames c.self.inside.deliveries c.args.number
     c.self.invariant
     ∙ ap (λ (posts : List Post). is_deliverable posts c.args.number) c.self.view_is

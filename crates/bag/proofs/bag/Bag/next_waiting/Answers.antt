@@ -8,5 +8,5 @@ pub returns : goal.returns
 returns c =
     c.next_waiting.ensures
     ∙ ap (λ all. statuses.next_waiting all c.args.from)
-    (sym (statuses_of_zip c.self.inside.messages.items c.self.inside.deliveries c.self.invariant))
+    (sym (statuses_of_zip c.self.inside.frames c.self.inside.deliveries c.self.invariant))
     ∙ ap (λ posts. next_waiting posts c.args.from) c.self.view_is

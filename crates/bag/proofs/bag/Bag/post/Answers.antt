@@ -1,7 +1,9 @@
-use Rattle.std.proofs.Common.{◌++◌, ◌∷◌, [], List, length, ap, ◌∙◌, arith, length-append}
+use Rattle.std.proofs.Common.{◌++◌, ◌∷◌, [], List, length, ap, sym, ◌∙◌, arith}
 use Rattle.std.specs.List.{zip}
+use Rattle.wire.specs.Frames.{frames}
 use Rattle.bag.specs.Deliveries.{waiting}
-use Rattle.bag.specs.Posts.{Post, posted}
+use Rattle.bag.specs.Posts.{Post, framed, posted}
+use Rattle.bag.proofs.Framed.{framed_is}
 use Rattle.bag.proofs.Zipped.{length_of_zip, zip_pushed}
 use Rattle.bag.proofs.bag.Bag.post.Goals as goal
 
@@ -10,25 +12,37 @@ add-requires c =
     omega (
       arith,
       ap length c.self.view_is,
-      length_of_zip c.self.inside.messages.items c.self.inside.deliveries c.self.invariant,
+      c.requires.few,
+      length_of_zip c.self.inside.frames c.self.inside.deliveries c.self.invariant,
+    )
+
+pub post-requires-clause-few : goal.post-requires-clause-few
+post-requires-clause-few c =
+    omega (
+      arith,
+      ap length c.self.view_is,
+      c.requires.few,
+      c.self.invariant,
+      length_of_zip c.self.inside.frames c.self.inside.deliveries c.self.invariant,
     )
 
 pub returns-in-Ok-clause-number : goal.returns-in-Ok-clause-number
 returns-in-Ok-clause-number c =
     omega (
       arith,
-      c.count.ensures,
-      ap length c.in-Ok.ensures.added,
-      length-append c.self.inside.deliveries (waiting ∷ []),
+      c.in-Ok.ensures.number,
+      c.self.invariant,
       ap length c.self.view_is,
-      length_of_zip c.self.inside.messages.items c.self.inside.deliveries c.self.invariant,
+      length_of_zip c.self.inside.frames c.self.inside.deliveries c.self.invariant,
     )
 
 pub returns-in-Ok-clause-posted : goal.returns-in-Ok-clause-posted
 returns-in-Ok-clause-posted c =
-    ap (zip c.push.new.self.items) c.in-Ok.ensures.added
-    ∙ ap (λ messages. zip messages (c.self.inside.deliveries ++ waiting ∷ []))
-    c.in_ok-push.ensures.items
-    ∙ zip_pushed c.self.inside.messages.items c.self.inside.deliveries c.args.message waiting
+    let message = c.args.message.now in
+    ap (λ all. zip all c.add.new.self) c.in-Ok.ensures.posted
+    ∙ ap (zip (c.self.inside.frames ++ frames message ∷ [])) c.in_ok-add.ensures.added
+    ∙ ap (λ one. zip (c.self.inside.frames ++ one ∷ []) (c.self.inside.deliveries ++ waiting ∷ []))
+    (sym (framed_is message c.in-Ok.ensures.fits))
+    ∙ zip_pushed c.self.inside.frames c.self.inside.deliveries (framed message) waiting
     c.self.invariant
-    ∙ ap (λ (posts : List Post). posts ++ posted c.args.message ∷ []) c.self.view_is
+    ∙ ap (λ (posts : List Post). posts ++ posted message ∷ []) c.self.view_is

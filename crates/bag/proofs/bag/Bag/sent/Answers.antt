@@ -5,5 +5,5 @@ use Rattle.bag.proofs.bag.Bag.sent.Goals as goal
 pub returns : goal.returns
 returns c =
     c.count.ensures
-    ∙ sym (length_of_zip c.self.inside.messages.items c.self.inside.deliveries c.self.invariant)
+    ∙ sym (length_of_zip c.self.inside.frames c.self.inside.deliveries c.self.invariant)
     ∙ ap length c.self.view_is

@@ -8,11 +8,11 @@ use Rattle.steps.specs.declared.step.Step.TheVariants.{Confirm}
 use Rattle.version_update.specs.Marks.{at_switch}
 use Rattle.version_update.specs.Record.{after_over}
 use Rattle.world.specs.Parts.{control_in, setting_in}
-use Rattle.world_log.specs.Sending.{act_items, act_posts}
+use Rattle.world_log.specs.Sending.{MayNote, act_items, act_posts}
 use Rattle.world_log.specs.Writing.{IsPart}
 use Rattle.world.proofs.Frame.{goes_one, net_stays, none_in, nothing_goes, plane_stays}
 use Rattle.world.proofs.GoesTold.{goes_told}
-use Rattle.world_ties.proofs.GoneSwitches.{gone_few, gone_known, gone_piece, gone_there, gone_tied, still_up}
+use Rattle.world_ties.proofs.GoneSwitches.{gone_may, gone_known, gone_piece, gone_there, gone_tied, still_up}
 use Rattle.world.proofs.parts.Parts.confirm.Goals as goal
 
 pub index-requires : goal.index-requires
@@ -66,14 +66,11 @@ pub note_acts-requires : goal.note_acts-requires
 note_acts-requires c =
     let self = c.args.self.now in
     let ready = c.requires.begins.ready in
-    record {
-      few = subst (λ (acts : List Act). length self.log.bag + length (act_posts acts) < 2 ^ 32)
-          (sym (c.acts.ensures ∙ c.in_ok-sends.ensures.sends))
-          (gone_few (control_in self) (setting_in self) c.requires.before self.switches.items
-          self.log.travelling self.packets c.requires.row c.args.switch c.index.result.now
-          ready.tied ready.may c.index.ensures c.over.new.self
-          (sym c.is_up.ensures ∙ c.if-is_up.false) c.over.ensures.after ready.room);
-    }
+    subst (MayNote self.log.bag) (sym (c.acts.ensures ∙ c.in_ok-sends.ensures.sends))
+    (gone_may (control_in self) (setting_in self) c.requires.before self.switches.items
+    self.log.travelling self.packets c.requires.row c.args.switch c.index.result.now
+    ready.tied ready.may c.index.ensures c.over.new.self
+    (sym c.is_up.ensures ∙ c.if-is_up.false) c.over.ensures.after ready.room)
 
 pub returns : goal.returns
 returns c = λ before row begins.

@@ -12,8 +12,9 @@ use Rattle.usable_links.specs.Linking.{all_told, near_all}
 use Rattle.world.specs.Parts.{control_in, setting_in}
 use Rattle.world_ties.specs.Tied.{AreTied}
 use Rattle.travelling.specs.Travelling.{WithoutAt, numbers_at}
+use Rattle.world_log.specs.Sending.{MaySend}
 use Rattle.world_log.specs.Writing.{IsPart}
-use Rattle.world_ties.proofs.Crashed.{crash_few, crash_next, crash_piece, crash_ready, crash_tied, same_switch, stays_down}
+use Rattle.world_ties.proofs.Crashed.{crash_may, crash_next, crash_piece, crash_ready, crash_tied, same_switch, stays_down}
 use Rattle.world_log.proofs.Writing.{by_error}
 use Rattle.world.proofs.Frame.{goes, goes_one, net_stays, none_in, none_ok, nothing_goes, plane_stays}
 use Rattle.world.proofs.GoesTold.{same_control}
@@ -111,17 +112,17 @@ change_links-requires-clause-next c =
     c.index_mut.result.now c.index.result.now within c.index_mut.ensures.value c.index.ensures)
     ∙ sym c.is_up.ensures ∙ c.if-not-is_up.false) ready.room
 
-pub change_links-requires-clause-few : goal.change_links-requires-clause-few
-change_links-requires-clause-few c =
+pub change_links-requires-clause-may : goal.change_links-requires-clause-may
+change_links-requires-clause-may c =
     let self = c.args.self.now in
     let s = c.args.switch in
     let ready = c.requires.begins.ready in
     let within = crash_ready (control_in self) (setting_in self) c.requires.before
     self.switches.items self.log.travelling self.packets s ready.tied ready.may in
     let others = set self.switches.items s c.crash.new.self in
-    subst (λ bag. length bag + length (all_told self.near (near_all self.links others) others)
-    < 2 ^ 32) (sym c.lose_at.ensures.unsent)
-    (crash_few (control_in self) (setting_in self) c.requires.before self.switches.items
+    subst (λ bag. MaySend bag (all_told self.near (near_all self.links others) others))
+    (sym c.lose_at.ensures.unsent)
+    (crash_may (control_in self) (setting_in self) c.requires.before self.switches.items
     self.log.travelling self.packets c.requires.row s c.index_mut.result.now c.crash.new.self
     ready.tied ready.may within c.index_mut.ensures.value c.crash.ensures
     (ap (λ (w : SwitchValue). w.is_up) (same_switch self.switches.items s

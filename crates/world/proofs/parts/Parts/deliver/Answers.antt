@@ -15,13 +15,14 @@ use Rattle.switch_core.specs.Hearing.{replies}
 use Rattle.update_machine.specs.Messages.{sent_from}
 use Rattle.world.specs.Parts.{control_in, setting_in}
 use Rattle.usable_links.specs.Linking.{all_told, near_all}
-use Rattle.world_log.specs.Sending.{act_items, act_posts}
+use Rattle.world_log.specs.Sending.{MayNote, MaySend, act_items, act_posts}
 use Rattle.world_ties.specs.Tied.{AreTied}
+use Rattle.world_ties.proofs.Delivering.{found_there}
 use Rattle.world_log.specs.Writing.{IsPart}
 use Rattle.world.proofs.GoesTold.{first_goes, goes_told, same_control}
-use Rattle.world_ties.proofs.HeardBy.{control_few, control_piece, control_tied, first_piece, names_known, shut_few, shut_piece, shut_tied, undelivered}
+use Rattle.world_ties.proofs.HeardBy.{control_may, control_piece, control_tied, first_piece, names_known, shut_may, shut_piece, shut_tied, undelivered}
 use Rattle.world_ties.proofs.HearReady.{few_switches, hear_ready, usable_here}
-use Rattle.world_ties.proofs.Opening.{opening_few, opening_next, opening_piece, opening_tied}
+use Rattle.world_ties.proofs.Opening.{opening_may, opening_next, opening_piece, opening_tied}
 use Rattle.world.proofs.Frame.{goes_one, net_stays, none_in, nothing_goes, plane_stays}
 use Rattle.world_log.proofs.Writing.{both_ok, step_part, step_written}
 use Rattle.world.proofs.parts.Parts.deliver.Goals as goal
@@ -40,7 +41,7 @@ returns-in-None c = λ before row begins.
     item.Nothing self.log.bag (plane_stays refl refl refl) refl (none_in _)
     (undelivered (control_in self) (setting_in self) before self.switches.items
     self.log.travelling self.packets row c.args.number begins.ready.tied begins.ready.may
-    (ap is_some (sym c.in_ok-get.ensures ∙ c.in-None.is)))
+    (sym c.in_ok-get.ensures.found ∙ ap is_some c.in-None.is))
     c.push.ensures.pushed c.push.ensures.unchanged
 
 -- ---- at the controller
@@ -56,18 +57,17 @@ tell_controller-requires-clause-there c =
     let self = c.args.self.now in
     names_known (control_in self) (setting_in self) c.requires.before self.switches.items
     self.log.travelling self.packets c.args.number c.in-Some.message c.requires.begins.ready.tied
-    (sym c.in_ok-get.ensures ∙ c.in-Some.is) c.in-Controller.is
+    (found_there _ _ _ _ c.in-Some.is c.in_ok-get.ensures.message) c.in-Controller.is
 
-pub tell_controller-requires-clause-few : goal.tell_controller-requires-clause-few
-tell_controller-requires-clause-few c = λ new settles.
+pub tell_controller-requires-clause-may : goal.tell_controller-requires-clause-may
+tell_controller-requires-clause-may c = λ new settles.
     let self = c.args.self.now in
     let ready = c.requires.begins.ready in
-    subst (λ bag. length bag
-    + length (act_posts (hearing c.in-Some.message.body self.controller.marks new)) < 2 ^ 32)
+    subst (λ bag. MayNote bag (hearing c.in-Some.message.body self.controller.marks new))
     (sym c.deliver.ensures)
-    (control_few (control_in self) (setting_in self) c.requires.before self.switches.items
+    (control_may (control_in self) (setting_in self) c.requires.before self.switches.items
     self.log.travelling self.packets c.requires.row c.args.number c.in-Some.message new ready.tied
-    ready.may (sym c.in_ok-get.ensures ∙ c.in-Some.is) c.in-Controller.is settles ready.room)
+    ready.may (found_there _ _ _ _ c.in-Some.is c.in_ok-get.ensures.message) c.in-Controller.is settles ready.room)
 
 pub returns-in-Controller : goal.returns-in-Controller
 returns-in-Controller c = λ before row begins.
@@ -76,7 +76,7 @@ returns-in-Controller c = λ before row begins.
     let message = c.in-Some.message in
     let new : ControllerValue = c.tell_controller.new.controller in
     let acts = hearing message.body self.controller.marks new in
-    let there = sym c.in_ok-get.ensures ∙ c.in-Some.is in
+    let there = found_there _ _ _ _ c.in-Some.is c.in_ok-get.ensures.message in
     let ready = begins.ready in
     goes_told c.tell_controller.result before row (Deliver n) self _ (item.Delivered n)
     (λ k. act_items k acts) c.push-2.new.self (length c.deliver.new.self)
@@ -107,14 +107,14 @@ bounds-self-switch c =
     let self = c.args.self.now in
     (hear_ready (control_in self) (setting_in self) c.requires.before self.switches.items
     self.log.travelling self.packets c.args.number c.in-Switch.switch c.in-Some.message
-    c.requires.begins.ready.tied (sym c.in_ok-get.ensures ∙ c.in-Some.is) c.in-Switch.is).1
+    c.requires.begins.ready.tied (found_there _ _ _ _ c.in-Some.is c.in_ok-get.ensures.message) c.in-Switch.is).1
 
 pub index_mut-requires : goal.index_mut-requires
 index_mut-requires c =
     let self = c.args.self.now in
     let ready = hear_ready (control_in self) (setting_in self) c.requires.before
     self.switches.items self.log.travelling self.packets c.args.number c.in-Switch.switch
-    c.in-Some.message c.requires.begins.ready.tied (sym c.in_ok-get.ensures ∙ c.in-Some.is)
+    c.in-Some.message c.requires.begins.ready.tied (found_there _ _ _ _ c.in-Some.is c.in_ok-get.ensures.message)
     c.in-Switch.is in
     omega (arith, ready.0, self.switches.ok.0)
 
@@ -123,7 +123,7 @@ hear-requires c =
     let self = c.args.self.now in
     (hear_ready (control_in self) (setting_in self) c.requires.before self.switches.items
     self.log.travelling self.packets c.args.number c.in-Switch.switch c.in-Some.message
-    c.requires.begins.ready.tied (sym c.in_ok-get.ensures ∙ c.in-Some.is) c.in-Switch.is).2
+    c.requires.begins.ready.tied (found_there _ _ _ _ c.in-Some.is c.in_ok-get.ensures.message) c.in-Switch.is).2
 
 pub returns-in_err-heard : goal.returns-in_err-heard
 returns-in_err-heard c = λ before row begins.
@@ -132,7 +132,7 @@ returns-in_err-heard c = λ before row begins.
     (item.Delivered c.args.number) _ begins (net_stays refl refl)
     (first_piece (control_in self) (setting_in self) before self.switches.items
     self.log.travelling self.packets row c.args.number c.in-Some.message begins.ready.tied
-    (sym c.in_ok-get.ensures ∙ c.in-Some.is)) c.from_residual-in_err-heard.ensures.0
+    (found_there _ _ _ _ c.in-Some.is c.in_ok-get.ensures.message)) c.from_residual-in_err-heard.ensures.0
     c.in_ok-push.ensures.pushed
 
 -- ---- it stays as it was
@@ -141,26 +141,22 @@ pub send_all-requires : goal.send_all-requires
 send_all-requires c =
     let self = c.args.self.now in
     let ready = c.requires.begins.ready in
-    let there = sym c.in_ok-get.ensures ∙ c.in-Some.is in
+    let there = found_there _ _ _ _ c.in-Some.is c.in_ok-get.ensures.message in
     let within = hear_ready (control_in self) (setting_in self) c.requires.before
     self.switches.items self.log.travelling self.packets c.args.number c.in-Switch.switch
     c.in-Some.message ready.tied there c.in-Switch.is in
-    record {
-      few = subst (λ messages. length c.deliver.new.self + length messages < 2 ^ 32)
-          (sym (c.items.ensures ∙ c.in_ok-heard.ensures.replies))
-          (subst (λ bag. length bag + length (replies c.index_mut.result.now
-          (get_or self.near c.in-Switch.switch 0) c.in-Some.message.body) < 2 ^ 32)
-          (sym c.deliver.ensures)
-          (shut_few (control_in self) (setting_in self) c.requires.before self.switches.items
-          self.log.travelling self.packets c.requires.row c.args.number c.in-Switch.switch
-          c.in-Some.message c.index_mut.result.now c.hear.new.self
-          (get_or self.near c.in-Switch.switch 0) ready.tied ready.may there c.in-Switch.is
-          within.0 c.index_mut.ensures.value
-          (usable_here (control_in self) (setting_in self) c.requires.before self.switches.items
-          self.log.travelling self.packets c.in-Switch.switch ready.tied within.1)
-          c.in_ok-heard.ensures.after
-          (sym c.in_ok-heard.ensures.opened ∙ c.in-None-opened.is) ready.room));
-    }
+    subst (MaySend c.deliver.new.self) (sym (c.items.ensures ∙ c.in_ok-heard.ensures.replies))
+    (subst (λ bag. MaySend bag (replies c.index_mut.result.now
+    (get_or self.near c.in-Switch.switch 0) c.in-Some.message.body)) (sym c.deliver.ensures)
+    (shut_may (control_in self) (setting_in self) c.requires.before self.switches.items
+    self.log.travelling self.packets c.requires.row c.args.number c.in-Switch.switch
+    c.in-Some.message c.index_mut.result.now c.hear.new.self
+    (get_or self.near c.in-Switch.switch 0) ready.tied ready.may there c.in-Switch.is within.0
+    c.index_mut.ensures.value
+    (usable_here (control_in self) (setting_in self) c.requires.before self.switches.items
+    self.log.travelling self.packets c.in-Switch.switch ready.tied within.1)
+    c.in_ok-heard.ensures.after (sym c.in_ok-heard.ensures.opened ∙ c.in-None-opened.is)
+    ready.room))
 
 pub returns-in-None-opened : goal.returns-in-None-opened
 returns-in-None-opened c = λ before row begins.
@@ -169,7 +165,7 @@ returns-in-None-opened c = λ before row begins.
     let s = c.in-Switch.switch in
     let message = c.in-Some.message in
     let ready = begins.ready in
-    let there = sym c.in_ok-get.ensures ∙ c.in-Some.is in
+    let there = found_there _ _ _ _ c.in-Some.is c.in_ok-get.ensures.message in
     let own = c.index_mut.result.now in
     let near = get_or self.near s 0 in
     let within = hear_ready (control_in self) (setting_in self) before self.switches.items
@@ -218,7 +214,7 @@ returns-in_err-push-in-Some-opened c = λ before row begins.
     (Deliver c.args.number) self _ (item.Delivered c.args.number) _ begins (net_stays refl refl)
     (first_piece (control_in self) (setting_in self) before self.switches.items
     self.log.travelling self.packets row c.args.number c.in-Some.message begins.ready.tied
-    (sym c.in_ok-get.ensures ∙ c.in-Some.is))
+    (found_there _ _ _ _ c.in-Some.is c.in_ok-get.ensures.message))
     c.from_residual-in_err-push-in-Some-opened.ensures.0
     (c.in_err-push-in-Some-opened.ensures.unchanged ∙ c.in_ok-push.ensures.pushed)
 
@@ -236,7 +232,7 @@ pub change_links-requires-clause-next : goal.change_links-requires-clause-next
 change_links-requires-clause-next c =
     let self = c.args.self.now in
     let ready = c.requires.begins.ready in
-    let there = sym c.in_ok-get.ensures ∙ c.in-Some.is in
+    let there = found_there _ _ _ _ c.in-Some.is c.in_ok-get.ensures.message in
     let within = hear_ready (control_in self) (setting_in self) c.requires.before
     self.switches.items self.log.travelling self.packets c.args.number c.in-Switch.switch
     c.in-Some.message ready.tied there c.in-Switch.is in
@@ -246,18 +242,18 @@ change_links-requires-clause-next c =
     ready.may there c.in-Switch.is within.0 c.index_mut.ensures.value c.in_ok-heard.ensures.after
     (sym c.in_ok-heard.ensures.opened ∙ c.in-Some-opened.is) ready.room
 
-pub change_links-requires-clause-few : goal.change_links-requires-clause-few
-change_links-requires-clause-few c =
+pub change_links-requires-clause-may : goal.change_links-requires-clause-may
+change_links-requires-clause-may c =
     let self = c.args.self.now in
     let ready = c.requires.begins.ready in
-    let there = sym c.in_ok-get.ensures ∙ c.in-Some.is in
+    let there = found_there _ _ _ _ c.in-Some.is c.in_ok-get.ensures.message in
     let within = hear_ready (control_in self) (setting_in self) c.requires.before
     self.switches.items self.log.travelling self.packets c.args.number c.in-Switch.switch
     c.in-Some.message ready.tied there c.in-Switch.is in
     let others = set self.switches.items c.in-Switch.switch c.hear.new.self in
-    subst (λ bag. length bag + length (all_told self.near (near_all self.links others) others)
-    < 2 ^ 32) (sym c.deliver.ensures)
-    (opening_few (control_in self) (setting_in self) c.requires.before self.switches.items
+    subst (λ bag. MaySend bag (all_told self.near (near_all self.links others) others))
+    (sym c.deliver.ensures)
+    (opening_may (control_in self) (setting_in self) c.requires.before self.switches.items
     self.log.travelling self.packets c.requires.row c.args.number c.in-Switch.switch
     c.in-Some-opened.version c.in-Some.message c.index_mut.result.now c.hear.new.self ready.tied
     ready.may there c.in-Switch.is within.0 c.index_mut.ensures.value c.in_ok-heard.ensures.after
@@ -272,7 +268,7 @@ returns c = λ before row begins.
     let stamp = c.in-Some-opened.version in
     let message = c.in-Some.message in
     let ready = begins.ready in
-    let there = sym c.in_ok-get.ensures ∙ c.in-Some.is in
+    let there = found_there _ _ _ _ c.in-Some.is c.in_ok-get.ensures.message in
     let own = c.index_mut.result.now in
     let within = hear_ready (control_in self) (setting_in self) before self.switches.items
     self.log.travelling self.packets n s message ready.tied there c.in-Switch.is in

@@ -7,11 +7,11 @@ use Rattle.journal.specs.declared.item.Item.TheVariants as item
 use Rattle.steps.specs.declared.step.Step.TheVariants.{Resend}
 use Rattle.usable_links.specs.Linking.{told_again}
 use Rattle.world.specs.Parts.{control_in, setting_in}
-use Rattle.world_log.specs.Sending.{act_items, act_posts}
+use Rattle.world_log.specs.Sending.{MayNote, act_items, act_posts}
 use Rattle.world_log.specs.Writing.{IsPart}
 use Rattle.world.proofs.Frame.{goes_one, goes_quiet, net_stays, none_in, nothing_goes, plane_stays}
 use Rattle.world_ties.proofs.HearReady.{few_switches}
-use Rattle.world_ties.proofs.SentAgain.{acts_same, again_few, again_here, again_known, again_piece, again_tied, sent_tied, silent}
+use Rattle.world_ties.proofs.SentAgain.{acts_same, again_may, again_here, again_known, again_piece, again_tied, sent_tied, silent}
 use Rattle.world.proofs.parts.Parts.resend.Goals as goal
 
 -- ---- its switch
@@ -103,15 +103,12 @@ send_and_note-requires c =
     c.as_slice-messages.result.now c.acts-acts.result.now
     (c.as_slice-messages.ensures.value ∙ c.in_ok-told.ensures) (omega arith) refl
     (c.acts-acts.ensures ∙ c.in_ok-sends.ensures) in
-    record {
-      few = subst (λ (acts : List Act). length self.log.bag + length (act_posts acts) < 2 ^ 32)
-          (sym are)
-          (again_few (control_in self) (setting_in self) c.requires.before self.switches.items
-          self.log.travelling self.packets c.requires.row c.args.switch own ready.tied ready.may
-          c.index.ensures
-          (subst (λ (acts : List Act). (length acts == 0) ≡ false) are
-          (sym c.are_none.ensures ∙ c.if-are_none.false)) ready.room);
-    }
+    subst (MayNote self.log.bag) (sym are)
+    (again_may (control_in self) (setting_in self) c.requires.before self.switches.items
+    self.log.travelling self.packets c.requires.row c.args.switch own ready.tied ready.may
+    c.index.ensures
+    (subst (λ (acts : List Act). (length acts == 0) ≡ false) are
+    (sym c.are_none.ensures ∙ c.if-are_none.false)) ready.room)
 
 pub returns : goal.returns
 returns c = λ before row begins.

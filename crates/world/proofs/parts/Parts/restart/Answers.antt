@@ -3,11 +3,14 @@ use Rattle.std.proofs.lemmas.List.{get_or_default}
 use Rattle.std.proofs.lemmas.Result.{on_err_weaker, on_ok_weaker}
 use Rattle.bag.specs.Posts.{posted}
 use Rattle.ctrl_msg.specs.declared.message.Body.TheVariants.{Hello}
+use Rattle.frame_laws.specs.Feeding.{HasShortSpelling}
 use Rattle.journal.specs.declared.item.Item.TheVariants as item
 use Rattle.steps.specs.declared.step.Step.TheVariants.{Restart}
 use Rattle.switch_core.specs.State.{SwitchValue}
 use Rattle.update_machine.specs.Deliveries.{to_controller}
 use Rattle.world.specs.Parts.{control_in, setting_in}
+use Rattle.world_ties.proofs.Asking.{below_64}
+use Rattle.world_ties.proofs.Sendable.{hello_spelled}
 use Rattle.world_ties.proofs.Booting.{boot_here, boot_next, boot_piece, boot_tied, up_already}
 use Rattle.world.proofs.Frame.{goes_one, net_stays, none_in, nothing_goes, plane_stays}
 use Rattle.world.proofs.GoesTold.{goes_told}
@@ -74,7 +77,18 @@ returns-in_err-push c = λ before row begins.
     begins (net_stays refl refl) c.from_residual.ensures.0 c.in_err-push.ensures.unchanged
 
 pub send-requires : goal.send-requires
-send-requires c = omega (arith, c.requires.begins.ready.room)
+send-requires c =
+    let self = c.args.self.now in
+    let ready = c.requires.begins.ready in
+    let below = below_64 (control_in self) (setting_in self) c.requires.before
+    self.switches.items self.log.travelling self.packets c.args.switch ready.tied
+    (boot_here (control_in self) (setting_in self) c.requires.before self.switches.items
+    self.log.travelling self.packets c.args.switch ready.tied ready.may) in
+    record {
+      spelling = subst HasShortSpelling (sym c.hello.ensures)
+          (hello_spelled c.args.switch c.restart-boot.result below);
+      few = omega (arith, ready.room);
+    }
 
 pub returns : goal.returns
 returns c = λ before row begins.

@@ -13,7 +13,7 @@ use Rattle.world.proofs.Frame.{goes_one, net_stays, nothing_goes, plane_stays}
 use Rattle.world.proofs.GoesTold.{goes_told, same_control}
 use Rattle.world_ties.proofs.HearReady.{few_switches}
 use Rattle.world_ties.proofs.LinksChange.{numbers_left}
-use Rattle.world_ties.proofs.LinkRows.{ends_below, same_tied, set_few, set_piece, set_tied}
+use Rattle.world_ties.proofs.LinkRows.{ends_below, same_tied, set_may, set_piece, set_tied}
 use Rattle.world_log.proofs.Writing.{both_ok}
 use Rattle.world.proofs.parts.Parts.set_link.Goals as goal
 
@@ -90,11 +90,11 @@ change_links-requires-clause-next c =
     numbers_left (control_in self) (setting_in self) c.requires.before self.switches.items
     self.log.travelling self.packets ready.tied ready.room
 
-pub change_links-requires-clause-few : goal.change_links-requires-clause-few
-change_links-requires-clause-few c =
+pub change_links-requires-clause-may : goal.change_links-requires-clause-may
+change_links-requires-clause-may c =
     let self = c.args.self.now in
     let ready = c.requires.begins.ready in
-    set_few (control_in self) (setting_in self) c.requires.before self.switches.items
+    set_may (control_in self) (setting_in self) c.requires.before self.switches.items
     self.log.travelling self.packets c.requires.row c.args.one c.args.two c.args.up ready.tied
     ready.may c.set_ends.new.links
     (ap (λ b. beq b c.args.up) (sym c.has.ensures.has) ∙ c.if-has-up.false) c.set_ends.ensures.set

@@ -9,11 +9,11 @@ use Rattle.journal.specs.declared.item.Item.TheVariants as item
 use Rattle.steps.specs.declared.step.Step.TheVariants.{Update}
 use Rattle.policy_store.specs.Files.{IsCompiled}
 use Rattle.world.specs.Parts.{control_in, setting_in}
-use Rattle.world_log.specs.Sending.{act_items, act_posts}
+use Rattle.world_log.specs.Sending.{MayNote, act_items, act_posts}
 use Rattle.world_log.specs.Writing.{IsPart}
 use Rattle.world.proofs.Frame.{goes_one, net_stays, none_in, not_err, nothing_goes, plane_stays}
 use Rattle.world.proofs.GoesTold.{goes_told}
-use Rattle.world_ties.proofs.Submitting.{live_piece, planned_file, refused_piece, refused_tied, submitted_few, submitted_piece, submitted_tied, unplanned_code, versions_piece}
+use Rattle.world_ties.proofs.Submitting.{live_piece, planned_file, refused_piece, refused_tied, submitted_may, submitted_piece, submitted_tied, unplanned_code, versions_piece}
 use Rattle.world.proofs.parts.Parts.update.Goals as goal
 
 -- ---- the policy has no plan
@@ -65,19 +65,16 @@ note_acts-requires c =
     let of_file : IsPlanOfFile (setting_in self) file c.in-Planned.plan =
     planned_file net policies file c.in-Planned.plan ready.may.0 ready.may.1 planned.0
     planned.1 in
-    record {
-      few = subst (λ (acts : List Act). length self.log.bag + length (act_posts acts) < 2 ^ 32)
-          (sym (c.acts.ensures ∙ c.in-Ok.ensures.sends))
-          (submitted_few (control_in self) (setting_in self) c.requires.before
-          self.switches.items self.log.travelling self.packets c.requires.row file ready.tied
-          ready.may c.in-Planned.plan c.submit.new.self of_file
-          (λ e. not_err _ _ (c.in-Ok.ensures.live.1 e))
-          (λ e. not_err _ _ (c.in-Ok.ensures.versions.1 (
-            λ f. not_err _ _ (c.in-Ok.ensures.live.1 f),
-            e,
-          )))
-          c.in-Ok.ensures.after ready.room);
-    }
+    subst (MayNote self.log.bag) (sym (c.acts.ensures ∙ c.in-Ok.ensures.sends))
+    (submitted_may (control_in self) (setting_in self) c.requires.before
+    self.switches.items self.log.travelling self.packets c.requires.row file ready.tied
+    ready.may c.in-Planned.plan c.submit.new.self of_file
+    (λ e. not_err _ _ (c.in-Ok.ensures.live.1 e))
+    (λ e. not_err _ _ (c.in-Ok.ensures.versions.1 (
+      λ f. not_err _ _ (c.in-Ok.ensures.live.1 f),
+      e,
+    )))
+    c.in-Ok.ensures.after ready.room)
 
 pub returns-in_ok-push-in-Ok : goal.returns-in_ok-push-in-Ok
 returns-in_ok-push-in-Ok c = λ before row begins.

@@ -1,5 +1,5 @@
 use Rattle.std.proofs.Common.{◌≡◌, false, subst}
-use Rattle.update_machine.specs.Packets.{next_travelling}
+use Rattle.update_machine.specs.Travels.{next_travelling}
 use Rattle.world.specs.Parts.{value_of}
 use Rattle.world.specs.State.{WorldValue}
 use Rattle.world.proofs.LeastHops.{least_travels_in}

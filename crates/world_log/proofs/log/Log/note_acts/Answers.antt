@@ -1,7 +1,7 @@
 use Rattle.std.proofs.Common.{refl, subst, sym, length, ◌+◌, ◌∙◌, arith}
-use Rattle.world_log.specs.Sending.{act_items}
+use Rattle.world_log.specs.Sending.{IsSpelled, act_items}
 use Rattle.world_log.specs.Writing.{IsPart}
-use Rattle.world_log.proofs.Sends.{done_begun, done_few, done_more, done_part}
+use Rattle.world_log.proofs.Sends.{done_begun, done_few, done_more, done_part, spelled_at}
 use Rattle.world_log.proofs.Writing.{by_error}
 use Rattle.world_log.proofs.log.Log.note_acts.Goals as goal
 
@@ -10,12 +10,16 @@ loop-act-init c =
     (done_begun c.args.self.now.journal c.args.self.now.bag c.args.acts.now, refl)
 
 pub note_act-requires : goal.note_act-requires
-note_act-requires c = omega (
-  arith,
-  done_few _ _ _ _ c.args.acts.now c.loop-act.act-index c.act-item.result
-      c.loop-act.invariant.0 c.loop-act-test.true c.act-item.is,
-  c.requires,
-)
+note_act-requires c = record {
+  few = omega (
+    arith,
+    done_few _ _ _ _ c.args.acts.now c.loop-act.act-index c.act-item.result
+        c.loop-act.invariant.0 c.loop-act-test.true c.act-item.is,
+    c.requires.few,
+  );
+  spelled = spelled_at IsSpelled c.args.acts.now c.loop-act.act-index c.act-item.result
+      c.loop-act-test.true c.act-item.is c.requires.spelled;
+}
 
 pub returns-in_err-note_act-clause-part : goal.returns-in_err-note_act-clause-part
 returns-in_err-note_act-clause-part c =

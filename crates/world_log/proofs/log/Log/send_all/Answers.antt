@@ -1,7 +1,8 @@
 use Rattle.std.proofs.Common.{refl, subst, sym, length, ◌+◌, ◌∙◌, arith}
+use Rattle.frame_laws.specs.Feeding.{HasShortSpelling}
 use Rattle.update_machine.specs.Messages.{sent_from}
 use Rattle.world_log.specs.Writing.{IsPart}
-use Rattle.world_log.proofs.Sends.{sent_begun, sent_few, sent_more, sent_part}
+use Rattle.world_log.proofs.Sends.{spelled_at, sent_begun, sent_few, sent_more, sent_part}
 use Rattle.world_log.proofs.Writing.{by_error}
 use Rattle.world_log.proofs.log.Log.send_all.Goals as goal
 
@@ -10,12 +11,17 @@ loop-message-init c =
     (sent_begun c.args.self.now.journal c.args.self.now.bag c.args.messages.now, refl)
 
 pub send-requires : goal.send-requires
-send-requires c = omega (
-  arith,
-  sent_few _ _ _ _ c.args.messages.now c.loop-message.message-index c.loop-message.invariant.0
-      c.loop-message-test.true,
-  c.requires,
-)
+send-requires c = record {
+  spelling = subst HasShortSpelling (sym c.in_ok-clone.ensures.cases)
+      (spelled_at HasShortSpelling c.args.messages.now c.loop-message.message-index
+      c.message-item.result c.loop-message-test.true c.message-item.is c.requires.spelled);
+  few = omega (
+    arith,
+    sent_few _ _ _ _ c.args.messages.now c.loop-message.message-index c.loop-message.invariant.0
+        c.loop-message-test.true,
+    c.requires.few,
+  );
+}
 
 pub returns-in_err-clone-clause-part : goal.returns-in_err-clone-clause-part
 returns-in_err-clone-clause-part c =

@@ -6,34 +6,40 @@ use Rattle.controller.specs.declared.sends.Act.TheVariants.{Post}
 use Rattle.world_log.specs.Sending.{act_posts}
 use Rattle.world_log.specs.Writing.{IsPart}
 use Rattle.world_log.proofs.Writing.{by_error}
-use Rattle.world_log.proofs.Sends.{done_both, first_part, later_part, posts_append, posts_as_acts, sent_as_acts, sent_done}
+use Rattle.world_log.proofs.Sends.{done_both, first_part, later_part, later_spelled, messages_spelled, posts_append, posts_as_acts, sent_as_acts, sent_done}
 use Rattle.world_log.proofs.Writing.{both_ok}
 use Rattle.world_log.proofs.log.Log.send_and_note.Goals as goal
 
 pub send_all-requires : goal.send_all-requires
 send_all-requires c =
     let messages = c.args.messages.now in
-    omega (
-      arith,
-      c.requires,
-      ap length (posts_append (map Post messages) c.args.acts.now),
-      length-append (act_posts (map Post messages)) (act_posts c.args.acts.now),
-      ap length (posts_as_acts messages),
-      length-map messages posted,
-    )
+    record {
+      few = omega (
+        arith,
+        c.requires.few,
+        ap length (posts_append (map Post messages) c.args.acts.now),
+        length-append (act_posts (map Post messages)) (act_posts c.args.acts.now),
+        ap length (posts_as_acts messages),
+        length-map messages posted,
+      );
+      spelled = messages_spelled messages c.args.acts.now c.requires.spelled;
+    }
 
 pub note_acts-requires : goal.note_acts-requires
 note_acts-requires c =
     let messages = c.args.messages.now in
-    omega (
-      arith,
-      c.requires,
-      ap length c.in_ok-send_all.ensures.posted,
-      length-append c.args.self.now.bag (map posted messages),
-      ap length (posts_append (map Post messages) c.args.acts.now),
-      length-append (act_posts (map Post messages)) (act_posts c.args.acts.now),
-      ap length (posts_as_acts messages),
-    )
+    record {
+      few = omega (
+        arith,
+        c.requires.few,
+        ap length c.in_ok-send_all.ensures.posted,
+        length-append c.args.self.now.bag (map posted messages),
+        ap length (posts_append (map Post messages) c.args.acts.now),
+        length-append (act_posts (map Post messages)) (act_posts c.args.acts.now),
+        ap length (posts_as_acts messages),
+      );
+      spelled = later_spelled (map Post messages) c.args.acts.now c.requires.spelled;
+    }
 
 pub returns-in_err-send_all-clause-part : goal.returns-in_err-send_all-clause-part
 returns-in_err-send_all-clause-part c =

@@ -1,0 +1,3 @@
+mod Lengths
+mod Planned
+pub mod Spelled
