@@ -1,10 +1,10 @@
 -- What is left of the messages that wait: none exactly where each that matters was delivered, or one
 -- that is sent later and replaces it.
-use Rattle.std.proofs.Common.{◌≡◌, ◌&&◌, ◌||◌, ◌==◌, Bool, true, false, not, if◌then◌else◌, filter, List, [], ◌∷◌, ◌++◌, length, refl, ap, sym, ◌∙◌, append-nil, arith, ne_eqb}
+use Rattle.std.proofs.Common.{◌≡◌, ◌&&◌, ◌||◌, ◌==◌, Bool, true, false, not, if◌then◌else◌, List, [], ◌∷◌, ◌++◌, length, refl, ap, sym, ◌∙◌, append-nil, arith, ne_eqb}
 use Rattle.ctrl_msg.specs.declared.message.Message.{Message}
 use Rattle.update_machine.specs.Quiet.{Sending}
 use Rattle.quiet_journals.specs.declared.life.Life.{Life}
-use Rattle.quiet_journals.specs.Judging.{has_mark, matters_to, noted, says_again, waiting_of}
+use Rattle.quiet_journals.specs.Judging.{has_mark, is_said, let_go, matters_to, noted, says_again, waiting_of}
 use Rattle.quiet_journals.proofs.Replacing.{says_through}
 
 -- one that is sent later and was delivered replaces the message
@@ -27,9 +27,6 @@ all_got life marks (next ∷ later) =
     || is_got marks next.message later) && all_got life marks later
 
 -- ---- one more is sent
-
-abbrev let_go : Message → List Message → List Message
-let_go next waiting = filter (λ earlier. not (says_again next earlier)) waiting
 
 each_append : (marks : List Bool) (one other : List Message) (later : List Sending)
     → each_got marks (one ++ other) later ≡ (each_got marks one later && each_got marks other later)
@@ -126,6 +123,25 @@ through marks next later (message ∷ waiting) got =
         rw also rest
     by_test false e rest = ap (λ b. is_got marks message later && b) rest
 
+-- where none replaces it, none replaces one that says as much
+said_waits : (marks : List Bool) (next : Message) (later : List Sending) (waiting : List Message)
+    → is_got marks next later ≡ false → is_said next waiting ≡ true
+    → each_got marks waiting later ≡ false
+said_waits marks next later [] none said = absurd cc
+said_waits marks next later (message ∷ waiting) none said =
+    by_tests (says_again message next) (is_got marks message later) refl refl said
+    (said_waits marks next later waiting none)
+  where
+    by_tests : (a b : Bool) → says_again message next ≡ a → is_got marks message later ≡ b
+        → (a || is_said next waiting) ≡ true
+        → (is_said next waiting ≡ true → each_got marks waiting later ≡ false)
+        → (b && each_got marks waiting later) ≡ false
+    by_tests true true e f said rest =
+        let clash : true ≡ false = sym (got_through marks message next later e f) ∙ none in
+        absurd cc
+    by_tests false true e f said rest = rest said
+    by_tests a false e f said rest = refl
+
 -- ---- all are sent
 
 one_more : (life : Life) (marks : List Bool) (next : Sending) (later : List Sending)
@@ -139,17 +155,33 @@ one_more life marks next later waiting false false rest e =
     ∙ sym (unmarked marks next later waiting e) in
     ap (λ b. b && rest) same
 one_more life marks next later waiting true false rest e =
-    by_test (is_got marks next.message later) refl
+    by_tests (is_said next.message left) (is_got marks next.message later) refl refl
   where
+    left : List Message
+    left = let_go next.message waiting
+
     split : each_got marks (let_go next.message waiting ++ next.message ∷ []) later
         ≡ (each_got marks (let_go next.message waiting) later
         && (is_got marks next.message later && true))
     split = each_append marks (let_go next.message waiting) (next.message ∷ []) later
 
-    by_test : (b : Bool) → is_got marks next.message later ≡ b
-        → (each_got marks (let_go next.message waiting ++ next.message ∷ []) later && rest)
+    by_tests : (a b : Bool) → is_said next.message left ≡ a
+        → is_got marks next.message later ≡ b
+        → (each_got marks (left ++ (if not a then next.message ∷ [] else [])) later && rest)
         ≡ (each_got marks waiting (next ∷ later) && (b && rest))
-    by_test true f =
+    by_tests true true d f =
+        let here : each_got marks left later ≡ each_got marks waiting (next ∷ later) =
+        through marks next.message later waiting f ∙ sym (unmarked marks next later waiting e) in
+        rw (append-nil left, here) refl
+    by_tests true false d f =
+        let none : each_got marks left later ≡ false =
+        said_waits marks next.message later left f d in
+        rw (append-nil left, none) (sym (no_rest (each_got marks waiting (next ∷ later))))
+      where
+        no_rest : (b : Bool) → (b && false) ≡ false
+        no_rest true = refl
+        no_rest false = refl
+    by_tests false true d f =
         let here : each_got marks (let_go next.message waiting) later
         ≡ each_got marks waiting (next ∷ later) =
         through marks next.message later waiting f ∙ sym (unmarked marks next later waiting e) in
@@ -158,7 +190,7 @@ one_more life marks next later waiting true false rest e =
         and_true : (b : Bool) → ((b && true) && rest) ≡ (b && rest)
         and_true true = refl
         and_true false = refl
-    by_test false f =
+    by_tests false false d f =
         rw (split, f) (and_false (each_got marks (let_go next.message waiting) later)
         (each_got marks waiting (next ∷ later)))
       where

@@ -1,5 +1,5 @@
 -- The judge answers as the definition says.
-use Rattle.std.proofs.Common.{ℕ, suc, ◌≡◌, ◌<◌, ◌⊎◌, ◌&&◌, ◌||◌, ◌==◌, Bool, true, false, not, Option, Some, None, List, [], ◌∷◌, ◌++◌, length, refl, ap, sym, subst, ◌∙◌, arith, inl, inr, append_assoc}
+use Rattle.std.proofs.Common.{ℕ, suc, ◌≡◌, ◌<◌, ◌⊎◌, ◌&&◌, ◌||◌, ◌==◌, Bool, true, false, not, Option, Some, None, List, [], ◌∷◌, ◌++◌, length, refl, ap, sym, subst, ◌∙◌, arith, inl, inr, append_assoc, get_or}
 use Rattle.std.specs.Prelude.{All, Any, IsTrue, IsFalse}
 use Rattle.std.specs.Option.{option_map_or}
 use Rattle.std.proofs.lemmas.Bool.{eq-eqb, eqb-true}
@@ -21,10 +21,12 @@ use Rattle.update_machine.specs.Setting.{Setting, switches_of}
 use Rattle.update_machine.specs.Settling.{to_switch}
 use Rattle.quiet_laws.proofs.Lists.{IsIn, all_in, each_in, each_of_in, in_range, in_right, of_range, some_in}
 use Rattle.quiet_journals.specs.declared.life.Life.{Life}
-use Rattle.quiet_journals.specs.Judging.{has_mark, is_missed, is_old, is_of_boot, is_settled, life_in, matters_to, says_again, waiting_of}
+use Rattle.quiet_journals.specs.declared.pending.Pending.{Pending}
+use Rattle.quiet_journals.specs.Judging.{has_mark, is_missed, is_old, is_of_boot, is_settled, life_in, matters_to, says_again}
+use Rattle.quiet_journals.specs.Pending.{ArePending, IsPending}
 use Rattle.quiet_journals.specs.Plain.{AreInOrder, IsPlain, WasSentTo}
 use Rattle.quiet_journals.proofs.Counting.{all_got, is_got, none_waits}
-use Rattle.quiet_journals.proofs.Replacing.{is_cache_rule, means_says, says_means}
+use Rattle.quiet_journals.proofs.Replacing.{is_cache_rule, means_says, says_means, both}
 
 -- ---- lists
 
@@ -61,11 +63,6 @@ same_old journal (Install boot tables) = refl
 same_old journal (Installed s boot version) = refl
 same_old journal body = refl
 
-both_true : (a b : Bool) → (a && b) ≡ true → (a ≡ true) × (b ≡ true)
-both_true true true e = (refl, refl)
-both_true true false e = absurd cc
-both_true false b e = absurd cc
-
 false_true : {X : Type 0} → false ≡ true → X
 false_true e = absurd cc
 
@@ -85,9 +82,9 @@ concerns_to journal number boot s body matter =
     let old : is_old body (current_mark journal) ≡ is_of_old_tables journal body =
     same_old journal body in
     let same : (s == s) ≡ true = eq-eqb s s refl in
-    let fresh = both_true _ _ matter in
-    let for = both_true _ _ fresh.0 in
-    let in_boot = both_true _ _ for.0 in
+    let fresh = both _ _ matter in
+    let for = both _ _ fresh.0 in
+    let in_boot = both _ _ for.0 in
     let here : is_up journal s ≡ true = in_boot.0 in
     record {
       up = in_boot.0;
@@ -106,8 +103,8 @@ concerns_of journal number boot s own body speaks matter =
     let old : is_old body (current_mark journal) ≡ is_of_old_tables journal body =
     same_old journal body in
     let same : (s == s) ≡ true = eq-eqb s s refl in
-    let fresh = both_true _ _ (rw speaks at matter) in
-    let present = both_true _ _ fresh.0 in
+    let fresh = both _ _ (rw speaks at matter) in
+    let present = both _ _ fresh.0 in
     let its : (own == boot_of journal s) ≡ true =
     flipped (boot_of journal s) own present.1 in
     let here : is_up journal s ≡ true = present.0 in
@@ -160,13 +157,13 @@ matters_so journal s x matter = by_receiver x.message.to x.message.body x.number
           boot = boot;
         }))
     by_speaker body number boot None e matter =
-        false_true (both_true _ _ (both_true _ _ matter).0).1
+        false_true (both _ _ (both _ _ matter).0).1
     by_speaker body number boot (Some (t, own)) e matter =
         let old : is_of_old_tables journal body ≡ is_old body (current_mark journal) =
         sym (same_old journal body) in
-        let fresh = both_true _ _ matter in
-        let present = both_true _ _ fresh.0 in
-        let of = both_true _ _ present.1 in
+        let fresh = both _ _ matter in
+        let present = both _ _ fresh.0 in
+        let of = both _ _ present.1 in
         let who : t ≡ s = eqb-true t s of.0 in
         let here : is_up journal t ≡ true = ap (is_up journal) who ∙ present.0 in
         let own_boot : own ≡ boot_of journal s = eqb-true own (boot_of journal s) of.1 in
@@ -181,10 +178,10 @@ matters_so journal s x matter = by_receiver x.message.to x.message.body x.number
     by_receiver (receiver.Switch t) body number boot matter =
         let old : is_of_old_tables journal body ≡ is_old body (current_mark journal) =
         sym (same_old journal body) in
-        let fresh = both_true _ _ matter in
-        let for = both_true _ _ fresh.0 in
-        let in_boot = both_true _ _ for.0 in
-        let of = both_true _ _ in_boot.0 in
+        let fresh = both _ _ matter in
+        let for = both _ _ fresh.0 in
+        let in_boot = both _ _ for.0 in
+        let of = both _ _ in_boot.0 in
         let who : t ≡ s = eqb-true t s of.1 in
         let here : is_up journal t ≡ true = ap (is_up journal) who ∙ of.0 in
         let same : boot_of journal t ≡ boot_of journal s = ap (boot_of journal) who in
@@ -253,7 +250,7 @@ got_by marks message (next ∷ later) got =
         → (is_got marks message later ≡ true → IsGotBy marks message later)
         → IsGotBy marks message (next ∷ later)
     by_test true e got rest =
-        let parts = both_true _ _ e in
+        let parts = both _ _ e in
         record { by = next; is = inl refl; says = parts.0; mark = parts.1 }
     by_test false e got rest =
         let its = rest got in
@@ -301,9 +298,9 @@ marked_of life marks [] x order all is matter = absurd is
 marked_of life marks (next ∷ later) x order all is matter = elim is [
   | inl here ↦ subst (λ one. IsMarked marks one (next ∷ later)) here
       (by_tests (matters_to life next.boot next.message) (has_mark marks next.number) refl refl
-      (both_true _ _ all).0 (subst (Matters life) (sym here) matter))
+      (both _ _ all).0 (subst (Matters life) (sym here) matter))
   | inr behind ↦
-      let rest = marked_of life marks later x order.1 (both_true _ _ all).1 behind matter in
+      let rest = marked_of life marks later x order.1 (both _ _ all).1 behind matter in
       record {
         by = elim rest.by [
           | inl mark ↦ inl mark
@@ -345,7 +342,7 @@ settled_got : (journal : List Item) (s : ℕ) (marks : List Bool)
     → is_settled journal s marks ≡ true
     → all_got (life_in journal s) marks (sendings journal) ≡ true
 settled_got journal s marks settled =
-    sym (none_waits (life_in journal s) marks (sendings journal)) ∙ (both_true _ _ settled).1
+    sym (none_waits (life_in journal s) marks (sendings journal)) ∙ (both _ _ settled).1
 
 not_missed : (up waited : Bool) → not (not up && waited) ≡ true → IsTrue (up || not waited)
 not_missed true waited e = refl
@@ -376,7 +373,7 @@ settled_quiet setting journal marks plain right settled = record {
         → IsTrue (is_up journal s || not (is_waited_for journal s))
     each_switch s is =
         not_missed (is_up journal s) (is_waited_for journal s)
-        (both_true _ _ (settled s
+        (both _ _ (settled s
         (omega (arith, (of_range s 0 (length setting.net.switches) is).1)))).0
 
     each_message : (x : Sending) → IsIn x (sendings journal) → IsTrue (matters journal x)
@@ -400,9 +397,9 @@ no_cache_rule life x matter = by_body x.message.to x.message.body x.boot matter
         → matters_to life boot (record { to = to; body = body }) ≡ true
         → IsFalse (is_cache_rule body)
     by_body (receiver.Switch s) (CacheRule version word rule action) boot matter =
-        false_true (both_true _ _ (both_true _ _ matter).0).1
+        false_true (both _ _ (both _ _ matter).0).1
     by_body receiver.Controller (CacheRule version word rule action) boot matter =
-        false_true (both_true _ _ (both_true _ _ matter).0).1
+        false_true (both _ _ (both _ _ matter).0).1
     by_body to body boot matter = refl
 
 got_if : (setting : Setting) (journal : List Item) (marks : List Bool) (s : ℕ)
@@ -464,44 +461,35 @@ quiet_settled setting journal marks s plain right quiet there =
 
 -- ---- the answers
 
-pub answers_no : (setting : Setting) (journal items : List Item) (marks : List Bool) (s : ℕ)
-    → IsPlain setting journal → items ≡ journal → AreMarks items marks
-    → HasSwitch setting.net s → is_settled items s marks ≡ false
+pub answers_no : (setting : Setting) (journal : List Item) (marks : List Bool) (s : ℕ)
+    → IsPlain setting journal → AreMarks journal marks → HasSwitch setting.net s
+    → is_settled journal s marks ≡ false
     → (IsTrue false → IsQuiet setting journal) × (IsQuiet setting journal → IsTrue false)
-answers_no setting journal items marks s plain same right there denied = (
+answers_no setting journal marks s plain right there denied = (
   λ yes. let clash : false ≡ true = yes in absurd cc,
-  λ quiet. sym denied
-      ∙ subst (λ js. is_settled js s marks ≡ true) (sym same)
-      (quiet_settled setting journal marks s plain
-      (subst (λ js. AreMarks js marks) same right) quiet there),
+  λ quiet. sym denied ∙ quiet_settled setting journal marks s plain right quiet there,
 )
 
-pub answers_yes : (setting : Setting) (journal items : List Item) (marks : List Bool)
-    → IsPlain setting journal → items ≡ journal → AreMarks items marks
-    → ((s : ℕ) → HasSwitch setting.net s → is_settled items s marks ≡ true)
+pub answers_yes : (setting : Setting) (journal : List Item) (marks : List Bool)
+    → IsPlain setting journal → AreMarks journal marks
+    → ((s : ℕ) → HasSwitch setting.net s → is_settled journal s marks ≡ true)
     → (IsTrue true → IsQuiet setting journal) × (IsQuiet setting journal → IsTrue true)
-answers_yes setting journal items marks plain same right settled = (
-  λ yes. settled_quiet setting journal marks plain
-      (subst (λ js. AreMarks js marks) same right)
-      (λ s there. subst (λ js. is_settled js s marks ≡ true) same (settled s there)),
-  λ quiet. refl,
-)
+answers_yes setting journal marks plain right settled =
+    (λ yes. settled_quiet setting journal marks plain right settled, λ quiet. refl)
 
--- ---- one switch
+pub marks_here : (items journal : List Item) (marks : List Bool) → items ≡ journal
+    → AreMarks items marks → AreMarks journal marks
+marks_here items journal marks same right = subst (λ js. AreMarks js marks) same right
 
-pub missed_unsettled : (items : List Item) (s : ℕ) (marks : List Bool) (life : Life)
-    → life ≡ life_in items s → is_missed life ≡ true → is_settled items s marks ≡ false
-missed_unsettled items s marks life is missed =
-    let here : is_missed (life_in items s) ≡ true = subst (λ l. is_missed l ≡ true) is missed in
-    rw here refl
-
-pub settled_where : (items : List Item) (s : ℕ) (marks given : List Bool) (life : Life)
-    (messages : List Message) (none : Bool) → life ≡ life_in items s → given ≡ marks
-    → is_missed life ≡ false → messages ≡ waiting_of life given [] (sendings items)
-    → none ≡ (length messages == 0) → is_settled items s marks ≡ none
-settled_where items s marks given life messages none is its missed left empty =
-    let here : is_missed (life_in items s) ≡ false = subst (λ l. is_missed l ≡ false) is missed in
-    let there : waiting_of (life_in items s) marks [] (sendings items) ≡ messages =
-    sym (left ∙ ap (λ l. waiting_of l given [] (sendings items)) is
-    ∙ ap (λ ms. waiting_of (life_in items s) ms [] (sendings items)) its) in
-    rw (here, there) (sym empty)
+-- whether nothing is pending of a switch is whether it is settled
+pub settled_row : (items journal : List Item) (rows : List Pending) (s : ℕ)
+    (given marks : List Bool) (row : Pending) → items ≡ journal → given ≡ marks
+    → ArePending items given items rows → s < length rows → row ≡ get_or rows s row
+    → (not (is_missed row.life) && length row.messages.items == 0) ≡ is_settled journal s marks
+settled_row items journal rows s given marks row same its are there is =
+    ap (λ life. not (is_missed life) && length row.messages.items == 0) here.life
+    ∙ ap (λ ms. not (is_missed (life_in items s)) && length ms == 0) here.messages
+    ∙ ap (is_settled items s) its ∙ ap (λ js. is_settled js s marks) same
+  where
+    here : IsPending items given items s row
+    here = subst (IsPending items given items s) (sym is) (are s row there)

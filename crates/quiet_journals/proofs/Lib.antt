@@ -1,5 +1,6 @@
 pub mod Counting
 mod Replacing
 mod Lives
+mod Concerned
 mod Judging
 mod Plain

@@ -16,10 +16,10 @@ use Rattle.boot_laws.proofs.Grown.{boot_more, current_more, up_more}
 use Rattle.quiet_laws.proofs.Downs.{waited_more}
 use Rattle.quiet_laws.proofs.Sendings.{delivered_more, sendings_more}
 use Rattle.quiet_journals.specs.declared.life.Life.{Life}
-use Rattle.quiet_journals.specs.Judging.{boot_after, has_mark, life_after, life_in, matters_to, noted, waiting_after, waiting_of}
+use Rattle.quiet_journals.specs.Judging.{boot_after, has_mark, life_after, life_in, matters_to, noted, tiding, waiting_after, waiting_of}
 use Rattle.quiet_journals.proofs.Counting.{one_after}
 
-pub life_more : (before : List Item) (item : Item) (s : ℕ)
+life_more : (before : List Item) (item : Item) (s : ℕ)
     → life_in (before ++ item ∷ []) s ≡ life_after item (life_in before s)
 life_more before item s =
     rw (
@@ -28,6 +28,14 @@ life_more before item s =
       waited_more before item s,
       current_more before item,
     ) refl
+
+life_told : (told : List Item) (item : Item) (s : ℕ)
+    → life_in (told ++ tiding item) s ≡ life_after item (life_in told s)
+life_told told (item.Down switch) s = life_more told (item.Down switch) s
+life_told told (item.Booted switch boot) s = life_more told (item.Booted switch boot) s
+life_told told (item.OverNow switch) s = life_more told (item.OverNow switch) s
+life_told told (item.Current version) s = life_more told (item.Current version) s
+life_told told item s = ap (λ js. life_in js s) (append-nil told)
 
 and_false : (b : Bool) → (b && false) ≡ false
 and_false true = refl
@@ -111,6 +119,14 @@ pub life_of_item : (items : List Item) (i s : ℕ) (next : Item) (life after : L
 life_of_item items i s next life after within is was now =
     now ∙ ap (life_after next) was ∙ sym (life_more (take i items) next s)
     ∙ ap (λ js. life_in js s) (sym (item_more items i next within is))
+
+pub told_of_item : (items : List Item) (i s : ℕ) (next : Item) (told after : List Item)
+    → i < length items → next ≡ get_or items i next
+    → life_in told s ≡ life_in (take i items) s → after ≡ told ++ tiding next
+    → life_in after s ≡ life_in (take (i + 1) items) s
+told_of_item items i s next told after within is was now =
+    life_of_item items i s next (life_in told s) (life_in after s) within is was
+    (ap (λ js. life_in js s) now ∙ life_told told next s)
 
 pub marks_of_item : (items : List Item) (i n : ℕ) (next : Item) (marks after : List Bool)
     → i < length items → next ≡ get_or items i next

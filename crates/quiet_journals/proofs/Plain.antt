@@ -9,12 +9,13 @@ use Rattle.switch_table.specs.declared.tables.Tables.{Tables}
 use Rattle.journal.specs.declared.item.Item.{Item}
 use Rattle.journal.specs.declared.item.Item.TheVariants as item
 use Rattle.update_machine.specs.Causes.{HaveCauses}
-use Rattle.update_machine.specs.Messages.{message_of, next_message}
+use Rattle.update_machine.specs.Messages.{next_message}
 use Rattle.update_machine.specs.Numbers.{TakesNext}
 use Rattle.update_machine.specs.Quiet.{Sending, boot_at, sendings}
 use Rattle.update_machine.specs.Setting.{Setting}
 use Rattle.update_machine.specs.Settling.{to_switch}
 use Rattle.update_machine.specs.Versions.{tables_at}
+use Rattle.update_machine.specs.Boots.{message_of}
 use Rattle.boot_laws.specs.Always.{HoldsAlways, HoldsReached}
 use Rattle.boot_laws.specs.ItemCauses.{HasItemCause}
 use Rattle.boot_laws.proofs.Facts.{AreKept, Both, fact_on}

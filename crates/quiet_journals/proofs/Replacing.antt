@@ -14,7 +14,7 @@ use Rattle.switch_table.specs.declared.tables.Tables.{Tables}
 use Rattle.update_machine.specs.Quiet.{is_later_body}
 use Rattle.quiet_journals.specs.Judging.{is_same, is_same_receiver, says_again, says_as_much}
 
-both : (a b : Bool) → (a && b) ≡ true → (a ≡ true) × (b ≡ true)
+pub both : (a b : Bool) → (a && b) ≡ true → (a ≡ true) × (b ≡ true)
 both true true e = (refl, refl)
 both true false e = absurd cc
 both false b e = absurd cc
@@ -182,7 +182,7 @@ body_means (Stamped s boot version) (Stamped t of other) agree says =
     ]
 body_means later earlier agree says = absurd cc
 
-receiver_means : (later earlier : Receiver) → is_same_receiver later earlier ≡ true
+pub receiver_means : (later earlier : Receiver) → is_same_receiver later earlier ≡ true
     → later ≡ earlier
 receiver_means (receiver.Switch s) (receiver.Switch t) same = ap receiver.Switch (eqb-true s t same)
 receiver_means receiver.Controller receiver.Controller same = refl

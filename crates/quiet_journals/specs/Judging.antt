@@ -1,6 +1,7 @@
 -- How the judge of a quiet network counts: what is left of the messages that matter to a switch, as
 -- one after another was sent. That this decides whether the network is quiet is its contract.
-use Rattle.std.specs.Prelude.{ℕ, ◌≡◌, Bool, true, false, not, ◌&&◌, ◌||◌, ◌==◌, nat_lt, nat_le, if◌then◌else◌, unwrap_or, List, [], ◌∷◌, ◌++◌, filter, length, slice_index_or}
+use Rattle.std.specs.Prelude.{ℕ, ◌≡◌, Bool, true, false, not, ◌&&◌, ◌||◌, ◌==◌, nat_lt, nat_le, if◌then◌else◌, Option, Some, None, unwrap_or, option_map, List, [], ◌∷◌, ◌++◌, filter, length, slice_index_or}
+use Rattle.std.specs.List.{list_any}
 use Rattle.std.specs.Option.{option_map_or}
 use Rattle.ctrl_msg.specs.declared.message.Body.{Body}
 use Rattle.ctrl_msg.specs.declared.message.Body.TheVariants.{Install, OpenAt, Stamp, Collect, Advertise, Hello, Installed, Stamped}
@@ -33,6 +34,14 @@ life_after item life = record {
   is_waited_for = unwrap_or (tells_waited_for life.switch item) life.is_waited_for;
   current = unwrap_or (tells_current item) life.current;
 }
+
+-- the item alone, if it tells of lives
+abbrev pub tiding : Item → List Item
+tiding (item.Down s) = item.Down s ∷ []
+tiding (item.Booted s boot) = item.Booted s boot ∷ []
+tiding (item.OverNow s) = item.OverNow s ∷ []
+tiding (item.Current version) = item.Current version ∷ []
+tiding item = []
 
 -- what the journal says of the switch
 abbrev pub life_in : List Item → ℕ → Life
@@ -102,13 +111,20 @@ says_again later earlier =
 
 -- ---- which messages wait
 
+-- one of those that wait says as much: what replaces it replaces this message too
+abbrev pub is_said : Message → List Message → Bool
+is_said next waiting = list_any (λ earlier. says_again earlier next) waiting
+
+abbrev pub let_go : Message → List Message → List Message
+let_go next waiting = filter (λ earlier. not (says_again next earlier)) waiting
+
 -- what is left of those that waited, once the next message was sent; it waits itself where it
--- matters and isn't delivered
+-- matters, isn't delivered, and none that waits says as much
 abbrev pub noted : Bool → Bool → Message → List Message → List Message
 noted matters is_delivered next waiting =
-    (if matters || is_delivered then filter (λ earlier. not (says_again next earlier)) waiting
-    else waiting)
-    ++ (if matters && not is_delivered then next ∷ [] else [])
+    (if matters || is_delivered then let_go next waiting else waiting)
+    ++ (if matters && not is_delivered && not (is_said next (let_go next waiting)) then next ∷ []
+    else [])
 
 abbrev pub has_mark : List Bool → ℕ → Bool
 has_mark marks number = slice_index_or marks number false
@@ -129,6 +145,28 @@ waiting_after life marks boot item waiting = waiting
 
 abbrev pub boot_after : ℕ → Item → ℕ → ℕ
 boot_after s item boot = unwrap_or (tells_boot s item) boot
+
+-- ---- which switch an item concerns
+
+-- the switch that says this to the controller
+abbrev pub speaks : Body → Option ℕ
+speaks body = option_map (λ (of : ℕ × ℕ). of.0) (speaker body)
+
+-- the switch that a message is to, or of
+abbrev pub party : Message → Option ℕ
+party message = elim message.to [
+  | receiver.Switch s ↦ Some s
+  | receiver.Controller ↦ speaks message.body
+]
+
+-- the switch for whose boot and messages the item makes a difference
+abbrev pub concerned : Item → Option ℕ
+concerned (item.Sent number message) = party message
+concerned (item.Booted s boot) = Some s
+concerned item = None
+
+abbrev pub names : ℕ → Option ℕ → Bool
+names s who = option_map_or (λ t. t == s) who false
 
 -- ---- which switches are settled
 

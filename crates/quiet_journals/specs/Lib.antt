@@ -1,2 +1,3 @@
 pub mod Plain
 pub mod Judging
+pub mod Pending

@@ -7,15 +7,15 @@ ghost use Rattle.quiet_journals.specs.Judging.{is_settled};
 ghost use Rattle.quiet_journals.specs.Plain.{IsPlain};
 
 use crate::deliveries::deliveries;
-use crate::life::Life;
-use crate::waiting::waiting;
+use crate::pending::{gather, is_settled};
 use journal::Journal;
 use net_file::Net;
 use std::alloc::{AllocError, Global};
 
 /// Whether the network is quiet behind its journal: each switch is up, or the controller doesn't
-/// wait for it, and each message that still matters was delivered, or one that replaces it. It takes
-/// time in the order of the journal's length times the number of switches.
+/// wait for it, and each message that still matters was delivered, or one that replaces it. Its time
+/// is in the order of the journal's length, and of the number of crashes, boots and risen versions
+/// times that of switches.
 ///
 /// # Errors
 /// Want of memory alone.
@@ -27,13 +27,10 @@ pub fn quiet(alloc: Global, journal: &Journal, net: &Net) -> Result<bool, AllocE
     let items = journal.items();
     let delivered = deliveries(alloc, items)?;
     let count = net.switches.rows().len() as u32;
+    let rows = gather(alloc, items, count, &delivered)?;
     for switch in 0..count {
-        let life = Life::of(items, switch);
-        if life.is_missed() {
-            return Ok(false);
-        }
-        let messages = waiting(alloc, items, &life, &delivered)?;
-        if !messages.is_empty() {
+        let row = &rows[switch as usize];
+        if !is_settled(row.life, &row.messages) {
             return Ok(false);
         }
     }

@@ -1,8 +1,9 @@
 //! What a journal says of a switch, at its end.
-ghost use Rattle.std.specs.Prelude.{◌≡◌};
-ghost use Rattle.quiet_journals.specs.Judging.{is_missed, life_after, life_in};
+ghost use Rattle.std.specs.Prelude.{ℕ, ◌≡◌, ◌++◌, IfOk, OnOk};
+ghost use Rattle.quiet_journals.specs.Judging.{is_missed, life_after, life_in, tiding};
 
 use journal::Item;
+use std::alloc::{AllocError, Global};
 
 /// The life of a switch as far as it matters, and the current version.
 #[derive(Clone, Copy, Debug)]
@@ -66,4 +67,36 @@ impl Life {
             _ => {}
         }
     }
+}
+
+/// The items that tell of lives, alone: what they say of each switch is what the journal says. They
+/// are few.
+///
+/// # Errors
+/// Want of memory alone.
+pub fn tidings(alloc: Global, items: &[Item]) -> Result<Vec<Item>, AllocError>
+    ensures { IfOk result (λ told. (s : ℕ) → life_in told.items s ≡ life_in items.now s) }
+{
+    let mut told = Vec::new(alloc);
+    for item in items {
+        tell(&mut told, item)?;
+    }
+    Ok(told)
+}
+
+// Adds the item, if it tells of lives.
+fn tell(told: &mut Vec<Item>, item: &Item) -> Result<(), AllocError>
+    ensures { OnOk result (told.new.items ≡ told.old.items ++ tiding item.now) }
+{
+    match item {
+        Item::Down { switch } => told.push(Item::Down { switch: *switch })?,
+        Item::Booted { switch, boot } => told.push(Item::Booted {
+            switch: *switch,
+            boot: *boot,
+        })?,
+        Item::OverNow { switch } => told.push(Item::OverNow { switch: *switch })?,
+        Item::Current { version } => told.push(Item::Current { version: *version })?,
+        _ => {}
+    }
+    Ok(())
 }

@@ -1,36 +1,21 @@
 //! The messages to a switch, and those of it to the controller, that still have to be delivered.
-ghost use Rattle.std.specs.Prelude.{◌≡◌, ◌||◌, [], false, filter, not, IfOk, OnOk};
+ghost use Rattle.std.specs.Prelude.{◌≡◌, ◌||◌, false, OnOk};
 ghost use Rattle.std.specs.Option.{option_map_or};
-ghost use Rattle.update_machine.specs.Quiet.{carries, is_advert, sendings, speaker};
-ghost use Rattle.quiet_journals.specs.Judging.{boot_after, is_of_boot, is_old, matters_to, noted, says_again, says_as_much, waiting_after, waiting_of};
+ghost use Rattle.update_machine.specs.Quiet.{carries, is_advert, speaker};
+ghost use Rattle.quiet_journals.specs.Judging.{boot_after, is_of_boot, is_old, is_said, let_go, matters_to, noted, says_again, says_as_much, waiting_after};
 
 use crate::deliveries::is_marked;
 use crate::life::Life;
 use journal::{Body, Item, Message, Receiver, SharedMessage};
-use std::alloc::{AllocError, Global};
+use std::alloc::AllocError;
 
-/// The messages to the switch, and those of it to the controller, that matter at the end of the
-/// journal and were not delivered, and none behind them that replaces them; but of these only the
-/// last ones, where others replace them that were not delivered either.
-pub fn waiting(
-    alloc: Global,
-    items: &[Item],
-    life: &Life,
-    delivered: &[bool],
-) -> Result<Vec<SharedMessage>, AllocError>
-    ensures { IfOk result (λ messages. messages.items
-        ≡ waiting_of life.now delivered.now [] (sendings items.now)) }
-{
-    let mut messages = Vec::new(alloc);
-    let mut boot = 1;
-    for item in items {
-        take_item(&mut messages, &mut boot, item, life, delivered)?;
-    }
-    Ok(messages)
-}
-
-// What one more item makes of the messages that wait, and of the switch's boot.
-fn take_item(
+/// What one more item makes of the messages of a switch that wait, and of its boot. A message waits
+/// that matters at the end of the journal and was not delivered, and none behind it that replaces
+/// it; but no two of which one says as much as the other. So there are few, however many were sent.
+///
+/// # Errors
+/// Want of memory alone.
+pub fn take_item(
     messages: &mut Vec<SharedMessage>,
     boot: &mut u32,
     item: &Item,
@@ -74,16 +59,25 @@ fn note(
         return Ok(());
     }
     let_go(messages, next.message());
-    if !is_delivered {
+    if !is_delivered && !is_said(messages, next.message()) {
         messages.push(next.clone()?)?;
     }
     Ok(())
 }
 
+// Whether one of these says as much: what replaces it replaces this message too. So few wait at a
+// time, however many were sent.
+fn is_said(messages: &[SharedMessage], next: &Message) -> bool
+    ensures { result ≡ is_said next.now messages.now }
+{
+    messages
+        .iter()
+        .any(|earlier| says_again(earlier.message(), next))
+}
+
 // Lets the messages go that this one replaces.
 fn let_go(messages: &mut Vec<SharedMessage>, next: &Message)
-    ensures { messages.new.items
-        ≡ filter (λ earlier. not (says_again next.now earlier)) messages.old.items }
+    ensures { messages.new.items ≡ let_go next.now messages.old.items }
 {
     messages.retain(|earlier| !says_again(next, earlier.message()));
 }

@@ -1,0 +1,27 @@
+-- What is pending of each switch behind a part of a journal.
+use Rattle.std.specs.Prelude.{ℕ, ◌≡◌, ◌<◌, Bool, List, [], get_or, length}
+use Rattle.journal.specs.declared.item.Item.{Item}
+use Rattle.update_machine.specs.Boots.{boot_of}
+use Rattle.update_machine.specs.Quiet.{sendings}
+use Rattle.quiet_journals.specs.declared.pending.Pending.{Pending}
+use Rattle.quiet_journals.specs.Judging.{boot_after, life_in, waiting_after, waiting_of}
+
+-- the switch's life at the end of the journal, and its boot and the messages that wait behind the
+-- first items
+pub record IsPending (journal : List Item) (marks : List Bool) (before : List Item) (s : ℕ)
+    (row : Pending) : Type 0 where
+  pub life : row.life ≡ life_in journal s
+  pub boot : row.boot ≡ boot_of before s
+  pub messages : row.messages.items ≡ waiting_of (life_in journal s) marks [] (sendings before)
+
+-- these are the switches, by their numbers
+abbrev pub ArePending : List Item → List Bool → List Item → List Pending → Type 0
+ArePending journal marks before rows = (s : ℕ) (d : Pending) → s < length rows
+    → IsPending journal marks before s (get_or rows s d)
+
+-- what one more item makes of a switch
+pub record IsAfter (marks : List Bool) (item : Item) (before after : Pending) : Type 0 where
+  pub life : after.life ≡ before.life
+  pub boot : after.boot ≡ boot_after before.life.switch item before.boot
+  pub messages : after.messages.items
+      ≡ waiting_after before.life marks before.boot item before.messages.items

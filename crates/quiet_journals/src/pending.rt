@@ -1,0 +1,122 @@
+//! What is pending of each switch, found in one pass over a journal for all of them.
+ghost use Rattle.std.specs.Prelude.{ℕ, ◌≡◌, ◌<◌, ◌==◌, ◌&&◌, Bool, true, false, not, List, [], get_or, length, IfOk, OnOk};
+ghost use Rattle.quiet_journals.specs.Judging.{concerned, is_missed, names, party, speaks};
+ghost use Rattle.quiet_journals.specs.Pending.{ArePending, IsAfter, IsPending};
+ghost use Rattle.quiet_journals.specs.declared.pending.Pending.{Pending};
+
+use crate::life::{Life, tidings};
+use crate::waiting;
+use journal::{Body, Item, Message, Receiver, SharedMessage};
+use std::alloc::{AllocError, Global};
+
+/// A switch at the end of a journal, its boot behind the items that were read, and the messages to
+/// it or of it that wait behind these.
+#[derive(Drop)]
+pub struct Pending {
+    pub life: Life,
+    pub boot: u32,
+    pub messages: Vec<SharedMessage>,
+}
+
+impl Pending {
+    // One more item that concerns the switch.
+    fn take_item(&mut self, item: &Item, delivered: &[bool]) -> Result<(), AllocError>
+        ensures { OnOk result (IsAfter delivered.now item.now self.old self.new) }
+    {
+        let life = self.life;
+        waiting::take_item(&mut self.messages, &mut self.boot, item, &life, delivered)
+    }
+}
+
+/// Whether nothing is pending of a switch: the controller doesn't miss it, and no message waits.
+pub fn is_settled(life: Life, messages: &[SharedMessage]) -> bool
+    ensures { result ≡ (not (is_missed life) && length messages.now == 0) }
+{
+    !life.is_missed() && messages.is_empty()
+}
+
+/// What is pending of each of so many switches behind the journal.
+///
+/// # Errors
+/// Want of memory alone.
+pub fn gather(
+    alloc: Global,
+    items: &[Item],
+    count: u32,
+    delivered: &[bool],
+) -> Result<Vec<Pending>, AllocError>
+    ensures count { IfOk result (λ rows. length rows.items ≡ count) }
+    ensures each { IfOk result (λ rows. ArePending items.now delivered.now items.now rows.items) }
+{
+    let mut rows = at_first(alloc, items, count)?;
+    for item in items {
+        take_item(&mut rows, item, delivered)?;
+    }
+    Ok(rows)
+}
+
+// Before the first item nothing waits.
+fn at_first(alloc: Global, items: &[Item], count: u32) -> Result<Vec<Pending>, AllocError>
+    ensures count { IfOk result (λ rows. length rows.items ≡ count) }
+    ensures each { IfOk result (λ rows. (marks : List Bool)
+        → ArePending items.now marks [] rows.items) }
+{
+    let told = tidings(alloc, items)?;
+    let mut rows = Vec::new(alloc);
+    for switch in 0..count {
+        rows.push(Pending {
+            life: Life::of(&told, switch),
+            boot: 1,
+            messages: Vec::new(alloc),
+        })?;
+    }
+    Ok(rows)
+}
+
+// One more item goes to the switch that it concerns alone.
+fn take_item(rows: &mut Vec<Pending>, item: &Item, delivered: &[bool]) -> Result<(), AllocError>
+    ensures count { OnOk result (length rows.new.items ≡ length rows.old.items) }
+    ensures concerned { OnOk result ((s : ℕ) (d : Pending) → s < length rows.old.items
+        → names s (concerned item.now) ≡ true
+        → IsAfter delivered.now item.now (get_or rows.old.items s d) (get_or rows.new.items s d)) }
+    ensures others { OnOk result ((s : ℕ) (d : Pending) → names s (concerned item.now) ≡ false
+        → get_or rows.new.items s d ≡ get_or rows.old.items s d) }
+{
+    match concerned(item) {
+        Some(s) if (s as usize) < rows.len() => rows[s as usize].take_item(item, delivered),
+        _ => Ok(()),
+    }
+}
+
+// The switch for which the item makes a difference, if any.
+fn concerned(item: &Item) -> Option<u32>
+    ensures { result ≡ concerned item.now }
+{
+    match item {
+        Item::Booted { switch, .. } => Some(*switch),
+        Item::Sent { message, .. } => party(message.message()),
+        _ => None,
+    }
+}
+
+// The switch that a message is to, or of.
+fn party(message: &Message) -> Option<u32>
+    ensures { result ≡ party message.now }
+{
+    match message.to {
+        Receiver::Switch(to) => Some(to),
+        Receiver::Controller => speaks(&message.body),
+    }
+}
+
+// The switch that says this to the controller.
+fn speaks(body: &Body) -> Option<u32>
+    ensures { result ≡ speaks body.now }
+{
+    match body {
+        Body::Hello { switch, .. }
+        | Body::Installed { switch, .. }
+        | Body::Stamped { switch, .. } => Some(*switch),
+        _ => None,
+    }
+}
