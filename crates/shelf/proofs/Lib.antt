@@ -1,2 +1,3 @@
+mod Gathers
 mod Lookups
 mod Writes

@@ -1,5 +1,5 @@
 -- What a sink of bytes holds, and what a write to it may answer.
-use Rattle.std.specs.Prelude.{⊤, ◌≡◌, ◌<◌, ◌≤◌, ℕ, Bool, IsTrue, true, false, ◌&&◌, ◌==◌, not, List, ◌++◌, length, take, Option, Some, None, Result, Ok, Err, OnOk, OnErr, IsErrOf}
+use Rattle.std.specs.Prelude.{⊤, ◌≡◌, ◌<◌, ◌≤◌, ℕ, Bool, IsTrue, true, false, ◌&&◌, ◌==◌, not, List, ◌++◌, length, take, drop, Option, Some, None, Result, Ok, Err, OnOk, OnErr, IsErrOf}
 use Rattle.std.proofs.Common.{refl, ap, append_assoc}
 use Rattle.shelf.specs.Faults.{CallScript, Rose}
 use Rattle.shelf.specs.declared.output.SinkError.{SinkError}
@@ -24,6 +24,14 @@ gained-gained (Some bytes) first next = ap Some (append_assoc bytes first next)
 -- the sink gained some of these bytes from the front, and not all
 abbrev pub GainedPart : Option (List ℕ) → List ℕ → Option (List ℕ) → Type 0
 GainedPart before bytes now = (n : ℕ) × (n < length bytes) × (now ≡ gained before (take n bytes))
+
+-- of a text that is written in blocks the first bytes were written, and the others wait
+pub record IsGathered (text : List ℕ) (before now : Option (List ℕ)) (waiting : List ℕ)
+    : Type 0 where
+  pub written : ℕ
+  pub within : written ≤ length text
+  pub gained : now ≡ gained before (take written text)
+  pub waits : waiting ≡ drop written text
 
 -- what a write of these bytes leaves of a sink: all of them where it succeeds, and else a part; and
 -- each error has its cause

@@ -7,16 +7,20 @@
 //! took. Where it isn't known, an error other than want of memory comes only where the count of
 //! faults rose. No shelf answers more bytes than it was asked for.
 //!
+//! A `Block` gathers the pieces of a text in a fixed array, so that they are written together.
+//!
 //! The kinds in memory can be ordered to fail at given calls, or never fail. The kinds over the
 //! system are a few lines that are trusted.
 #![tactic(auto)]
 
+mod block;
 mod calm;
 mod output;
 mod scripted;
 mod source;
 mod system;
 
+pub use block::Block;
 pub use calm::{CalmShelf, CalmSink};
 pub use output::{Sink, SinkError, write_whole};
 pub use scripted::{MemShelf, MemSink};

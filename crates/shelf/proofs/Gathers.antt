@@ -1,0 +1,57 @@
+-- Of a text that is written in blocks.
+use Rattle.std.proofs.Common.{ℕ, ◌≡◌, ◌+◌, Option, Result, Ok, Err, OnErr, List, ◌++◌, length, take, drop, ap, ◌∙◌, sym, arith}
+use Rattle.std.proofs.Math.Seq.{drop-append_seam, take-add, take-append_seam}
+use Rattle.std.proofs.lemmas.List.{length-append, length-drop, take-append-drop, take-append-le}
+use Rattle.shelf.specs.Sink.{gained, gained-gained, GainedPart, IsGathered}
+
+-- what waited was written, so that all is
+pub all_written : (text : List ℕ) (before now later : Option (List ℕ)) (waiting : List ℕ)
+    → IsGathered text before now waiting → later ≡ gained now waiting → later ≡ gained before text
+all_written text before now later waiting is more =
+    more ∙ ap (gained now) is.waits ∙ ap (λ b. gained b (drop is.written text)) is.gained
+    ∙ gained-gained before (take is.written text) (drop is.written text)
+    ∙ ap (gained before) (take-append-drop is.written text)
+
+-- a piece waits alone
+pub waits_alone : (text piece : List ℕ) (before now : Option (List ℕ)) → now ≡ gained before text
+    → IsGathered (text ++ piece) before now piece
+waits_alone text piece before now written = record {
+  written = length text;
+  within = omega (arith, length-append text piece);
+  gained = written ∙ ap (gained before) (sym (take-append_seam text piece));
+  waits = sym (drop-append_seam text piece);
+}
+
+-- a part of what waited was written, which is a part of the text
+pub part_written : (text : List ℕ) (before now later : Option (List ℕ)) (waiting : List ℕ)
+    → IsGathered text before now waiting → GainedPart now waiting later
+    → GainedPart before text later
+part_written text before now later waiting is part =
+    let n = is.written in
+    let k = part.0 in
+    let fewer = part.1 in (
+      n + k,
+      omega (arith, fewer, ap length is.waits, length-drop n text, is.within),
+      part.2 ∙ ap (λ bytes. gained now (take k bytes)) is.waits
+          ∙ ap (λ b. gained b (take k (drop n text))) is.gained
+          ∙ gained-gained before (take n text) (take k (drop n text))
+          ∙ ap (gained before) (sym (take-add n k text)),
+    )
+
+pub part_if_failed : {T E : Type 0} (r : Result T E) (text : List ℕ)
+    (before now later : Option (List ℕ)) (waiting : List ℕ) → IsGathered text before now waiting
+    → OnErr r (GainedPart now waiting later) → OnErr r (GainedPart before text later)
+part_if_failed (Ok x) text before now later waiting is part = tt
+part_if_failed (Err e) text before now later waiting is part =
+    part_written text before now later waiting is part
+
+-- a part of a text is one of a longer text
+pub part_longer : (text piece : List ℕ) (before now : Option (List ℕ))
+    → GainedPart before text now → GainedPart before (text ++ piece) now
+part_longer text piece before now part =
+    let n = part.0 in
+    let fewer = part.1 in (
+      n,
+      omega (arith, fewer, length-append text piece),
+      part.2 ∙ ap (gained before) (sym (take-append-le n text piece (omega (arith, fewer)))),
+    )

@@ -1,0 +1,103 @@
+//! Pieces of a text that are gathered before they are written.
+ghost use Rattle.std.specs.Prelude.{◌≡◌, ◌≤◌, ◌+◌, ◌++◌, [], List, Option, ℕ, IsOk, IsErrOf, OnErr, OnOk, length, IsTrue};
+ghost use Rattle.shelf.specs.Faults.{Rose};
+ghost use Rattle.shelf.specs.Sink.{GainedPart, IsGathered, gained};
+
+use crate::output::{Sink, SinkError, write_whole};
+use std::marker::Model;
+
+/// How many bytes a block holds.
+const BLOCK_BYTES: usize = 65_536;
+
+/// The bytes of a text that wait to be written: pieces that are written together, so that a sink of
+/// the system is called once for many of them. It takes no memory. Contracts see these bytes.
+#[derive(Drop)]
+pub struct Block {
+    bytes: [u8; 65_536],
+    len: usize,
+}
+
+impl Model for Block {
+    ghost use Rattle.std.specs.Prelude.{List, ℕ, take, ◌≤◌};
+
+    ghost Value = { List ℕ };
+
+    ghost view = { λ block. take block.len block.bytes };
+
+    ghost invariant = { λ block. block.len ≤ 65536 };
+}
+
+impl Block {
+    /// A block in which nothing waits.
+    pub fn new() -> Block
+        ensures { result ≡ [] }
+    {
+        Block {
+            bytes: [0; 65_536],
+            len: 0,
+        }
+    }
+
+    // The bytes that wait.
+    fn bytes(&self) -> &[u8]
+        ensures { result.now ≡ self.now }
+    {
+        &self.bytes[..self.len]
+    }
+
+    // Adds a piece for which there is room.
+    fn put(&mut self, piece: &[u8])
+        requires { length self.old + length piece.now ≤ BLOCK_BYTES }
+        ensures { self.new ≡ self.old ++ piece.now }
+    {
+        let end = self.len + piece.len();
+        self.bytes[self.len..end].copy_from_slice(piece);
+        self.len = end;
+    }
+
+    /// Adds the next piece of a text. Where there is no room for it, what waits is written before;
+    /// at an error the sink gained a part of the text.
+    pub fn push<K: Sink>(&mut self, piece: &[u8], sink: &mut K) -> Result<(), SinkError>
+        requires { length piece.now ≤ 65536 }
+        ensures gathered { (text : List ℕ) (before : Option (List ℕ))
+            → IsGathered text before (K.state sink.old).bytes self.old
+            → OnOk result (IsGathered (text ++ piece.now) before (K.state sink.new).bytes self.new) }
+        ensures part { (text : List ℕ) (before : Option (List ℕ))
+            → IsGathered text before (K.state sink.old).bytes self.old
+            → OnErr result (GainedPart before (text ++ piece.now) (K.state sink.new).bytes) }
+        ensures faults { (K.state sink.old).faults ≤ (K.state sink.new).faults }
+        ensures failed { IsErrOf result SinkError.Failed
+            → Rose (K.state sink.old).faults (K.state sink.new).faults }
+        ensures no_memory { IsErrOf result SinkError.NoMemory → IsTrue K.takes_memory }
+    {
+        if piece.len() <= BLOCK_BYTES - self.len {
+            self.put(piece);
+            return Ok(());
+        }
+        match write_whole(sink, self.bytes()) {
+            Ok(()) => {
+                self.len = 0;
+                self.put(piece);
+                Ok(())
+            }
+            Err(error) => Err(error),
+        }
+    }
+
+    /// Writes the end of a text, which waits.
+    pub fn finish<K: Sink>(self, sink: &mut K) -> Result<(), SinkError>
+        ensures whole { (text : List ℕ) (before : Option (List ℕ))
+            → IsGathered text before (K.state sink.old).bytes self
+            → OnOk result ((K.state sink.new).bytes ≡ gained before text) }
+        ensures part { (text : List ℕ) (before : Option (List ℕ))
+            → IsGathered text before (K.state sink.old).bytes self
+            → OnErr result (GainedPart before text (K.state sink.new).bytes) }
+        ensures no_bytes { self ≡ [] → IsOk result × (sink.new ≡ sink.old) }
+        ensures faults { (K.state sink.old).faults ≤ (K.state sink.new).faults }
+        ensures failed { IsErrOf result SinkError.Failed
+            → Rose (K.state sink.old).faults (K.state sink.new).faults }
+        ensures no_memory { IsErrOf result SinkError.NoMemory → IsTrue K.takes_memory }
+    {
+        write_whole(sink, self.bytes())
+    }
+}
