@@ -2,6 +2,7 @@
 use Rattle.std.proofs.Common.{ℕ, ◌≡◌, false, Option, Result, Ok, Err, List, [], length, refl, sym, ap, subst, ◌∙◌, All}
 use Rattle.std.specs.Prelude.{IsOk, IsTrue, slice_index_or}
 use Rattle.std.specs.Option.{ForSome}
+use Rattle.load_case.specs.Case.{IsPlayable, LoadCase, NamesPort}
 use Rattle.net_file.specs.Laws.{PortLaws}
 use Rattle.net_file.specs.Net.{IsNet, port_mask}
 use Rattle.net_file.specs.declared.net.Net.{Net}
@@ -10,7 +11,6 @@ use Rattle.policy_file.specs.Ports.{has_port}
 use Rattle.policy_rules.specs.declared.policy.Action.{Action}
 use Rattle.policy_rules.specs.declared.policy.Action.TheVariants as action
 use Rattle.policy_rules.specs.declared.policy.Row.{Row}
-use Rattle.schedule.specs.Reading.{AreSound}
 use Rattle.steps.specs.Steps.{IsEvent}
 use Rattle.steps.specs.declared.step.Event.{Event}
 use Rattle.update_machine.specs.Sound.{IsSetting, NamesOwnPort}
@@ -20,9 +20,11 @@ use Rattle.world.specs.State.{IsTied, WorldValue, setting_at}
 use Rattle.world_ties.specs.Tied.{AreTied}
 use Rattle.shelf.specs.Shelf.{Files}
 use Rattle.difane_cli.specs.Inputs.{and_then, first_plan, inputs_of, plan_from, read_net, read_policies, read_schedule}
-use Rattle.difane_cli.specs.Run.{IsNetOf, IsReplayOf}
+use Rattle.difane_cli.specs.Run.{IsReplayOf}
 use Rattle.words.specs.Words.{ReplayCommand}
+use Rattle.difane_cli.specs.declared.report.Report.TheVariants as report
 use Rattle.difane_cli.specs.declared.status.Refusal.{Refusal}
+use Rattle.difane_cli.specs.Writes.{IsNetOf}
 
 -- ---- ports
 
@@ -36,6 +38,17 @@ pub own_ports : PortLaws → (net : Net) (policies : List (List Row)) → IsNet 
     → All (All (λ row. NamesOwnPort (setting_of net policies) row.action)) policies
 own_ports laws net policies sound has = λ i d within j e inside.
     own_port laws net policies sound _ (has i d within j e inside)
+
+drawn_port : PortLaws → (net : Net) → IsNet net → (a : Action) → NamesPort net a
+    → IsTrue (has_port (port_mask net.switches) a)
+drawn_port laws net sound action.Drop names = refl
+drawn_port laws net sound (action.Out port) names = laws.mask net port sound ∙ names
+
+-- a load case names ports of its network alone
+pub drawn_ports : PortLaws → (load : LoadCase) → IsPlayable load
+    → All (All (λ row. IsTrue (has_port (port_mask load.net.switches) row.action))) load.policies
+drawn_ports laws load may = λ i d within j e inside.
+    drawn_port laws load.net may.net _ (may.ports i d within j e inside)
 
 -- ---- the first plan
 
@@ -64,10 +77,10 @@ planned_by net policies setting same sound =
 
 pub all_are_events : (net : Net) (policies : List (List Row)) (count : ℕ) (setting : Setting)
     (events : List Event) → setting ≡ setting_of net policies → length policies ≡ count
-    → AreSound net count events → All (IsEvent setting.net (length setting.policies)) events
-all_are_events net policies count setting events same many sound =
+    → All (IsEvent net count) events → All (IsEvent setting.net (length setting.policies)) events
+all_are_events net policies count setting events same many may =
     subst (λ (s : Setting). All (IsEvent s.net (length s.policies)) events) (sym same)
-    (subst (λ n. All (IsEvent net n) events) (sym many) sound.steps)
+    (subst (λ n. All (IsEvent net n) events) (sym many) may)
 
 -- ---- the inputs of a replay
 
@@ -75,14 +88,12 @@ all_are_events net policies count setting events same many sound =
 pub asked_for : (words : ReplayCommand) (net : Net) (policies : List (List Row))
     (events : List Event) (setting : Setting) → IsNetOf words.net net
     → setting ≡ setting_of net policies → length policies ≡ length words.policies
-    → IsSetting setting → All (IsEvent setting.net (length setting.policies)) events
-    → IsReplayOf words (record { setting = setting; events = events; quiet = words.quiet })
-asked_for words net policies events setting named own many sound may = record {
+    → IsReplayOf words
+    (record { setting = setting; events = events; report = report.Lines words.quiet })
+asked_for words net policies events setting named own many = record {
   net = subst (λ s. IsNetOf words.net s.net) (sym own) named;
   policies = ap (λ s. length s.policies) own ∙ many;
-  setting = sound;
-  events = may;
-  quiet = refl;
+  report = refl;
 }
 
 -- what is planned goes on
@@ -99,7 +110,7 @@ inputs_from : (files : Files) (words : ReplayCommand) (net : Net) (policies : Li
     → inputs_of files words ≡ Ok (record {
       setting = setting_of net policies;
       events = events;
-      quiet = words.quiet;
+      report = report.Lines words.quiet;
     })
 inputs_from files words net policies events net_is events_are policies_are planned =
     rw (net_is, events_are, policies_are)
@@ -115,7 +126,7 @@ pub inputs_are : (known middle later : Option Files) (words : ReplayCommand) (ne
     → ForSome later (λ files. read_policies ports files words.policies ≡ Ok policies)
     → IsOk (first_plan words.policies net policies) → setting ≡ setting_of net policies
     → ForSome known (λ files. inputs_of files words
-    ≡ Ok (record { setting = setting; events = events; quiet = words.quiet }))
+    ≡ Ok (record { setting = setting; events = events; report = report.Lines words.quiet }))
 inputs_are known middle later words net policies events setting count ports first second many mask
     net_is events_are policies_are planned own = λ files is.
     let own_events =
@@ -125,4 +136,5 @@ inputs_are known middle later words net policies events setting count ports firs
     subst (λ (p : ℕ). read_policies p files words.policies ≡ Ok policies) mask
     (policies_are files (second ∙ is)) in
     inputs_from files words net policies events (net_is files is) own_events own_policies planned
-    ∙ ap (λ s. Ok (record { setting = s; events = events; quiet = words.quiet })) (sym own)
+    ∙ ap (λ s. Ok (record { setting = s; events = events; report = report.Lines words.quiet }))
+    (sym own)

@@ -1,12 +1,11 @@
 -- What a sink gained by several writes.
-use Rattle.std.proofs.Common.{ℕ, zero, suc, refl, [], ◌≡◌, ◌+◌, ◌<◌, ◌≤◌, inl, inr, Option, Result, Ok, Err, OnErr, List, ◌∷◌, ◌++◌, length, take, drop, get_or, ap, ◌∙◌, sym, arith, append-nil, length-append, drop-cons}
+use Rattle.std.proofs.Common.{ℕ, suc, refl, [], ◌≡◌, ◌+◌, ◌<◌, Option, Result, Ok, Err, OnErr, List, ◌∷◌, ◌++◌, length, take, drop, get_or, ap, ◌∙◌, sym, arith, append-nil, length-append, drop-cons}
 use Rattle.std.specs.List.{flat_map}
 use Rattle.std.proofs.Math.Seq.{take-add, take-append-add}
-use Rattle.std.proofs.lemmas.Bool.{cases_lt}
 use Rattle.std.proofs.lemmas.Grind.{flat_map-append}
-use Rattle.std.proofs.lemmas.List.{take_all, take-append-drop, take-append-le}
+use Rattle.std.proofs.lemmas.List.{take-append-drop, take-append-le}
 use Rattle.shelf.specs.Sink.{gained, gained-gained, GainedPart}
-use Rattle.difane_cli.specs.Run.{GainedSome}
+use Rattle.difane_cli.specs.Writes.{GainedSome}
 
 -- a part of the next bytes, behind what was written, is a part of the whole
 pub GainedPart-behind : (before middle now : Option (List ℕ)) (front piece rest : List ℕ)
@@ -31,30 +30,11 @@ flat_map-at f xs i d within =
     ∙ ap (flat_map f) (ap (λ ys. take i xs ++ ys) (sym (drop-cons xs i d within))
     ∙ take-append-drop i xs)
 
--- the pieces of a list are those of its first, of the next few, and of the rest
-pub flat_map-block : {X : Type 0} (f : X → List ℕ) (xs block : List X) (at : ℕ)
-    → block ≡ take (length block) (drop at xs) →
-    flat_map f (take at xs) ++ (flat_map f block ++ flat_map f (drop (length block) (drop at xs)))
-    ≡ flat_map f xs
-flat_map-block f xs block at is =
-    let rest = drop (length block) (drop at xs) in
-    let both : block ++ rest ≡ drop at xs = ap (λ ys. ys ++ rest) is
-    ∙ take-append-drop (length block) (drop at xs) in
-    ap (λ bytes. flat_map f (take at xs) ++ bytes)
-    (sym (flat_map-append f block rest) ∙ ap (flat_map f) both)
-    ∙ sym (flat_map-append f (take at xs) (drop at xs)) ∙ ap (flat_map f) (take-append-drop at xs)
-
 -- what stands in the midst of nothing is nothing
 pub middle_none : {X : Type 0} (xs ys zs : List X) → xs ++ (ys ++ zs) ≡ [] → ys ≡ []
 middle_none [] [] zs is = refl
 middle_none [] (y ∷ ys) zs is = cc is
 middle_none (x ∷ xs) ys zs is = cc is
-
--- so many as there are of the first
-pub take_own : {X : Type 0} (n : ℕ) (xs : List X) → take (length (take n xs)) xs ≡ take n xs
-take_own zero xs = refl
-take_own (suc n) [] = refl
-take_own (suc n) (x ∷ xs) = ap (λ ys. x ∷ ys) (take_own n xs)
 
 -- the pieces of a few more
 pub flat_map-more : {X : Type 0} (f : X → List ℕ) (xs block : List X) (at : ℕ)
@@ -79,28 +59,6 @@ flat_map-one f xs i x within own =
     ap (λ y. flat_map f (take i xs) ++ f y) (sym own)
     ∙ ap (λ bytes. flat_map f (take i xs) ++ bytes) (sym (append-nil (f (get_or xs i x))))
     ∙ flat_map-more f xs (get_or xs i x ∷ []) i (sym (ap (take 1) (drop-cons xs i x within)))
-
--- some of the next bytes, behind what was written, are some of the whole
-pub GainedSome-behind : (before middle now : Option (List ℕ)) (front piece rest : List ℕ)
-    → middle ≡ gained before front → GainedSome middle piece now
-    → GainedSome before (front ++ (piece ++ rest)) now
-GainedSome-behind before middle now front piece rest written some =
-    elim (cases_lt (length piece) some.0) [
-      | inl many ↦ behind (length piece) (omega arith)
-          (some.1 ∙ ap (gained middle)
-          (take_all some.0 piece (omega (arith, many))
-          ∙ sym (take_all (length piece) piece (omega arith))))
-      | inr few ↦ behind some.0 few some.1
-    ]
-  where
-    behind : (n : ℕ) → n ≤ length piece → now ≡ gained middle (take n piece)
-        → GainedSome before (front ++ (piece ++ rest)) now
-    behind n few is = (
-      length front + n,
-      is ∙ ap (λ b. gained b (take n piece)) written ∙ gained-gained before front (take n piece)
-          ∙ ap (gained before) (ap (λ ys. front ++ ys) (sym (take-append-le n piece rest few))
-          ∙ sym (take-append-add front (piece ++ rest) n)),
-    )
 
 -- a part is some
 pub GainedSome-part : (before now : Option (List ℕ)) (bytes : List ℕ) → GainedPart before bytes now

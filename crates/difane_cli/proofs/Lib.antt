@@ -1,3 +1,4 @@
+mod AfterTexts
 mod Begun
 mod Gains
 mod MeterLines

@@ -1,6 +1,6 @@
 -- The lines of meters, and the text of a replay, which has the last lines behind the journal's.
 use Rattle.std.specs.Prelude.{⊤, Bool}
-use Rattle.std.proofs.Common.{ℕ, ◌≡◌, ◌≢◌, Option, Some, None, Result, Ok, Err, IsErrOf, OnErr, List, [], ◌∷◌, ◌++◌, length, map, refl, ap, sym, subst, append-nil, ◌∙◌, ◌≤◌, arith}
+use Rattle.std.proofs.Common.{ℕ, ◌≡◌, ◌≢◌, Option, Some, None, Result, Ok, Err, List, [], ◌∷◌, ◌++◌, length, map, refl, ap, sym, subst, append-nil, ◌∙◌, ◌≤◌, arith}
 use Rattle.std.specs.List.{flat_map}
 use Rattle.journal.specs.declared.item.Item.{Item}
 use Rattle.journal_text.specs.Lines.{journal_text}
@@ -9,10 +9,8 @@ use Rattle.net_file.specs.declared.net.Net.{Net}
 use Rattle.policy_rules.specs.declared.packet.Leaving.{Leaving}
 use Rattle.shelf.specs.Sink.{gained, gained-gained, GainedPart, IsAfterWrite, SinkState}
 use Rattle.shelf.specs.declared.output.SinkError.{SinkError}
-use Rattle.shelf.specs.declared.output.SinkError.TheVariants as sink
 use Rattle.difane_cli.specs.Meters.{last_lines, line_by, meter_line, meter_lines, notes_line, replay_text}
-use Rattle.difane_cli.specs.Run.{GainedSome}
-use Rattle.difane_cli.proofs.Gains.{GainedPart-behind, GainedSome-behind, GainedSome-part}
+use Rattle.difane_cli.proofs.Gains.{GainedPart-behind}
 
 -- ---- one line
 
@@ -52,36 +50,6 @@ none_left (x ∷ xs) ys is = absurd (cc is)
 pub none_right : (xs ys : List ℕ) → xs ++ ys ≡ [] → ys ≡ []
 none_right [] ys is = is
 none_right (x ∷ xs) ys is = absurd (cc is)
-
--- ---- the text of a replay
-
-pub some_of_text : (net : Net) (journal : List Item) (full : Option ℕ) (meters : List Seen)
-    (answer : Option Bool) (before now : Option (List ℕ))
-    → GainedSome before (journal_text net journal) now
-    → GainedSome before (replay_text net journal full meters answer) now
-some_of_text net journal None meters answer before now some =
-    GainedSome-behind before before now [] (journal_text net journal) (last_lines meters answer)
-    (gained_nothing before) some
-some_of_text net journal (Some row) meters answer before now some = some
-
--- ---- the last lines, behind a text that was written
-
-pub cut_last : (before middle now : SinkState) (text lines : List ℕ) (takes_memory : Bool)
-    (result : Result (⊤) SinkError) → middle.bytes ≡ gained before.bytes text
-    → IsAfterWrite lines takes_memory middle now result → IsErrOf result sink.Failed
-    → GainedPart before.bytes (text ++ lines) now.bytes
-cut_last before middle now text lines takes_memory (Ok done) written after is = absurd (cc is)
-cut_last before middle now text lines takes_memory (Err why) written after is =
-    part_last before.bytes middle.bytes now.bytes text lines written after.part
-
-pub some_last : (before middle now : SinkState) (text lines : List ℕ) (takes_memory : Bool)
-    (result : Result (⊤) SinkError) → middle.bytes ≡ gained before.bytes text
-    → IsAfterWrite lines takes_memory middle now result
-    → OnErr result (GainedSome before.bytes (text ++ lines) now.bytes)
-some_last before middle now text lines takes_memory (Ok done) written after = tt
-some_last before middle now text lines takes_memory (Err why) written after =
-    GainedSome-part before.bytes now.bytes (text ++ lines)
-    (part_last before.bytes middle.bytes now.bytes text lines written after.part)
 
 -- two texts, one after the other
 pub both_written : (before middle now : SinkState) (text lines : List ℕ) (takes_memory : Bool)
@@ -124,3 +92,21 @@ pub text_whole : (net : Net) (journal : List Item) (full : Option ℕ) (meters :
     ≡ replay_text net journal full meters answer
 text_whole net journal None meters answer is = refl
 text_whole net journal (Some row) meters answer is = absurd (cc is)
+
+-- where it is empty, the journal's is
+pub none_of_text : (net : Net) (journal : List Item) (full : Option ℕ) (meters : List Seen)
+    (answer : Option Bool) → replay_text net journal full meters answer ≡ []
+    → journal_text net journal ≡ []
+none_of_text net journal None meters answer none =
+    none_left (journal_text net journal) (last_lines meters answer) none
+none_of_text net journal (Some row) meters answer none = none
+
+-- the journal's text was cut short
+pub cut_short : (net : Net) (journal : List Item) (full : Option ℕ) (meters : List Seen)
+    (answer : Option Bool) (before now : SinkState) (takes_memory : Bool) (why : SinkError)
+    → IsAfterWrite (journal_text net journal) takes_memory before now (Err why)
+    → IsAfterWrite (replay_text net journal full meters answer) takes_memory before now (Err why)
+cut_short net journal None meters answer before now takes_memory why after =
+    first_part before now (journal_text net journal) (last_lines meters answer) takes_memory why
+    after
+cut_short net journal (Some row) meters answer before now takes_memory why after = after

@@ -1,6 +1,6 @@
 -- What comes of a task that is done, by what became of its text.
 use Rattle.std.specs.Prelude.{⊤, is_some}
-use Rattle.std.proofs.Common.{ℕ, ◌≡◌, ◌⊎◌, inl, inr, refl, Bool, zero, Option, Some, None, Result, Ok, Err, OnOk, OnErr, IsErrOf, List, [], subst}
+use Rattle.std.proofs.Common.{ℕ, ◌≡◌, inl, inr, refl, Bool, zero, Option, Some, None, Result, Ok, Err, OnOk, OnErr, List, []}
 use Rattle.std.specs.Option.{ForSome}
 use Rattle.boot_laws.specs.Always.{HoldsReached}
 use Rattle.journal.specs.declared.item.Item.{Item}
@@ -18,17 +18,19 @@ use Rattle.way_laws.specs.StrongCauses.{StrongCause}
 use Rattle.entry_laws.specs.Entries.{AreEntered, rows_played}
 use Rattle.steps.specs.declared.step.Event.{Event}
 use Rattle.update_machine.specs.Setting.{Setting}
-use Rattle.difane_cli.specs.Inputs.{Inputs, Play, Print, Printing}
-use Rattle.shelf.specs.Sink.{gained, GainedPart, SinkState}
+use Rattle.difane_cli.specs.Tasks.{Inputs, Play, Print, Printing}
+use Rattle.shelf.specs.Sink.{GainedPart, SinkState}
 use Rattle.shelf.specs.declared.output.SinkError.{SinkError}
 use Rattle.shelf.specs.declared.output.SinkError.TheVariants as sink
-use Rattle.difane_cli.specs.Meters.{kept_by, replay_text}
-use Rattle.difane_cli.specs.Verdict.{Decides, IsVerdict, is_asked}
+use Rattle.difane_cli.specs.Meters.{kept_by, play_text}
+use Rattle.difane_cli.specs.Verdict.{Decides, IsVerdict, asks_quiet, is_asked}
 use Rattle.difane_cli.proofs.MeterLines.{gained_nothing}
 use Rattle.difane_cli.proofs.Verdicts.{QuietLaws, verdict}
-use Rattle.difane_cli.specs.Run.{Begun, GainedSome, IsAnswer, IsPrintingOf, IsReplayOf, Known, PrintOutcome, ReplayOutcome, Wrote, WroteSome, printing_text}
-use Rattle.difane_cli.specs.Status.{status_after}
-use Rattle.words.specs.Words.{PrintCommand, ReplayCommand}
+use Rattle.difane_cli.specs.Run.{IsAfterText, IsAnswer, IsPlayOf, MayBePlayed, PlayOutcome, Unfinished}
+use Rattle.difane_cli.specs.Ending.{status_after}
+use Rattle.difane_cli.specs.Writes.{Known, Wrote}
+use Rattle.difane_cli.specs.Prints.{IsPrintingOf, PrintOutcome, printing_text}
+use Rattle.words.specs.Words.{Command, PrintCommand}
 
 -- what follows behind steps of the network
 pub record AnswerLaws : Type 0 where
@@ -50,110 +52,87 @@ begins inputs journal None play = begins_itself inputs.setting inputs.events jou
 begins inputs journal (Some row) play = stop_begins inputs.setting inputs.events journal row play
 
 -- what the journal of a play is, and what follows
-pub played : AnswerLaws → (command : ReplayCommand) (known : Known) (inputs : Inputs)
-    (journal : List Item) (full : Option ℕ) → IsReplayOf command inputs
+pub played : AnswerLaws → (command : Command) (known : Known) (inputs : Inputs)
+    (journal : List Item) (full : Option ℕ) → IsPlayOf command inputs
     → ForSome known (λ read. read ≡ Ok (Play inputs))
-    → IsPlay inputs.setting inputs.events journal full
+    → MayBePlayed inputs → IsPlay inputs.setting inputs.events journal full
     → IsAnswer command known inputs journal full
-played laws command known inputs journal full asked accepted play = record {
+played laws command known inputs journal full asked accepted sound play = record {
   asked = asked;
   accepted = accepted;
+  sound = sound;
   play = play;
   run = laws.run.begun inputs.setting inputs.events journal
-      asked.events (begins inputs journal full play)
-      asked.setting;
+      sound.events (begins inputs journal full play) sound.setting;
   causes = laws.causes.begun inputs.setting inputs.events journal
-      asked.events (begins inputs journal full play)
-      asked.setting;
+      sound.events (begins inputs journal full play) sound.setting;
   strong = laws.strong.begun inputs.setting inputs.events journal
-      asked.events (begins inputs journal full play)
-      asked.setting;
+      sound.events (begins inputs journal full play) sound.setting;
   entered = laws.entered inputs.setting inputs.events journal full play;
 }
 
 -- the answer that the judge gave is the one that is asked for
-pub judged : AnswerLaws → (command : ReplayCommand) (known : Known) (inputs : Inputs)
+pub judged : AnswerLaws → (command : Command) (known : Known) (inputs : Inputs)
     (journal : List Item) (full : Option ℕ) (net : Net) (given : Option Bool)
     → IsAnswer command known inputs journal full → inputs.setting.net ≡ net
-    → is_some given ≡ is_asked inputs.quiet full
+    → is_some given ≡ is_asked (asks_quiet inputs.report) full
     → ((setting : Setting) → setting.net ≡ net → IsPlain setting journal
     → Decides setting journal given)
-    → IsVerdict command.quiet inputs.setting journal full given
+    → IsVerdict (asks_quiet inputs.report) inputs.setting journal full given
 judged laws command known inputs journal full net given answer own asked decides =
-    let sound = answer.asked.setting.net in
-    verdict laws.quiet inputs.quiet command.quiet inputs.setting inputs.events journal full given
-    sound answer.play answer.asked.quiet asked
+    let sound = answer.sound.setting.net in
+    verdict laws.quiet (asks_quiet inputs.report) inputs.setting inputs.events journal full given
+    sound answer.play asked
     (decides inputs.setting own (laws.plain.begun inputs.setting inputs.events journal
-    answer.asked.events (begins inputs journal full answer.play) sound))
-
--- what a play leaves begins an answer, so that some of its text may be written
-begun : (command : ReplayCommand) (known : Known) (inputs : Inputs) (journal : List Item)
-    (full : Option ℕ) (taken given : List Seen) (said : Option Bool) (before now : SinkState)
-    → IsAnswer command known inputs journal full → given ≡ kept_by inputs.setting.net journal taken
-    → (said ≡ None) ⊎ IsVerdict command.quiet inputs.setting journal full said
-    → WroteSome (replay_text inputs.setting.net journal full given said) before now
-    → Begun command known journal taken before now
-begun command known inputs journal full taken given said before now answer kept judged written =
-    record {
-      inputs = inputs;
-      asked = answer.asked;
-      accepted = answer.accepted;
-      begins = begins inputs journal full answer.play;
-      run = answer.run;
-      causes = answer.causes;
-      strong = answer.strong;
-      full = full;
-      entered = answer.entered;
-      answer = said;
-      verdict = judged;
-      written = subst (λ meters.
-          WroteSome (replay_text inputs.setting.net journal full meters said) before now) kept written;
-    }
+    answer.sound.events (begins inputs journal full answer.play) sound))
 
 -- memory ran out before an answer was given, and nothing was written
-pub unjudged : (command : ReplayCommand) (known : Known) (inputs : Inputs) (journal : List Item)
+pub unjudged : (command : Command) (known : Known) (inputs : Inputs) (journal : List Item)
     (full : Option ℕ) (taken given : List Seen) (now : SinkState)
     → IsAnswer command known inputs journal full → given ≡ kept_by inputs.setting.net journal taken
-    → Begun command known journal taken now now
-unjudged command known inputs journal full taken given now answer kept =
-    begun command known inputs journal full taken given None now now answer kept (inl refl)
-    (record { some = (zero, gained_nothing now.bytes); untouched = λ none. refl })
+    → Unfinished command known journal taken given now now
+unjudged command known inputs journal full taken given now answer kept = record {
+  inputs = inputs;
+  full = full;
+  played = answer;
+  kept = kept;
+  answer = None;
+  verdict = inl refl;
+  written = record { some = (zero, gained_nothing now.bytes); untouched = λ none. refl };
+}
 
--- a journal that was played, and its text and the meters' lines that were written, or not
-pub replayed : (command : ReplayCommand) (known : Known) (inputs : Inputs) (journal : List Item)
+-- a journal that was played, and what is to be told of it that was written, or not
+pub told : (command : Command) (known : Known) (inputs : Inputs) (journal : List Item)
     (full : Option ℕ) (taken given : List Seen) (said : Option Bool) (before now : SinkState)
-    (written : Result (⊤) SinkError) → IsAnswer command known inputs journal full
+    (takes_memory : Bool) (written : Result (⊤) SinkError)
+    → IsAnswer command known inputs journal full
     → given ≡ kept_by inputs.setting.net journal taken
-    → IsVerdict command.quiet inputs.setting journal full said → OnOk written
-    (now.bytes ≡ gained before.bytes (replay_text inputs.setting.net journal full given said))
-    → (IsErrOf written sink.Failed
-    → GainedPart before.bytes (replay_text inputs.setting.net journal full given said) now.bytes)
-    → OnErr written
-    (GainedSome before.bytes (replay_text inputs.setting.net journal full given said) now.bytes)
-    → (replay_text inputs.setting.net journal full given said ≡ [] → now ≡ before)
-    → ReplayOutcome command known (status_after written full) journal taken given before now
-replayed command known inputs journal None taken given said before now (Ok done) answer kept
-    judged whole part some none =
+    → IsVerdict (asks_quiet inputs.report) inputs.setting journal full said
+    → IsAfterText (play_text inputs.report inputs.setting.net journal full given said)
+    takes_memory before now written
+    → PlayOutcome command known (status_after written full) journal taken given before now
+told command known inputs journal None taken given said before now takes_memory (Ok done)
+    answer kept judged after =
     record {
       inputs = inputs;
       played = answer;
       kept = kept;
       answer = said;
       verdict = judged;
-      written = record { whole = whole; untouched = none };
+      written = record { whole = after.whole; untouched = after.untouched };
     }
-replayed command known inputs journal (Some row) taken given said before now (Ok done) answer
-    kept judged whole part some none =
+told command known inputs journal (Some row) taken given said before now takes_memory
+    (Ok done) answer kept judged after =
     record {
       inputs = inputs;
       played = answer;
       kept = kept;
       answer = said;
       verdict = judged;
-      written = record { whole = whole; untouched = none };
+      written = record { whole = after.whole; untouched = after.untouched };
     }
-replayed command known inputs journal full taken given said before now (Err sink.Failed) answer
-    kept judged whole part some none =
+told command known inputs journal full taken given said before now takes_memory (Err sink.Failed)
+    answer kept judged after =
     record {
       inputs = inputs;
       full = full;
@@ -161,13 +140,19 @@ replayed command known inputs journal full taken given said before now (Err sink
       kept = kept;
       answer = said;
       verdict = judged;
-      written = part refl;
+      written = after.part refl;
     }
-replayed command known inputs journal full taken given said before now (Err sink.NoMemory) answer
-    kept judged whole part some none =
-    inr (begun command known inputs journal full taken given said before now answer kept
-    (inr judged)
-    (record { some = some; untouched = none }))
+told command known inputs journal full taken given said before now takes_memory (Err sink.NoMemory)
+    answer kept judged after =
+    inr (record {
+      inputs = inputs;
+      full = full;
+      played = answer;
+      kept = kept;
+      answer = said;
+      verdict = inr judged;
+      written = record { some = after.some; untouched = after.untouched };
+    })
 
 -- a plan or tables whose text was written, or not
 pub printed : (command : PrintCommand) (known : Known) (printing : Printing)

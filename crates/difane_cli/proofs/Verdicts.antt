@@ -1,10 +1,11 @@
 -- What an answer to the question whether the network is quiet says.
 use Rattle.std.specs.Prelude.{is_some}
-use Rattle.std.proofs.Common.{ℕ, ◌≡◌, Bool, true, false, Option, Some, None, List, refl, sym, subst, true≢false}
+use Rattle.std.proofs.Common.{ℕ, ◌≡◌, Bool, true, false, Option, Some, None, List, refl, sym, true≢false}
 use Rattle.boot_laws.specs.Always.{HoldsAtEnds}
 use Rattle.journal.specs.declared.item.Item.{Item}
 use Rattle.net_file.specs.Net.{IsNet}
 use Rattle.quiet_laws.specs.Converged.{HasConverged}
+use Rattle.quiet_laws.specs.Stuck.{GetStuckApart}
 use Rattle.quiet_laws.specs.Updated.{IsUpdated}
 use Rattle.steps.specs.declared.step.Event.{Event}
 use Rattle.update_machine.specs.Full.{IsPlay}
@@ -16,6 +17,8 @@ use Rattle.difane_cli.specs.Verdict.{Decides, HasSettled, IsVerdict, Says, is_as
 pub record QuietLaws : Type 0 where
   pub converged : HoldsAtEnds (λ setting journal.
       IsNet setting.net → IsQuiet setting journal → HasConverged setting journal)
+  pub apart : HoldsAtEnds (λ setting journal.
+      IsNet setting.net → IsQuiet setting journal → GetStuckApart setting journal)
   pub updated : HoldsAtEnds (λ setting journal.
       IsQuiet setting journal → IsUpdated setting journal)
 
@@ -25,6 +28,7 @@ settled : QuietLaws → (setting : Setting) (events : List Event) (journal : Lis
 settled laws setting events journal net play quiet = record {
   quiet = quiet;
   converged = laws.converged.answered setting events journal play.answers net quiet;
+  apart = laws.apart.answered setting events journal play.answers net quiet;
   updated = laws.updated.answered setting events journal play.answers quiet;
 }
 
@@ -41,13 +45,11 @@ says laws quiet setting events journal None (Some false) net play asked decides 
     λ is. true≢false (sym (decides.1 is))
 
 -- the answer that decides it
-pub verdict : QuietLaws → (quiet asked : Bool) (setting : Setting) (events : List Event)
+pub verdict : QuietLaws → (quiet : Bool) (setting : Setting) (events : List Event)
     (journal : List Item) (full : Option ℕ) (answer : Option Bool) → IsNet setting.net
-    → IsPlay setting events journal full → quiet ≡ asked
-    → is_some answer ≡ is_asked quiet full → Decides setting journal answer
-    → IsVerdict asked setting journal full answer
-verdict laws quiet asked setting events journal full answer net play same given decides =
-    subst (λ (q : Bool). IsVerdict q setting journal full answer) same (record {
-      asked = given;
-      holds = says laws quiet setting events journal full answer net play given decides;
-    })
+    → IsPlay setting events journal full → is_some answer ≡ is_asked quiet full
+    → Decides setting journal answer → IsVerdict quiet setting journal full answer
+verdict laws quiet setting events journal full answer net play given decides = record {
+  asked = given;
+  holds = says laws quiet setting events journal full answer net play given decides;
+}

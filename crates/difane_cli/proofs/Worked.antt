@@ -3,7 +3,7 @@ use Rattle.std.specs.Prelude.{⊤}
 use Rattle.std.proofs.Common.{ℕ, ◌≡◌, refl, Option, Some, None, Result, Ok, Err, IsErrOf}
 use Rattle.shelf.specs.declared.output.SinkError.{SinkError}
 use Rattle.shelf.specs.declared.output.SinkError.TheVariants as sink
-use Rattle.difane_cli.specs.Status.{IsAfterWork, status_after}
+use Rattle.difane_cli.specs.Ending.{IsAfterWork, status_after}
 use Rattle.difane_cli.specs.declared.status.Status.TheVariants as status
 
 pub after_work : (written : Result (⊤) SinkError) (full : Option ℕ)
@@ -20,3 +20,11 @@ by_failed (Ok done) None is = absurd (cc is)
 by_failed (Ok done) (Some row) is = absurd (cc is)
 by_failed (Err sink.Failed) full is = refl
 by_failed (Err sink.NoMemory) full is = absurd (cc is)
+
+-- and want of memory of a write that found none
+pub by_memory : (written : Result (⊤) SinkError) (full : Option ℕ)
+    → status_after written full ≡ status.NoMemory → IsErrOf written sink.NoMemory
+by_memory (Ok done) None is = absurd (cc is)
+by_memory (Ok done) (Some row) is = absurd (cc is)
+by_memory (Err sink.Failed) full is = absurd (cc is)
+by_memory (Err sink.NoMemory) full is = refl

@@ -1,22 +1,23 @@
 -- What the files that a command read are to the definitions.
-use Rattle.std.specs.Prelude.{◌≡◌, ◌≤◌, length, All}
+use Rattle.std.specs.Prelude.{◌≡◌, ◌≤◌, length}
 use Rattle.net_file.specs.Net.{IsNet}
-use Rattle.steps.specs.Steps.{IsEvent, max_events}
+use Rattle.steps.specs.Steps.{max_events}
 use Rattle.world.specs.State.{IsBegun, setting_at}
-use Rattle.difane_cli.specs.Run.{IsPrintingOf, IsReplayOf}
-use Rattle.difane_cli.specs.Inputs.{Inputs, Printing, Task, Play, Print}
+use Rattle.difane_cli.specs.Run.{IsPlayOf, MayBePlayed}
+use Rattle.difane_cli.specs.Tasks.{Inputs, Printing, Task, Play, Print}
 use Rattle.words.specs.Words as grammar
-use Rattle.difane_cli.specs.declared.inputs.ReplayInputs.{ReplayInputs}
+use Rattle.difane_cli.specs.declared.inputs.PlayInputs.{PlayInputs}
 use Rattle.difane_cli.specs.declared.printing.PrintInputs.{PrintInputs}
+use Rattle.difane_cli.specs.Prints.{IsPrintingOf}
 use Rattle.difane_cli.specs.declared.task.Task as declared_task
 use Rattle.difane_cli.specs.declared.task.Task.TheVariants as asked
 
 -- the inputs that were read
-abbrev pub inputs_stated : ReplayInputs → Inputs
+abbrev pub inputs_stated : PlayInputs → Inputs
 inputs_stated inputs = record {
   setting = setting_at inputs.world;
   events = inputs.events.items;
-  quiet = inputs.quiet;
+  report = inputs.report;
 }
 
 abbrev pub printing_stated : PrintInputs → Printing
@@ -31,12 +32,12 @@ abbrev pub task_stated : declared_task.Task → Task
 task_stated (asked.Play inputs) = Play (inputs_stated inputs)
 task_stated (asked.Print inputs) = Print (printing_stated inputs)
 
--- in the world of a replay nothing happened yet, its network is the one that was read, and the
+-- in the world of a play nothing happened yet, its network is the one that was read, and the
 -- events may happen on it
-pub record IsReady (inputs : ReplayInputs) : Type 0 where
+pub record IsReady (inputs : PlayInputs) : Type 0 where
   pub begun : IsBegun (setting_at inputs.world) inputs.world
   pub net : inputs.world.net ≡ inputs.net
-  pub may : All (IsEvent inputs.world.net (length inputs.world.policies)) inputs.events.items
+  pub sound : MayBePlayed (inputs_stated inputs)
   pub few : length inputs.events.items ≤ max_events
 
 -- a plan is on a network
@@ -46,6 +47,6 @@ IsReadyTask (asked.Print inputs) = IsNet inputs.net
 
 -- the task is of the kind that the command asks for, and as it asks for it
 abbrev pub IsTaskOf : grammar.Command → Task → Type 0
-IsTaskOf (grammar.Replay words) (Play inputs) = IsReplayOf words inputs
+IsTaskOf command (Play inputs) = IsPlayOf command inputs
 IsTaskOf (grammar.Print words) (Print printing) = IsPrintingOf words printing
-IsTaskOf _ _ = ⊥
+IsTaskOf _ (Print printing) = ⊥

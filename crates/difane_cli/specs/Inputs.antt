@@ -1,6 +1,8 @@
--- The task of a command: what its files are read to, or the first refusal in the order of work.
-use Rattle.std.specs.Prelude.{⊤, ℕ, ◌≡◌, ◌+◌, ◌<◌, Bool, true, false, nat_le, if◌then◌else◌, Option, Some, None, Result, Ok, Err, is_ok, List, [], ◌∷◌, length, map, slice_index_or}
+-- The task of a command: what its files are read to, or its load case, or the first refusal in the
+-- order of work.
+use Rattle.std.specs.Prelude.{⊤, ℕ, ◌≡◌, ◌+◌, ◌<◌, Bool, true, false, nat_le, if◌then◌else◌, Option, Some, None, option_map, Result, Ok, Err, is_ok, List, [], ◌∷◌, length, map, slice_index_or, codes, IsOk}
 use Rattle.std.specs.Option.{option_map_or}
+use Rattle.load_case.specs.Case.{LoadCase, load_case}
 use Rattle.net_file.specs.Net.{port_mask, solo_net, switch_number}
 use Rattle.net_file.specs.Reading.{net_of}
 use Rattle.net_file.specs.Refusals as net_text
@@ -15,13 +17,17 @@ use Rattle.schedule.specs.Reading as schedule_text
 use Rattle.schedule.specs.Refusals as refused_by
 use Rattle.steps.specs.declared.step.Event.{Event}
 use Rattle.shelf.specs.Shelf.{Files, file_named}
-use Rattle.update_machine.specs.Setting.{Setting, setting_of}
+use Rattle.update_machine.specs.Setting.{setting_of}
 use Rattle.words.specs.Words.{Command, PrintCommand, ReplayCommand}
 use Rattle.words.specs.Words as asked
 use Rattle.difane_cli.specs.Codes.{missing, most_bytes, no_port, no_room, no_switch, too_long, too_many_leaves, too_many_words}
+use Rattle.difane_cli.specs.declared.report.Report.TheVariants as report
 use Rattle.difane_cli.specs.declared.status.Refusal.{Refusal}
 use Rattle.difane_cli.specs.declared.status.Stop.{Stop}
+use Rattle.difane_cli.specs.declared.status.Status.{Status}
+use Rattle.difane_cli.specs.Tasks.{Inputs, Printing, Task, Play, Print}
 use Rattle.difane_cli.specs.declared.status.Stop.TheVariants as stop
+use Rattle.difane_cli.specs.declared.status.Status.TheVariants as status
 
 -- what goes on from a value that was read; a refusal ends the reading
 abbrev pub and_then : {X Y : Type 0} → Result X Refusal → (X → Result Y Refusal) → Result Y Refusal
@@ -116,16 +122,10 @@ abbrev pub first_plan : List (List ℕ) → Net → List (List Row) → Result (
 first_plan names net policies =
     plan_on (slice_index_or names 0 []) net (slice_index_or policies 0 [])
 
--- ---- all files of a replay
+-- ---- what is played
 
-pub record Inputs : Type 0 where
-  pub setting : Setting
-  pub events : List Event
-  -- whether the replay is to say if the network is quiet
-  pub quiet : Bool
-
--- the network is read and checked, then the schedule, then the policies in their order, and then
--- the first policy is planned
+-- the files of a replay: the network is read and checked, then the schedule, then the policies in
+-- their order, and then the first policy is planned
 abbrev pub inputs_of : Files → ReplayCommand → Result Inputs Refusal
 inputs_of files command =
     and_then (read_net files command.net) (λ net.
@@ -135,8 +135,27 @@ inputs_of files command =
     Ok (record {
       setting = setting_of net policies;
       events = events;
-      quiet = command.quiet;
+      report = report.Lines command.quiet;
     })))))
+
+-- a load case, of which the summary is to be told
+abbrev pub case_inputs : LoadCase → Inputs
+case_inputs load = record {
+  setting = setting_of load.net load.policies;
+  events = load.events;
+  report = report.Summary;
+}
+
+-- the file that a refusal of a load case names
+abbrev pub load_name : List ℕ
+load_name = codes "load"
+
+-- the load case of this number, whose first policy is planned
+abbrev pub load_inputs : ℕ → Result Inputs Refusal
+load_inputs n =
+    let load = load_case n in
+    and_then (first_plan (load_name ∷ []) load.net load.policies) (λ placed.
+    Ok (case_inputs load))
 
 -- ---- all files of a plan
 
@@ -145,13 +164,6 @@ abbrev pub switch_on : Net → Option (List ℕ) → Result (Option ℕ) Refusal
 switch_on net None = Ok None
 switch_on net (Some name) =
     option_map_or (λ s. Ok (Some s)) (switch_number net.switches name) (Err (whole name no_switch))
-
--- a policy planned on a network, and the switch whose tables are asked for
-pub record Printing : Type 0 where
-  pub policy : List Row
-  pub net : Net
-  pub placed : List Placed
-  pub switch : Option ℕ
 
 -- the network, and the switch on it
 abbrev pub place_of : Files → PrintCommand → Result (Net × Option ℕ) Refusal
@@ -171,23 +183,23 @@ printing_of files command =
 
 -- ---- all commands
 
--- what a command is to do: to play inputs, or to print a plan or the tables of a switch
-pub data Task : Type 0 where
-  Play : Inputs → Task
-  Print : Printing → Task
+abbrev pub play_task : Result Inputs Refusal → Result Task Refusal
+play_task read = and_then read (λ inputs. Ok (Play inputs))
 
--- the task or the refusal; a load case reads no files
-abbrev pub task_of : Files → Command → Option (Result Task Refusal)
-task_of files (asked.Replay words) =
-    Some (and_then (inputs_of files words) (λ inputs. Ok (Play inputs)))
-task_of files (asked.Print words) =
-    Some (and_then (printing_of files words) (λ printing. Ok (Print printing)))
-task_of files (asked.Load n) = None
+abbrev pub print_task : Result Printing Refusal → Result Task Refusal
+print_task read = and_then read (λ printing. Ok (Print printing))
 
--- the same, where files are known and the words are a command
+-- the task or the refusal, where it is known: that of a load case always is, since it reads no
+-- files, and that of another command where the files are known
+abbrev pub task_of : Option Files → Command → Option (Result Task Refusal)
+task_of files (asked.Replay words) = option_map (λ all. play_task (inputs_of all words)) files
+task_of files (asked.Print words) = option_map (λ all. print_task (printing_of all words)) files
+task_of files (asked.Load n) = Some (play_task (load_inputs n))
+
+-- the same, where the words are a command
 abbrev pub known_task : Option Files → Option Command → Option (Result Task Refusal)
-known_task (Some files) (Some command) = task_of files command
-known_task _ _ = None
+known_task files None = None
+known_task files (Some command) = task_of files command
 
 -- the task is known, and accepted
 abbrev pub IsAccepted : Option (Result Task Refusal) → Type 0
@@ -258,3 +270,14 @@ abbrev pub StopsSwitch : {X : Type 0} → Result X Refusal → Stop → Type 0
 StopsSwitch read (stop.Refused refusal) = (read ≡ Err refusal) × (too_long < refusal.code)
 StopsSwitch read stop.NoMemory = ⊤
 StopsSwitch read stop.ReadFault = ⊥
+
+-- what a status says of the known task: a refusal is the one that stands there, and work was done
+-- only on an accepted one
+abbrev pub Accounts : Result Task Refusal → Status → Type 0
+Accounts read (status.Input file code row) =
+    read ≡ Err (record { file = file; code = code; row = row })
+Accounts read status.Words = ⊥
+Accounts read status.Ok = IsOk read
+Accounts read status.WriteFault = IsOk read
+Accounts read (status.Full row) = IsOk read
+Accounts read _ = ⊤

@@ -1,9 +1,10 @@
--- What a replay writes: the text of its journal, a line for each meter that has a note, and one that
--- says whether the network is quiet; and which commands play nothing.
+-- What a play writes: the text of its journal, a line for each meter that has a note, and one that
+-- says whether the network is quiet; or the summary. And which commands play nothing.
 use Rattle.std.specs.Prelude.{⊤, ℕ, Bool, true, false, Option, Some, None, List, [], ◌∷◌, ◌++◌, codes, decimal, length}
 use Rattle.std.specs.List.{concat, flat_map}
 use Rattle.journal.specs.declared.item.Item.{Item}
 use Rattle.journal_text.specs.Lines.{journal_text}
+use Rattle.load_text.specs.Summary.{summary_of, summary_text}
 use Rattle.meters.specs.Meters.{Seen, kept_meters}
 use Rattle.net_file.specs.Net.{port_mask}
 use Rattle.net_file.specs.declared.net.Net.{Net}
@@ -11,6 +12,8 @@ use Rattle.policy_rules.specs.declared.packet.Leaving.{Leaving}
 use Rattle.replay.specs.Leavings.{left_in}
 use Rattle.words.specs.Words.{Command}
 use Rattle.words.specs.Words as asked
+use Rattle.difane_cli.specs.declared.report.Report.{Report}
+use Rattle.difane_cli.specs.declared.report.Report.TheVariants as report
 
 -- the line of a meter of this port that has so many notes, with its line feed
 abbrev pub notes_line : ℕ → ℕ → List ℕ
@@ -46,6 +49,17 @@ last_lines meters answer = meter_lines meters ++ quiet_line answer
 abbrev pub replay_text : Net → List Item → Option ℕ → List Seen → Option Bool → List ℕ
 replay_text net journal None meters answer = journal_text net journal ++ last_lines meters answer
 replay_text net journal (Some row) meters answer = journal_text net journal
+
+-- the eleven counts of the journal; a play that stopped full has none
+abbrev pub counts_text : List Item → Option ℕ → List ℕ
+counts_text journal None = summary_text (summary_of journal)
+counts_text journal (Some row) = []
+
+-- what a play is to tell
+abbrev pub play_text : Report → Net → List Item → Option ℕ → List Seen → Option Bool → List ℕ
+play_text (report.Lines quiet) net journal full meters answer =
+    replay_text net journal full meters answer
+play_text report.Summary net journal full meters answer = counts_text journal full
 
 -- words off the grammar, and a command that plays nothing
 abbrev pub PlaysNothing : Option Command → Type 0

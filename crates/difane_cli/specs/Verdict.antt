@@ -3,9 +3,17 @@
 use Rattle.std.specs.Prelude.{⊤, ℕ, ◌≡◌, ◌↔◌, Bool, true, false, Option, Some, None, is_some, IsTrue, List}
 use Rattle.journal.specs.declared.item.Item.{Item}
 use Rattle.quiet_laws.specs.Converged.{HasConverged}
+use Rattle.quiet_laws.specs.Stuck.{GetStuckApart}
 use Rattle.quiet_laws.specs.Updated.{IsUpdated}
 use Rattle.update_machine.specs.Quiet.{IsQuiet}
 use Rattle.update_machine.specs.Setting.{Setting}
+use Rattle.difane_cli.specs.declared.report.Report.{Report}
+use Rattle.difane_cli.specs.declared.report.Report.TheVariants as report
+
+-- a report by lines may ask for it
+abbrev pub asks_quiet : Report → Bool
+asks_quiet (report.Lines quiet) = quiet
+asks_quiet report.Summary = false
 
 -- it is asked to by `--quiet`, at the end of a play that didn't stop full
 abbrev pub is_asked : Bool → Option ℕ → Bool
@@ -17,11 +25,13 @@ abbrev pub Decides : Setting → List Item → Option Bool → Type 0
 Decides setting journal None = ⊤
 Decides setting journal (Some answer) = IsTrue answer ↔ IsQuiet setting journal
 
--- the network is quiet: so the switches know the links that can be used, and those that are up stamp
+-- the network is quiet: so the switches know the links that can be used, a step makes a packet that
+-- had found no link down stuck only where no target is reached, and the switches that are up stamp
 -- with the newest version
 pub record HasSettled (setting : Setting) (journal : List Item) : Type 0 where
   pub quiet : IsQuiet setting journal
   pub converged : HasConverged setting journal
+  pub apart : GetStuckApart setting journal
   pub updated : IsUpdated setting journal
 
 -- what an answer says of the network

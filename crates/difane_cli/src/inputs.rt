@@ -9,13 +9,14 @@ ghost use Rattle.shelf.specs.Faults.{Rose};
 ghost use Rattle.shelf.specs.Shelf.{IsAfterReads};
 ghost use Rattle.difane_cli.specs.Inputs.{Refuses, Stops, StopsContent, content_of, inputs_of, most_reads, policy_reads, read_policies, read_policy, read_schedule, schedule_in};
 ghost use Rattle.difane_cli.specs.Run.{IsReplayOf};
-ghost use Rattle.difane_cli.specs.Status.{NeedsReadFault, status_of};
+ghost use Rattle.difane_cli.specs.Ending.{NeedsReadFault, status_of};
 ghost use Rattle.difane_cli.specs.Commands.{IsReady, inputs_stated};
 ghost use Rattle.words.specs.Named.{HasPolicies, names_seen, replay_named};
 ghost use Rattle.words.specs.Words.{Replay};
 
 use crate::networks::take_network;
 use crate::policies::{begin_world, check_policy};
+use crate::report::Report;
 use crate::status::{FileName, Refusal, Stop};
 use net_file::Net;
 use policy_rules::Policy;
@@ -160,15 +161,14 @@ fn read_policies<F: Shelf>(
     Ok(policies)
 }
 
-/// What a replay plays.
+/// What is played, and what the play is to tell.
 #[derive(Drop)]
-pub struct ReplayInputs {
+pub struct PlayInputs {
     pub events: Vec<Event>,
     pub net: Net,
     /// The network with the first policy in force, on which nothing happened yet.
     pub world: World,
-    /// Whether the replay is to say if the network is quiet.
-    pub quiet: bool,
+    pub report: Report,
 }
 
 /// The inputs of a replay: the network is read and checked, then the schedule, then the policies in
@@ -177,7 +177,7 @@ pub fn read_inputs<F: Shelf>(
     alloc: Global,
     shelf: &mut F,
     words: &ReplayWords<'_>,
-) -> Result<ReplayInputs, Stop>
+) -> Result<PlayInputs, Stop>
     requires { HasPolicies words.now }
     ensures value { IfOk result (λ inputs. ForSome (F.state shelf.old).files (λ files.
         inputs_of files (replay_named words.now) ≡ Ok (inputs_stated inputs))) }
@@ -198,10 +198,10 @@ pub fn read_inputs<F: Shelf>(
     let events = read_schedule(alloc, shelf, words.schedule, &net, count)?;
     let policies = read_policies(alloc, shelf, names, net.port_mask())?;
     let world = begin_world(alloc, names, policies, &net)?;
-    Ok(ReplayInputs {
+    Ok(PlayInputs {
         events,
         net,
         world,
-        quiet: words.quiet,
+        report: Report::Lines { quiet: words.quiet },
     })
 }

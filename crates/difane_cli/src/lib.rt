@@ -1,22 +1,26 @@
 //! The program's top call: it reads the words and the files, plays a schedule on a network or plans
-//! a policy for it, and writes the journal, the plan or a switch's tables.
+//! a policy for it, and writes the journal, the plan or a switch's tables. Or it draws a load case,
+//! plays it and writes its summary.
 //!
 //! `run` carries the headline. Where a replay answers `Ok` there are inputs that its journal
 //! answers, is a run of the abstract machine for, and whose items have their causes; where files are
 //! known, these are the inputs that the files state. The output gained the journal's text, then a
 //! line for each meter that still is there and has a note, and nothing else; the meters are those
-//! that stay in the journal. Where it answers `Full`, the same holds up to the row that it names. A plan and
-//! tables are the defined ones, and so are their lines. Each status but want of memory has its
-//! cause in a clause.
+//! that stay in the journal. Where it answers `Full`, the same holds up to the row that it names.
+//! Of a load case all this holds of the case of its number, but that the output gained the counts
+//! of the journal. A plan and tables are the defined ones, and so are their lines. Each status but
+//! want of memory has its cause in a clause.
 #![tactic(auto)]
 
 mod inputs;
 mod laws;
+mod load;
 mod meter_lines;
 mod networks;
 mod playing;
 mod policies;
 mod printing;
+mod report;
 mod status;
 mod task;
 mod top_call;

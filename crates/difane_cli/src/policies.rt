@@ -80,8 +80,8 @@ fn no_plan(alloc: Global, name: &str, error: PlanError) -> Stop
     }
 }
 
-/// The network with the first of these policies in force as version 1; they stand in files of these
-/// names.
+/// The network with the first of these policies in force as version 1. It stands in the file of the
+/// first of these names.
 pub fn begin_world(
     alloc: Global,
     names: &[&str],
@@ -90,7 +90,7 @@ pub fn begin_world(
 ) -> Result<World, Stop>
     requires net { IsNet net.now }
     requires some { 1 ≤ length policies.items }
-    requires named { length policies.items ≡ length names.now }
+    requires named { 1 ≤ length names.now }
     requires sound { All IsPolicy policies.items }
     requires ports { All (All (λ row. IsTrue (has_port (port_mask net.now.switches) row.action)))
         policies.items }

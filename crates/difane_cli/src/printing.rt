@@ -1,13 +1,15 @@
 //! The plan of a policy, or the tables of a switch: its files, and the writing of its text.
-ghost use Rattle.std.specs.Prelude.{◌≡◌, ◌≤◌, [], Ok, None, Some, IfOk, IfErr, IsErrOf};
+ghost use Rattle.std.specs.Prelude.{◌≡◌, ◌≤◌, [], Ok, None, Some, IfOk, IfErr, IsErrOf, IsTrue, ◌⊎◌};
 ghost use Rattle.std.specs.Option.{ForSome};
 ghost use Rattle.net_file.specs.Net.{IsNet};
 ghost use Rattle.shelf.specs.Faults.{Rose};
 ghost use Rattle.shelf.specs.Shelf.{IsAfterReads};
 ghost use Rattle.difane_cli.specs.Commands.{printing_stated};
-ghost use Rattle.difane_cli.specs.Inputs.{Print, Stops, most_reads, printing_of};
-ghost use Rattle.difane_cli.specs.Run.{IsPrintingOf, Known, PrintOutcome, printing_text};
-ghost use Rattle.difane_cli.specs.Status.{NeedsReadFault, status_after, status_of};
+ghost use Rattle.difane_cli.specs.Inputs.{Stops, most_reads, printing_of};
+ghost use Rattle.difane_cli.specs.Prints.{IsPrintingOf, PrintOutcome, printing_text};
+ghost use Rattle.difane_cli.specs.Ending.{NeedsReadFault, status_after, status_of};
+ghost use Rattle.difane_cli.specs.Writes.{Known};
+ghost use Rattle.difane_cli.specs.Tasks.{Print};
 ghost use Rattle.words.specs.Named.{print_named};
 ghost use Rattle.words.specs.Words as grammar;
 ghost use Rattle.words.specs.Words.{PrintCommand};
@@ -77,6 +79,8 @@ pub fn print<K: Sink>(alloc: Global, inputs: &PrintInputs, out: &mut K) -> Resul
         → ForSome known (λ read. read ≡ Ok (Print (printing_stated inputs.now)))
         → PrintOutcome command known (status_after result None) []
         (K.state out.old) (K.state out.new) }
+    ensures no_memory { IsErrOf result SinkError.NoMemory
+        → IsTrue K.takes_memory ⊎ (K.state out.new ≡ K.state out.old) }
     ensures failed { IsErrOf result SinkError.Failed
         → Rose (K.state out.old).faults (K.state out.new).faults }
     ensures faults { (K.state out.old).faults ≤ (K.state out.new).faults }

@@ -1,20 +1,22 @@
 //! What a command is to do, once its files are read, and the doing of it.
-ghost use Rattle.std.specs.Prelude.{◌≡◌, ◌≤◌, Ok, Some, IfOk, IfErr, Result, [], map};
+ghost use Rattle.std.specs.Prelude.{◌≡◌, ◌≤◌, ◌⊎◌, IsTrue, Ok, Some, IfOk, IfErr, Result, [], map};
 ghost use Rattle.std.specs.Option.{ForSome};
 ghost use Rattle.shelf.specs.Faults.{Rose};
 ghost use Rattle.shelf.specs.Shelf.{IsAfterReads};
 ghost use Rattle.difane_cli.specs.Commands.{IsReadyTask, IsTaskOf, task_stated};
-ghost use Rattle.difane_cli.specs.Inputs.{known_task, most_reads};
-ghost use Rattle.difane_cli.specs.Inputs.{Task as Stated};
+ghost use Rattle.difane_cli.specs.Inputs.{known_task, most_reads, Accounts};
+ghost use Rattle.difane_cli.specs.Tasks.{Task as Stated};
 ghost use Rattle.difane_cli.specs.declared.status.Refusal.{Refusal};
 ghost use Rattle.difane_cli.specs.Meters.{PlaysNothing};
-ghost use Rattle.difane_cli.specs.Run.{Accounts, Known, Outcome};
-ghost use Rattle.difane_cli.specs.Status.{IsAfterWork, NeedsReadFault, status_of};
+ghost use Rattle.difane_cli.specs.Run.{Outcome};
+ghost use Rattle.difane_cli.specs.Ending.{IsAfterWork, NeedsReadFault, status_of};
+ghost use Rattle.difane_cli.specs.Writes.{Known};
 ghost use Rattle.words.specs.Named.{NamesPolicies, command_named};
 ghost use Rattle.words.specs.Words as grammar;
 ghost use Rattle.difane_cli.specs.declared.status.Status.TheVariants as status;
 
-use crate::inputs::{ReplayInputs, read_inputs};
+use crate::inputs::{PlayInputs, read_inputs};
+use crate::load::draw_inputs;
 use crate::playing::play;
 use crate::printing::{PrintInputs, print, read_printing};
 use crate::status::{Ended, Status, Stop};
@@ -27,11 +29,12 @@ use words::Command;
 /// What a command is to do.
 #[derive(Drop)]
 pub enum Task {
-    Play(ReplayInputs),
+    Play(PlayInputs),
     Print(PrintInputs),
 }
 
-/// The task of a command, whose files are read and checked one after another.
+/// The task of a command, whose files are read and checked one after another, or whose load case is
+/// drawn.
 pub fn read_task<F: Shelf>(
     alloc: Global,
     shelf: &mut F,
@@ -62,7 +65,10 @@ pub fn read_task<F: Shelf>(
             let inputs = read_printing(alloc, shelf, words)?;
             Ok(Task::Print(inputs))
         }
-        Command::Load(_) => unreachable!(),
+        Command::Load(n) => {
+            let inputs = draw_inputs(alloc, *n)?;
+            Ok(Task::Play(inputs))
+        }
     }
 }
 
@@ -79,6 +85,8 @@ pub fn work<M: Meter, K: Sink>(alloc: Global, task: Task, meters: Vec<M>, out: &
         → PlaysNothing (Some command) → result.meters ≡ meters }
     ensures accounts { (read : Result Stated Refusal) → read ≡ Ok (task_stated task)
         → Accounts read result.status }
+    ensures no_memory { result.status ≡ status.NoMemory
+        → IsTrue K.takes_memory ⊎ (K.state out.new ≡ K.state out.old) }
     ensures worked { IsAfterWork result.status }
     ensures failed { result.status ≡ status.WriteFault
         → Rose (K.state out.old).faults (K.state out.new).faults }

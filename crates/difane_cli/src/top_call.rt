@@ -1,12 +1,13 @@
 //! The top call.
-ghost use Rattle.std.specs.Prelude.{◌≡◌, ◌≤◌, ◌⊎◌, ◌↔◌, ℕ, None, map};
+ghost use Rattle.std.specs.Prelude.{◌≡◌, ◌≤◌, ◌⊎◌, ◌↔◌, ℕ, IsTrue, None, map};
 ghost use Rattle.std.specs.Option.{ForSome};
 ghost use Rattle.shelf.specs.Faults.{Rose};
 ghost use Rattle.shelf.specs.Shelf.{IsAfterReads};
-ghost use Rattle.difane_cli.specs.Inputs.{IsAccepted, known_task, most_reads};
+ghost use Rattle.difane_cli.specs.Inputs.{IsAccepted, known_task, most_reads, Accounts};
 ghost use Rattle.difane_cli.specs.Meters.{PlaysNothing};
-ghost use Rattle.difane_cli.specs.Run.{Accounts, Outcome};
-ghost use Rattle.difane_cli.specs.Status.{NeedsReadFault, TellsLine, status_line};
+ghost use Rattle.difane_cli.specs.Run.{Outcome};
+ghost use Rattle.difane_cli.specs.Status.{TellsLine, status_line};
+ghost use Rattle.difane_cli.specs.Ending.{NeedsReadFault};
 ghost use Rattle.words.specs.Words.{command_of, texts};
 ghost use Rattle.difane_cli.specs.declared.status.Status.TheVariants as status;
 
@@ -21,13 +22,14 @@ use words::read_words;
 /// Does what the words ask: `replay SCHEDULE POLICY ..` plays the schedule, whose updates name the
 /// policies by their places, and writes the journal to `out`, and with `--quiet` whether the network
 /// is quiet; `compile POLICY` writes the plan of the policy, and `show POLICY SWITCH` the tables that
-/// it gives to the switch, each on the network of `--net NET` or on one switch.
+/// it gives to the switch, each on the network of `--net NET` or on one switch. `load N` plays the
+/// load case of N, and writes the eleven counts of its journal.
 ///
 /// A status other than `Ok` writes its line to `errs`. The words are those of the command line
 /// without the program's name. The first refusal in the order of work ends the call: the words, the
 /// network and the switch on it, the schedule, the policies in the order of the words, the plan of
 /// the first policy, the play, the writing; each file is read and checked before the next one is
-/// read.
+/// read. A load case reads none.
 pub fn run<F: Shelf, K: Sink, E: Sink>(
     alloc: Global,
     words: &Vec<String>,
@@ -56,6 +58,10 @@ pub fn run<F: Shelf, K: Sink, E: Sink>(
         → Rose (F.state shelf.old).faults (F.state shelf.new).faults }
     ensures write_fault { result.status ≡ status.WriteFault
         → Rose (K.state out.old).faults (K.state out.new).faults }
+
+    // Where memory runs out nothing was written, unless the output's own writes take memory.
+    ensures no_memory { result.status ≡ status.NoMemory
+        → IsTrue K.takes_memory ⊎ (K.state out.new ≡ K.state out.old) }
 
     // Where the inputs are accepted and nothing fails, the work is done, to its end or as far as
     // there was room, or memory ran out.

@@ -1,10 +1,7 @@
 //! Worked runs of `replay` in which rows have nothing to do, and messages are sent again.
 use crate::plays::{ON_NET, Play, SOLO, plays};
-use std::alloc::{AllocError, Global};
-use std::fmt::Write;
 use std::test::Fail;
 use worked_rows::files::{DROP, ONE_ROW, PAIR};
-use worked_rows::runs::{ran, shelf_of, sink};
 
 /// Rows that find nothing to do.
 const NOTHING: &str =
@@ -51,41 +48,5 @@ fn replays_messages(rt: HostRuntime) -> Result<(), Fail> {
         let as_told = plays(rt.alloc(), play)?;
         assert!(rt; as_told, "{}", play.4);
     }
-    Ok(())
-}
-
-/// A hub that decides, with a link to each of 63 other switches.
-fn star(alloc: Global) -> Result<String, Fail> {
-    let mut switches = String::new(alloc);
-    let mut links = String::new(alloc);
-    for k in 1..64u32 {
-        write!(switches, ", {{ name = \"s{k}\" }}")?;
-        write!(links, "{{ ends = [\"hub\", \"s{k}\"] }}, ")?;
-    }
-    Ok(format!(in alloc;
-        "switch = [{{ name = \"hub\", authority = 8192 }}{switches}]\nlink = [{links}]\n"
-    )?)
-}
-
-/// The hub's Hello, 64 adverts to each of 63 switches, and its Open.
-#[test]
-fn sends_all_again(rt: HostRuntime) -> Result<(), Fail> {
-    let alloc = rt.alloc();
-    let net = star(alloc)?;
-    let files = [
-        ("s.csv", "event,arguments\nresend,hub\n"),
-        ("p.csv", DROP),
-        ("n.toml", net.as_str()),
-    ];
-    let shelf = shelf_of(alloc, &files)?;
-    let (status, out, _) = ran(alloc, &ON_NET, shelf, sink(alloc), sink(alloc))?;
-    assert!(rt; status == 0);
-    assert!(rt;
-        out.bytes().starts_with(b"row 1: resend hub\n  sent 1 controller hello hub boot 1\n")
-    );
-    assert!(rt;
-        out.bytes()
-            .ends_with(b"  sent 4034 hub open boot 1 version 1\n")
-    );
     Ok(())
 }

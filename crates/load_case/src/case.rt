@@ -1,5 +1,6 @@
-ghost use Rattle.std.specs.Prelude.{◌≡◌, ◌≤◌, IfOk};
+ghost use Rattle.std.specs.Prelude.{◌≡◌, ◌≤◌, All, IfOk};
 ghost use Rattle.load_case.specs.Case.{IsPlayable, case_seen, load_case};
+ghost use Rattle.policy_rules.specs.Policy.{IsPolicy};
 
 use crate::draws::Draws;
 use crate::net::net;
@@ -27,6 +28,7 @@ pub fn load_case(alloc: Global, n: u32) -> Result<Case, AllocError>
     requires { (1 ≤ n) × (n ≤ 1000) }
     ensures case { IfOk result (λ case. case_seen case ≡ load_case n) }
     ensures playable { IfOk result (λ case. IsPlayable (case_seen case)) }
+    ensures policies { IfOk result (λ case. All IsPolicy case.policies.items) }
 {
     let case = draw_case(alloc, n)?;
     Ok(case)
@@ -34,7 +36,8 @@ pub fn load_case(alloc: Global, n: u32) -> Result<Case, AllocError>
 
 fn draw_case(alloc: Global, n: u32) -> Result<Case, AllocError>
     requires { n ≤ 1000 }
-    ensures { IfOk result (λ case. case_seen case ≡ load_case n) }
+    ensures case { IfOk result (λ case. case_seen case ≡ load_case n) }
+    ensures policies { IfOk result (λ case. All IsPolicy case.policies.items) }
 {
     let net = net(alloc)?;
     let mut draws = Draws { state: n };

@@ -1,5 +1,6 @@
 ghost use Rattle.std.specs.Prelude.{◌≡◌, ◌≤◌, IfOk};
 ghost use Rattle.load_case.specs.Case.{action_at, action_ends, row_at, row_ends, rows_from};
+ghost use Rattle.policy_rules.specs.Policy.{IsPolicy};
 
 use crate::draws::{Draws, address};
 use five_tuple::{PortRange, Prefix, Proto};
@@ -11,9 +12,10 @@ use std::alloc::{AllocError, Global};
 /// # Errors
 /// Want of memory alone.
 pub fn policy(alloc: Global, draws: &mut Draws, rows: u32) -> Result<Policy, AllocError>
-    ensures { IfOk result (λ policy.
+    ensures drawn { IfOk result (λ policy.
         (policy ≡ (rows_from rows draws.old.state).0)
         × (draws.new.state ≡ (rows_from rows draws.old.state).1)) }
+    ensures sound { IfOk result IsPolicy }
 {
     let rows = draw_rows(alloc, draws, rows)?;
     match Policy::new(alloc, rows) {

@@ -1,9 +1,9 @@
 -- The commands of the grammar, by their lines.
 use Rattle.std.specs.Prelude.{nat_le, option_and_then}
-use Rattle.std.proofs.Common.{◌≡◌, ℕ, ◌==◌, ◌<◌, ◌≤◌, ◌^◌, Bool, true, false, cond, not, ◌||◌, Option, Some, None, is_some, List, [], ◌∷◌, length, refl, sym, true≢false, eqb-true, leb-true, arith}
+use Rattle.std.proofs.Common.{◌≡◌, ℕ, ◌==◌, ◌<◌, ◌≤◌, ◌^◌, Bool, true, false, cond, ◌||◌, Option, Some, None, is_some, List, [], ◌∷◌, length, refl, sym, true≢false, eqb-true, leb-true, arith}
 use Rattle.clap.proofs.WalkLemmas.{both}
 use Rattle.words.specs.Named.{command_in, kind_name}
-use Rattle.words.specs.Words.{Line, command_by, line_of, load_from, load_number, load_is_built, load_of, print_of, replay_from}
+use Rattle.words.specs.Words.{Line, command_by, line_of, load_from, load_number, load_of, print_of, replay_from}
 use Rattle.words.specs.declared.grammar.Kind.{Kind}
 use Rattle.words.specs.declared.grammar.Kind.TheVariants as kind
 
@@ -30,7 +30,7 @@ print_names count line some few e =
     (omega (arith, is, some), omega (arith, is, few))
 
 load_names : (line : Line) → is_some (load_of line) ≡ true → HaveNames line.names
-load_names line e = go (not load_is_built || is_some line.net || line.quiet) line.names e
+load_names line e = go (is_some line.net || line.quiet) line.names e
   where
     go : (b : Bool) (names : List (List ℕ))
         → is_some (cond b None (load_from (load_number names))) ≡ true → HaveNames names

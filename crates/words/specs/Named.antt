@@ -1,9 +1,9 @@
 -- What the words that were read are to the grammar.
-use Rattle.std.specs.Prelude.{⊤, ℕ, ◌≤◌, IsTrue, Option, option_map, option_and_then, List, length, map, codes, string_bytes, String}
+use Rattle.std.specs.Prelude.{⊤, ℕ, ◌≤◌, Option, option_map, option_and_then, List, length, map, codes, string_bytes, String}
 use Rattle.std.specs.Borrow.{Bor}
 use Rattle.std.specs.Global.{Global}
 use Rattle.words.specs.Words as grammar
-use Rattle.words.specs.Words.{command_by, line_of, load_is_built, most_load, most_policies}
+use Rattle.words.specs.Words.{command_by, line_of, most_load, most_policies}
 use Rattle.words.specs.declared.command.Command.{Command}
 use Rattle.words.specs.declared.command.Command.TheVariants as given
 use Rattle.words.specs.declared.command.PrintWords.{PrintWords}
@@ -39,7 +39,7 @@ command_named (given.Replay words) = grammar.Replay (replay_named words)
 command_named (given.Print words) = grammar.Print (print_named words)
 command_named (given.Load n) = grammar.Load n
 
--- the words name one policy, or more, but not too many, or a load case, where those are built
+-- the words name one policy, or more, but not too many, or a load case
 abbrev pub HasPolicies : ReplayWords → Type 0
 HasPolicies words =
     (1 ≤ length words.policies.items) × (length words.policies.items ≤ most_policies)
@@ -47,7 +47,7 @@ HasPolicies words =
 abbrev pub NamesPolicies : Command → Type 0
 NamesPolicies (given.Replay words) = HasPolicies words
 NamesPolicies (given.Print words) = ⊤
-NamesPolicies (given.Load n) = IsTrue load_is_built × (1 ≤ n) × (n ≤ most_load)
+NamesPolicies (given.Load n) = (1 ≤ n) × (n ≤ most_load)
 
 -- the line that was read
 abbrev pub line_seen : Line → grammar.Line

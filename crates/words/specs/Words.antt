@@ -165,16 +165,10 @@ abbrev pub load_from : Option ℕ → Option Command
 load_from None = None
 load_from (Some n) = if nat_le 1 n then Some (Load n) else None
 
--- whether `load` is built: until it is, its words are off the grammar
-abbrev pub load_is_built : Bool
-load_is_built = false
-
 -- `load` has no option
 abbrev pub load_of : Line → Option Command
 load_of line =
-    if not load_is_built || is_some line.net || line.quiet
-    then None
-    else load_from (load_number line.names)
+    if is_some line.net || line.quiet then None else load_from (load_number line.names)
 
 -- the command of this name, with these words behind it
 abbrev pub command_by : List ℕ → Line → Option Command

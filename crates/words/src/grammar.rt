@@ -7,9 +7,6 @@ ghost use Rattle.words.specs.Words.{Line as Stated, command_by, command_of, cut_
 use crate::command::{MAX_LOAD, MAX_POLICIES};
 use five_tuple::read_number;
 
-/// Whether `load` is built: until it is, its words are off the grammar.
-const LOAD_IS_BUILT: bool = false;
-
 /// Which command the words are.
 #[derive(Clone, Copy)]
 pub(crate) enum Kind {
@@ -99,7 +96,7 @@ fn takes_print(count: usize, parts: &Parts<'_>) -> bool
 fn takes_load(parts: &Parts<'_>) -> bool
     ensures { result ≡ is_some (load_of (parts_seen parts.now)) }
 {
-    if !LOAD_IS_BUILT || parts.net.is_some() || parts.quiet {
+    if parts.net.is_some() || parts.quiet {
         return false;
     }
     let [number] = parts.names else {

@@ -1,8 +1,13 @@
 //! Worked runs of the program, over files and outputs in memory. This crate has tests alone, and
-//! what other tests of runs need: [`runs`] and [`files`].
+//! what other tests of runs need: [`runs`], [`files`] and [`campus`].
 #![tactic(auto)]
 
+pub mod campus;
 pub mod files;
+#[cfg(test)]
+mod grammar;
+#[cfg(test)]
+mod loads;
 #[cfg(test)]
 mod meter_runs;
 #[cfg(test)]

@@ -31,16 +31,30 @@ pub fn ran(
 
 /// A run with these words over these files, with a recorder for each port as the program has them.
 pub fn recorded(alloc: Global, words: &[&str], files: &[(&str, &str)]) -> Result<Ran, AllocError> {
+    let shelf = shelf_of(alloc, files)?;
+    let (ran, _) = recorded_over(alloc, words, shelf, sink(alloc), sink(alloc))?;
+    Ok(ran)
+}
+
+/// A run, and how many items its journal has.
+pub type Recorded = (Ran, usize);
+
+/// The same over this shelf and these sinks.
+pub fn recorded_over(
+    alloc: Global,
+    words: &[&str],
+    mut shelf: MemShelf,
+    mut out: MemSink,
+    mut errs: MemSink,
+) -> Result<Recorded, AllocError> {
     let words = owned(alloc, words)?;
     let mut meters: Vec<Box<dyn Meter>> = Vec::new(alloc);
     for port in 0..64 {
         meters.push(Box::new(alloc, Recorder::new(alloc, port))?)?;
     }
-    let mut shelf = shelf_of(alloc, files)?;
-    let mut out = sink(alloc);
-    let mut errs = sink(alloc);
     let finished = run(alloc, &words, &mut shelf, &mut out, &mut errs, meters);
-    Ok((finished.status.number(), out, errs))
+    let items = finished.journal.items().len();
+    Ok(((finished.status.number(), out, errs), items))
 }
 
 /// A shelf of files with these names and texts; where a number isn't 0, the read of that number

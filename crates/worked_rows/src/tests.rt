@@ -127,11 +127,9 @@ fn refuses_with_a_cause(rt: HostRuntime) -> Result<(), Fail> {
 
 /// The read, the write and the write of the line of errors that fails, how many bytes a write takes
 /// at most, and how the run ends: its status, its output and its line of errors.
-const FAULTS: [(u64, u64, u64, u64, u8, &str, &str); 6] = [
+const FAULTS: [(u64, u64, u64, u64, u8, &str, &str); 4] = [
     (0, 2, 0, 10, 5, "row 1: pac", "difane: write fault\n"),
     (1, 0, 0, u64::MAX, 4, "", "difane: read fault\n"),
-    (2, 0, 0, u64::MAX, 4, "", "difane: read fault\n"),
-    (0, 1, 0, u64::MAX, 5, "", "difane: write fault\n"),
     (0, 0, 0, 1, 0, MATCHED, ""),
     (1, 0, 1, u64::MAX, 4, "", ""),
 ];
@@ -152,26 +150,20 @@ fn answers_each_fault(rt: HostRuntime) -> Result<(), Fail> {
     Ok(())
 }
 
-/// A file that isn't there, words off the grammar, and these where the line of errors isn't taken.
-const WORDS: [(&[&str], u64, u8, &str); 3] = [
+/// A file that isn't there, and words off the grammar.
+const WORDS: [(&[&str], u8, &str); 2] = [
     (
         &["replay", "s.csv", "none.csv"],
-        0,
         3,
         "difane: input none.csv code 0 row 0\n",
     ),
-    (&["replay"], 0, 2, "difane: words\n"),
-    (&["replay"], 1, 2, ""),
+    (&["replay"], 2, "difane: words\n"),
 ];
 
 #[test]
 fn answers_wrong_words(rt: HostRuntime) -> Result<(), Fail> {
-    for (words, failing_line, status, line) in &WORDS {
-        let case = Case {
-            words,
-            failing_line: *failing_line,
-            ..PLAIN
-        };
+    for (words, status, line) in &WORDS {
+        let case = Case { words, ..PLAIN };
         let ran = played(rt.alloc(), &case)?;
         assert!(rt; ended(&ran, *status, "", line), "{status} {line}");
     }

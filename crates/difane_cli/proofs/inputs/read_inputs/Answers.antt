@@ -51,19 +51,19 @@ returns-clause-ready g c =
     let begun = c.in_ok-world.ensures.begun in record {
       begun = record { own = refl; silent = begun.silent; able = begun.able };
       net = ap (λ s. s.net) begun.own;
-      may = all_are_events c.in_ok-net.net c.in_ok-policies.policies.items _ _
-          c.in_ok-events.events.items begun.own c.in_ok-policies.ensures.many
-          c.in_ok-events.ensures.sound;
+      sound = record {
+        setting = c.in_ok-world.ensures.sound;
+        events = all_are_events c.in_ok-net.net c.in_ok-policies.policies.items _ _
+            c.in_ok-events.events.items begun.own c.in_ok-policies.ensures.many
+            c.in_ok-events.ensures.sound.steps;
+      };
       few = c.in_ok-events.ensures.sound.few;
     }
 
 pub returns-clause-asked : goal.returns-clause-asked
 returns-clause-asked g c =
-    let own = c.in_ok-world.ensures.begun.own in
     asked_for (replay_named c.args.words.now) c.in_ok-net.net c.in_ok-policies.policies.items
-    c.in_ok-events.events.items (setting_at c.in_ok-world.world) c.in_ok-net.ensures.named own
+    c.in_ok-events.events.items (setting_at c.in_ok-world.world) c.in_ok-net.ensures.named
+    c.in_ok-world.ensures.begun.own
     (c.in_ok-policies.ensures.many ∙ ap length c.deref-names.ensures.value
     ∙ sym (length-map c.args.words.now.policies.items (λ n. n.now)))
-    c.in_ok-world.ensures.sound
-    (all_are_events c.in_ok-net.net c.in_ok-policies.policies.items _ _
-    c.in_ok-events.events.items own c.in_ok-policies.ensures.many c.in_ok-events.ensures.sound)

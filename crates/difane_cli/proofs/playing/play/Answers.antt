@@ -1,11 +1,15 @@
-use Rattle.std.proofs.Common.{ℕ, ◌∙◌, inr, List, ap, map, subst}
+use Rattle.std.proofs.Common.{ℕ, ◌∙◌, inr, List, ap, map, subst, sym}
 use Rattle.meters.specs.Meters.{kept_meters}
+use Rattle.net_file.specs.declared.net.Net.{Net}
 use Rattle.replay.specs.Leavings.{left_in}
 use Rattle.steps.specs.declared.step.Event.{Event}
 use Rattle.update_machine.specs.Full.{IsPlay}
 use Rattle.difane_cli.specs.Commands.{inputs_stated}
-use Rattle.difane_cli.proofs.Plays.{AnswerLaws, judged, played, replayed, unjudged}
-use Rattle.difane_cli.proofs.Worked.{after_work, by_failed}
+use Rattle.difane_cli.specs.Meters.{kept_by, play_text}
+use Rattle.difane_cli.specs.Run.{IsAfterText}
+use Rattle.difane_cli.specs.Verdict.{is_asked}
+use Rattle.difane_cli.proofs.Plays.{AnswerLaws, judged, played, told, unjudged}
+use Rattle.difane_cli.proofs.Worked.{after_work, by_failed, by_memory}
 use Rattle.difane_cli.proofs.playing.play.Goals as goal
 
 pub returns-clause-outcome : goal.returns-clause-outcome
@@ -18,26 +22,35 @@ returns-clause-outcome g c = λ command known asked read.
       run = c.answers_are_runs.ensures;
       causes = c.ends_have_causes.ensures;
       strong = c.causes_are_strong.ensures;
-      entered = c.packet_rows_are_entered.ensures.played;
+      entered = c.packet_rows_are_entered.ensures;
       plain = c.answers_are_plain.ensures;
       quiet = record {
         converged = c.quiet_networks_have_converged.ensures;
+        apart = c.packets_get_stuck_apart.ensures;
         updated = c.quiet_networks_are_updated.ensures;
       };
     } in
     let play = subst (λ (events : List Event). IsPlay inputs.setting events journal full)
     c.deref.ensures.value c.in-Ok.ensures.play in
-    let answer = played laws command known inputs journal full asked read play in
+    let answer = played laws command known inputs journal full asked read c.requires.sound play in
     let verdict = judged laws command known inputs journal full c.args.inputs.net said answer
-    c.requires.net c.in-Ok-judge.ensures.asked c.in-Ok-judge.ensures.decides in
-    let written = c.write_played-written.ensures in
+    c.requires.net
+    (c.in-Ok-judge.ensures.asked ∙ ap (λ q. is_asked q full) c.asks_quiet.ensures)
+    c.in-Ok-judge.ensures.decides in
+    let taken = map g.M.Meter.seen c.args.meters.items in
+    let given = map g.M.Meter.seen c.in-Ok.played.meters.items in
+    let before = g.K.Sink.state c.args.out.now in
+    let now = g.K.Sink.state c.write_report-written.new.out in
+    let written = c.write_report-written.result in
+    let takes_memory = g.K.Sink.takes_memory in
     let kept = c.in-Ok.ensures.kept
-    ∙ ap (λ (ports : ℕ). kept_meters ports (left_in journal) (map g.M.Meter.seen c.args.meters.items))
-    c.port_mask.ensures in
-    rw c.after.ensures (replayed command known inputs journal full _ _ said _ _ _ answer
-    (rw c.requires.net kept) verdict (rw c.requires.net written.whole)
-    (rw c.requires.net written.part) (rw c.requires.net written.some)
-    (rw c.requires.net (λ none. ap (λ k. g.K.Sink.state k) (written.untouched none))))
+    ∙ ap (λ (ports : ℕ). kept_meters ports (left_in journal) taken) c.port_mask.ensures
+    ∙ ap (λ (net : Net). kept_by net journal taken) (sym c.requires.net) in
+    let after = subst (λ (net : Net).
+    IsAfterText (play_text inputs.report net journal full given said) takes_memory before now written)
+    (sym c.requires.net) c.write_report-written.ensures in
+    rw c.after.ensures (told command known inputs journal full taken given said before now
+    takes_memory written answer kept verdict after)
 
 pub returns-in_default-judge-clause-outcome : goal.returns-in_default-judge-clause-outcome
 returns-in_default-judge-clause-outcome g c = λ command known asked read.
@@ -48,16 +61,17 @@ returns-in_default-judge-clause-outcome g c = λ command known asked read.
       run = c.answers_are_runs.ensures;
       causes = c.ends_have_causes.ensures;
       strong = c.causes_are_strong.ensures;
-      entered = c.packet_rows_are_entered.ensures.played;
+      entered = c.packet_rows_are_entered.ensures;
       plain = c.answers_are_plain.ensures;
       quiet = record {
         converged = c.quiet_networks_have_converged.ensures;
+        apart = c.packets_get_stuck_apart.ensures;
         updated = c.quiet_networks_are_updated.ensures;
       };
     } in
     let play = subst (λ (events : List Event). IsPlay inputs.setting events journal full)
     c.deref.ensures.value c.in-Ok.ensures.play in
-    let answer = played laws command known inputs journal full asked read play in
+    let answer = played laws command known inputs journal full asked read c.requires.sound play in
     let kept = c.in-Ok.ensures.kept
     ∙ ap (λ (ports : ℕ). kept_meters ports (left_in journal) (map g.M.Meter.seen c.args.meters.items))
     c.port_mask.ensures in
@@ -67,9 +81,14 @@ returns-in_default-judge-clause-outcome g c = λ command known asked read.
 
 pub returns-clause-worked : goal.returns-clause-worked
 returns-clause-worked g c =
-    rw c.after.ensures (after_work c.write_played-written.result c.in-Ok.played.full)
+    rw c.after.ensures (after_work c.write_report-written.result c.in-Ok.played.full)
 
 pub returns-clause-failed : goal.returns-clause-failed
 returns-clause-failed g c = λ is.
-    c.write_played-written.ensures.failed
-    (by_failed c.write_played-written.result c.in-Ok.played.full (rw c.after.ensures at is))
+    c.write_report-written.ensures.failed
+    (by_failed c.write_report-written.result c.in-Ok.played.full (rw c.after.ensures at is))
+
+pub returns-clause-no_memory : goal.returns-clause-no_memory
+returns-clause-no_memory g c = λ is.
+    c.write_report-written.ensures.no_memory
+    (by_memory c.write_report-written.result c.in-Ok.played.full (rw c.after.ensures at is))

@@ -1,44 +1,29 @@
-use Rattle.std.proofs.Common.{ℕ, ◌∙◌, ◌++◌, List, OnErr, ap, map, subst}
+use Rattle.std.proofs.Common.{ℕ, ◌∙◌, ◌++◌, List, ap, map, subst}
 use Rattle.journal_text.specs.Lines.{journal_text}
-use Rattle.shelf.specs.Sink.{GainedPart}
+use Rattle.shelf.specs.Sink.{IsAfterWrite}
 use Rattle.difane_cli.specs.Meters.{last_lines}
-use Rattle.difane_cli.specs.Run.{GainedSome}
-use Rattle.difane_cli.proofs.MeterLines.{cut_last, none_left, none_right, some_last, some_of_text, text_whole}
+use Rattle.difane_cli.proofs.MeterLines.{both_written, cut_short, none_left, none_right, none_of_text, text_whole}
 use Rattle.difane_cli.proofs.playing.write_played.Goals as goal
 
-pub returns-in-None-clause-part : goal.returns-in-None-clause-part
-returns-in-None-clause-part g c = λ is.
+pub returns-in-None-clause-after : goal.returns-in-None-clause-after
+returns-in-None-clause-after g c =
     let net = c.args.net.now in
     let journal = c.args.played.now.journal in
     let lines = last_lines (map g.M.Meter.seen c.deref.result.now) c.args.answer in
     let before = g.K.Sink.state c.args.out.now in
-    let middle = g.K.Sink.state c.write_journal.new.out in
-    let now = g.K.Sink.state c.write_last.new.out in
-    subst (λ (bytes : List ℕ). GainedPart before.bytes bytes now.bytes)
-    (ap (λ (meters : List g.row.M.Denot). journal_text net journal
-    ++ last_lines (map g.M.Meter.seen meters) c.args.answer) c.deref.ensures.value
-    ∙ text_whole net journal c.args.played.now.full _ c.args.answer c.in-None.is)
-    (cut_last before middle now (journal_text net journal) lines g.K.Sink.takes_memory
-    c.write_last.result c.in-Ok.ensures.whole c.write_last.ensures.after is)
-
-pub returns-in-None-clause-some : goal.returns-in-None-clause-some
-returns-in-None-clause-some g c =
-    let net = c.args.net.now in
-    let journal = c.args.played.now.journal in
-    let lines = last_lines (map g.M.Meter.seen c.deref.result.now) c.args.answer in
-    let before = g.K.Sink.state c.args.out.now in
-    let middle = g.K.Sink.state c.write_journal.new.out in
+    let middle = g.K.Sink.state c.write_text.new.sink in
     let now = g.K.Sink.state c.write_last.new.out in
     subst (λ (bytes : List ℕ).
-    OnErr c.write_last.result (GainedSome before.bytes bytes now.bytes))
+    IsAfterWrite bytes g.K.Sink.takes_memory before now c.write_last.result)
     (ap (λ (meters : List g.row.M.Denot). journal_text net journal
     ++ last_lines (map g.M.Meter.seen meters) c.args.answer) c.deref.ensures.value
     ∙ text_whole net journal c.args.played.now.full _ c.args.answer c.in-None.is)
-    (some_last before middle now (journal_text net journal) lines g.K.Sink.takes_memory
-    c.write_last.result c.in-Ok.ensures.whole c.write_last.ensures.after)
+    (both_written before middle now (journal_text net journal) lines g.K.Sink.takes_memory
+    c.write_last.result c.in-Ok.ensures.after.whole c.in-Ok.ensures.after.faults
+    c.write_last.ensures.after)
 
-pub returns-in-None-clause-untouched : goal.returns-in-None-clause-untouched
-returns-in-None-clause-untouched g c = λ none.
+pub returns-in-None-clause-no_lines : goal.returns-in-None-clause-no_lines
+returns-in-None-clause-no_lines g c = λ none.
     let net = c.args.net.now in
     let journal = c.args.played.now.journal in
     let lines = last_lines (map g.M.Meter.seen c.deref.result.now) c.args.answer in
@@ -46,10 +31,17 @@ returns-in-None-clause-untouched g c = λ none.
     ++ last_lines (map g.M.Meter.seen meters) c.args.answer) c.deref.ensures.value
     ∙ text_whole net journal c.args.played.now.full _ c.args.answer c.in-None.is ∙ none in
     c.write_last.ensures.no_lines (none_right (journal_text net journal) lines both)
-    ∙ c.in-Ok.ensures.untouched (none_left (journal_text net journal) lines both)
+    ∙ c.in-Ok.ensures.no_text (none_left (journal_text net journal) lines both)
 
-pub returns-in-Err-clause-some : goal.returns-in-Err-clause-some
-returns-in-Err-clause-some g c =
-    some_of_text c.args.net.now c.args.played.now.journal c.args.played.now.full
-    (map g.M.Meter.seen c.args.played.now.meters.items) c.args.answer (g.K.Sink.state c.args.out.now).bytes
-    (g.K.Sink.state c.write_journal.new.out).bytes c.in-Err.ensures.some
+pub returns-in-Err-clause-after : goal.returns-in-Err-clause-after
+returns-in-Err-clause-after g c =
+    cut_short c.args.net.now c.args.played.now.journal c.args.played.now.full
+    (map g.M.Meter.seen c.args.played.now.meters.items) c.args.answer
+    (g.K.Sink.state c.args.out.now) (g.K.Sink.state c.write_text.new.sink) g.K.Sink.takes_memory
+    c.in-Err.error c.in-Err.ensures.after
+
+pub returns-in-Err-clause-no_lines : goal.returns-in-Err-clause-no_lines
+returns-in-Err-clause-no_lines g c = λ none.
+    c.in-Err.ensures.no_text
+    (none_of_text c.args.net.now c.args.played.now.journal c.args.played.now.full _
+    c.args.answer none)

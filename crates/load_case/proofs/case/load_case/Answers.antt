@@ -5,4 +5,4 @@ use Rattle.load_case.proofs.case.load_case.Goals as goal
 
 pub returns-clause-playable : goal.returns-clause-playable
 returns-clause-playable c =
-    subst IsPlayable (sym c.in_ok-case.ensures) (case_playable c.args.n c.requires.1)
+    subst IsPlayable (sym c.in_ok-case.ensures.case) (case_playable c.args.n c.requires.1)

@@ -1,0 +1,27 @@
+-- What writing a text that takes memory leaves of the output.
+use Rattle.std.specs.Prelude.{⊤}
+use Rattle.std.proofs.Common.{ℕ, ◌≡◌, Bool, inl, Result, Ok, Err, IsErrOf, OnErr, List, []}
+use Rattle.shelf.specs.Sink.{GainedPart, IsAfterWrite, SinkState}
+use Rattle.shelf.specs.declared.output.SinkError.{SinkError}
+use Rattle.shelf.specs.declared.output.SinkError.TheVariants as sink
+use Rattle.difane_cli.specs.Run.{IsAfterText}
+use Rattle.difane_cli.proofs.Gains.{some_on_err}
+
+-- a text that was made was written, or not
+pub text_written : (text : List ℕ) (takes_memory : Bool) (before now : SinkState)
+    (result : Result (⊤) SinkError) → IsAfterWrite text takes_memory before now result
+    → (text ≡ [] → now ≡ before) → IsAfterText text takes_memory before now result
+text_written text takes_memory before now result after untouched = record {
+  whole = after.whole;
+  part = failed result after.part;
+  some = some_on_err result before.bytes now.bytes text after.part;
+  untouched = untouched;
+  failed = after.failed;
+  no_memory = λ is. inl (after.no_memory is);
+  faults = after.faults;
+}
+  where
+    failed : (r : Result (⊤) SinkError) → OnErr r (GainedPart before.bytes text now.bytes)
+        → IsErrOf r sink.Failed → GainedPart before.bytes text now.bytes
+    failed (Ok done) part is = absurd (cc is)
+    failed (Err why) part is = part

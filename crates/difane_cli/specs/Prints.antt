@@ -1,0 +1,60 @@
+-- What became of a command that prints a plan or tables, by its status.
+use Rattle.std.specs.Prelude.{ℕ, ◌≡◌, ◌⊎◌, Option, Some, None, is_some, IsTrue, Ok, List, []}
+use Rattle.std.specs.Option.{ForSome}
+use Rattle.net_file.specs.Net.{switch_number}
+use Rattle.net_file.specs.declared.net.Net.{Net}
+use Rattle.partition.specs.Plan.{plan_of}
+use Rattle.policy_rules.specs.Policy.{IsPolicy}
+use Rattle.show_text.specs.Text.{compile_text, table_text}
+use Rattle.switch_table.specs.Tables.{tables_of}
+use Rattle.shelf.specs.Sink.{GainedPart, SinkState}
+use Rattle.journal.specs.declared.item.Item.{Item}
+use Rattle.difane_cli.specs.Tasks.{Print, Printing}
+use Rattle.difane_cli.specs.declared.status.Status.{Status}
+use Rattle.difane_cli.specs.Writes.{Known, Wrote, Unplayed, IsNetOf}
+use Rattle.words.specs.Words.{PrintCommand}
+use Rattle.difane_cli.specs.declared.status.Status.TheVariants as status
+
+-- the switch has the name that was asked for
+abbrev pub IsSwitchOf : Option (List ℕ) → Net → Option ℕ → Type 0
+IsSwitchOf None net switch = switch ≡ None
+IsSwitchOf (Some name) net switch =
+    (switch ≡ switch_number net.switches name) × IsTrue (is_some switch)
+
+-- a policy, its plan on the network that a command names, and the switch that it names
+pub record IsPrintingOf (command : PrintCommand) (printing : Printing) : Type 0 where
+  pub policy : IsPolicy printing.policy
+  pub net : IsNetOf command.net printing.net
+  pub switch : IsSwitchOf command.switch printing.net printing.switch
+  pub plan : plan_of printing.policy printing.net ≡ Ok printing.placed
+
+-- the plan, or the tables that it gives to the switch for version 1
+abbrev pub text_by : Option ℕ → Printing → List ℕ
+text_by None printing = compile_text printing.policy printing.placed printing.net
+text_by (Some s) printing = table_text s (tables_of printing.placed 1 s) printing.net
+
+abbrev pub printing_text : Printing → List ℕ
+printing_text printing = text_by printing.switch printing
+
+-- there is a plan as the command asks for it, which is the known one where the task is known; what
+-- the output gained is in this relation to its text
+pub record Printed (command : PrintCommand) (known : Known) (IsWritten : List ℕ → Type 0)
+    (journal : List Item) : Type 0 where
+  pub printing : Printing
+  pub accepted : ForSome known (λ read. read ≡ Ok (Print printing))
+  pub planned : IsPrintingOf command printing
+  pub nothing_played : journal ≡ []
+  pub written : IsWritten (printing_text printing)
+
+-- the output that a status of a printing command comes with; the journal is empty, so never full
+abbrev pub PrintOutcome : PrintCommand → Known → Status → List Item
+    → (before now : SinkState) → Type 0
+PrintOutcome command known status.Ok journal before now =
+    Printed command known (λ text. Wrote text before now) journal
+PrintOutcome command known status.WriteFault journal before now =
+    Printed command known (λ text. GainedPart before.bytes text now.bytes) journal
+PrintOutcome command known status.NoMemory journal before now =
+    Unplayed journal before now
+    ⊎ Printed command known (λ text. GainedPart before.bytes text now.bytes) journal
+PrintOutcome command known (status.Full row) journal before now = ⊥
+PrintOutcome command known _ journal before now = Unplayed journal before now

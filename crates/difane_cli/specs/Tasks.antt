@@ -1,0 +1,26 @@
+-- What a command is to do, once its files are read.
+use Rattle.std.specs.Prelude.{ℕ, Option, List}
+use Rattle.net_file.specs.declared.net.Net.{Net}
+use Rattle.partition.specs.Plan.{Placed}
+use Rattle.policy_rules.specs.declared.policy.Row.{Row}
+use Rattle.steps.specs.declared.step.Event.{Event}
+use Rattle.update_machine.specs.Setting.{Setting}
+use Rattle.difane_cli.specs.declared.report.Report.{Report}
+
+pub record Inputs : Type 0 where
+  pub setting : Setting
+  pub events : List Event
+  -- what the play is to tell
+  pub report : Report
+
+-- a policy planned on a network, and the switch whose tables are asked for
+pub record Printing : Type 0 where
+  pub policy : List Row
+  pub net : Net
+  pub placed : List Placed
+  pub switch : Option ℕ
+
+-- what a command is to do: to play inputs, or to print a plan or the tables of a switch
+pub data Task : Type 0 where
+  Play : Inputs → Task
+  Print : Printing → Task

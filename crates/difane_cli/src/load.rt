@@ -1,0 +1,37 @@
+//! Load cases as a command takes them.
+ghost use Rattle.std.specs.Prelude.{◌≡◌, ◌≤◌, IfOk, IfErr, Ok};
+ghost use Rattle.difane_cli.specs.Commands.{IsReady, inputs_stated};
+ghost use Rattle.difane_cli.specs.Inputs.{StopsContent, case_inputs, load_inputs};
+ghost use Rattle.load_case.specs.Case.{load_case};
+
+use crate::inputs::PlayInputs;
+use crate::policies::begin_world;
+use crate::report::Report;
+use crate::status::Stop;
+use load_case::load_case;
+use net_file::port_laws;
+use std::alloc::Global;
+
+/// The file that a refusal of a load case names.
+const LOAD_NAME: &str = "load";
+
+/// The load case of this number, with its first policy in force.
+pub fn draw_inputs(alloc: Global, n: u32) -> Result<PlayInputs, Stop>
+    requires { (1 ≤ n) × (n ≤ 1000) }
+    ensures value { IfOk result (λ inputs. load_inputs n ≡ Ok (inputs_stated inputs)) }
+    ensures stopped { IfErr result (StopsContent (load_inputs n)) }
+    ensures ready { IfOk result IsReady }
+    ensures drawn { IfOk result (λ inputs. inputs_stated inputs ≡ case_inputs (load_case n)) }
+{
+    port_laws();
+    let Ok(case) = load_case(alloc, n) else {
+        return Err(Stop::NoMemory);
+    };
+    let world = begin_world(alloc, &[LOAD_NAME], case.policies, &case.net)?;
+    Ok(PlayInputs {
+        events: case.events,
+        net: case.net,
+        world,
+        report: Report::Summary,
+    })
+}
