@@ -1,6 +1,8 @@
 // Makes one call for memory fail: the FAIL_ALLOC-th, or with FAIL_REST set that one and each after it.
+// With COUNT_ALLOC set, the number of calls is written to the file of this name as the program ends.
 #define _GNU_SOURCE
 #include <dlfcn.h>
+#include <stdio.h>
 #include <stdlib.h>
 
 static void *(*next_malloc)(size_t);
@@ -15,6 +17,17 @@ __attribute__((constructor)) static void start(void) {
     failing = number ? atol(number) : 0;
     rest = getenv("FAIL_REST") != NULL;
     calls = 0;
+}
+
+__attribute__((destructor)) static void stop(void) {
+    const char *name = getenv("COUNT_ALLOC");
+    long counted = calls;
+    failing = 0;
+    FILE *file = name ? fopen(name, "w") : NULL;
+    if (file) {
+        fprintf(file, "%ld\n", counted);
+        fclose(file);
+    }
 }
 
 static int fails(void) {

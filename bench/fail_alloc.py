@@ -1,52 +1,94 @@
 #!/usr/bin/env python3
-"""Lets each allocation of a replay fail in turn: `bench/fail_alloc.py BIN SCHEDULE POLICY`.
+"""Lets each allocation of a command fail in turn: `bench/fail_alloc.py BIN [WORD..]`.
 
-The N-th call for memory fails, alone and then with all after it, for N from 1 until a run has fewer calls. Each run must end
-with status 0 and the whole output, or with status 7 and a part of it. It needs a C compiler and Linux.
+Without words the commands are a replay, a compile and a show of the day of the campus, whose files
+stand in crates/worked_rows/src/campus.rt. The N-th call for memory fails, alone and then with all
+after it, for N from 1 to the calls of a run in which none fails. Each run must end with status 0
+and the whole output, or with status 7 and a part of it from the front; and its line of errors must
+be that of the status, or a part of it. It needs a C compiler and Linux.
 """
 import os
+import re
 import subprocess
 import sys
 import tempfile
 from collections import Counter
 from pathlib import Path
 
+HOME = Path(__file__).resolve().parent.parent
+FILES = {"day.csv": "DAY", "one.csv": "ONE", "two.csv": "TWO", "campus.toml": "CAMPUS"}
+COMMANDS = (
+    "replay day.csv one.csv two.csv --net campus.toml",
+    "replay day.csv one.csv two.csv --net campus.toml --quiet",
+    "compile one.csv --net campus.toml",
+    "show one.csv b --net campus.toml",
+)
+LINES = {0: b"", 7: b"difane: no memory\n"}
+MODES = (("one alone", {}), ("it and all after it", {"FAIL_REST": "1"}))
+
+
+def write_campus(folder):
+    """Writes the files of the day, as the tests have them."""
+    source = (HOME / "crates/worked_rows/src/campus.rt").read_text()
+    texts = dict(re.findall(r'pub const (\w+): &str = "(.*?)(?<!\\)";', source, re.S))
+    for name, constant in FILES.items():
+        text = re.sub(r"\\\n\s*", "", texts[constant])
+        (Path(folder) / name).write_text(text.replace("\\n", "\n").replace('\\"', '"'))
+
 
 def build(folder):
     library = Path(folder) / "fail_alloc.so"
-    source = Path(__file__).with_name("fail_alloc.c")
+    source = HOME / "bench/fail_alloc.c"
     subprocess.run(["cc", "-shared", "-fPIC", "-o", library, source, "-ldl"], check=True)
-    return library
+    return {"LD_PRELOAD": str(library)}
 
 
-def play(words, **settings):
-    done = subprocess.run(words, capture_output=True, env={**os.environ, **settings})
-    return done.returncode, done.stdout
+def play(words, folder, **settings):
+    """A run's status, its output and its line of errors."""
+    surroundings = {**os.environ, **settings}
+    done = subprocess.run(words, capture_output=True, cwd=folder, env=surroundings)
+    return done.returncode, done.stdout, done.stderr
+
+
+def is_right(ended, whole):
+    """Whether a run ended whole, or for want of memory with a part of the output."""
+    status, out, line = ended
+    if status == 0:
+        return out == whole and line == LINES[0]
+    return status == 7 and whole.startswith(out) and LINES[7].startswith(line)
+
+
+def fail_each(words, folder, where, preload):
+    """Lets each allocation of this command fail in turn, and prints how the runs ended."""
+    counted = Path(folder) / "calls"
+    status, whole, _ = play(words, where, COUNT_ALLOC=str(counted), **preload)
+    if status != 0:
+        sys.exit(f"without a fault the status is {status}")
+    calls = int(counted.read_text())
+    print(" ".join(words[1:]), f"({calls} allocations, {len(whole)} bytes)")
+    for name, more in MODES:
+        ends, parts = Counter(), 0
+        for number in range(1, calls + 1):
+            ended = play(words, where, FAIL_ALLOC=str(number), **more, **preload)
+            if not is_right(ended, whole):
+                sys.exit(f"allocation {number} failing ({name}): {ended}")
+            ends[ended[0]] += 1
+            parts += ended[0] == 7 and ended[1] != b""
+        print(f"    {name}: status 7 in {ends[7]}, {parts} with a part; status 0 in {ends[0]}")
 
 
 def main():
-    if len(sys.argv) != 4:
+    if len(sys.argv) < 2:
         sys.exit(__doc__)
-    words = [sys.argv[1], "replay", *sys.argv[2:]]
-    status, whole = play(words)
-    if status != 0:
-        sys.exit(f"without a fault the status is {status}")
+    program = str(Path(sys.argv[1]).resolve())
     with tempfile.TemporaryDirectory() as folder:
-        preload = {"LD_PRELOAD": str(build(folder))}
-        for name, more in (("one alone", {}), ("it and all after it", {"FAIL_REST": "1"})):
-            ends = Counter()
-            number = 0
-            quiet = 0
-            # Some calls may fail without harm, so a run of zeros tells that there are no more.
-            while quiet < 50:
-                number += 1
-                status, out = play(words, FAIL_ALLOC=str(number), **more, **preload)
-                right = out == whole if status == 0 else status == 7 and whole.startswith(out)
-                if not right:
-                    sys.exit(f"allocation {number} failing ({name}): status {status}, {len(out)} bytes")
-                ends[status] += 1
-                quiet = quiet + 1 if status == 0 else 0
-            print(f"{name}: {number - quiet} allocations fail in turn; status 7: {ends[7]}, status 0: {ends[0] - quiet}")
+        preload = build(folder)
+        if len(sys.argv) > 2:
+            fail_each([program, *sys.argv[2:]], folder, None, preload)
+        else:
+            write_campus(folder)
+            for command in COMMANDS:
+                fail_each([program, *command.split()], folder, folder, preload)
 
 
 main()
