@@ -1,8 +1,10 @@
 #!/usr/bin/env python3
-"""Counts what a sceptic must read, and writes the figures into docs/THEOREM.md: `bench/theorem.py`.
+"""Counts what a sceptic must read, and checks docs/THEOREM.md: `bench/theorem.py [--write] [--list]`.
 
-The files are the specs/ that the contract of `run` imports, and those that they import in turn. It ends with 1 where one of
-them isn't named in docs/THEOREM.md.
+A definition is reached if a clause of `run` names it, or a definition that is reached does. The first tier is what is reached without
+passing one of STOPS; the core of it is what CORE reaches so. The second tier is what else is reached. It ends with 1 where a file with
+a definition that is reached isn't named in the page's part on its tier, or a number of the page is another than is counted; with
+`--write` it writes the numbers. With `--list` it prints each file with its lines, how many of them are reached, and what isn't.
 """
 import re
 import sys
@@ -11,33 +13,191 @@ from pathlib import Path
 HOME = Path(__file__).resolve().parent.parent
 PAGE = HOME / "docs/THEOREM.md"
 TOP = HOME / "crates/difane_cli/src/top_call.rt"
+# Where the second tier begins, each with what it is about.
+STOPS = {
+    "IsPlay": "the exact journal",
+    "StrongCause": "strong causes",
+    "plan_of": "plans",
+    "PrintOutcome": "plans and tables in print",
+    "kept_by": "meters",
+    "IsVerdict": "quiet networks",
+    "asks_quiet": "quiet networks",
+    "command_of": "the grammar of the words",
+    "known_task": "what the files state, and refusals",
+    "case_inputs": "load cases",
+    "load_case": "load cases",
+    "counts_text": "load cases",
+    "IsAccepted": "refusals",
+    "Accounts": "refusals",
+    "NeedsReadFault": "faults",
+    "most_reads": "reads",
+    "IsAfterReads": "reads",
+}
+CORE = ("IsRun", "EndsHaveCauses", "AreEntered")
+DEFINES = re.compile(r"(?:abbrev pub|unfoldable pub|pub record|pub data|pub) ([^\s:]+)")
+WORD = re.compile(r"[A-Za-z_][\w-]*(?:\.[A-Za-z_][\w-]*)*")
+# names of fields, which are no definitions
+FIELD = re.compile(r"^  +pub [\w-]+ :|(?<=[{;] )[\w-]+ =|^ +[\w-]+ =(?= .*;$)", re.M)
+USE = re.compile(r"^(?:pub |ghost )?use Rattle\.(\w+)\.specs\.([\w.]+?)(?:\.\{([^}]*)\}| as (\w+));?$", re.M)
 
 
-def imported(text):
-    for crate, module in re.findall(r"use Rattle\.(\w+)\.specs\.(\w+)", text):
+class Module:
+    """A file of specs/: the names that it imports, and its definitions with their first and last lines."""
+
+    def __init__(self, path):
+        self.path = path
+        self.lines = path.read_text().splitlines()
+        self.names, self.aliases = imports(path.read_text())
+        self.definitions, self.variants = {}, {}
+        comment, last = None, None
+        for place, line in enumerate(self.lines):
+            if line.startswith(("use ", "pub use ", "-- ----")):
+                comment = None
+            elif line.startswith("--"):
+                comment = place if comment is None else comment
+            elif found := DEFINES.match(line):
+                first = place if comment is None else comment
+                if last:
+                    self.definitions[last][1] = first
+                last, comment = found.group(1), None
+                self.definitions[last] = [first, len(self.lines)]
+            elif line.strip():
+                comment = None
+        for name in self.definitions:
+            if any(line.startswith(f"pub data {name} ") for line in self.body(name)):
+                self.variants |= {found.group(1): name for line in self.body(name) if (found := re.match(r"  ([A-Z]\w*) :", line))}
+
+    def body(self, name):
+        first, last = self.definitions[name]
+        return [line for line in self.lines[first:last] if not line.lstrip().startswith("--")]
+
+    def size(self, name):
+        first, last = self.definitions[name]
+        return sum(1 for line in self.lines[first:last] if line.strip())
+
+
+def imports(text):
+    names, aliases = {}, {}
+    for crate, module, listed, alias in USE.findall(text):
+        for name in listed.split(", ") if listed else []:
+            given, _, local = name.partition(" as ")
+            names[local or given] = (crate, module, given)
+        if alias:
+            aliases[alias] = (crate, module)
+    return names, aliases
+
+
+class Specs:
+    """All files of specs/ that were looked into."""
+
+    def __init__(self):
+        self.modules = {}
+
+    def named(self, crate, module, name):
         path = HOME / "crates" / crate / "specs" / f"{module}.antt"
-        if path.exists():
-            yield path
+        if path not in self.modules:
+            self.modules[path] = Module(path) if path.exists() else None
+        found = self.modules[path]
+        if found is None:
+            return None
+        if name in found.definitions:
+            return found, name
+        if name in found.variants:
+            return found, found.variants[name]
+        return self.named(*found.names[name]) if name in found.names else None
+
+    def meant(self, module, word):
+        head, *rest = word.split(".")
+        if head in module.definitions:
+            return module, head
+        if head in module.variants:
+            return module, module.variants[head]
+        if head in module.names:
+            return self.named(*module.names[head])
+        return self.named(*module.aliases[head], rest[0]) if head in module.aliases and rest else None
+
+    def reached(self, roots, stops=()):
+        """The definitions that these reach, by file; those that are stops aren't looked into, nor are they among them."""
+        seen, waiting = set(), list(roots)
+        while waiting:
+            module, name = waiting.pop()
+            if (module.path, name) in seen or name in stops:
+                continue
+            seen.add((module.path, name))
+            for word in WORD.findall(FIELD.sub("", "\n".join(module.body(name)))):
+                if found := self.meant(module, word):
+                    waiting.append(found)
+        by_file = {}
+        for path, name in seen:
+            by_file.setdefault(path, set()).add(name)
+        return by_file
+
+
+def clauses():
+    """The clauses of the contract of `run`, and the names that its file imports."""
+    text = TOP.read_text()
+    contract = re.search(r"pub fn run<.*?\n(.*?)\n\{\n", text, re.S).group(1).split("-> Finished\n")[1]
+    return [line for line in contract.splitlines() if line.strip()], imports(text)[0]
+
+
+def tiers(specs):
+    """The lines of the contract, the core, the first tier and the second, by file."""
+    contract, names = clauses()
+    words = {word.split(".")[0] for line in contract for word in WORD.findall(line)}
+    roots = [found for word in sorted(words) if word in names and (found := specs.named(*names[word]))]
+    every, first = specs.reached(roots), specs.reached(roots, STOPS)
+    three = [(specs.modules[path], name) for path in every for name in every[path] if name in CORE]
+    second = {path: every[path] for path in every if path not in first}
+    return contract, specs.reached(three, STOPS), first, second
+
+
+def lines_of(files):
+    return sum(len(path.read_text().splitlines()) for path in files)
+
+
+def unnamed(files, part):
+    points = re.split(r"\n(?=\d+\. )", part)
+    return [path for path in sorted(files)
+            if not any(f"{path.stem}.antt" in point and path.parts[-3] in point for point in points)]
+
+
+def listed(specs, by_file):
+    for path in sorted(by_file):
+        module = specs.modules[path]
+        kept = sum(module.size(name) for name in by_file[path])
+        others = " ".join(name for name in module.definitions if name not in by_file[path])
+        print(f"{len(module.lines):4} {kept:4}  {path.relative_to(HOME / 'crates')}  {others}")
 
 
 def main():
-    top = TOP.read_text()
-    clauses = re.search(r"pub fn run<.*?\n(.*?)\n\{\n", top, re.S).group(1).split("-> Finished\n")[1]
-    lines = sum(1 for line in clauses.splitlines() if line.strip())
-    found, waiting = {}, list(imported(top))
-    while waiting:
-        path = waiting.pop()
-        if path not in found:
-            found[path] = len(path.read_text().splitlines())
-            waiting += imported(path.read_text())
-    page = PAGE.read_text()
-    page = re.sub(r"run` has \d+ lines", f"run` has {lines} lines", page)
-    page = re.sub(r"are \d+ files of [\d,]+ lines", f"are {len(found)} files of {sum(found.values()):,} lines", page)
-    PAGE.write_text(page)
-    missing = [path for path in sorted(found) if f"{path.stem}.antt" not in page or path.parts[-3] not in page]
-    for path in missing:
+    specs = Specs()
+    contract, core, first, second = tiers(specs)
+    if "--list" in sys.argv:
+        for by_file in (core, {path: first[path] for path in first if path not in core}, second):
+            listed(specs, by_file)
+            print()
+    rows = [
+        f"| the contract of `run` | 1 | {len(contract)} |",
+        f"| the first tier | {len(first)} | {lines_of(first):,} |",
+        f"| of it the core | {len(core)} | {lines_of(core):,} |",
+        f"| the second tier | {len(second)} | {lines_of(second):,} |",
+    ]
+    page, wrong = PAGE.read_text(), 0
+    for row in rows:
+        label = row.split("|")[1]
+        if row not in page.splitlines():
+            print(row)
+            wrong += "--write" not in sys.argv
+        page, found = re.subn(rf"^\|{re.escape(label)}\|.*$", row, page, flags=re.M)
+        wrong += found != 1
+    if "--write" in sys.argv:
+        PAGE.write_text(page)
+    one, two = page.split("## The second tier")
+    for path in [*unnamed(first, one.split("## The first tier")[1]), *unnamed(second, two)]:
         print(path.relative_to(HOME))
-    sys.exit(bool(missing))
+        wrong += 1
+    sys.exit(bool(wrong))
 
 
-main()
+if __name__ == "__main__":
+    main()
