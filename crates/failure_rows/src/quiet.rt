@@ -107,13 +107,13 @@ fn takes_the_flag_in_either_place(rt: HostRuntime) -> Result<(), Fail> {
     Ok(())
 }
 
-/// It may not stand twice, between the names or with another command, and a load case isn't built.
+/// It may not stand twice, between the names or with another command.
 const OFF_THE_GRAMMAR: [&[&str]; 5] = [
     &["replay", "--quiet", "--quiet", "s.csv", "p.csv"],
     &["replay", "--quiet", "s.csv", "p.csv", "--quiet"],
     &["replay", "s.csv", "--quiet", "p.csv"],
     &["compile", "p.csv", "--quiet"],
-    &["load", "5"],
+    &["load", "5", "--quiet"],
 ];
 
 #[test]
