@@ -89,13 +89,19 @@ pub wider_keeps : (links : List ℕ) (within at : ℕ) → at < length links →
     has (wider links within) at ≡ true
 wider_keeps links within at below h = has_wider links within at below ∙ or_left _ _ h
 
+-- one of those that have a link into the set
+pub wider_meets : (links : List ℕ) (within at : ℕ) → at < length links →
+    0 < bit_and (get_or links at 0) within → has (wider links within) at ≡ true
+wider_meets links within at below some =
+    has_wider links within at below ∙ or_right _ _ (meets_of _ some)
+
 -- a link into the set
 pub wider_gains : (links : List ℕ) (within at next : ℕ) → at < length links →
     has (get_or links at 0) next ≡ true → has within next ≡ true →
     has (wider links within) at ≡ true
 wider_gains links within at next below link h =
     let both : has (bit_and (get_or links at 0) within) next ≡ true = rw (has-and, link, h) refl in
-    has_wider links within at below ∙ or_right _ _ (meets_of _ (positive _ next both))
+    wider_meets links within at below (positive _ next both)
 
 -- the least switch of the set to which this one has a link
 pub record IsNearer (links : List ℕ) (within at next : ℕ) : Type 0 where

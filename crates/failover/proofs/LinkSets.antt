@@ -1,8 +1,7 @@
 -- Sets of links.
-use Rattle.std.proofs.Common.{◌≡◌, ◌≢◌, ℕ, ◌^◌, ◌<◌, ◌≤◌, ◌⊎◌, min, max, Bool, true, false, nat_lt, ◌&&◌, ◌==◌, ◌||◌, List, length, get_or, set, IsTrue, refl, sym, ◌∙◌, ap, arith, get_or-set_same, get_or-set_other, length-set, inl, inr}
+use Rattle.std.proofs.Common.{◌≡◌, ◌≢◌, ℕ, ◌^◌, ◌<◌, ◌≤◌, ◌⊎◌, min, max, Bool, true, false, ◌&&◌, ◌==◌, ◌||◌, List, length, get_or, set, IsTrue, refl, sym, ◌∙◌, ap, arith, get_or-set_same, get_or-set_other, length-set, inl, inr}
 use Rattle.std.specs.Int.Bits.{bit_or}
 use Rattle.std.proofs.lemmas.Bool.{cases_eq, cases_lt}
-use Rattle.std.proofs.lemmas.Bool.Decides.{nat_tests}
 use Rattle.std.proofs.lemmas.List.{get_or-replicate, length-replicate, get_or_past, get_or_default, same_lists}
 use Rattle.masks.specs.Masks.{has}
 use Rattle.failover.specs.DownSet.{has_link, is_link_of, IsLinkSet, no_links, with_link}
@@ -61,14 +60,39 @@ pub has_link-here : (links : List ℕ) (one other low high : ℕ) → low ≡ mi
 unfolding has_link
 has_link-here links one other low high p q = rw (p, q) refl
 
-not_below : (high : ℕ) → 64 ≤ high → nat_lt high 64 ≡ false
-not_below high past = grind (arith, nat_tests)
+or_false : (a : Bool) → (a || false) ≡ a
+or_false true = refl
+or_false false = refl
 
-pub has_link-above : (links : List ℕ) (one other high : ℕ) → IsLinkSet links →
-    high ≡ max one other → 64 ≤ high → nat_lt high 64 ≡ has_link links one other
+not_above : (links : List ℕ) (k x : ℕ) → IsLinkSet links → x ≤ k → has (get_or links k 0) x ≡ false
+not_above links k x set past = false_of _ (λ h. absurd (omega (arith, set.above k x h)))
+
+-- the row of the higher number doesn't have the lower
+has_link-either : (links : List ℕ) (one other : ℕ) → IsLinkSet links →
+    (has (get_or links one 0) other || has (get_or links other 0) one) ≡ has_link links one other
+has_link-either links one other set = elim (cases_lt one other) [
+  | inl less ↦ ap (λ b. has (get_or links one 0) other || b)
+      (not_above links other one set (omega arith)) ∙ or_false _
+      ∙ has_link-here links one other one other (omega arith) (omega arith)
+  | inr past ↦ ap (λ b. b || has (get_or links other 0) one) (not_above links one other set past)
+      ∙ has_link-here links one other other one (omega arith) (omega arith)
+]
+
+pub has_link-first : (links : List ℕ) (one other : ℕ) → IsLinkSet links →
+    has (get_or links one 0) other ≡ true → true ≡ has_link links one other
+has_link-first links one other set there =
+    sym (ap (λ b. b || has (get_or links other 0) one) there) ∙ has_link-either links one other set
+
+pub has_link-second : (links : List ℕ) (one other : ℕ) → IsLinkSet links →
+    has (get_or links one 0) other ≡ false → has (get_or links other 0) one ≡
+    has_link links one other
+has_link-second links one other set absent =
+    sym (ap (λ b. b || has (get_or links other 0) one) absent) ∙ has_link-either links one other set
+
+pub has_link-above : (links : List ℕ) (one other : ℕ) → IsLinkSet links →
+    64 ≤ max one other → false ≡ has_link links one other
 unfolding has_link
-has_link-above links one other high set e past =
-    not_below high past ∙ sym (false_of _
+has_link-above links one other set past = sym (false_of _
     (λ h. absurd (omega (arith, set.switches (min one other) (max one other) h))))
 
 pub with_link-rows : (links : List ℕ) (one other low high more : ℕ) → low ≡ min one other →
@@ -112,10 +136,6 @@ other_pair one other x y apart =
           (omega arith))
     ])
 
-or_false : (a : Bool) → (a || false) ≡ a
-or_false true = refl
-or_false false = refl
-
 row_gains : (row high z : ℕ) (pair : Bool) → (z ≡ high → pair ≡ true) →
     ((z ≡ high → ⊥) → pair ≡ false) → has (bit_or row (2 ^ high)) z ≡ (has row z || pair)
 row_gains row high z pair here elsewhere = elim (cases_eq z high) [
@@ -148,9 +168,6 @@ row_at links k x less =
     let low : min k x ≡ k = omega arith in
     let high : max k x ≡ x = omega arith in
     rw (low, high) refl
-
-not_above : (links : List ℕ) (k x : ℕ) → IsLinkSet links → x ≤ k → has (get_or links k 0) x ≡ false
-not_above links k x set past = false_of _ (λ h. absurd (omega (arith, set.above k x h)))
 
 same_rows : (a b : List ℕ) → IsLinkSet a → IsLinkSet b →
     ((x y : ℕ) → has_link a x y ≡ has_link b x y) → (k : ℕ) → get_or a k 0 ≡ get_or b k 0

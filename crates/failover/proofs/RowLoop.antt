@@ -1,22 +1,23 @@
 -- The loop over the neighbours that a switch names.
-use Rattle.std.proofs.Common.{◌≡◌, ◌≢◌, ℕ, ◌+◌, ◌*◌, ◌%◌, ◌^◌, ◌<◌, Bool, true, false, not, ◌&&◌, ◌||◌, ◌==◌, List, get_or, refl, sym, ◌∙◌, ap, arith, inl, inr}
-use Rattle.std.specs.Int.{bit_at}
+use Rattle.std.proofs.Common.{◌≡◌, ◌≢◌, ℕ, ◌+◌, ◌-◌, ◌*◌, ◌%◌, ◌^◌, ◌<◌, Bool, true, false, not, ◌&&◌, ◌||◌, ◌==◌, List, get_or, refl, sym, ◌∙◌, ap, arith, inl, inr}
+use Rattle.std.specs.Int.{bit_at, bit_not, w64}
 use Rattle.std.specs.Int.Bits.{bit_and, bit_or, bit_xor, xor_add_and, or_lt, xor_lt}
 use Rattle.std.proofs.lemmas.Bool.{cases_eq}
 use Rattle.std.proofs.lemmas.Bool.Decides.{nat_tests}
-use Rattle.std.proofs.lemmas.Nat.{pow_pos, pow_below}
-use Rattle.std.proofs.lemmas.Nat.Bits.{bit_at_xor, bit_at-lt, bit_at-pow_same, bit_at-pow_other, and_pow}
+use Rattle.std.proofs.lemmas.Nat.{pow_pos, pow_below, and_le_l, and_le_r}
+use Rattle.std.proofs.lemmas.Nat.Bits.{bit_at_xor, bit_at_not, bit_at_ones, bit_at-lt, bit_at-pow_same, bit_at-pow_other, and_pow}
 use Rattle.masks.specs.Masks.{has, only_if, least_in}
 use Rattle.failover.specs.Links.{is_link, link_row}
-use Rattle.masks.proofs.CallerLemmas.{has-or, has-zero, has_only_same, has_only_other, has_least, same_masks, only_if_lt, has_mask, mask_of_lt}
-use Rattle.failover.proofs.Balls.{apart_tests}
+use Rattle.masks.proofs.CallerLemmas.{has-or, has-and, has-zero, has_only_same, has_only_other, has_least, same_masks, only_if_lt, has_mask}
+use Rattle.failover.proofs.Balls.{apart_tests, and_left}
 
--- the row has the links to the switches that are not left
-pub record IsRowSoFar (neighbours down : List ℕ) (one row rest : ℕ) : Type 0 where
+-- the row has the links to the switches within a set that are not left
+pub record IsRowSoFar (neighbours down : List ℕ) (one within row rest : ℕ) : Type 0 where
   pub row_fits : row < 2 ^ 64
   pub rest_fits : rest < 2 ^ 64
-  pub found : (k : ℕ) → k < 64 →
-      (has row k || (has rest k && is_link neighbours down one k)) ≡ is_link neighbours down one k
+  pub named : (k : ℕ) → has rest k ≡ true → has (get_or neighbours one 0) k ≡ true
+  pub found : (k : ℕ) → k < 64 → (has row k || (has rest k && is_link neighbours down one k)) ≡
+      (is_link neighbours down one k && has within k)
 
 named_and : (a b c d : Bool) → (b && (a && b && c && d)) ≡ (a && b && c && d)
 named_and true true c d = refl
@@ -32,27 +33,42 @@ unfolding is_link
 named neighbours down one k = named_and (not (one == k)) (has (get_or neighbours one 0) k)
     (has (get_or neighbours k 0) one) _
 
-pub row_begins : (neighbours down : List ℕ) (one : ℕ) → get_or neighbours one 0 < 2 ^ 64 →
-    IsRowSoFar neighbours down one 0 (get_or neighbours one 0)
-row_begins neighbours down one fits = record {
+named_within : (name within link : Bool) → (name && link) ≡ link →
+    ((name && within) && link) ≡ (link && within)
+named_within true true true h = refl
+named_within true true false h = refl
+named_within true false true h = refl
+named_within true false false h = refl
+named_within false within true h = apart_tests true refl (sym h)
+named_within false within false h = refl
+
+pub row_begins : (neighbours down : List ℕ) (one within : ℕ) → within < 2 ^ 64 →
+    IsRowSoFar neighbours down one within 0 (bit_and (get_or neighbours one 0) within)
+row_begins neighbours down one within fits = record {
   row_fits = pow_pos 64;
-  rest_fits = fits;
-  found = λ k below. rw (has-zero k) (named neighbours down one k);
+  rest_fits = omega (arith, and_le_r (get_or neighbours one 0) within);
+  named = λ k h. and_left _ _ (sym (has-and (get_or neighbours one 0) within k) ∙ h);
+  found = λ k below. rw (has-zero k, has-and)
+      (named_within (has (get_or neighbours one 0) k) (has within k) _
+      (named neighbours down one k));
 }
 
-pub row_ends : (neighbours down : List ℕ) (one row rest : ℕ) →
-    IsRowSoFar neighbours down one row rest →
-    rest ≡ 0 → row ≡ link_row neighbours down one
-row_ends neighbours down one row rest so_far none =
-    same_masks row _ so_far.row_fits (mask_of_lt (is_link neighbours down one))
-    (λ k below. at_end (has row k) (has rest k) _ (ap (λ n. has n k) none ∙ has-zero k)
-    (so_far.found k below) ∙ sym (has_mask (is_link neighbours down one) k below))
+pub row_ends : (neighbours down : List ℕ) (one within row rest : ℕ) → within < 2 ^ 64 →
+    IsRowSoFar neighbours down one within row rest →
+    rest ≡ 0 → row ≡ bit_and (link_row neighbours down one) within
+row_ends neighbours down one within row rest fits so_far none =
+    same_masks row _ so_far.row_fits
+    (omega (arith, and_le_r (link_row neighbours down one) within))
+    (λ k below. at_end (has row k) (has rest k) _ _ (ap (λ n. has n k) none ∙ has-zero k)
+    (so_far.found k below)
+    ∙ sym (has-and (link_row neighbours down one) within k
+    ∙ ap (λ b. b && has within k) (has_mask (is_link neighbours down one) k below)))
   where
-    at_end : (row rest link : Bool) → rest ≡ false → (row || (rest && link)) ≡ link → row ≡ link
-    at_end true true link none h = apart_tests true refl none
-    at_end true false link none h = h
-    at_end false true link none h = apart_tests true refl none
-    at_end false false link none h = h
+    at_end : (row rest link wanted : Bool) → rest ≡ false → (row || (rest && link)) ≡ wanted →
+        row ≡ wanted
+    at_end true rest link wanted none h = h
+    at_end false true link wanted none h = apart_tests true refl none
+    at_end false false link wanted none h = h
 
 -- ---- a switch less
 
@@ -89,30 +105,34 @@ less rest k h =
 
 -- ---- a turn
 
-turn_same : (row link : Bool) → (row || (true && link)) ≡ link →
-    ((row || link) || (false && link)) ≡ link
-turn_same true true h = refl
-turn_same true false h = h
-turn_same false true h = refl
-turn_same false false h = refl
+turn_same : (row link wanted : Bool) → (row || (true && link)) ≡ wanted →
+    ((row || link) || (false && link)) ≡ wanted
+turn_same true link wanted h = h
+turn_same false true wanted h = h
+turn_same false false wanted h = h
 
-turn_other : (row rest link : Bool) → (row || (rest && link)) ≡ link →
-    ((row || false) || (rest && link)) ≡ link
-turn_other true rest link h = h
-turn_other false rest link h = h
+turn_other : (row rest link wanted : Bool) → (row || (rest && link)) ≡ wanted →
+    ((row || false) || (rest && link)) ≡ wanted
+turn_other true rest link wanted h = h
+turn_other false rest link wanted h = h
 
-pub row_goes_on : (neighbours down : List ℕ) (one row rest other gain gone : ℕ) →
-    IsRowSoFar neighbours down one row rest → has rest other ≡ true → other < 64 →
+pub row_goes_on : (neighbours down : List ℕ) (one within row rest other gain gone : ℕ) →
+    IsRowSoFar neighbours down one within row rest → has rest other ≡ true → other < 64 →
     gain ≡ only_if (is_link neighbours down one other) other → gone ≡ 2 ^ other →
-    IsRowSoFar neighbours down one (bit_or row gain) (bit_xor rest gone)
-row_goes_on neighbours down one row rest other gain gone so_far left fits gains goes =
+    IsRowSoFar neighbours down one within (bit_or row gain) (bit_xor rest gone)
+row_goes_on neighbours down one within row rest other gain gone so_far left fits gains goes =
     rw (gains, goes) (record {
       row_fits = or_lt 64 _ _ so_far.row_fits
           (only_if_lt (is_link neighbours down one other) other 64 fits);
       rest_fits = xor_lt 64 _ _ so_far.rest_fits (pow_below other 64 fits);
+      named = λ k h. elim (cases_eq k other) [
+        | inl same ↦ apart_tests _ h
+            (ap (has (bit_xor rest (2 ^ other))) same ∙ has_less-same rest other left)
+        | inr apart ↦ so_far.named k (sym (has_less-other rest other k apart) ∙ h)
+      ];
       found = λ k below. elim (cases_eq k other) [
         | inl same ↦ rw (has-or, same, has_only_same, has_less-same rest other left)
-            (turn_same (has row other) _ (sym
+            (turn_same (has row other) _ _ (sym
             (ap (λ b. has row other || (b && is_link neighbours down one other)) left)
             ∙ so_far.found other fits))
         | inr apart ↦ rw (
@@ -121,9 +141,71 @@ row_goes_on neighbours down one row rest other gain gone so_far left fits gains 
               (is_link neighbours down one other) other k apart,
           has_less-other rest other k apart,
         )
-            (turn_other (has row k) (has rest k) _ (so_far.found k below))
+            (turn_other (has row k) (has rest k) _ _ (so_far.found k below))
       ];
     })
+
+-- ---- sets of switches
+
+kept_bit : (a b c : ℕ) → a < 2 → b < 2 → c ≡ (a + b) % 2 → (b == 1) ≡ true → (c == 1) ≡ false →
+    (a == 1) ≡ true
+kept_bit a b c a_fits b_fits e there out = grind (arith, nat_tests)
+
+first_bit : (a b c : ℕ) → a < 2 → b < 2 → c ≡ (a + b) % 2 → (b == 1) ≡ false → (c == 1) ≡ true →
+    (a == 1) ≡ true
+first_bit a b c a_fits b_fits e absent there = grind (arith, nat_tests)
+
+-- what is in the second set, and not in just one of the two, is in the first
+pub has_both : (a b k : ℕ) → has b k ≡ true → has (bit_xor a b) k ≡ false → has a k ≡ true
+unfolding has
+has_both a b k there out = kept_bit (bit_at a k) (bit_at b k) _ (bit_at-lt a k) (bit_at-lt b k)
+    (bit_at_xor a b k) there out
+
+-- what is in just one of the two, and not in the second, is in the first
+pub has_first : (a b k : ℕ) → has b k ≡ false → has (bit_xor a b) k ≡ true → has a k ≡ true
+unfolding has
+has_first a b k absent there = first_bit (bit_at a k) (bit_at b k) _ (bit_at-lt a k) (bit_at-lt b k)
+    (bit_at_xor a b k) absent there
+
+turned_bit : (a b : ℕ) → a < 2 → b ≡ 1 - a → (b == 1) ≡ not (a == 1)
+turned_bit a b fits e = grind (arith, nat_tests)
+
+has-not : (a k : ℕ) → a < 2 ^ 64 → k < 64 → has (bit_not w64 a) k ≡ not (has a k)
+unfolding has
+has-not a k fits below = turned_bit (bit_at a k) _ (bit_at-lt a k) (bit_at_not w64 a k fits below)
+
+or_more : (a b : Bool) → (a || (b && not a)) ≡ (a || b)
+or_more true b = refl
+or_more false true = refl
+or_more false false = refl
+
+-- what is there already may be left out of what is added
+pub or_others : (a b gain : ℕ) → a < 2 ^ 64 → b < 2 ^ 64 →
+    gain ≡ bit_and b (bit_not w64 a) → bit_or a gain ≡ bit_or a b
+or_others a b gain a_fits b_fits e =
+    let gain_fits : gain < 2 ^ 64 = omega (arith, and_le_l b (bit_not w64 a)) in
+    same_masks _ _ (or_lt 64 _ _ a_fits gain_fits) (or_lt 64 _ _ a_fits b_fits)
+    (λ k below. has-or a gain k
+    ∙ ap (λ t. has a k || t) (ap (λ m. has m k) e ∙ has-and b (bit_not w64 a) k
+    ∙ ap (λ t. has b k && t) (has-not a k a_fits below))
+    ∙ or_more (has a k) (has b k) ∙ sym (has-or a b k))
+
+all_bit : (a : ℕ) → a ≡ 1 → (a == 1) ≡ true
+all_bit a e = grind (arith, nat_tests)
+
+has_all : (k : ℕ) → k < 64 → has (2 ^ 64 - 1) k ≡ true
+unfolding has
+has_all k below = all_bit _ (bit_at_ones 64 k below)
+
+and_true : (a : Bool) → (a && true) ≡ a
+and_true true = refl
+and_true false = refl
+
+-- among all switches
+pub and_all : (a : ℕ) → a < 2 ^ 64 → bit_and a (2 ^ 64 - 1) ≡ a
+and_all a fits = same_masks _ _ (omega (arith, and_le_r a (2 ^ 64 - 1))) fits
+    (λ k below. has-and a (2 ^ 64 - 1) k ∙ ap (λ t. has a k && t) (has_all k below)
+    ∙ and_true (has a k))
 
 -- the first that is left
 pub first_left : (rest : ℕ) → rest < 2 ^ 64 → (rest ≡ 0 → ⊥) → has rest (least_in rest) ≡ true

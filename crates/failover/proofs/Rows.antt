@@ -1,17 +1,17 @@
 -- The rows of known links.
-use Rattle.std.proofs.Common.{◌≡◌, ◌≢◌, ℕ, ◌+◌, ◌<◌, ◌≤◌, Bool, true, false, not, ◌&&◌, ◌==◌, nat_le, List, [], ◌∷◌, length, get_or, ◌⊎◌, inl, inr, Option, map, length-set, get_or-set_same, get_or-set_other, None, ◌↔◌, IsTrue, refl, sym, ◌∙◌, ap, subst, arith}
+use Rattle.std.proofs.Common.{◌≡◌, ◌≢◌, ℕ, ◌+◌, ◌<◌, ◌≤◌, Bool, true, false, not, ◌&&◌, ◌==◌, nat_le, List, [], ◌∷◌, length, get_or, ◌⊎◌, inl, inr, Option, map, set, length-set, get_or-set_same, get_or-set_other, None, ◌↔◌, IsTrue, refl, sym, ◌∙◌, ap, subst, arith}
 use Rattle.std.proofs.lemmas.Bool.Decides.{nat_tests}
 use Rattle.std.proofs.lemmas.Bool.{cases_lt}
 use Rattle.std.proofs.lemmas.List.{get_or_past, get_or-map, length-map}
 use Rattle.failover.specs.declared.advert.Advert.{Advert}
 use Rattle.masks.specs.Masks.{has, mask_where, switches, mask_of}
 use Rattle.failover.specs.DownSet.{has_link}
-use Rattle.failover.specs.Links.{told_links, is_link, link_row, known_links, is_isolated, names, neighbours_told}
+use Rattle.failover.specs.Links.{IsDatabase, told_links, is_link, link_row, link_rows, known_links, is_isolated, names, neighbours_told}
 use Rattle.failover.specs.Paths.{IsIsolated}
 use Rattle.masks.proofs.CallerLemmas.{has-zero, same_sets, length-switches, get_or-switches, has_mask, has_mask_past}
 use Rattle.failover.proofs.Balls.{and_both, and_left, and_right, apart_tests, false_of, same_number, number_test}
 use Rattle.failover.proofs.LinkSets.{has_link-turned}
-use Rattle.failover.proofs.Searching.{length-known_links}
+use Rattle.failover.proofs.WiderLoop.{AreBothWays}
 
 mask_where_none : {X : Type 0} (test : X → Bool) (k : ℕ) (xs : List X) → ((x : X) →
     test x ≡ false) →
@@ -44,33 +44,35 @@ no_row_past neighbours down one rows past =
     (mask_where_none (is_link neighbours down one) 0 switches (strange neighbours down one
     (omega arith)))
 
--- ---- known links
+-- ---- rows of links
 
-row_of : (adverts : List (Option Advert)) (at near : ℕ) (down : List ℕ) (one : ℕ) → one < 64 →
-    get_or (known_links adverts at near down) one 0 ≡ link_row (told_links adverts at near) down one
-unfolding known_links
-row_of adverts at near down one below =
-    get_or-map (link_row (told_links adverts at near) down) switches one 0 0
-    (omega (arith, length-switches))
-    ∙ ap (link_row (told_links adverts at near) down) (get_or-switches one below)
+pub length-link_rows : (neighbours down : List ℕ) → length (link_rows neighbours down) ≡ 64
+unfolding link_rows
+length-link_rows neighbours down =
+    length-map switches (link_row neighbours down) ∙ length-switches
 
-pub has_known : (adverts : List (Option Advert)) (at near : ℕ) (down : List ℕ) (one other : ℕ) →
-    one < 64 → other < 64 → has (get_or (known_links adverts at near down) one 0) other ≡
-    is_link (told_links adverts at near) down one other
-has_known adverts at near down one other one_fits other_fits =
-    ap (λ row. has row other) (row_of adverts at near down one one_fits)
-    ∙ has_mask (is_link (told_links adverts at near) down one) other other_fits
+pub row_of : (neighbours down : List ℕ) (one : ℕ) → one < 64 →
+    get_or (link_rows neighbours down) one 0 ≡ link_row neighbours down one
+unfolding link_rows
+row_of neighbours down one below =
+    get_or-map (link_row neighbours down) switches one 0 0 (omega (arith, length-switches))
+    ∙ ap (link_row neighbours down) (get_or-switches one below)
 
-pub known_past : (adverts : List (Option Advert)) (at near : ℕ) (down : List ℕ) (one other : ℕ) →
-    (one < 64 → other < 64 → ⊥) →
-    has (get_or (known_links adverts at near down) one 0) other ≡ false
-known_past adverts at near down one other past = elim (cases_lt one 64) [
-  | inl below ↦ ap (λ row. has row other) (row_of adverts at near down one below)
-      ∙ has_mask_past (is_link (told_links adverts at near) down one) other
+has_row : (neighbours down : List ℕ) (one other : ℕ) → one < 64 → other < 64 →
+    has (get_or (link_rows neighbours down) one 0) other ≡ is_link neighbours down one other
+has_row neighbours down one other one_fits other_fits =
+    ap (λ row. has row other) (row_of neighbours down one one_fits)
+    ∙ has_mask (is_link neighbours down one) other other_fits
+
+row_past : (neighbours down : List ℕ) (one other : ℕ) → (one < 64 → other < 64 → ⊥) →
+    has (get_or (link_rows neighbours down) one 0) other ≡ false
+row_past neighbours down one other past = elim (cases_lt one 64) [
+  | inl below ↦ ap (λ row. has row other) (row_of neighbours down one below)
+      ∙ has_mask_past (is_link neighbours down one) other
       (elim (cases_lt other 64) [ inl fits ↦ absurd (past below fits) | inr more ↦ more ])
   | inr more ↦ ap (λ row. has row other)
-      (get_or_past (known_links adverts at near down) one 0
-      (omega (arith, length-known_links adverts at near down))) ∙ has-zero other
+      (get_or_past (link_rows neighbours down) one 0
+      (omega (arith, length-link_rows neighbours down))) ∙ has-zero other
 ]
 
 swapped : (a b c d : Bool) → (a && b && c && d) ≡ (a && c && b && d)
@@ -92,15 +94,12 @@ link_turned neighbours down one other =
     (get_or neighbours other 0) one)
     (not (has_link down other one)))
 
-pub known_turned : (adverts : List (Option Advert)) (at near : ℕ) (down : List ℕ) (one other : ℕ) →
-    has (get_or (known_links adverts at near down) one 0) other ≡
-    has (get_or (known_links adverts at near down) other 0) one
-known_turned adverts at near down one other = elim (both_or_not one other) [
-  | inl fit ↦ has_known adverts at near down one other fit.0 fit.1
-      ∙ link_turned (told_links adverts at near) down one other
-      ∙ sym (has_known adverts at near down other one fit.1 fit.0)
-  | inr past ↦ known_past adverts at near down one other past
-      ∙ sym (known_past adverts at near down other one (λ p q. past q p))
+pub row_turned : (neighbours down : List ℕ) → AreBothWays (link_rows neighbours down)
+row_turned neighbours down one other = elim (both_or_not one other) [
+  | inl fit ↦ has_row neighbours down one other fit.0 fit.1
+      ∙ link_turned neighbours down one other ∙ sym (has_row neighbours down other one fit.1 fit.0)
+  | inr past ↦ row_past neighbours down one other past
+      ∙ sym (row_past neighbours down other one (λ p q. past q p))
 ]
   where
     both_or_not : (one other : ℕ) → ((one < 64) × (other < 64)) ⊎ (one < 64 → other < 64 → ⊥)
@@ -109,6 +108,34 @@ known_turned adverts at near down one other = elim (both_or_not one other) [
           [ inl q ↦ inl (p, q) | inr q ↦ inr (λ _ r. absurd (omega arith)) ]
       | inr p ↦ inr (λ r _. absurd (omega arith))
     ]
+
+-- ---- known links
+
+pub has_known : (adverts : List (Option Advert)) (at near : ℕ) (down : List ℕ) (one other : ℕ) →
+    one < 64 → other < 64 → has (get_or (known_links adverts at near down) one 0) other ≡
+    is_link (told_links adverts at near) down one other
+unfolding known_links link_rows
+has_known adverts at near down one other = has_row (told_links adverts at near) down one other
+
+known_past : (adverts : List (Option Advert)) (at near : ℕ) (down : List ℕ) (one other : ℕ) →
+    (one < 64 → other < 64 → ⊥) →
+    has (get_or (known_links adverts at near down) one 0) other ≡ false
+unfolding known_links link_rows
+known_past adverts at near down one other = row_past (told_links adverts at near) down one other
+
+pub known_turned : (adverts : List (Option Advert)) (at near : ℕ) (down : List ℕ) (one other : ℕ) →
+    has (get_or (known_links adverts at near down) one 0) other ≡
+    has (get_or (known_links adverts at near down) other 0) one
+unfolding known_links link_rows
+known_turned adverts at near down = row_turned (told_links adverts at near) down
+
+-- what is held, with the neighbours that a switch sees itself
+pub told_links_held : (adverts : List (Option Advert)) (told : List ℕ) (at near : ℕ)
+    (neighbours : List ℕ) → IsDatabase adverts told → neighbours ≡ set told at near →
+    neighbours ≡ told_links adverts at near
+unfolding told_links
+told_links_held adverts told at near neighbours held e =
+    e ∙ ap (λ all. set all at near) held.neighbours
 
 -- ---- isolated targets
 
@@ -134,14 +161,21 @@ bare_row adverts at near down target rows linkless other = elim (cases_lt other 
   | inr past ↦ has_mask_past (is_link (told_links adverts at near) down target) other past
 ]
 
+bare_known : (adverts : List (Option Advert)) (at near : ℕ) (down : List ℕ) (target one : ℕ) →
+    target < 64 → link_row (told_links adverts at near) down target ≡ 0 →
+    has (get_or (known_links adverts at near down) target 0) one ≡ false
+unfolding known_links link_rows
+bare_known adverts at near down target one fits bare =
+    ap (λ row. has row one) (row_of (told_links adverts at near) down target fits ∙ bare)
+    ∙ has-zero one
+
 joined_row : (adverts : List (Option Advert)) (at near : ℕ) (down : List ℕ) (target : ℕ) →
     link_row (told_links adverts at near) down target ≡ 0 → (one : ℕ) →
     has (get_or (known_links adverts at near down) one 0) target ≡ true → ⊥
 joined_row adverts at near down target bare one joined =
     apart_tests _ (sym (known_turned adverts at near down one target) ∙ joined)
     (elim (cases_lt target 64) [
-      | inl fits ↦ ap (λ row. has row one) (row_of adverts at near down target fits ∙ bare)
-          ∙ has-zero one
+      | inl fits ↦ bare_known adverts at near down target one fits bare
       | inr past ↦ known_past adverts at near down target one (λ p q. absurd (omega arith))
     ])
 
@@ -167,15 +201,18 @@ isolated_tells adverts at target near down rows = (
       ∙ sym (has-zero other))))),
 )
 
-pub isolated_answer : (adverts : List (Option Advert)) (at target near : ℕ)
-    (down neighbours : List ℕ)
-    (answer : Bool) → length adverts ≡ 64 → neighbours ≡ told_links adverts at near →
+pub isolated_is : (adverts : List (Option Advert)) (at target near : ℕ)
+    (down neighbours : List ℕ) (answer : Bool) → neighbours ≡ told_links adverts at near →
     answer ≡ (link_row neighbours down target == 0) → target ≢ at →
-    IsTrue answer ↔ IsIsolated (known_links adverts at near down) at target
+    answer ≡ is_isolated adverts at target near down
 unfolding is_isolated
-isolated_answer adverts at target near down neighbours answer rows e linkless apart =
-    let same : answer ≡ is_isolated adverts at target near down =
-    rw (not_test target at apart) (linkless ∙ ap (λ t. link_row t down target == 0) e) in
+isolated_is adverts at target near down neighbours answer e linkless apart =
+    rw (not_test target at apart) (linkless ∙ ap (λ t. link_row t down target == 0) e)
+
+pub isolated_answer : (adverts : List (Option Advert)) (at target near : ℕ) (down : List ℕ)
+    (answer : Bool) → length adverts ≡ 64 → answer ≡ is_isolated adverts at target near down →
+    IsTrue answer ↔ IsIsolated (known_links adverts at near down) at target
+isolated_answer adverts at target near down answer rows same =
     subst (λ (b : Bool). IsTrue b ↔ IsIsolated (known_links adverts at near down) at target)
     (sym same) (isolated_tells adverts at target near down rows)
 

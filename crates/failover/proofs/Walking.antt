@@ -3,10 +3,12 @@ use Rattle.std.proofs.Common.{◌≡◌, ℕ, zero, suc, ◌+◌, ◌-◌, ◌^�
 use Rattle.std.proofs.lemmas.List.{take_more, drop-drop, get_or-drop, take_all, drop_at, take_at}
 use Rattle.std.proofs.lemmas.Bool.{cases_eq}
 use Rattle.std.proofs.Math.Seq.{set-append_seam}
+use Rattle.std.specs.Int.Bits.{bit_and}
 use Rattle.masks.specs.Masks.{has}
 use Rattle.failover.specs.RouteList.{IsRouteList}
 use Rattle.failover.specs.Routes.{wider, ball, nearer, onward, route_to}
 use Rattle.failover.specs.Search.{IsAway, IsOutOfReach, AreBalls, along}
+use Rattle.failover.proofs.Balls.{wider_meets}
 use Rattle.failover.proofs.Searching.{still_out, found_is_least, path_is_route_list, route_to-away}
 
 pub length-along : (links balls : List ℕ) (k at : ℕ) → length (along links balls k at) ≡ k
@@ -145,6 +147,17 @@ before_more links target k within from here absent before = λ j less. elim (cas
       ∙ absent
   | inr apart ↦ before j (omega arith)
 ]
+
+-- a switch that isn't in the ball, and has a link into it
+pub next_away : (links : List ℕ) (target k within from : ℕ) → from < length links →
+    within ≡ ball links target k → 0 < bit_and (get_or links from 0) within →
+    has within from ≡ false → ((j : ℕ) → j < k → has (ball links target j) from ≡ false) →
+    IsAway links target (k + 1) from
+next_away links target k within from below here meets absent before = record {
+  here = ap (λ m. has m from) (sym (next_ball links target k within _ here refl))
+      ∙ wider_meets links within from below meets;
+  later = before_more links target k within from here absent before;
+}
 
 pub no_more : (links : List ℕ) (target k within wide from : ℕ) → within ≡ ball links target k →
     wide ≡ wider links within → wide ≡ within → has within from ≡ false →

@@ -5,16 +5,21 @@ use Rattle.std.proofs.lemmas.Bool.{cases_eq}
 use Rattle.std.proofs.lemmas.Nat.{pow_below}
 use Rattle.masks.specs.Masks.{has}
 use Rattle.failover.specs.Routes.{wider, nearer}
-use Rattle.failover.specs.Search.{AreBothWays}
+use Rattle.failover.specs.Search.{IsEdge}
 use Rattle.masks.proofs.CallerLemmas.{has-or, has-zero, same_masks}
-use Rattle.failover.proofs.Balls.{added_is_nearer, apart_tests, or_cases, or_left, or_right, wider_gains, wider_keeps, wider_lt}
-use Rattle.failover.proofs.RowLoop.{has_less-same, has_less-other}
+use Rattle.failover.proofs.Balls.{added_is_nearer, apart_tests, or_cases, or_left, or_right, true_of, wider_gains, wider_keeps, wider_lt}
+use Rattle.failover.proofs.RowLoop.{has_less-same, has_less-other, has_both, has_first}
+
+-- each link is known from both its ends
+abbrev pub AreBothWays : List ℕ → Type 0
+AreBothWays links = (one other : ℕ) →
+    has (get_or links one 0) other ≡ has (get_or links other 0) one
 
 -- only switches of the wider ball are there, and each other one has a link to a switch that is left
 pub record IsWideSoFar (links : List ℕ) (ball wide rest : ℕ) : Type 0 where
   pub wide_fits : wide < 2 ^ 64
   pub rest_fits : rest < 2 ^ 64
-  pub inside : (k : ℕ) → has rest k ≡ true → has ball k ≡ true
+  pub inside : (k : ℕ) → k < 64 → has rest k ≡ true → has ball k ≡ true
   pub sound : (j : ℕ) → j < 64 → has wide j ≡ true → has (wider links ball) j ≡ true
   pub left : (j : ℕ) → j < 64 → has (wider links ball) j ≡ true → (has wide j ≡ true)
       ⊎ ((k : ℕ) × (has (get_or links j 0) k ≡ true) × (has rest k ≡ true))
@@ -23,17 +28,22 @@ holds_or_not : (b : Bool) → (b ≡ true) ⊎ (b ≡ false)
 holds_or_not true = inl refl
 holds_or_not false = inr refl
 
-pub wide_begins : (links : List ℕ) (ball : ℕ) → length links ≡ 64 → ball < 2 ^ 64
-    → IsWideSoFar links ball ball ball
-wide_begins links ball rows fits = record {
+pub wide_begins : (links : List ℕ) (ball edge : ℕ) → length links ≡ 64 → AreBothWays links
+    → ball < 2 ^ 64 → edge < 2 ^ 64 → IsEdge links ball edge → IsWideSoFar links ball ball edge
+wide_begins links ball edge rows both fits edge_fits is_edge = record {
   wide_fits = fits;
-  rest_fits = fits;
-  inside = λ k h. h;
+  rest_fits = edge_fits;
+  inside = is_edge.inside;
   sound = λ j below h. wider_keeps links ball j (omega arith) h;
   left = λ j below h. elim (holds_or_not (has ball j)) [
     | inl there ↦ inl there
     | inr absent ↦ (let near = added_is_nearer links ball j (omega arith) fits h absent in
-        inr (nearer links ball j, near.joined, near.inside))
+        inr (
+          nearer links ball j,
+          near.joined,
+          true_of _ (λ out. apart_tests _
+              (is_edge.inner _ j near.below below near.inside out (both _ j ∙ near.joined)) absent),
+        ))
   ];
 }
 
@@ -44,14 +54,14 @@ pub wide_goes_on : (links : List ℕ) (ball wide rest at gone : ℕ) → length 
 wide_goes_on links ball wide rest at gone rows both so_far here fits row_fits goes = rw goes (record {
   wide_fits = or_lt 64 _ _ so_far.wide_fits row_fits;
   rest_fits = xor_lt 64 _ _ so_far.rest_fits (pow_below at 64 fits);
-  inside = λ k h. elim (cases_eq k at) [
+  inside = λ k below h. elim (cases_eq k at) [
     | inl same ↦ apart_tests _ h (ap (has (bit_xor rest (2 ^ at))) same ∙ has_less-same rest at here)
-    | inr apart ↦ so_far.inside k (sym (has_less-other rest at k apart) ∙ h)
+    | inr apart ↦ so_far.inside k below (sym (has_less-other rest at k apart) ∙ h)
   ];
   sound = λ j below h. elim (or_cases _ _ (sym (has-or wide (get_or links at 0) j) ∙ h)) [
     | inl there ↦ so_far.sound j below there
     | inr link ↦ wider_gains links ball j at (omega arith) (both j at ∙ link)
-        (so_far.inside at here)
+        (so_far.inside at fits here)
   ];
   left = λ j below h. elim (so_far.left j below h) [
     | inl there ↦ inl (has-or wide (get_or links at 0) j ∙ or_left _ _ there)
@@ -77,3 +87,25 @@ wide_ends links ball wide rest rows fits so_far none =
       | inl there ↦ there
       | inr more ↦ apart_tests _ more.2 (ap (λ n. has n more.0) none ∙ has-zero more.0)
     ]))
+
+-- ---- edges
+
+pub edge_first : (links : List ℕ) (ball : ℕ) → IsEdge links ball ball
+edge_first links ball = record {
+  inside = λ one below h. h;
+  inner = λ one other one_fits other_fits there out link. apart_tests _ there out;
+}
+
+-- what a widening adds is the edge of the wider ball
+pub edge_next : (links : List ℕ) (ball wide : ℕ) → length links ≡ 64 → AreBothWays links →
+    wide ≡ wider links ball → IsEdge links wide (bit_xor ball wide)
+edge_next links ball wide rows both e = record {
+  inside = λ one below h. elim (holds_or_not (has wide one)) [
+    | inl there ↦ there
+    | inr absent ↦ ap (λ m. has m one) e
+        ∙ wider_keeps links ball one (omega arith) (has_first ball wide one absent h)
+  ];
+  inner = λ one other one_fits other_fits there out link. ap (λ m. has m other) e
+      ∙ wider_gains links ball other one (omega arith) (both other one ∙ link)
+      (has_both ball wide one there out);
+}

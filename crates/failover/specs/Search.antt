@@ -22,7 +22,8 @@ along links balls zero at = []
 along links balls (suc k) at = let next =
     nearer links (slice_index balls k) at in next ∷ along links balls k next
 
--- each link is known from both its ends
-abbrev pub AreBothWays : List ℕ → Type 0
-AreBothWays links = (one other : ℕ) →
-    has (slice_index links one) other ≡ has (slice_index links other) one
+-- a part of the ball, and the links of all others in it stay within the ball
+pub record IsEdge (links : List ℕ) (ball edge : ℕ) : Type 0 where
+  pub inside : (one : ℕ) → one < 64 → has edge one ≡ true → has ball one ≡ true
+  pub inner : (one other : ℕ) → one < 64 → other < 64 → has ball one ≡ true →
+      has edge one ≡ false → has (slice_index links one) other ≡ true → has ball other ≡ true

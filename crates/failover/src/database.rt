@@ -1,7 +1,7 @@
-ghost use Rattle.std.specs.Prelude.{◌≡◌, ◌<◌, ℕ, map, ◌↔◌, length, IfSome, IsTrue};
+ghost use Rattle.std.specs.Prelude.{◌≡◌, ◌<◌, ℕ, map, ◌↔◌, slice_set, IfSome, IsTrue};
 ghost use Rattle.std.specs.Bool.{OnTrue};
 ghost use Rattle.failover.specs.Adverts.{held, is_news, after_hearing, no_adverts, first_of, first_adverts};
-ghost use Rattle.failover.specs.Links.{neighbours_told, told_links, is_isolated, known_links};
+ghost use Rattle.failover.specs.Links.{neighbours_told, is_isolated, known_links};
 ghost use Rattle.failover.specs.Paths.{IsIsolated, IsRoute};
 ghost use Rattle.failover.specs.RouteList.{IsRouteList};
 ghost use Rattle.failover.specs.Routes.{route_of};
@@ -9,7 +9,7 @@ ghost use Rattle.failover.specs.Routes.{route_of};
 use crate::SWITCHES;
 use crate::advert::Advert;
 use crate::down_set::DownSet;
-use crate::links::{is_linkless, link_rows};
+use crate::links::is_linkless;
 use crate::path::Route;
 use crate::search::first_route;
 use policy_rules::Targets;
@@ -20,18 +20,20 @@ use std::marker::Model;
 #[derive(Debug, Drop)]
 pub struct Database {
     adverts: [Option<Advert>; 64],
+    // The neighbours that each advert names, beside it: so no route has to gather them.
+    told: [u64; 64],
 }
 
 impl Model for Database {
     ghost use Rattle.std.specs.Prelude.{List, Option};
     ghost use Rattle.failover.specs.declared.advert.Advert.{Advert};
-    ghost use Rattle.failover.specs.Adverts.{AreByOrigin};
+    ghost use Rattle.failover.specs.Links.{IsDatabase};
 
     ghost Value = { List (Option Advert) };
 
     ghost view = { λ d. d.adverts };
 
-    ghost invariant = { λ d. AreByOrigin d.adverts };
+    ghost invariant = { λ d. IsDatabase d.adverts d.told };
 }
 
 impl Database {
@@ -48,16 +50,23 @@ impl Database {
         for origin in 0..SWITCHES {
             adverts[origin as usize] = first_advert(near, switches, origin);
         }
-        Database { adverts }
+        Database::of(adverts)
     }
 
     /// No advert.
     pub fn empty() -> Database
         ensures { result ≡ no_adverts }
     {
-        Database {
-            adverts: [None; 64],
-        }
+        Database::of([None; 64])
+    }
+
+    // These adverts.
+    fn of(adverts: [Option<Advert>; 64]) -> Database
+        requires { AreByOrigin adverts }
+        ensures { result ≡ adverts }
+    {
+        let told = all_told(&adverts);
+        Database { adverts, told }
     }
 
     /// Holds the advert, and answers true, exactly where it is news: its origin is below 64, and
@@ -70,6 +79,7 @@ impl Database {
             return false;
         }
         self.adverts[advert.origin as usize] = Some(*advert);
+        self.told[advert.origin as usize] = advert.up;
         true
     }
 
@@ -109,8 +119,9 @@ impl Database {
         ensures route { IsRoute (known_links self.now from near down.now) from targets.now result }
         ensures list { IfSome result IsRouteList }
     {
-        let links = link_rows(&self.neighbours(from, near), down);
-        first_route(&links, from, targets.items())
+        let mut neighbours = self.told;
+        set_own(&mut neighbours, from, near);
+        first_route(&neighbours, down, from, targets.items())
     }
 
     /// Whether the target is another switch, and no known link ends at it.
@@ -120,31 +131,33 @@ impl Database {
         ensures isolated { IsTrue result ↔
             IsIsolated (known_links self.now at near down.now) at target }
     {
-        target != at && is_linkless(&self.neighbours(at, near), down, target)
-    }
-
-    // The neighbours that each switch names: `at` these, every other those of its advert.
-    fn neighbours(&self, at: u32, near: u64) -> [u64; 64]
-        ensures neighbours { result ≡ told_links self.now at near }
-        ensures places { length self.now ≡ 64 }
-    {
-        let mut neighbours = self.advertised();
-        if at < SWITCHES {
-            neighbours[at as usize] = near;
+        if target == at {
+            return false;
         }
-        neighbours
+        let mut neighbours = self.told;
+        set_own(&mut neighbours, at, near);
+        is_linkless(&neighbours, down, target)
     }
+}
 
-    fn advertised(&self) -> [u64; 64]
-        ensures neighbours { result ≡ map neighbours_told self.now }
-        ensures places { length self.now ≡ 64 }
-    {
-        let mut neighbours = [0; 64];
-        for origin in 0..64 {
-            neighbours[origin] = neighbours_told(&self.adverts[origin]);
-        }
-        neighbours
+// Puts the neighbours that this switch sees in the place of those that it told.
+fn set_own(neighbours: &mut [u64; 64], at: u32, near: u64)
+    ensures { neighbours.new ≡ slice_set neighbours.old at near }
+{
+    if at < SWITCHES {
+        neighbours[at as usize] = near;
     }
+}
+
+// The neighbours that each of these adverts names.
+fn all_told(adverts: &[Option<Advert>; 64]) -> [u64; 64]
+    ensures { result ≡ map neighbours_told adverts.now }
+{
+    let mut told = [0; 64];
+    for origin in 0..64 {
+        told[origin] = neighbours_told(&adverts[origin]);
+    }
+    told
 }
 
 // The neighbours that an advert names, if there is one.

@@ -59,8 +59,11 @@ impl DownSet {
         ensures link { result ≡ has_link self.now one two }
         ensures set { IsLinkSet self.now }
     {
-        let low = one.min(two);
-        let high = one.max(two);
-        high < SWITCHES && has(self.rows[low as usize], high)
+        let rows = &self.rows;
+        if one >= SWITCHES || two >= SWITCHES {
+            return false;
+        }
+        // The row of the higher number doesn't have the lower: to look is less than to order them.
+        has(rows[one as usize], two) || has(rows[two as usize], one)
     }
 }

@@ -1,20 +1,30 @@
 ghost use Rattle.std.specs.Prelude.{◌≡◌, ◌<◌, ◌∷◌, IfSome, IfNone};
+ghost use Rattle.failover.specs.Links.{link_rows};
 ghost use Rattle.failover.specs.Routes.{wider, first_route, route_to};
 ghost use Rattle.failover.specs.RouteList.{IsRouteList};
-ghost use Rattle.failover.specs.Search.{IsAway, IsOutOfReach, AreBalls, AreBothWays, along};
+ghost use Rattle.failover.specs.Search.{IsAway, IsOutOfReach, AreBalls, IsEdge, along};
 
 use crate::SWITCHES;
+use crate::down_set::DownSet;
+use crate::links::links_within;
 use crate::path::Route;
 use masks::{has, only_if};
 
-/// The least path to the first of the targets that a path reaches; `None` exactly where no path
-/// reaches any.
-pub fn first_route(links: &[u64; 64], from: u32, targets: &[u32]) -> Option<Route>
-    requires { AreBothWays links.now }
-    ensures { result ≡ first_route links.now from targets.now }
+// A switch's links are found where the search comes to it: so those that it doesn't reach cost
+// nothing.
+
+/// The least path to the first of the targets that a path of links reaches; `None` exactly where
+/// no path reaches any.
+pub fn first_route(
+    neighbours: &[u64; 64],
+    down: &DownSet,
+    from: u32,
+    targets: &[u32],
+) -> Option<Route>
+    ensures { result ≡ first_route (link_rows neighbours.now down.now) from targets.now }
 {
     for target in targets {
-        if let Some(route) = route_to(links, from, *target) {
+        if let Some(route) = route_to(neighbours, down, from, *target) {
             return Some(route);
         }
     }
@@ -22,68 +32,86 @@ pub fn first_route(links: &[u64; 64], from: u32, targets: &[u32]) -> Option<Rout
 }
 
 // The least path to the target.
-fn route_to(links: &[u64; 64], from: u32, target: u32) -> Option<Route>
-    requires { AreBothWays links.now }
-    ensures { result ≡ route_to links.now from target }
+fn route_to(neighbours: &[u64; 64], down: &DownSet, from: u32, target: u32) -> Option<Route>
+    ensures { result ≡ route_to (link_rows neighbours.now down.now) from target }
 {
     if from >= SWITCHES || target >= SWITCHES {
         return None;
     }
     let mut balls = [0; 64];
-    let distance = distance(links, &mut balls, from, target)?;
-    Some(walk(links, &balls, distance, from))
+    let distance = distance(neighbours, down, &mut balls, from, target)?;
+    Some(walk(neighbours, down, &balls, distance, from))
 }
 
 // How many links the switch is away from the target. At each place below that number `balls` gets
 // the switches that are at most so many links away.
-fn distance(links: &[u64; 64], balls: &mut [u64; 64], from: u32, target: u32) -> Option<usize>
+fn distance(
+    neighbours: &[u64; 64],
+    down: &DownSet,
+    balls: &mut [u64; 64],
+    from: u32,
+    target: u32,
+) -> Option<usize>
     requires from { from < 64 }
     requires target { target < 64 }
-    requires both { AreBothWays links.now }
-    ensures away { IfSome result (λ k. IsAway links.now target k from) }
-    ensures balls { IfSome result (AreBalls links.now target balls.new) }
-    ensures none { IfNone result (IsOutOfReach links.now target from) }
+    ensures away { IfSome result (λ k. IsAway (link_rows neighbours.now down.now) target k from) }
+    ensures balls { IfSome result (AreBalls (link_rows neighbours.now down.now) target balls.new) }
+    ensures none { IfNone result (IsOutOfReach (link_rows neighbours.now down.now) target from) }
 {
     let mut ball = only_if(true, target);
+    let mut edge = ball;
     for k in 0..64 {
         if has(ball, from) {
             return Some(k);
         }
         balls[k] = ball;
-        let wide = wider(links, ball);
+        // One row tells this, where the next ball, mostly the widest step, takes one of each edge.
+        if links_within(neighbours, down, from, ball) != 0 {
+            return Some(k + 1);
+        }
+        let wide = wider(neighbours, down, ball, edge);
         if wide == ball {
             return None;
         }
+        edge = ball ^ wide;
         ball = wide;
     }
     None
 }
 
-// The ball, and the switches to which one of it has a link.
-fn wider(links: &[u64; 64], ball: u64) -> u64
-    requires { AreBothWays links.now }
-    ensures { result ≡ wider links.now ball }
+// The ball, and the switches to which one of it has a link: so has one of its edge, as the links
+// of all others stay within the ball.
+fn wider(neighbours: &[u64; 64], down: &DownSet, ball: u64, edge: u64) -> u64
+    requires { IsEdge (link_rows neighbours.now down.now) ball edge }
+    ensures { result ≡ wider (link_rows neighbours.now down.now) ball }
 {
     let mut wide = ball;
-    let mut rest = ball;
+    let mut rest = edge;
     while rest != 0 {
         let at = rest.trailing_zeros();
-        wide |= links[at as usize];
+        wide |= links_within(neighbours, down, at, !wide);
         rest ^= only_if(true, at);
     }
     wide
 }
 
 // From the switch each time to the least that is one link nearer.
-fn walk(links: &[u64; 64], balls: &[u64; 64], distance: usize, from: u32) -> Route
-    requires { IsRouteList (from ∷ along links.now balls.now distance from) }
-    ensures { result ≡ from ∷ along links.now balls.now distance from }
+fn walk(
+    neighbours: &[u64; 64],
+    down: &DownSet,
+    balls: &[u64; 64],
+    distance: usize,
+    from: u32,
+) -> Route
+    requires { IsRouteList
+        (from ∷ along (link_rows neighbours.now down.now) balls.now distance from) }
+    ensures { result ≡ from ∷ along (link_rows neighbours.now down.now) balls.now distance from }
 {
     let mut switches = [0; 64];
     switches[0] = from;
     let mut at = from;
     for step in 0..distance {
-        at = (links[at as usize] & balls[distance - 1 - step]).trailing_zeros();
+        at = links_within(neighbours, down, at, balls[distance - 1 - step]).trailing_zeros();
         switches[step + 1] = at;
     }
     Route::new(switches, distance as u8 + 1)

@@ -1,5 +1,14 @@
+use Rattle.std.proofs.Common.{◌∙◌, ◌==◌, ap}
+use Rattle.failover.specs.Links.{is_link, link_row}
+use Rattle.masks.proofs.CallerLemmas.{mask_of_lt}
 use Rattle.failover.proofs.Rows.{no_row_past}
+use Rattle.failover.proofs.RowLoop.{and_all}
 use Rattle.failover.proofs.links.is_linkless.Goals as goal
 
 pub returns-then-one-ge-SWITCHES : goal.returns-then-one-ge-SWITCHES
 returns-then-one-ge-SWITCHES c = no_row_past _ _ _ c.told-neighbours c.if-one-ge-SWITCHES.true
+
+pub returns-else-one-ge-SWITCHES : goal.returns-else-one-ge-SWITCHES
+returns-else-one-ge-SWITCHES c = ap (λ row. row == 0) (c.links_within.ensures
+    ∙ and_all (link_row c.args.neighbours.now c.args.down.now c.args.one)
+    (mask_of_lt (is_link c.args.neighbours.now c.args.down.now c.args.one)))

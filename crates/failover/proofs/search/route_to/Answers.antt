@@ -1,4 +1,6 @@
 use Rattle.std.proofs.Common.{sym, ◌∙◌, ap, arith, Some}
+use Rattle.failover.specs.Links.{link_rows}
+use Rattle.failover.proofs.Rows.{length-link_rows}
 use Rattle.failover.proofs.Searching.{route_to-above, route_to-out}
 use Rattle.failover.proofs.Walking.{is_route_list, route_to-along}
 use Rattle.failover.proofs.search.route_to.Goals as goal
@@ -7,9 +9,9 @@ use Rattle.failover.proofs.search.route_to.Goals.{then-from-ge-SWITCHES-via-then
 pub returns-then-from-ge-SWITCHES : goal.returns-then-from-ge-SWITCHES
 returns-then-from-ge-SWITCHES c = elim c.then-from-ge-SWITCHES.branch [
   | then-from-ge-SWITCHES-via-then-from-ge-SWITCHES w ↦ sym
-      (route_to-above c.args.links.now c.args.from c.args.target (λ p q. absurd (omega arith)))
+      (route_to-above (link_rows c.args.neighbours.now c.args.down.now) c.args.from c.args.target (λ p q. absurd (omega arith)))
   | then-from-ge-SWITCHES-via-else-from-ge-SWITCHES+then-target-ge-SWITCHES w ↦ sym
-      (route_to-above c.args.links.now c.args.from c.args.target (λ p q. absurd (omega arith)))
+      (route_to-above (link_rows c.args.neighbours.now c.args.down.now) c.args.from c.args.target (λ p q. absurd (omega arith)))
 ]
 
 pub returns-in_err-distance : goal.returns-in_err-distance
@@ -18,10 +20,10 @@ returns-in_err-distance c = c.from_residual.ensures
     c.in_err-distance.ensures.none)
 
 pub walk-requires : goal.walk-requires
-walk-requires c = is_route_list _ _ c.args.target _ _ c.told-links c.if-target-ge-SWITCHES.false
+walk-requires c = is_route_list _ _ c.args.target _ _ (length-link_rows c.args.neighbours.now c.args.down.now) c.if-target-ge-SWITCHES.false
     c.if-from-ge-SWITCHES.false c.in_ok-distance.ensures.away c.in_ok-distance.ensures.balls
 
 pub returns : goal.returns
 returns c = ap Some c.walk.ensures
-    ∙ sym (route_to-along _ _ _ _ _ c.told-links c.if-target-ge-SWITCHES.false
+    ∙ sym (route_to-along _ _ _ _ _ (length-link_rows c.args.neighbours.now c.args.down.now) c.if-target-ge-SWITCHES.false
     c.if-from-ge-SWITCHES.false c.in_ok-distance.ensures.away c.in_ok-distance.ensures.balls)

@@ -1,56 +1,64 @@
 use Rattle.std.proofs.Common.{ℕ, ◌≡◌, ◌+◌, ◌-◌, List, ◌∷◌, ◌++◌, take, replicate, get_or, sym, ◌∙◌, ap, subst, arith, length}
+use Rattle.failover.specs.Links.{link_rows}
 use Rattle.failover.specs.RouteList.{IsRouteList}
+use Rattle.std.specs.Int.Bits.{bit_and}
 use Rattle.masks.specs.Masks.{least_in}
 use Rattle.failover.specs.Routes.{nearer}
 use Rattle.failover.specs.Search.{along}
+use Rattle.failover.proofs.Rows.{row_of}
 use Rattle.failover.proofs.Walking.{length-along, left_at, below_in, along-next, written_more, written_route}
 use Rattle.failover.proofs.search.walk.Goals as goal
 
-pub bounds-links-at : goal.bounds-links-at
-bounds-links-at c = below_in _ c.loop-step.step _ _ c.requires c.loop-step.invariant.left
+pub links_within-at-requires : goal.links_within-at-requires
+links_within-at-requires c = below_in _ c.loop-step.step _ _ c.requires c.loop-step.invariant.left
 
 pub offset_bounds-balls-distance : goal.offset_bounds-balls-distance
 offset_bounds-balls-distance c =
     omega (
       arith,
-      length-along c.args.links.now c.args.balls.now c.args.distance c.args.from,
+      length-along (link_rows c.args.neighbours.now c.args.down.now) c.args.balls.now c.args.distance c.args.from,
       c.requires.few,
     )
 
 pub bounds-balls-distance : goal.bounds-balls-distance
 bounds-balls-distance c = omega (
   arith,
-  length-along c.args.links.now c.args.balls.now c.args.distance c.args.from,
+  length-along (link_rows c.args.neighbours.now c.args.down.now) c.args.balls.now c.args.distance c.args.from,
   c.requires.few,
 )
 
 pub bounds-switches-step : goal.bounds-switches-step
 bounds-switches-step c = omega (
   arith,
-  length-along c.args.links.now c.args.balls.now c.args.distance c.args.from,
+  length-along (link_rows c.args.neighbours.now c.args.down.now) c.args.balls.now c.args.distance c.args.from,
   c.requires.few,
 )
 
 pub loop-step-preserved : goal.loop-step-preserved
 unfolding nearer least_in
 loop-step-preserved c =
-    let route = c.args.from ∷ along c.args.links.now c.args.balls.now c.args.distance c.args.from in
-    let long = length-along c.args.links.now c.args.balls.now c.args.distance c.args.from in
+    let links = link_rows c.args.neighbours.now c.args.down.now in
+    let route = c.args.from ∷ along links c.args.balls.now c.args.distance c.args.from in
+    let long = length-along links c.args.balls.now c.args.distance c.args.from in
+    let fits = below_in _ c.loop-step.step _ _ c.requires c.loop-step.invariant.left in
     let here = left_at route c.loop-step.step _ _ c.loop-step.invariant.left in
-    let next = here.2 ∙ along-next c.args.links.now c.args.balls.now
-    (c.args.distance - c.loop-step.step) c.loop-step.at (c.args.distance - 1 - c.loop-step.step)
-    (omega arith) in
+    let ball = get_or c.args.balls.now (c.args.distance - 1 - c.loop-step.step) 0 in
+    let nearest : least_in c.links_within-at.result ≡ nearer links ball c.loop-step.at =
+    ap least_in (c.links_within-at.ensures ∙ ap (λ row. bit_and row ball)
+    (sym (row_of c.args.neighbours.now c.args.down.now c.loop-step.at fits))) in
+    let next = here.2 ∙ along-next links c.args.balls.now (c.args.distance - c.loop-step.step)
+    c.loop-step.at (c.args.distance - 1 - c.loop-step.step) (omega arith) in
     let there = left_at route (c.loop-step.step + 1) _ _ next in
     let fewer : c.args.distance - 1 - c.loop-step.step ≡ c.args.distance - (c.loop-step.step + 1) =
     omega arith in
     record {
       written = written_more route c.loop-step.switches c.loop-step.step _ c.requires.few there.0
-          (sym there.1) c.loop-step.invariant.written;
-      left = next ∙ ap (λ (m : ℕ). nearer c.args.links.now
-          (get_or c.args.balls.now (c.args.distance - 1 - c.loop-step.step) 0) c.loop-step.at ∷
-          along c.args.links.now c.args.balls.now m
-          (nearer c.args.links.now (get_or c.args.balls.now
-          (c.args.distance - 1 - c.loop-step.step) 0) c.loop-step.at)) fewer;
+          (nearest ∙ sym there.1) c.loop-step.invariant.written;
+      left = next
+          ∙ ap (λ (m : ℕ). nearer links ball c.loop-step.at ∷ along links c.args.balls.now m
+          (nearer links ball c.loop-step.at)) fewer
+          ∙ ap (λ (x : ℕ). x ∷ along links c.args.balls.now
+          (c.args.distance - (c.loop-step.step + 1)) x) (sym nearest);
     }
 
 whole_of : (route switches : List ℕ) (distance step : ℕ) → length route ≡ distance + 1 →
@@ -62,15 +70,15 @@ whole_of route switches distance step long last written =
 
 pub new-requires-clause-list : goal.new-requires-clause-list
 new-requires-clause-list c =
-    let long = length-along c.args.links.now c.args.balls.now c.args.distance c.args.from in
+    let long = length-along (link_rows c.args.neighbours.now c.args.down.now) c.args.balls.now c.args.distance c.args.from in
     subst IsRouteList (sym (whole_of
-    (c.args.from ∷ along c.args.links.now c.args.balls.now c.args.distance c.args.from)
+    (c.args.from ∷ along (link_rows c.args.neighbours.now c.args.down.now) c.args.balls.now c.args.distance c.args.from)
     c.loop-step.switches c.args.distance c.loop-step.step (omega arith)
     (omega arith) c.loop-step.invariant.written)) c.requires
 
 pub returns : goal.returns
 returns c =
-    let long = length-along c.args.links.now c.args.balls.now c.args.distance c.args.from in
-    c.new.ensures ∙ whole_of (c.args.from ∷ along c.args.links.now c.args.balls.now c.args.distance
+    let long = length-along (link_rows c.args.neighbours.now c.args.down.now) c.args.balls.now c.args.distance c.args.from in
+    c.new.ensures ∙ whole_of (c.args.from ∷ along (link_rows c.args.neighbours.now c.args.down.now) c.args.balls.now c.args.distance
     c.args.from) c.loop-step.switches c.args.distance c.loop-step.step (omega arith)
     (omega arith) c.loop-step.invariant.written

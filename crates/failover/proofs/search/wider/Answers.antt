@@ -1,22 +1,38 @@
-use Rattle.std.proofs.Common.{◌<◌, arith}
-use Rattle.std.specs.Int.Bits.{bit_xor}
+use Rattle.std.proofs.Common.{◌<◌, ◌^◌, ◌∙◌, sym, ap, subst, ℕ, arith}
+use Rattle.std.specs.Int.{bit_not, w64}
+use Rattle.std.specs.Int.Bits.{bit_and, bit_xor}
 use Rattle.masks.specs.Masks.{least_in}
-use Rattle.masks.proofs.CallerLemmas.{least_lt}
-use Rattle.failover.proofs.RowLoop.{first_left, less}
-use Rattle.failover.proofs.WiderLoop.{wide_begins, wide_ends, wide_goes_on}
+use Rattle.masks.proofs.CallerLemmas.{least_lt, mask_of_lt}
+use Rattle.failover.specs.Links.{is_link, link_rows}
+use Rattle.failover.proofs.RowLoop.{first_left, less, or_others}
+use Rattle.failover.proofs.Rows.{length-link_rows, row_of, row_turned}
+use Rattle.failover.proofs.WiderLoop.{IsWideSoFar, wide_begins, wide_ends, wide_goes_on}
 use Rattle.failover.proofs.search.wider.Goals as goal
 
 pub loop-rest-init : goal.loop-rest-init
-loop-rest-init c = wide_begins c.args.links.now c.args.ball c.told-links (omega arith)
+loop-rest-init c = wide_begins _ c.args.ball c.args.edge
+    (length-link_rows c.args.neighbours.now c.args.down.now)
+    (row_turned c.args.neighbours.now c.args.down.now) (omega arith) (omega arith) c.requires
 
 pub loop-rest-preserved : goal.loop-rest-preserved
 unfolding least_in
 loop-rest-preserved c =
-    wide_goes_on c.args.links.now c.args.ball c.loop-rest.wide c.loop-rest.rest
-    (least_in c.loop-rest.rest) _ c.told-links c.requires c.loop-rest.invariant
+    let neighbours = c.args.neighbours.now in
+    let down = c.args.down.now in
+    let at = least_in c.loop-rest.rest in
+    let fits : at < 64 =
+    least_lt c.loop-rest.rest (omega arith) c.loop-rest.invariant.rest_fits in
+    let here = row_of neighbours down at fits in
+    let row_fits = subst (λ (m : ℕ). m < 2 ^ 64) (sym here) (mask_of_lt (is_link neighbours down at)) in
+    subst (λ (m : ℕ). IsWideSoFar (link_rows neighbours down) c.args.ball m
+    (bit_xor c.loop-rest.rest c.only_if-rest.result))
+    (sym (or_others c.loop-rest.wide _ c.links_within-wide.result c.loop-rest.invariant.wide_fits
+    row_fits (c.links_within-wide.ensures
+    ∙ ap (λ row. bit_and row (bit_not w64 c.loop-rest.wide)) (sym here))))
+    (wide_goes_on (link_rows neighbours down) c.args.ball c.loop-rest.wide c.loop-rest.rest
+    at _ (length-link_rows neighbours down) (row_turned neighbours down) c.loop-rest.invariant
     (first_left c.loop-rest.rest c.loop-rest.invariant.rest_fits c.loop-rest-test.true)
-    (least_lt c.loop-rest.rest (omega arith) c.loop-rest.invariant.rest_fits)
-    (c.fits-links (least_in c.loop-rest.rest)) c.only_if-rest.ensures
+    fits row_fits c.only_if-rest.ensures)
 
 pub loop-rest-smaller : goal.loop-rest-smaller
 unfolding least_in
@@ -27,5 +43,6 @@ loop-rest-smaller c =
     gone
 
 pub returns : goal.returns
-returns c = wide_ends c.args.links.now c.args.ball c.loop-rest.wide c.loop-rest.rest c.told-links
-    (omega arith) c.loop-rest.invariant c.loop-rest-test.false
+returns c = wide_ends _ c.args.ball c.loop-rest.wide c.loop-rest.rest
+    (length-link_rows c.args.neighbours.now c.args.down.now) (omega arith)
+    c.loop-rest.invariant c.loop-rest-test.false

@@ -1,10 +1,19 @@
-use Rattle.std.proofs.Common.{None, arith}
+use Rattle.std.proofs.Common.{◌∙◌, None, arith, sym, subst}
 use Rattle.std.proofs.lemmas.List.FromFn.{fill_by_all}
 use Rattle.masks.specs.Masks.{switches}
-use Rattle.failover.specs.Adverts.{first_of, first_adverts}
+use Rattle.failover.specs.Adverts.{first_of, first_adverts, AreByOrigin}
+use Rattle.failover.proofs.Adverts.{by_origin-first}
 use Rattle.failover.proofs.database.Database.begin.Goals as goal
+
+pub of-requires : goal.of-requires
+unfolding first_adverts switches
+of-requires c = subst AreByOrigin (sym (fill_by_all (first_of c.args.near.now c.args.switches)
+    c.loop-origin.adverts 64 None c.loop-origin.invariant.0
+    (λ k below. c.loop-origin.invariant.1 k (omega arith))))
+    (by_origin-first c.args.near.now c.args.switches)
 
 pub returns : goal.returns
 unfolding first_adverts switches
-returns c = fill_by_all (first_of c.args.near.now c.args.switches) c.loop-origin.adverts 64 None
-    c.loop-origin.invariant.0 (λ k below. c.loop-origin.invariant.1 k (omega arith))
+returns c = c.of.ensures ∙ fill_by_all (first_of c.args.near.now c.args.switches)
+    c.loop-origin.adverts 64 None c.loop-origin.invariant.0
+    (λ k below. c.loop-origin.invariant.1 k (omega arith))

@@ -1,5 +1,5 @@
 use Rattle.failover.proofs.Adverts.{by_origin-none}
 use Rattle.failover.proofs.database.Database.empty.Goals as goal
 
-pub invariant_of-result : goal.invariant_of-result
-invariant_of-result c = by_origin-none
+pub of-requires : goal.of-requires
+of-requires c = by_origin-none

@@ -1,6 +1,18 @@
-use Rattle.std.proofs.Common.{sym, ◌∙◌}
-use Rattle.failover.proofs.Adverts.{after_no_news, after_news}
+use Rattle.std.proofs.Common.{sym, ◌∙◌, ap, set, Some}
+use Rattle.std.proofs.lemmas.List.{map-set}
+use Rattle.failover.specs.Links.{neighbours_told}
+use Rattle.failover.proofs.Adverts.{after_no_news, after_news, by_origin-set}
 use Rattle.failover.proofs.database.Database.hear.Goals as goal
+
+pub invariant_of-self : goal.invariant_of-self
+invariant_of-self c = record {
+  by_origin = by_origin-set c.self.inside.adverts c.args.advert.now c.self.invariant.by_origin
+      c.if-not-is_news.ensures.switch;
+  neighbours = ap (λ told. set told c.args.advert.now.origin c.args.advert.now.up)
+      c.self.invariant.neighbours
+      ∙ sym (map-set neighbours_told c.self.inside.adverts c.args.advert.now.origin
+      (Some c.args.advert.now));
+}
 
 pub returns-then-not-is_news-clause-after : goal.returns-then-not-is_news-clause-after
 returns-then-not-is_news-clause-after c =

@@ -1,9 +1,14 @@
-use Rattle.failover.proofs.Rows.{isolated_answer}
+use Rattle.failover.proofs.Rows.{isolated_answer, isolated_is, told_links_held}
 use Rattle.failover.proofs.database.Database.isolated.Goals as goal
 
-pub returns-then-target-at-clause-isolated : goal.returns-then-target-at-clause-isolated
-returns-then-target-at-clause-isolated c =
-    isolated_answer c.args.self.now c.args.at c.args.target c.args.near c.args.down.now
-    c.neighbours.result _ c.neighbours.ensures.places c.neighbours.ensures.neighbours
-    c.is_linkless.ensures
-    c.if-target-at.true
+pub returns-clause-value : goal.returns-clause-value
+returns-clause-value c = rw (← c.self.view_is)
+    (isolated_is c.self.inside.adverts c.args.at c.args.target c.args.near c.args.down.now
+    c.set_own.new.neighbours _ (told_links_held c.self.inside.adverts c.self.inside.told
+    c.args.at c.args.near _ c.self.invariant c.set_own.ensures) c.is_linkless.ensures
+    c.if-target-at.false)
+
+pub returns-clause-isolated : goal.returns-clause-isolated
+returns-clause-isolated c = isolated_answer c.args.self.now c.args.at c.args.target c.args.near
+    c.args.down.now _ (rw (← c.self.view_is) c.self.invariant.by_origin.places)
+    (returns-clause-value c)

@@ -1,15 +1,23 @@
-use Rattle.std.proofs.Common.{◌∙◌}
-use Rattle.failover.proofs.LinkSets.{has_link-here, has_link-above}
+use Rattle.std.proofs.Common.{◌∙◌, arith, sym}
+use Rattle.failover.proofs.LinkSets.{has_link-first, has_link-second, has_link-above}
 use Rattle.failover.proofs.down_set.DownSet.has.Goals as goal
+use Rattle.failover.proofs.down_set.DownSet.has.Goals.{then-one-ge-SWITCHES-via-then-one-ge-SWITCHES, then-one-ge-SWITCHES-via-else-one-ge-SWITCHES+then-two-ge-SWITCHES}
 
-pub returns-then-high-lt-SWITCHES : goal.returns-then-high-lt-SWITCHES
-returns-then-high-lt-SWITCHES c = rw (← c.self.view_is) (record {
-  link = c.has.ensures.has ∙ has_link-here _ _ _ _ _ c.min-low.ensures c.max-high.ensures;
-  set = c.self.invariant;
-})
+pub returns-then-one-ge-SWITCHES-clause-link : goal.returns-then-one-ge-SWITCHES-clause-link
+returns-then-one-ge-SWITCHES-clause-link c = rw (← c.self.view_is)
+    (elim c.then-one-ge-SWITCHES.branch [
+      | then-one-ge-SWITCHES-via-then-one-ge-SWITCHES w ↦
+          has_link-above c.self.inside.rows c.args.one c.args.two c.self.invariant (omega arith)
+      | then-one-ge-SWITCHES-via-else-one-ge-SWITCHES+then-two-ge-SWITCHES w ↦
+          has_link-above c.self.inside.rows c.args.one c.args.two c.self.invariant (omega arith)
+    ])
 
-pub returns-else-high-lt-SWITCHES : goal.returns-else-high-lt-SWITCHES
-returns-else-high-lt-SWITCHES c = rw (← c.self.view_is) (record {
-  link = has_link-above _ _ _ _ c.self.invariant c.max-high.ensures c.if-high-lt-SWITCHES.false;
-  set = c.self.invariant;
-})
+pub returns-then-has-clause-link : goal.returns-then-has-clause-link
+returns-then-has-clause-link c = rw (← c.self.view_is) (c.if-has.true
+    ∙ has_link-first c.self.inside.rows c.args.one c.args.two c.self.invariant
+    (sym c.has.ensures.has ∙ c.if-has.true))
+
+pub returns-else-has-clause-link : goal.returns-else-has-clause-link
+returns-else-has-clause-link c = rw (← c.self.view_is) (c.has-else-has.ensures.has
+    ∙ has_link-second c.self.inside.rows c.args.one c.args.two c.self.invariant
+    (sym c.has.ensures.has ∙ c.if-has.false))

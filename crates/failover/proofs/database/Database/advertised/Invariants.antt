@@ -1,8 +1,0 @@
-use Rattle.std.proofs.Common.{◌≡◌, ℕ, ◌<◌, length, get_or, None}
-use Rattle.failover.specs.Links.{neighbours_told}
-use Rattle.failover.proofs.database.Database.advertised.Given as goal
-
-abbrev pub invariant-loop-origin : goal.invariant-loop-origin
-invariant-loop-origin l = (length l.neighbours ≡ 64)
-    × ((k : ℕ) → k < l.origin → get_or l.neighbours k 0 ≡
-    neighbours_told (get_or l.self-inside.adverts k None))
