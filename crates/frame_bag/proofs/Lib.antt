@@ -1,3 +1,4 @@
 mod Spans
+mod Installs
 mod Posting
 mod ComingOut

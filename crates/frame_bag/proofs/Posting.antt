@@ -1,42 +1,22 @@
 -- What is kept of a message that is posted, and that what was kept stays.
-use Rattle.std.proofs.Common.{◌≡◌, ℕ, zero, suc, ◌+◌, ◌-◌, ◌<◌, ◌^◌, ◌≤◌, true, Option, Some, None, Result, Ok, Err, List, [], ◌∷◌, ◌++◌, length, take, drop, get_or, map, add-one, refl, sym, ap, subst, ◌∙◌, arith}
-use Rattle.std.specs.Prelude.{All, OnErr, OnOk, slice_get}
-use Rattle.std.specs.Int.{div_ceil}
-use Rattle.std.proofs.lemmas.List.{drop-append-le, get_or-take, length-take, map_push, take_all}
+use Rattle.std.proofs.Common.{◌≡◌, ℕ, true, Option, Some, None, Result, Ok, Err, List, [], ◌∷◌, ◌++◌, length, drop, get_or, map, refl, sym, ap, subst, ◌∙◌, arith}
+use Rattle.std.specs.Prelude.{All, OnErr, OnOk}
+use Rattle.std.proofs.lemmas.List.{get_or-take, length-take, map_push, take_all}
 use Rattle.std.proofs.lemmas.List.Elements.{All-head, All-push, All-tail}
-use Rattle.std.proofs.lemmas.Option.{slice_get_within}
-use Rattle.ctrl_msg.specs.declared.message.Body.{Body}
-use Rattle.ctrl_msg.specs.declared.message.Body.TheVariants.{Install, OpenAt, Stamp, Collect, CacheRule, Advertise, Hello, Installed, Stamped}
+use Rattle.ctrl_msg.specs.declared.message.Body.TheVariants.{Install}
 use Rattle.ctrl_msg.specs.declared.message.Message.{Message}
-use Rattle.wire.specs.Fields.{n4}
+use Rattle.wire.specs.Fields.{n4, tables}
 use Rattle.wire.specs.Format.{spelled_number}
-use Rattle.wire.specs.Frames.{AreFrames, cut, frame, frames, frames_of, head_len, most_of_piece, slices}
-use Rattle.wire.specs.Messages.{message}
-use Rattle.wire.proofs.Laws.{some_is}
+use Rattle.wire.specs.Frames.{frame, frames}
+use Rattle.wire.specs.Messages.{front, message, spelled_front, suits}
 use Rattle.frame_laws.specs.Feeding.{HasFrames}
-use Rattle.frame_bag.specs.Kept.{AreOfMessage, First, IsGrown, IsKept, IsThere, frames_in, tables_version}
+use Rattle.frame_laws.specs.Installing.{frame_count}
+use Rattle.frame_laws.proofs.Installing.{fits_whole}
+use Rattle.switch_table.specs.declared.tables.Tables.{Tables}
+use Rattle.frame_bag.specs.Kept.{AreOfMessage, First, IsGrown, IsKept, IsThere, SayTables, frames_in, tables_version}
+use Rattle.frame_bag.proofs.Installs.{carried, only_frame}
 
 -- ---- a message of one frame
-
-whole : (bytes : List ℕ) → cut (length bytes) bytes ≡ bytes ∷ []
-whole bytes =
-    let none : length bytes - length bytes ≡ 0 = omega arith in
-    rw (none, take_all (length bytes) bytes (omega arith)) refl
-
-head_of : (b : Body) (bytes : List ℕ) → tables_version b ≡ None → head_len b bytes ≡ length bytes
-head_of (Install boot t) bytes alone = absurd cc
-head_of (OpenAt boot version) bytes alone = refl
-head_of (Stamp boot version) bytes alone = refl
-head_of (Collect boot version) bytes alone = refl
-head_of (CacheRule version word rule action) bytes alone = refl
-head_of (Advertise told) bytes alone = refl
-head_of (Hello s boot) bytes alone = refl
-head_of (Installed s boot version) bytes alone = refl
-head_of (Stamped s boot version) bytes alone = refl
-
-only_frame : (m : Message) → tables_version m.body ≡ None → frames m ≡ frame 0 1 (message.spell m) ∷ []
-only_frame m alone =
-    ap frames_of (ap (λ head. cut head (message.spell m)) (head_of m.body (message.spell m) alone) ∙ whole (message.spell m))
 
 header : (piece : List ℕ) → frame 0 1 piece ≡ (0 ∷ 0 ∷ 0 ∷ 0 ∷ 0 ∷ 0 ∷ 0 ∷ 1 ∷ []) ++ piece
 unfolding frame n4 spelled_number
@@ -124,34 +104,21 @@ unchanged_after (Ok x) before after bag firsts longer grown kept view same = tt
 unchanged_after (Err e) before after bag firsts longer grown kept view same =
     ap (map (frames_in after)) same ∙ all_stay before after firsts grown kept ∙ view
 
--- ---- a message with tables
+-- ---- an installation
 
-pub tables_are : (m : Message) (kept : List (List (List ℕ))) (number : ℕ) (fs : List (List ℕ)) (first bytes : List ℕ)
-    → drop 1 (get_or kept number []) ≡ drop 1 fs → fs ≡ frames m → slice_get fs 0 ≡ Some first → bytes ≡ first
+-- the first frame of its own, and the kept ones behind it
+pub tables_are : (m : Message) (kept : List (List (List ℕ))) (number boot : ℕ) (t : Tables) (bytes : List ℕ)
+    → m.body ≡ Install boot t → SayTables t (get_or kept number [])
+    → bytes ≡ frame 0 (length (get_or kept number [])) (spelled_front m.to boot)
     → frames_in kept (bytes, Some number) ≡ frames m
-tables_are m kept number [] first bytes same are at is = absurd (cc at)
-tables_are m kept number (f ∷ fs) first bytes same are at is =
-    let head : bytes ≡ f = is ∙ sym (some_is f first at) in
-    rw (head, same) are
+tables_are m kept number boot t bytes carries say is =
+    let fs = get_or kept number [] in
+    ap (λ f. f ∷ drop 1 fs) (is ∙ ap (λ n. frame 0 n (spelled_front m.to boot)) say.count)
+    ∙ ap (λ others. frame 0 (frame_count t) (spelled_front m.to boot) ∷ others) say.behind.are
+    ∙ sym (carried m boot t carries)
 
--- frames that are the same up to a place are so up to the next one
-next_of : (fs : List (List ℕ)) (place : ℕ) (f : List ℕ) → slice_get fs place ≡ Some f
-    → take (suc place) fs ≡ take place fs ++ f ∷ []
-next_of [] place f at = absurd (cc at)
-next_of (g ∷ gs) zero f at = ap (λ h. h ∷ []) (some_is g f at)
-next_of (g ∷ gs) (suc place) f at = ap (λ hs. g ∷ hs) (next_of gs place f at)
-
-one_more : (fs : List (List ℕ)) (place : ℕ) (f : List ℕ) → 1 ≤ place → slice_get fs place ≡ Some f
-    → drop 1 (take (place + 1) fs) ≡ drop 1 (take place fs) ++ f ∷ []
-one_more fs place f le at =
-    let next : take (place + 1) fs ≡ take place fs ++ f ∷ [] = rw add-one (next_of fs place f at) in
-    ap (drop 1) next
-    ∙ drop-append-le 1 (take place fs) (f ∷ []) (omega (arith, length-take place fs, slice_get_within fs place f at))
-
-pub still_same : (one other : List (List ℕ)) (place : ℕ) (a b : List ℕ) → 1 ≤ place
-    → drop 1 (take place one) ≡ drop 1 (take place other) → slice_get one place ≡ Some a → slice_get other place ≡ Some b
-    → a ≡ b → drop 1 (take (place + 1) one) ≡ drop 1 (take (place + 1) other)
-still_same one other place a b le same at there is =
-    one_more one place a le at
-    ∙ ap (λ front. front ++ a ∷ []) same ∙ ap (λ f. drop 1 (take place other) ++ f ∷ []) is
-    ∙ sym (one_more other place b le there)
+pub tables_fit : (m : Message) (boot : ℕ) (t : Tables) → m.body ≡ Install boot t → front.fits (m.to, (1, boot)) ≡ true
+    → tables.fits t ≡ true → suits m.to m.body ≡ true → message.fits m ≡ true
+tables_fit m boot t carries head fits is =
+    ap (λ b. message.fits (record { to = m.to; body = b })) carries
+    ∙ fits_whole m.to boot t head fits (ap (suits m.to) (sym carries) ∙ is)

@@ -1,10 +1,10 @@
 -- First frames that lie one after the other: more bytes behind them change none.
-use Rattle.std.proofs.Common.{◌≡◌, ℕ, ◌+◌, ◌-◌, ◌≤◌, Option, List, [], ◌∷◌, ◌++◌, length, length-append, length-drop, take, drop, map, refl, ap, ◌∙◌, arith}
+use Rattle.std.proofs.Common.{◌≡◌, ℕ, Option, List, [], ◌∷◌, ◌++◌, length, length-append, length-drop, take, drop, map, refl, ap, ◌∙◌, arith}
 use Rattle.std.specs.Prelude.{All}
 use Rattle.std.proofs.Math.Seq.{drop-append_seam}
 use Rattle.std.proofs.lemmas.List.{drop-append-le, map_push, take-append-le, take_all}
 use Rattle.std.proofs.lemmas.List.Elements.{All-head, All-push, All-tail}
-use Rattle.frame_bag.specs.Kept.{First, IsWithin, first_in}
+use Rattle.frame_bag.specs.Kept.{IsWithin, first_in}
 use Rattle.frame_bag.specs.declared.firsts.Span.{Span}
 
 one_stays : (bytes more : List ℕ) (span : Span) → IsWithin bytes span → first_in (bytes ++ more) span ≡ first_in bytes span

@@ -1,9 +1,12 @@
 -- Messages that are kept as their frames.
-use Rattle.std.specs.Prelude.{ℕ, ◌≡◌, ◌+◌, ◌-◌, ◌<◌, ◌≤◌, true, Option, Some, None, List, [], ◌∷◌, length, take, drop, get_or, slice_get}
+use Rattle.std.specs.Prelude.{ℕ, ◌≡◌, ◌+◌, ◌-◌, ◌<◌, ◌≤◌, true, Option, Some, None, List, [], ◌∷◌, ◌++◌, length, take, drop, get_or, slice_get}
 use Rattle.ctrl_msg.specs.declared.message.Body.{Body}
 use Rattle.ctrl_msg.specs.declared.message.Body.TheVariants.{Install}
 use Rattle.ctrl_msg.specs.declared.message.Message.{Message}
 use Rattle.frame_laws.specs.Feeding.{HasFrames}
+use Rattle.frame_laws.specs.Installing.{AreBehind, frame_count}
+use Rattle.switch_table.specs.declared.tables.Tables.{Tables}
+use Rattle.wire.specs.Fields.{n4}
 use Rattle.wire.specs.Frames.{frames}
 use Rattle.wire.specs.Messages.{message}
 use Rattle.frame_bag.specs.declared.firsts.Span.{Span}
@@ -47,6 +50,21 @@ AreOfMessage fs = (m : Message) × HasFrames m × (fs ≡ frames m)
 pub record IsKept (kept : List (List (List ℕ))) (first : First) : Type 0 where
   pub there : IsThere kept first.1
   pub are : AreOfMessage (frames_in kept first)
+
+-- they are the frames of an installation
+pub record AreOfInstall (fs : List (List ℕ)) : Type 0 where
+  pub message_is : Message
+  pub boot : ℕ
+  pub tables : Tables
+  pub has : HasFrames message_is
+  pub are : fs ≡ frames message_is
+  pub carries : message_is.body ≡ Install boot tables
+
+-- these are the frames of an installation of these tables, whatever its receiver and its boot are
+pub record SayTables (t : Tables) (fs : List (List ℕ)) : Type 0 where
+  pub behind : AreBehind t fs
+  pub count : length fs ≡ frame_count t
+  pub header : take 8 (get_or fs 0 []) ≡ n4.spell 0 ++ n4.spell (frame_count t)
 
 -- what was kept is there still, under its number
 abbrev pub IsGrown : List (List (List ℕ)) → List (List (List ℕ)) → Type 0

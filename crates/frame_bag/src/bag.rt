@@ -1,12 +1,13 @@
 ghost use Rattle.std.specs.Prelude.{◌≡◌, ◌<◌, ◌+◌, ◌-◌, ◌^◌, ◌++◌, ◌∷◌, ◌↔◌, ◌⊎◌, [], None, Some, true, length, IfOk, IfSome, IsNone, OnErr, OnOk};
+ghost use Rattle.ctrl_msg.specs.declared.message.Body.TheVariants.{Install};
 ghost use Rattle.wire.specs.Frames.{frames};
 ghost use Rattle.wire.specs.Messages.{HasSpelling, message as form};
 ghost use Rattle.frame_bag.specs.Kept.{IsPosted, tables_version};
 
 use crate::firsts::Firsts;
-use crate::reading::{alone, assembled};
-use crate::tables::{TableFrames, keep};
-use ctrl_msg::{Body, Message};
+use crate::reading::{alone, tables_of};
+use crate::tables::{TableFrames, spell};
+use ctrl_msg::{Message, SharedTables};
 use std::alloc::{AllocError, Global};
 use std::marker::Model;
 use wire::{append, split};
@@ -64,9 +65,9 @@ impl FrameBag {
         ensures posted { OnOk result (self.new ≡ self.old ++ frames message.now ∷ []) }
         ensures unchanged { OnErr result (self.new ≡ self.old) }
     {
-        match tables_version(&message.body) {
+        match tables_of(&message.body) {
             None => self.post_alone(message)?,
-            Some(version) => self.post_tables(alloc, message, version)?,
+            Some((boot, tables)) => self.post_tables(alloc, message, boot, tables)?,
         }
         Ok(self.len() as u32)
     }
@@ -86,26 +87,29 @@ impl FrameBag {
         self.firsts.push(&self.scratch, None)
     }
 
-    // Posts a message with the tables of a version.
+    // Posts an installation of these tables.
     fn post_tables(
         &mut self,
         alloc: Global,
         message: &Message,
-        version: u32,
+        boot: u32,
+        tables: &SharedTables,
     ) -> Result<(), AllocError>
         requires spelling { HasSpelling message.now }
         requires short { length (form.spell message.now) < 2 ^ 40 }
+        requires carries { message.now.body ≡ Install boot tables.now }
         ensures fits { OnOk result (form.fits message.now ≡ true) }
         ensures posted { OnOk result (self.new ≡ self.old ++ frames message.now ∷ []) }
         ensures unchanged { OnErr result (self.new ≡ self.old) }
     {
-        let frames = split(alloc, message)?;
-        self.scratch.clear();
-        match frames.get(0) {
-            Some(first) => self.scratch.extend_from_slice(first)?,
-            None => unreachable!(),
-        }
-        let number = keep(&mut self.tables, message.to, version, frames)?;
+        let number = spell(
+            &mut self.tables,
+            &mut self.scratch,
+            alloc,
+            message,
+            boot,
+            tables,
+        )?;
         self.firsts.push(&self.scratch, Some(number))
     }
 
@@ -127,19 +131,9 @@ impl FrameBag {
             None => Ok(None),
             Some((frame, None)) => Ok(Some(alone(alloc, frame)?)),
             Some((frame, Some(kept))) => {
-                let frames = self.tables[kept].frames();
-                Ok(Some(assembled(alloc, frame, frames)?))
+                let message = self.tables[kept].message(alloc, frame)?;
+                Ok(Some(message))
             }
         }
-    }
-}
-
-// The version of the tables that an installation carries.
-fn tables_version(body: &Body) -> Option<u32>
-    ensures { result ≡ tables_version body.now }
-{
-    match body {
-        Body::Install { tables, .. } => Some(tables.tables().version),
-        _ => None,
     }
 }

@@ -1,10 +1,12 @@
 //! The messages that were posted in a network, as the bytes that travel.
 //!
 //! A `FrameBag` keeps of each message its frames, and promises that the message of a number comes
-//! out of them again: nothing else is kept. All first frames lie one after the other in one vector,
-//! so that a message of a few bytes takes a few bytes. The other frames, of tables, are shared by
-//! all messages to one switch of one version whose tables are spelled alike. `post` and `take` alone
-//! take memory; want of it changes nothing.
+//! out of them again. All first frames lie one after the other in one vector, so that a message of a
+//! few bytes takes a few bytes. The other frames, of tables, are shared by all installations of the
+//! same tables, in whatever boot and to whatever switch: tables are spelled once. Beside them the
+//! tables as they were posted say which are the same, and those that came out of the frames are
+//! shared by all later messages: they are decoded once. `post` and `take` alone take memory; want of
+//! it changes nothing.
 //!
 //! ```text
 //! let mut bag = FrameBag::new(alloc);
@@ -18,6 +20,7 @@
 mod bag;
 mod firsts;
 mod reading;
+mod same;
 mod tables;
 
 pub use bag::FrameBag;

@@ -1,110 +1,183 @@
-ghost use Rattle.std.specs.Prelude.{◌≡◌, ◌<◌, [], drop, get_or, length, IfOk, IfSome, IsTrue};
-ghost use Rattle.frame_bag.specs.Kept.{IsGrown};
+//! The frames of tables, which installations of the same tables share.
+ghost use Rattle.std.specs.Prelude.{◌≡◌, ◌<◌, ◌^◌, ◌++◌, ◌∷◌, ℕ, [], Some, true, drop, get_or, length, IfOk, IfSome, IsTrue, OnOk};
+ghost use Rattle.ctrl_msg.specs.declared.message.Body.TheVariants.{Install};
+ghost use Rattle.wire.specs.Frames.{AreFrames, frame, frames};
+ghost use Rattle.wire.specs.Messages.{HasSpelling, IsSwitch, front, message as form, spelled_front};
+ghost use Rattle.frame_bag.specs.Kept.{AreOfMessage, IsGrown, SayTables, frames_in};
 
-use ctrl_msg::Receiver;
-use std::alloc::AllocError;
+use crate::reading::{shared, tables_in};
+use crate::same::are_same_tables;
+use ctrl_msg::{Message, Receiver, SharedTables};
+use std::alloc::{AllocError, Global};
 use std::marker::Model;
-use wire::Frames;
+use switch_table::Tables;
+use wire::{Frames, append_front, split};
 
-/// The frames of the first installation of a version's tables at a switch: those behind the first
-/// one say the tables, and messages of the same tables share them. Contracts see the frames.
+/// How many bytes of a frame say its place and the count of frames.
+const HEADER_LEN: usize = 8;
+
+/// The frames of the first installation of some tables that was posted: those behind its first one
+/// say the tables, and each other installation of the same tables shares them. Contracts see the
+/// frames.
 #[derive(Drop)]
 pub struct TableFrames {
-    to: Receiver,
     version: u32,
+    // As they were posted: the controller's own, by which a repeat is known.
+    posted: SharedTables,
     frames: Frames,
+    // As they came out of the frames: those of each message that is taken.
+    said: SharedTables,
 }
 
 impl Model for TableFrames {
     ghost use Rattle.std.specs.Prelude.{List, ℕ};
+    ghost use Rattle.frame_bag.specs.Kept.{SayTables};
 
     ghost Value = { List (List ℕ) };
 
     ghost view = { λ t. t.frames };
+
+    ghost invariant = { λ t. SayTables t.posted t.frames × SayTables t.said t.frames };
 }
 
 impl TableFrames {
-    /// The frames.
-    pub fn frames(&self) -> &Frames
-        ensures { result.now ≡ self.now }
+    // Of an installation of these tables.
+    fn new(
+        alloc: Global,
+        message: &Message,
+        tables: &SharedTables,
+    ) -> Result<TableFrames, AllocError>
+        requires spelling { HasSpelling message.now }
+        requires short { length (form.spell message.now) < 2 ^ 40 }
+        requires carries { (boot : ℕ) × (message.now.body ≡ Install boot tables.now) }
+        ensures { IfOk result (SayTables tables.now) }
     {
-        &self.frames
+        let frames = split(alloc, message)?;
+        let said = tables_in(alloc, &frames)?;
+        Ok(TableFrames {
+            version: tables.tables().version,
+            posted: tables.clone()?,
+            frames,
+            said,
+        })
     }
 
-    // Whether they are of this switch and version, and those of the tables are the same as these.
-    fn shares(&self, to: Receiver, version: u32, frames: &Frames) -> bool
-        ensures { IsTrue result → drop 1 self.now ≡ drop 1 frames.now }
+    // Whether these are the tables that were posted.
+    fn are_of(&self, tables: &Tables) -> bool
+        ensures { IsTrue result → SayTables tables.now self.now }
     {
-        self.to == to && self.version == version && are_same_behind_first(&self.frames, frames)
+        self.version == tables.version && are_same_tables(self.posted.tables(), tables)
     }
-}
 
-// Whether two frames are the same.
-fn are_same(one: &[u8], other: &[u8]) -> bool
-    ensures { IsTrue result → one.now ≡ other.now }
-{
-    one == other
-}
-
-// Whether all frames but the first are the same.
-fn are_same_behind_first(one: &Frames, other: &Frames) -> bool
-    ensures { IsTrue result → drop 1 one.now ≡ drop 1 other.now }
-{
-    for place in 1..u32::MAX {
-        match (one.get(place), other.get(place)) {
-            (Some(a), Some(b)) => {
-                if !are_same(a, b) {
-                    return false;
-                }
-            }
-            (None, None) => return true,
-            _ => return false,
+    // Writes at the end the first frame of an installation of these tables: only the receiver and
+    // the boot are its own.
+    fn put_first(&self, out: &mut Vec<u8>, to: Receiver, boot: u32) -> Result<(), AllocError>
+        requires { IsSwitch to }
+        ensures fits { OnOk result (front.fits (to, (1, boot)) ≡ true) }
+        ensures put { OnOk result (out.new.items
+            ≡ out.old.items ++ frame 0 (length self.now) (spelled_front to boot)) }
+    {
+        match self.frames.get(0) {
+            Some(own) => out.extend_from_slice(own.split_at(HEADER_LEN).0)?,
+            None => unreachable!(),
         }
+        append_front(out, to, boot)
     }
-    false
+
+    /// The message of this first frame and those behind it. All such messages share the tables.
+    ///
+    /// # Errors
+    /// Want of memory alone.
+    pub fn message(&self, alloc: Global, first: &[u8]) -> Result<Message, AllocError>
+        requires { AreOfMessage (first.now ∷ drop 1 self.now) }
+        ensures { IfOk result (λ message.
+            AreFrames message (first.now ∷ drop 1 self.now)) }
+    {
+        shared(alloc, first, &self.said)
+    }
 }
 
-// The number of frames that are kept already for this switch and version, and whose tables are the
-// same.
-fn find(kept: &[TableFrames], to: Receiver, version: u32, frames: &Frames) -> Option<usize>
+// The number of the frames that say these tables. Most often they are among the last.
+fn find(kept: &[TableFrames], tables: &Tables) -> Option<usize>
     ensures there { IfSome result (λ number. number < length kept.now) }
-    ensures same { IfSome result (λ number.
-        drop 1 (get_or kept.now number []) ≡ drop 1 frames.now) }
+    ensures say { IfSome result (λ number. SayTables tables.now (get_or kept.now number [])) }
 {
-    for number in 0..kept.len() {
-        if kept[number].shares(to, version, frames) {
+    for before in 0..kept.len() {
+        let number = kept.len() - 1 - before;
+        if kept[number].are_of(tables) {
             return Some(number);
         }
     }
     None
 }
 
-/// The number of kept frames whose tables are the same as those of these frames, which are kept from
-/// now on unless such are there for this switch and version.
-///
-/// # Errors
-/// Want of memory alone.
-pub fn keep(
+// The number of the kept frames that say the tables of this installation: of those that are there,
+// or of its own, which are kept from now on.
+fn keep(
     kept: &mut Vec<TableFrames>,
-    to: Receiver,
-    version: u32,
-    frames: Frames,
+    alloc: Global,
+    message: &Message,
+    tables: &SharedTables,
 ) -> Result<usize, AllocError>
+    requires spelling { HasSpelling message.now }
+    requires short { length (form.spell message.now) < 2 ^ 40 }
+    requires carries { (boot : ℕ) × (message.now.body ≡ Install boot tables.now) }
     ensures there { IfOk result (λ number. number < length kept.new.items) }
-    ensures same { IfOk result (λ number.
-        drop 1 (get_or kept.new.items number []) ≡ drop 1 frames) }
+    ensures say { IfOk result (λ number.
+        SayTables tables.now (get_or kept.new.items number [])) }
     ensures grown { IsGrown kept.old.items kept.new.items }
 {
-    match find(kept, to, version, &frames) {
+    match find(kept, tables.tables()) {
         Some(number) => Ok(number),
         None => {
             let number = kept.len();
-            kept.push(TableFrames {
-                to,
-                version,
-                frames,
-            })?;
+            kept.push(TableFrames::new(alloc, message, tables)?)?;
             Ok(number)
         }
     }
+}
+
+// Writes at the end the first frame of an installation of the tables of this number.
+fn put_first_of(
+    kept: &[TableFrames],
+    number: usize,
+    out: &mut Vec<u8>,
+    to: Receiver,
+    boot: u32,
+) -> Result<(), AllocError>
+    requires there { number < length kept.now }
+    requires switch { IsSwitch to }
+    ensures fits { OnOk result (front.fits (to, (1, boot)) ≡ true) }
+    ensures put { OnOk result (out.new.items
+        ≡ out.old.items ++ frame 0 (length (get_or kept.now number [])) (spelled_front to boot)) }
+{
+    kept[number].put_first(out, to, boot)
+}
+
+/// Spells an installation: its first frame, in place of what was in the buffer, and the number of
+/// the kept frames that has the others. They are spelled only where the same tables aren't kept.
+///
+/// # Errors
+/// Want of memory alone.
+pub fn spell(
+    kept: &mut Vec<TableFrames>,
+    first: &mut Vec<u8>,
+    alloc: Global,
+    message: &Message,
+    boot: u32,
+    tables: &SharedTables,
+) -> Result<usize, AllocError>
+    requires spelling { HasSpelling message.now }
+    requires short { length (form.spell message.now) < 2 ^ 40 }
+    requires carries { message.now.body ≡ Install boot tables.now }
+    ensures there { IfOk result (λ number. number < length kept.new.items) }
+    ensures fits { OnOk result (form.fits message.now ≡ true) }
+    ensures own { IfOk result (λ number.
+        frames_in kept.new.items (first.new.items, Some number) ≡ frames message.now) }
+    ensures grown { IsGrown kept.old.items kept.new.items }
+{
+    let number = keep(kept, alloc, message, tables)?;
+    first.clear();
+    put_first_of(kept, number, first, message.to, boot)?;
+    Ok(number)
 }

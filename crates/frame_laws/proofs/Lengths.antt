@@ -16,12 +16,12 @@ use Rattle.wire.specs.Fields.{n1, n4, n8, n16, switch, word, rule_name, action, 
 use Rattle.wire.proofs.Framing.{length_n4}
 use Rattle.wire.specs.Messages.{receiver, install, of_version, cache_rule, advert, hello, acknowledged, kind_of, spelled_fields, body, message}
 
-length_receiver : (to : Receiver) → length (receiver.spell to) ≡ 1
+pub length_receiver : (to : Receiver) → length (receiver.spell to) ≡ 1
 unfolding receiver switch n1 spelled_number
 length_receiver (Switch s) = refl
 length_receiver Controller = refl
 
-length_kind : (b : Body) → length (n1.spell (kind_of b)) ≡ 1
+pub length_kind : (b : Body) → length (n1.spell (kind_of b)) ≡ 1
 unfolding n1 spelled_number
 length_kind b = refl
 

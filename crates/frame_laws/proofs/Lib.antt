@@ -3,3 +3,4 @@ pub mod Sized
 mod Parts
 pub mod Coming
 pub mod InOrder
+pub mod Installing

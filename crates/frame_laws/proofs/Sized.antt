@@ -42,7 +42,7 @@ rising place count (part ∷ parts) all few =
 pub frames_rise : (m : Message) → HasFrames m → AreRising 0 (length (pieces m)) (frames m)
 frames_rise m has = rising 0 (length (pieces m)) (pieces m) (omega arith) (few_frames m has)
 
-length_from : (place count : ℕ) (parts : List (List ℕ)) → length (frames_from place count parts) ≡ length parts
+pub length_from : (place count : ℕ) (parts : List (List ℕ)) → length (frames_from place count parts) ≡ length parts
 length_from place count [] = refl
 length_from place count (part ∷ parts) = ap suc (length_from (place + 1) count parts)
 

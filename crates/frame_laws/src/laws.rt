@@ -1,9 +1,13 @@
 //! The laws.
 ghost use Rattle.std.specs.Prelude.{◌≡◌, ◌∷◌, ◌↔◌, List, ℕ};
+ghost use Rattle.ctrl_msg.specs.declared.message.Body.TheVariants.{Install};
 ghost use Rattle.ctrl_msg.specs.declared.message.Message.{Message};
+ghost use Rattle.ctrl_msg.specs.declared.message.Receiver.{Receiver};
+ghost use Rattle.switch_table.specs.declared.tables.Tables.{Tables};
 ghost use Rattle.wire.specs.Assembly.{AreAllHeld, IsRefused};
 ghost use Rattle.wire.specs.Frames.{AreFrames, count_of, frames};
 ghost use Rattle.frame_laws.specs.Feeding.{AreAllAmong, AreOf, HasFrames, held_after};
+ghost use Rattle.frame_laws.specs.Installing.{install_frames};
 
 /// In whatever order the frames of a message come, and with whatever repeats: an assembler that was
 /// fed with them refuses none; all places are held exactly where each frame of the message has come;
@@ -25,4 +29,13 @@ pub fn frames_come_in_any_order()
 pub fn frames_are_of_one_message()
     ensures { (m other : Message) (fs : List (List ℕ)) → AreFrames m fs → AreFrames other fs
         → other ≡ m }
+{}
+
+/// The frames of an installation behind its first one are spelled of the tables alone: they are the
+/// same whatever switch it is for, and in whatever boot. The first one says how many there are, the
+/// switch and the boot.
+pub fn frames_behind_the_first_say_the_tables()
+    ensures { (to : Receiver) (boot : ℕ) (tables : Tables)
+        → frames (record { to = to; body = Install boot tables })
+        ≡ install_frames to boot tables }
 {}

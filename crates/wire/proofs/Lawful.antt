@@ -1,7 +1,6 @@
 -- Each format of messages is lawful.
-use Rattle.std.proofs.Common.{◌≡◌, ℕ, ◌+◌, ◌*◌, ◌/◌, ◌%◌, ◌^◌, ◌<◌, ◌≤◌, Bool, true, false, cond, ◌&&◌, ltb, eqb, List, ◌++◌, Option, Some, None, refl, sym, ap, subst, ◌∙◌, append_assoc, arith, inl, inr, ◌⊎◌}
-use Rattle.std.specs.Int.{w8, w32, w64}
-use Rattle.std.proofs.lemmas.Bool.{ltb-true, lt-ltb, eqb-true}
+use Rattle.std.proofs.Common.{◌≡◌, ℕ, ◌+◌, ◌*◌, ◌/◌, ◌%◌, ◌^◌, ◌<◌, Bool, true, false, cond, ltb, eqb, List, ◌++◌, Option, Some, None, refl, sym, ap, subst, ◌∙◌, append_assoc, arith, inl, inr, ◌⊎◌}
+use Rattle.std.proofs.lemmas.Bool.{ltb-true, eqb-true}
 use Rattle.std.proofs.lemmas.Bool.Decides.{nat_tests}
 use Rattle.std.proofs.lemmas.Nat.{div-add-mod'}
 use Rattle.ctrl_msg.specs.declared.message.Receiver.{Receiver}
@@ -10,9 +9,9 @@ use Rattle.ctrl_msg.specs.declared.message.Body.{Body}
 use Rattle.ctrl_msg.specs.declared.message.Body.TheVariants.{Install, OpenAt, Stamp, Collect, CacheRule, Advertise, Hello, Installed, Stamped}
 use Rattle.policy_rules.specs.declared.policy.Action.{Action}
 use Rattle.policy_rules.specs.declared.policy.Action.TheVariants.{Drop, Out}
-use Rattle.wire.specs.Format.{Format, then_read, number, ◌⊗◌, as_type, such_that, optional, list_of}
+use Rattle.wire.specs.Format.{Format, then_read, ◌⊗◌, such_that, optional, list_of}
 use Rattle.wire.specs.Fields.{n1, n4, n8, n16, switch, is_word, word, rule_name, action_of, port_of, action, rule, target_count, targets, region, partition, tables}
-use Rattle.wire.specs.Messages.{receiver_of, receiver, install, of_version, cache_rule, advert, hello, acknowledged, kind_of, spelled_fields, fields_fit, made, cache_rule_of, read_fields, body, suits, message}
+use Rattle.wire.specs.Messages.{receiver_of, receiver, front, install, of_version, cache_rule, advert, hello, acknowledged, kind_of, spelled_fields, fields_fit, made, cache_rule_of, read_fields, body, suits, message}
 use Rattle.wire.proofs.Laws.{AreBytes, Takes, IsLawful, then_some, some_is, both_true, n8-bits, n32-bits, n64-bits, pair_lawful, as_type_lawful, such_that_lawful, optional_lawful, list_lawful}
 
 n1_lawful : IsLawful n1
@@ -143,6 +142,10 @@ receiver_again Controller rest fits = rw (n1_lawful.again 255 rest refl) refl
 
 receiver_lawful : IsLawful receiver
 receiver_lawful = record { takes = receiver_takes; again = receiver_again }
+
+pub front_lawful : IsLawful front
+unfolding front
+front_lawful = pair_lawful receiver (n1 ⊗ n4) receiver_lawful (pair_lawful n1 n4 n1_lawful n4_lawful)
 
 -- ---- the fields
 

@@ -2,6 +2,7 @@ pub mod Items
 pub mod Laws
 pub mod Lawful
 pub mod Decoding
+pub mod Fronts
 pub mod Framing
 pub mod Cutting
 pub mod Assembling

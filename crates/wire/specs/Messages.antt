@@ -1,5 +1,5 @@
 -- The format of messages: the receiver, the kind, and the fields of that kind.
-use Rattle.std.specs.Prelude.{◌≡◌, ℕ, ◌^◌, ◌<◌, nat_lt, Bool, true, false, not, ◌==◌, if◌then◌else◌, List, ◌++◌, length, All, Option, Some, None}
+use Rattle.std.specs.Prelude.{◌≡◌, ℕ, ◌^◌, ◌<◌, nat_lt, Bool, true, not, ◌==◌, if◌then◌else◌, List, ◌++◌, length, All, Option, Some, None}
 use Rattle.ctrl_msg.specs.Bodies.{is_for_controller}
 use Rattle.ctrl_msg.specs.declared.message.Receiver.{Receiver}
 use Rattle.ctrl_msg.specs.declared.message.Receiver.TheVariants.{Switch, Controller}
@@ -125,6 +125,29 @@ body =
       fits = fields_fit;
       read = λ bytes. then_read (form.n1.read bytes) (λ kind. read_fields kind.0 kind.1);
     }
+
+-- ---- what stands before the tables in the spelling of an installation
+
+-- the receiver, the kind, and the boot
+unfoldable pub front : Format (Receiver × (ℕ × ℕ))
+front = receiver ⊗ form.n1 ⊗ form.n4
+
+-- of an installation for this receiver and this boot
+abbrev pub spelled_front : Receiver → ℕ → List ℕ
+spelled_front to boot = front.spell (to, (1, boot))
+
+-- the bytes are the front of an installation for this receiver and this boot
+pub record IsFront (to : Receiver) (boot : ℕ) (bytes : List ℕ) : Type 0 where
+  pub fits : front.fits (to, (1, boot)) ≡ true
+  pub spelled : bytes ≡ spelled_front to boot
+
+-- what all of the bytes say, where they are a front
+abbrev pub read_front : List ℕ → Option ((Receiver × ℕ) × List ℕ)
+read_front bytes =
+    then_read (front.read bytes) (λ x.
+    if x.0.1.0 == 1
+    then (if length x.1 == 0 then Some ((x.0.0, x.0.1.1), x.1) else None)
+    else None)
 
 -- ---- messages
 

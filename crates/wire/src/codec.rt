@@ -21,7 +21,7 @@ use std::alloc::{AllocError, Global};
 use ternary::Word;
 
 #[tactic(auto, unfolding(crate::specs::Messages::receiver))]
-fn read_receiver(reader: &mut Reader) -> Result<Receiver, WireError>
+pub(crate) fn read_receiver(reader: &mut Reader) -> Result<Receiver, WireError>
     ensures { Reads kinds.receiver reader.old result reader.new }
 {
     match reader.n1()? {
@@ -32,7 +32,7 @@ fn read_receiver(reader: &mut Reader) -> Result<Receiver, WireError>
 }
 
 #[tactic(auto, unfolding(crate::specs::Messages::receiver))]
-fn put_receiver(out: &mut Vec<u8>, to: Receiver) -> Result<(), AllocError>
+pub(crate) fn put_receiver(out: &mut Vec<u8>, to: Receiver) -> Result<(), AllocError>
     requires { IsSwitch to }
     ensures { OnOk result (Appends kinds.receiver to out.old.items out.new.items) }
 {

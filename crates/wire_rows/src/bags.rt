@@ -1,8 +1,8 @@
 //! Messages that come out of a bag of frames.
 ghost use Rattle.wire.specs.Messages.{HasSpelling};
 
-use crate::messages::{collect, hello, install};
-use ctrl_msg::{Body, Message};
+use crate::messages::{collect, hello, install, install_at};
+use ctrl_msg::{Body, Message, Receiver};
 use frame_bag::FrameBag;
 use std::alloc::Global;
 use std::test::*;
@@ -60,5 +60,41 @@ fn messages_come_out_of_a_bag(rt: HostRuntime) -> Result<(), Fail> {
     let last = take(&bag, alloc, 5)?;
     assert!(rt; matches!(last.body, Body::Hello { switch: 0, boot: 2 }));
     assert!(rt; bag.take(alloc, 0)?.is_none() && bag.take(alloc, 6)?.is_none());
+    Ok(())
+}
+
+// The receiver and the boot of the installation of this number, and how many rules it brings.
+fn installed(
+    bag: &FrameBag,
+    alloc: Global,
+    number: u32,
+) -> Result<Option<(Receiver, u32, usize)>, Fail> {
+    let Message { to, body } = take(bag, alloc, number)?;
+    match body {
+        Body::Install { boot, tables } => match tables.tables().auth.items().first() {
+            Some(part) => Ok(Some((to, boot, part.rules.items().len()))),
+            None => Ok(None),
+        },
+        _ => Ok(None),
+    }
+}
+
+#[test]
+fn the_same_tables_for_two_switches_in_two_boots(rt: HostRuntime) -> Result<(), Fail> {
+    let alloc = rt.alloc();
+    let mut bag = FrameBag::new(alloc);
+    assert_eq!(rt; post(&mut bag, alloc, &install_at(alloc, 1, 1, 3, 2)?)?, 1);
+    assert_eq!(rt; post(&mut bag, alloc, &install_at(alloc, 5, 1, 3, 2)?)?, 2);
+    assert_eq!(rt; post(&mut bag, alloc, &install_at(alloc, 1, 2, 3, 2)?)?, 3);
+    assert_eq!(rt; post(&mut bag, alloc, &install_at(alloc, 5, 2, 3, 1)?)?, 4);
+    assert_eq!(rt; post(&mut bag, alloc, &install_at(alloc, 5, 2, 3, 2)?)?, 5);
+    // Each is delivered twice.
+    for _ in 0..2 {
+        assert!(rt; installed(&bag, alloc, 1)? == Some((Receiver::Switch(1), 1, 5)));
+        assert!(rt; installed(&bag, alloc, 2)? == Some((Receiver::Switch(5), 1, 5)));
+        assert!(rt; installed(&bag, alloc, 3)? == Some((Receiver::Switch(1), 2, 5)));
+        assert!(rt; installed(&bag, alloc, 4)? == Some((Receiver::Switch(5), 2, 4)));
+        assert!(rt; installed(&bag, alloc, 5)? == Some((Receiver::Switch(5), 2, 5)));
+    }
     Ok(())
 }

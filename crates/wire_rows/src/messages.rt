@@ -75,6 +75,20 @@ fn rules(alloc: Global, defaults: u32, rows: u32) -> Result<Vec<Rule>, Fail>
 pub fn install(alloc: Global, defaults: u32, rows: u32) -> Result<Message, Fail>
     ensures { IfOk result HasSpelling }
 {
+    install_at(alloc, 1, 1, defaults, rows)
+}
+
+/// The same tables for this switch, in this boot.
+pub fn install_at(
+    alloc: Global,
+    switch: u32,
+    boot: u32,
+    defaults: u32,
+    rows: u32,
+) -> Result<Message, Fail>
+    requires { switch < 64 }
+    ensures { IfOk result HasSpelling }
+{
     let part = Partition {
         number: 0,
         region: Word::any(),
@@ -89,7 +103,7 @@ pub fn install(alloc: Global, defaults: u32, rows: u32) -> Result<Message, Fail>
     };
     let tables = SharedTables::new(alloc, tables)?;
     Ok(Message {
-        to: Receiver::Switch(1),
-        body: Body::Install { boot: 1, tables },
+        to: Receiver::Switch(switch),
+        body: Body::Install { boot, tables },
     })
 }

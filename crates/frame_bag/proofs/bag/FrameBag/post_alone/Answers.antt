@@ -1,8 +1,7 @@
 use Rattle.std.proofs.Common.{◌≡◌, ◌++◌, ◌∷◌, [], ℕ, List, None, ap, ◌∙◌}
-use Rattle.ctrl_msg.specs.declared.message.Message.{Message}
 use Rattle.wire.specs.Frames.{frames}
 use Rattle.wire.specs.Messages.{message}
-use Rattle.frame_bag.specs.Kept.{First, frames_in}
+use Rattle.frame_bag.specs.Kept.{frames_in}
 use Rattle.frame_bag.proofs.Posting.{alone_is, kept_after, posted_after, same_grown}
 use Rattle.frame_bag.proofs.bag.FrameBag.post_alone.Goals as goal
 

@@ -1,0 +1,57 @@
+//! What stands before the tables in the spelling of an installation.
+ghost use Rattle.std.specs.Prelude.{◌≡◌, ◌++◌, ℕ, true, IfOk, IsErrOf, OnOk};
+ghost use Rattle.ctrl_msg.specs.declared.message.Receiver.{Receiver};
+ghost use Rattle.wire.specs.declared.error.WireError.TheVariants.{Malformed};
+ghost use Rattle.wire.specs.Messages.{IsFront, IsSwitch, front, read_front, spelled_front};
+ghost use Rattle.wire.specs.Reading.{Gives};
+
+use crate::codec::{put_receiver, read_receiver};
+use crate::error::WireError;
+use crate::reader::Reader;
+use crate::writer::{put_n1, put_n4};
+use ctrl_msg::Receiver;
+use std::alloc::{AllocError, Global};
+
+/// The kind of an installation.
+const INSTALL: u8 = 1;
+
+/// Writes at the end the front of an installation for this receiver and this boot.
+///
+/// # Errors
+/// Want of memory alone; a part of it may be written then.
+#[tactic(auto, unfolding(crate::specs::Messages::front))]
+pub fn append_front(out: &mut Vec<u8>, to: Receiver, boot: u32) -> Result<(), AllocError>
+    requires { IsSwitch to }
+    ensures fits { OnOk result (front.fits (to, (1, boot)) ≡ true) }
+    ensures spelled { OnOk result (out.new.items ≡ out.old.items ++ spelled_front to boot) }
+{
+    put_receiver(out, to)?;
+    put_n1(out, INSTALL)?;
+    put_n4(out, boot)
+}
+
+#[tactic(auto, unfolding(crate::specs::Messages::front))]
+fn read(reader: &mut Reader) -> Result<(Receiver, u32), WireError>
+    ensures { Gives (λ front. front) (read_front reader.old) result reader.new }
+{
+    let to = read_receiver(reader)?;
+    let kind = reader.n1()?;
+    let boot = reader.n4()?;
+    if kind == INSTALL && reader.is_empty() {
+        Ok((to, boot))
+    } else {
+        Err(WireError::Malformed)
+    }
+}
+
+/// The receiver and the boot of an installation whose front these bytes are.
+///
+/// # Errors
+/// `Malformed` exactly where they are the front of no installation.
+pub fn decode_front(alloc: Global, bytes: &[u8]) -> Result<(Receiver, u32), WireError>
+    ensures found { IfOk result (λ front. IsFront front.0 front.1 bytes.now) }
+    ensures malformed { IsErrOf result Malformed →
+        (to : Receiver) (boot : ℕ) → IsFront to boot bytes.now → ⊥ }
+{
+    read(&mut Reader::new(alloc, bytes))
+}
