@@ -36,7 +36,7 @@ use Rattle.way_laws.proofs.Ends.{last_here, one_target}
 use Rattle.way_laws.proofs.Lookups.{current_planned}
 use Rattle.way_laws.proofs.Plans.{Finds, IsPlanned, in_plan}
 use Rattle.world_log.specs.Writing.{arrived_items, arrived_traveller}
-use Rattle.world_log.specs.declared.log.Standing.{Standing}
+use Rattle.travelling.specs.Travelling.{Standing}
 use Rattle.travelling.specs.declared.travelling.Traveller.{Traveller}
 use Rattle.log_ties.proofs.Deciding.{header_is}
 use Rattle.log_ties.proofs.Goings.{AreOfWords, IsComing, answer_goes, looked_goes, ruled_goes}

@@ -21,7 +21,7 @@ use Rattle.way_laws.specs.OnWay.{IsUnknown}
 use Rattle.way_laws.specs.Words.{words_of}
 use Rattle.travelling.specs.declared.travelling.Traveller.{Traveller}
 use Rattle.world_log.specs.Writing.{answer_items, entered_items, entered_traveller}
-use Rattle.world_log.specs.declared.log.Standing.{Standing}
+use Rattle.travelling.specs.Travelling.{Standing}
 use Rattle.log_ties.specs.Travellers.{traveller_in}
 use Rattle.log_ties.proofs.Goings.{GoesIn, entered_goes}
 use Rattle.log_ties.proofs.Known.{Known, traveller_stays}

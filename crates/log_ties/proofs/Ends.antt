@@ -22,7 +22,7 @@ use Rattle.update_machine.specs.Packets.{decision_of, found_down, header_in, no_
 use Rattle.update_machine.specs.Setting.{Setting}
 use Rattle.update_machine.proofs.CallerLemmas.{known_link_laws}
 use Rattle.world_log.specs.Writing.{end_of, leaves}
-use Rattle.world_log.specs.declared.log.Standing.{Standing}
+use Rattle.travelling.specs.Travelling.{Standing}
 use Rattle.log_ties.proofs.Legs.{at_switch, leg_law, set_item}
 use Rattle.log_ties.proofs.Seeing.{Sees}
 

@@ -39,7 +39,7 @@ use Rattle.way_laws.specs.OnWay.{IsUnknown}
 use Rattle.way_laws.specs.Words.{PacketWords, told_by}
 use Rattle.way_laws.proofs.Lookups.{FindsTargets, IsStamped, redirect_told, stamped}
 use Rattle.world_log.specs.Writing.{answer_items, answer_traveller, cache_message, entered_items, entered_traveller, messages_in}
-use Rattle.world_log.specs.declared.log.Standing.{Standing}
+use Rattle.travelling.specs.Travelling.{Standing}
 use Rattle.log_ties.proofs.Legs.{at_switch}
 use Rattle.log_ties.proofs.Looking.{IsAsked, targets_are}
 use Rattle.log_ties.proofs.Others.{sends_unnamed}

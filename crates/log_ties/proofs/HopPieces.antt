@@ -29,7 +29,8 @@ use Rattle.update_machine.specs.Setting.{Setting}
 use Rattle.update_machine.specs.Travels.{is_at, travels, travels_at}
 use Rattle.way_laws.specs.Words.{PacketWords, words_of}
 use Rattle.way_laws.proofs.Words.{words_grow}
-use Rattle.world_log.specs.Packets.{arrival_items, ended_items, ended_switch, hop_items, hop_traveller, hopped_traveller, standing_at, turned_items}
+use Rattle.world_log.specs.Packets.{arrival_items, ended_items, ended_switch, hop_items, hop_traveller, hopped_traveller, turned_items}
+use Rattle.travelling.specs.Travelling.{standing_at}
 use Rattle.world_log.proofs.Hopping.{hopped_same}
 use Rattle.travelling.specs.declared.travelling.Traveller.{Traveller}
 use Rattle.log_ties.specs.Travellers.{traveller_in}

@@ -31,9 +31,10 @@ use Rattle.update_machine.specs.Messages.{sent_from}
 use Rattle.update_machine.specs.Moves.{takes_route}
 use Rattle.update_machine.specs.Packets.{is_packet}
 use Rattle.switch_ties.specs.Calls.{AreInStep, IsInStep}
-use Rattle.world_log.specs.Packets.{arrival_items, arrival_posts, ended_items, ended_posts, hop_items, hop_posts, hopped_traveller, standing_at, turned_items}
+use Rattle.world_log.specs.Packets.{arrival_items, arrival_posts, ended_items, ended_posts, hop_items, hop_posts, hopped_traveller, turned_items}
+use Rattle.travelling.specs.Travelling.{standing_at}
 use Rattle.world_log.specs.Writing.{answer_items, answer_posts, arrived_items, arrived_posts, cache_message, decided_items, end_of, entered_items, entered_posts, messages_in}
-use Rattle.world_log.specs.declared.log.Standing.{Standing}
+use Rattle.travelling.specs.Travelling.{Standing}
 use Rattle.travelling.specs.declared.travelling.Traveller.{Traveller}
 use Rattle.log_ties.proofs.Posting.{SendFrom, posts_in}
 

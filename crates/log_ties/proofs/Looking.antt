@@ -39,7 +39,7 @@ use Rattle.boot_laws.specs.ItemCauses.{HasItemCause}
 use Rattle.way_laws.proofs.Lookups.{FindsRule, FindsTargets, IsStamped, authority_told, deciding, redirect_told, rule_there, stamped}
 use Rattle.way_laws.proofs.Plans.{Finds, IsPlanned}
 use Rattle.world_log.specs.Writing.{answer_items}
-use Rattle.world_log.specs.declared.log.Standing.{Standing}
+use Rattle.travelling.specs.Travelling.{Standing}
 use Rattle.log_ties.proofs.Deciding.{IsPacket, authority_law, decided_words, found_of, header_is}
 use Rattle.log_ties.proofs.Ends.{end_law}
 use Rattle.log_ties.proofs.Legs.{at_switch, leg_law, set_item}

@@ -46,9 +46,10 @@ use Rattle.way_laws.proofs.Ends.{last_here, one_target}
 use Rattle.way_laws.proofs.Here.{found_in, next_in}
 use Rattle.way_laws.proofs.Kept.{Knows}
 use Rattle.way_laws.proofs.Routes.{IsWay, route_way}
-use Rattle.world_log.specs.Packets.{arrival, arrival_items, ended_items, ended_traveller, hop_items, hop_traveller, standing_at, turned_items}
+use Rattle.world_log.specs.Packets.{arrival, arrival_items, ended_items, ended_traveller, hop_items, hop_traveller, turned_items}
+use Rattle.travelling.specs.Travelling.{standing_at}
 use Rattle.world_log.specs.Writing.{arrived_items}
-use Rattle.world_log.specs.declared.log.Standing.{Standing}
+use Rattle.travelling.specs.Travelling.{Standing}
 use Rattle.travelling.specs.declared.travelling.Traveller.{Traveller}
 use Rattle.log_ties.proofs.Arrivals.{IsAtEnd, arrival_goes, arrive_comes, arrive_law, at_end_on, end_of_route, ours_of}
 use Rattle.log_ties.proofs.Goings.{AreOfWords}

@@ -19,7 +19,7 @@ use Rattle.update_machine.specs.Messages.{sent_from}
 use Rattle.update_machine.specs.Moves.{takes_route}
 use Rattle.way_laws.specs.Words.{PacketWords, names, told_by}
 use Rattle.world_log.specs.Writing.{answer_items, arrived_items, cache_message, end_of, entered_items, messages_in}
-use Rattle.world_log.specs.declared.log.Standing.{Standing}
+use Rattle.travelling.specs.Travelling.{Standing}
 use Rattle.travelling.specs.declared.travelling.Traveller.{Traveller}
 use Rattle.log_ties.proofs.Words.{words_along}
 

@@ -12,7 +12,7 @@ use Rattle.tunnel.specs.Moves.{begun}
 use Rattle.tunnel.specs.Tunnel.{TunnelValue}
 use Rattle.way_laws.specs.Words.{PacketWords}
 use Rattle.world_log.specs.Writing.{decided_items, decided_traveller, end_of}
-use Rattle.world_log.specs.declared.log.Standing.{Standing}
+use Rattle.travelling.specs.Travelling.{Standing}
 use Rattle.log_ties.proofs.Others.{NoneName, unnamed_first}
 use Rattle.log_ties.proofs.Words.{Targets, traveller_by, words_along}
 

@@ -1,6 +1,10 @@
 -- A body for each neighbour below a number.
-use Rattle.std.proofs.Common.{◌≡◌, ◌∙◌, ℕ, ◌+◌, ◌≤◌, Bool, true, false, cond, List, [], ◌∷◌, ◌++◌, map, filter, refl, ap, arith, append-nil}
+use Rattle.std.proofs.Common.{◌≡◌, ◌∙◌, sym, ℕ, zero, suc, ◌+◌, ◌-◌, ◌*◌, ◌^◌, ◌<◌, ◌≤◌, ◌==◌, Bool, true, false, cond, List, [], ◌∷◌, ◌++◌, map, filter, refl, ap, arith, append-nil}
+use Rattle.std.specs.Int.{leading_zeros, w64}
+use Rattle.std.specs.Int.Count.{count_leading_zeros}
 use Rattle.std.specs.List.{range_with_len}
+use Rattle.std.proofs.lemmas.Nat.{leading_length}
+use Rattle.std.proofs.lemmas.Nat.Bits.{bit_at_above}
 use Rattle.std.proofs.lemmas.List.{map-append}
 use Rattle.policy_rules.proofs.CallerLemmas.{filter_more}
 use Rattle.masks.specs.Masks.{has, switches}
@@ -42,9 +46,27 @@ told_far near body n is =
     told_one near body n ∙ ap (λ (b : Bool). told near body n
     ++ map (for_switch body) (cond b (n ∷ []) [])) is ∙ append-nil (told near body n)
 
-pub told_all : (near : ℕ) (body : Body) (n : ℕ) → 64 ≤ n → n ≤ 64 →
-    told near body n ≡ flood near body
-unfolding told flood switches
-told_all near body n least most =
-    let all : n ≡ 64 = omega arith in
-    ap (λ (k : ℕ). map (for_switch body) (filter (has near) (range_with_len 0 k))) all
+-- none is told where no neighbour is left
+told_same : (near : ℕ) (body : Body) (n k : ℕ)
+    → ((j : ℕ) → n ≤ j → j < n + k → has near j ≡ false)
+    → told near body (n + k) ≡ told near body n
+told_same near body n zero none =
+    let same : n + 0 ≡ n = omega arith in
+    ap (told near body) same
+told_same near body n (suc k) none =
+    let next : n + suc k ≡ n + k + 1 = omega arith in
+    ap (told near body) next
+    ∙ told_far near body (n + k) (none (n + k) (omega arith) (omega arith))
+    ∙ told_same near body n k (λ j from below. none j from (omega arith))
+
+pub told_all : (near : ℕ) (body : Body) (n : ℕ) → near < 2 ^ 64 → 64 - leading_zeros w64 near ≤ n
+    → told near body n ≡ flood near body
+unfolding told flood has switches
+told_all near body n fits past =
+    let long : ((m : ℕ) × (count_leading_zeros 64 near + m ≡ 64) × (near < 2 ^ m)
+    × (2 ^ m ≤ 2 * near + 1)) = leading_length 64 near fits in
+    let same : (i : ℕ) → long.0 ≤ i → told near body i ≡ told near body long.0 = λ i from.
+    let here : i ≡ long.0 + (i - long.0) = omega (arith, from) in
+    ap (told near body) here ∙ told_same near body long.0 (i - long.0)
+    (λ j above below. ap (λ d. d == 1) (bit_at_above near long.0 j long.2 above)) in
+    same n (omega (arith, long.1, past)) ∙ sym (same 64 (omega (arith, long.1)))

@@ -9,3 +9,4 @@ pub mod Arrivals
 pub mod Decisions
 pub mod OnWay
 pub mod Only
+pub mod Admitting

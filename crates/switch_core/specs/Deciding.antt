@@ -1,7 +1,7 @@
 -- By which rule a switch decides a packet, and the rule that it sends to the cache of the switch
 -- where the packet entered (Yu, Rexford, Freedman and Wang, "Scalable Flow-Based Networking with
 -- DIFANE", SIGCOMM 2010).
-use Rattle.std.specs.Prelude.{⊤, ℕ, ◌≡◌, ◌==◌, if◌then◌else◌, Option, Some, None, unwrap_or, [], find, position, slice_index_or, IsTrue, IsSomeAnd}
+use Rattle.std.specs.Prelude.{⊤, ℕ, ◌≡◌, ◌==◌, if◌then◌else◌, Option, Some, None, unwrap_or, List, [], find, position, slice_index_or, IsTrue, IsSomeAnd}
 use Rattle.five_tuple.specs.Header.{number_of}
 use Rattle.five_tuple.specs.declared.header.Header.{Header}
 use Rattle.ternary.specs.Word.{any_word, holds}
@@ -72,6 +72,15 @@ abbrev pub IsFound : Tables → Header → Found → Type 0
 IsFound tables header (ByAuthority partition place) =
     IsSomeAnd (own_part tables partition) (λ part. IsFirstHit header part place)
 IsFound tables header _ = ⊤
+
+-- a packet as it is looked up
+abbrev pub packet_with : ℕ → Header → ℕ → List ℕ → Packet
+packet_with number header ingress down = record {
+  number = number;
+  header = header;
+  ingress = ingress;
+  down = down;
+}
 
 -- the cache rule of a decision by the rule at a place: none for a packet that entered here
 unfoldable pub cache_rule : ℕ → Packet → ℕ → Partition → ℕ → Option Body

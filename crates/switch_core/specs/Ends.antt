@@ -55,6 +55,12 @@ set_out s near packet leg targets =
     (route_of s.database s.number targets near packet.down))
     (cause_of s near packet.down leg targets)
 
+-- what a route that was found makes of the packet
+abbrev pub begun_by : Packet → Leg → List ℕ → Result (List ℕ) Cause → Result TunnelValue Cause
+begun_by packet leg targets (Ok route) =
+    Ok (begun packet.number packet.header packet.ingress leg targets route packet.down)
+begun_by packet leg targets (Err cause) = Err cause
+
 -- ---- the exit rule
 
 abbrev pub exit_by : Result TunnelValue Cause → Next

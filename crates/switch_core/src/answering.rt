@@ -1,17 +1,19 @@
-ghost use Rattle.std.specs.Prelude.{◌≡◌, ℕ, IsSomeAnd, IsTrue};
+ghost use Rattle.std.specs.Prelude.{◌≡◌, ℕ, List, IsSomeAnd, IsTrue};
 ghost use Rattle.policy_rules.specs.Partitions.{is_in};
-ghost use Rattle.switch_core.specs.Answering.{CanLookUp, IsAtAuthority, IsUncached, answer_by, arrived, decided_at, decided_in, entered, incoming, looked_up, packet_of};
-ghost use Rattle.switch_core.specs.Deciding.{IsFirstHit, IsFound, own_part};
+ghost use Rattle.policy_rules.specs.declared.packet.Leg.TheVariants.{Seek as SeekLeg};
+ghost use Rattle.switch_core.specs.declared.answers.Arrived.TheVariants.{Answered};
+ghost use Rattle.switch_core.specs.Answering.{CanLookUp, IsAtAuthority, IsUncached, answer_by, arrived, arrived_on, decided_at, decided_in, entered, incoming, looked_up, packet_of};
+ghost use Rattle.switch_core.specs.Deciding.{IsFirstHit, IsFound, own_part, packet_with};
 ghost use Rattle.switch_core.specs.Ends.{around};
 ghost use Rattle.switch_core.specs.State.{counted, holds_version, serves};
-ghost use Rattle.switch_core.specs.Verdicts.{answer_of};
+ghost use Rattle.switch_core.specs.Verdicts.{answer_of, arrived_as, entered_as};
 
-use crate::answers::{Answer, Arrived, Decision, Entered};
+use crate::answers::{Arrived, Decision, Entered};
 use crate::deciding::{cache_rule, found_in, own_part, rule_in};
 use crate::kept::KeptTables;
 use crate::packet::Packet;
 use crate::switch::Switch;
-use crate::verdicts::Verdict;
+use crate::verdicts::{Received, Verdict};
 use failover::DownSet;
 use five_tuple::Header;
 use net_file::Ports;
@@ -26,7 +28,6 @@ impl Switch {
     /// `enter_laws` and `lookup_laws` say how.
     ///
     /// `near` has a bit for each switch to which there is a usable link.
-    #[tactic(auto, unfolding(crate::specs::Answering::entered))]
     pub fn enter(&mut self, packet: u32, h: &Header, near: u64, ports: &Ports) -> Entered
         requires { CanLookUp self.old }
         ensures answer { result
@@ -34,35 +35,40 @@ impl Switch {
         ensures uncached { IsUncached result }
         ensures after { self.new ≡ counted self.old }
     {
-        if !self.serves() {
-            self.count();
-            return Entered::Closed;
-        }
         let packet = Packet {
             number: packet,
             header: *h,
             ingress: self.number,
             down: DownSet::empty(),
         };
-        match self.look_up(ports, &packet) {
-            Verdict::Here {
-                decision,
-                cache,
-                end,
-            } => {
-                self.count();
-                Entered::Answered(Answer::Decided {
-                    decision,
-                    cache,
-                    next: end.next(),
-                })
-            }
-            verdict => {
+        match self.admit(h, ports) {
+            None => Entered::Closed,
+            Some(verdict) => {
                 let answer = self.answer(near, &packet, verdict);
-                self.count();
                 Entered::Answered(answer)
             }
         }
+    }
+
+    /// `enter` before any route is taken: what is said of a packet that comes in here, whatever its
+    /// number; `None` exactly where the switch doesn't serve. It copies no route and no set of
+    /// links.
+    pub fn admit(&mut self, h: &Header, ports: &Ports) -> Option<Verdict>
+        requires { CanLookUp self.old }
+        ensures answer { (near number : ℕ) →
+            entered_as self.new near (incoming self.old number h.now) result
+            ≡ entered self.old (around near ports.now) (incoming self.old number h.now) }
+        ensures uncached { (near number : ℕ) →
+            IsUncached (entered_as self.new near (incoming self.old number h.now) result) }
+        ensures after { self.new ≡ counted self.old }
+    {
+        if !self.serves() {
+            self.count();
+            return None;
+        }
+        let verdict = self.look_up(ports, h, self.number);
+        self.count();
+        Some(verdict)
     }
 
     /// A packet is at the end of its route here. On its way to a port it leaves. On its way to an
@@ -78,48 +84,98 @@ impl Switch {
         ensures answer { result ≡ arrived self.old (around near ports.now) t.now }
         ensures after { self.new ≡ counted self.old }
     {
-        match t.leg {
-            Leg::Exit { port } => {
-                self.count();
-                Arrived::Out(port)
-            }
-            Leg::Seek { version, partition } => {
-                let packet = carried(t);
-                let verdict = match self.held_tables(version) {
-                    Some(tables) => self.decide_in(ports, &packet, partition, tables),
-                    None => self.look_up(ports, &packet),
-                };
-                let answer = self.answer(near, &packet, verdict);
-                self.count();
+        match self.receive(&t.header, t.ingress, t.leg, ports) {
+            Received::Out(port) => Arrived::Out(port),
+            Received::Judged(verdict) => {
+                let answer = self.answer(near, &carried(t), verdict);
                 Arrived::Answered(answer)
             }
         }
     }
 
+    /// `arrive` before any route is taken: what is said of a packet of this header that came in at
+    /// `ingress` and is at the end of its route, whatever its number and the links that it found
+    /// down. It copies no route and no set of links.
+    pub fn receive(&mut self, h: &Header, ingress: u32, leg: Leg, ports: &Ports) -> Received
+        requires serving { IsTrue (serves self.old) }
+        requires stamped { CanLookUp self.old }
+        requires authority { IsAtAuthority self.old h.now leg }
+        ensures answer { (near number : ℕ) (down : List ℕ) →
+            arrived_as self.new near (packet_with number h.now ingress down) result
+            ≡ arrived_on self.old (around near ports.now)
+            (packet_with number h.now ingress down) leg }
+        ensures after { self.new ≡ counted self.old }
+    {
+        match leg {
+            Leg::Exit { port } => {
+                self.count();
+                Received::Out(port)
+            }
+            Leg::Seek { version, partition } => {
+                let verdict = self.judge(ports, h, ingress, version, partition);
+                self.count();
+                Received::Judged(verdict)
+            }
+        }
+    }
+
+    // By the tables of this version, if they are held, and otherwise by a lookup.
+    fn judge(
+        &self,
+        ports: &Ports,
+        h: &Header,
+        ingress: u32,
+        version: u32,
+        partition: u32,
+    ) -> Verdict
+        requires stamped { IsTrue (holds_version self.now self.now.stamp) }
+        requires authority { IsAtAuthority self.now h.now (SeekLeg version partition) }
+        ensures { (near number : ℕ) (down : List ℕ) → Answered
+            (answer_of self.now near (packet_with number h.now ingress down) result)
+            ≡ arrived_on self.now (around near ports.now)
+            (packet_with number h.now ingress down) (SeekLeg version partition) }
+    {
+        match self.held_tables(version) {
+            Some(tables) => self.decide_in(ports, h, ingress, partition, tables),
+            None => self.look_up(ports, h, ingress),
+        }
+    }
+
     // By a lookup under the switch's stamp.
     #[tactic(auto, unfolding(crate::specs::Answering::looked_up))]
-    fn look_up(&self, ports: &Ports, packet: &Packet) -> Verdict
+    fn look_up(&self, ports: &Ports, h: &Header, ingress: u32) -> Verdict
         requires { IsTrue (holds_version self.now self.now.stamp) }
-        ensures { (near : ℕ) → answer_of self.now near packet.now result
-            ≡ looked_up self.now (around near ports.now) packet.now }
+        ensures { (near number : ℕ) (down : List ℕ) →
+            answer_of self.now near (packet_with number h.now ingress down) result
+            ≡ looked_up self.now (around near ports.now)
+            (packet_with number h.now ingress down) }
     {
         let tables = self.stamp_tables();
-        let found = found_in(&self.cache, tables, &packet.header);
-        self.by_found(ports, packet, tables.tables(), &found)
+        let found = found_in(&self.cache, tables, h);
+        self.by_found(ports, h, ingress, tables.tables(), &found)
     }
 
     // By what was found in these tables.
     #[tactic(auto, unfolding(crate::specs::Answering::answer_by))]
-    fn by_found(&self, ports: &Ports, packet: &Packet, tables: &Tables, found: &Found) -> Verdict
-        requires { IsFound tables.now packet.now.header found.now }
-        ensures { (near : ℕ) → answer_of self.now near packet.now result
-            ≡ answer_by self.now (around near ports.now) packet.now tables.now found.now }
+    fn by_found(
+        &self,
+        ports: &Ports,
+        h: &Header,
+        ingress: u32,
+        tables: &Tables,
+        found: &Found,
+    ) -> Verdict
+        requires { IsFound tables.now h.now found.now }
+        ensures { (near number : ℕ) (down : List ℕ) →
+            answer_of self.now near (packet_with number h.now ingress down) result
+            ≡ answer_by self.now (around near ports.now)
+            (packet_with number h.now ingress down) tables.now found.now }
     {
         match found {
             Found::Cached(entry) => self.decided(ports, Decision::by_entry(entry), None),
             Found::Authority { partition, rule } => {
                 let part = own_part(tables, *partition).unwrap();
-                self.decide_at(ports, packet, tables.version, part, *rule)
+                self.decide_at(ports, h, ingress, tables.version, part, *rule)
             }
             Found::Redirect { partition, targets } => Verdict::Seek {
                 leg: Leg::Seek {
@@ -136,19 +192,22 @@ impl Switch {
     fn decide_in(
         &self,
         ports: &Ports,
-        packet: &Packet,
+        h: &Header,
+        ingress: u32,
         partition: u32,
         tables: &KeptTables,
     ) -> Verdict
         requires { IsSomeAnd (own_part tables.now partition)
-            (λ part. IsTrue (is_in packet.now.header part)) }
-        ensures { (near : ℕ) → answer_of self.now near packet.now result
-            ≡ decided_in self.now (around near ports.now) packet.now partition tables.now }
+            (λ part. IsTrue (is_in h.now part)) }
+        ensures { (near number : ℕ) (down : List ℕ) →
+            answer_of self.now near (packet_with number h.now ingress down) result
+            ≡ decided_in self.now (around near ports.now)
+            (packet_with number h.now ingress down) partition tables.now }
     {
-        let place = tables.first_place(partition, &packet.header);
+        let place = tables.first_place(partition, h);
         let tables = tables.tables();
         let part = own_part(tables, partition).unwrap();
-        self.decide_at(ports, packet, tables.version, part, place)
+        self.decide_at(ports, h, ingress, tables.version, part, place)
     }
 
     // The rule at this place decides.
@@ -156,20 +215,23 @@ impl Switch {
     fn decide_at(
         &self,
         ports: &Ports,
-        packet: &Packet,
+        h: &Header,
+        ingress: u32,
         version: u32,
         part: &Partition,
         place: u32,
     ) -> Verdict
-        requires { IsFirstHit packet.now.header part.now place }
-        ensures { (near : ℕ) → answer_of self.now near packet.now result
-            ≡ decided_at self.now (around near ports.now) packet.now version part.now place }
+        requires { IsFirstHit h.now part.now place }
+        ensures { (near number : ℕ) (down : List ℕ) →
+            answer_of self.now near (packet_with number h.now ingress down) result
+            ≡ decided_at self.now (around near ports.now)
+            (packet_with number h.now ingress down) version part.now place }
     {
         let rule = rule_in(part, place);
         self.decided(
             ports,
             Decision::by_rule(self.number, version, part.number, rule),
-            cache_rule(self.number, packet, version, part, place),
+            cache_rule(self.number, h, ingress, version, part, place),
         )
     }
 }

@@ -1,13 +1,12 @@
-ghost use Rattle.std.specs.Prelude.{◌≡◌, ◌<◌, ◌==◌, find, length};
+ghost use Rattle.std.specs.Prelude.{◌≡◌, ◌<◌, ◌==◌, ℕ, List, find, length};
 ghost use Rattle.std.specs.Option.{option_copied};
 ghost use Rattle.five_tuple.specs.Header.{IsHeader};
 ghost use Rattle.switch_table.specs.Lookup.{lookup_of};
 ghost use Rattle.switch_table.specs.Tables.{AreSoundTables};
-ghost use Rattle.switch_core.specs.Deciding.{IsFirstHit, IsFound, by_entry, by_rule, cache_rule, own_part, rule_in};
+ghost use Rattle.switch_core.specs.Deciding.{IsFirstHit, IsFound, by_entry, by_rule, cache_rule, own_part, packet_with, rule_in};
 
 use crate::answers::Decision;
 use crate::kept::KeptTables;
-use crate::packet::Packet;
 use cache_maker::widen;
 use ctrl_msg::Body;
 use five_tuple::Header;
@@ -78,21 +77,23 @@ pub fn rule_in(part: &Partition, place: u32) -> &Rule
 #[tactic(auto, unfolding(crate::specs::Deciding::cache_rule))]
 pub fn cache_rule(
     switch: u32,
-    packet: &Packet,
+    header: &Header,
+    ingress: u32,
     version: u32,
     part: &Partition,
     place: u32,
 ) -> Option<Body>
-    requires { IsFirstHit packet.now.header part.now place }
-    ensures { result ≡ cache_rule switch packet.now version part.now place }
+    requires { IsFirstHit header.now part.now place }
+    ensures { (number : ℕ) (down : List ℕ) → result
+        ≡ cache_rule switch (packet_with number header.now ingress down) version part.now place }
 {
-    if packet.ingress == switch {
+    if ingress == switch {
         return None;
     }
     let rule = rule_in(part, place);
     Some(Body::CacheRule {
         version,
-        word: widen(&packet.header, &part.region, part.rules.items(), place),
+        word: widen(header, &part.region, part.rules.items(), place),
         rule: rule.rule,
         action: rule.action,
     })

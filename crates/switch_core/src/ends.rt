@@ -1,18 +1,66 @@
-ghost use Rattle.std.specs.Prelude.{◌≡◌};
-ghost use Rattle.switch_core.specs.Ends.{are_isolated, cause_of, set_out};
+ghost use Rattle.std.specs.Prelude.{◌≡◌, ℕ, unwrap_or};
+ghost use Rattle.std.specs.Option.{option_copied};
+ghost use Rattle.failover.specs.DownSet.{no_links};
+ghost use Rattle.five_tuple.specs.declared.header.Header.{Header as HeaderValue};
+ghost use Rattle.switch_core.specs.Deciding.{packet_with};
+ghost use Rattle.switch_core.specs.Ends.{are_isolated, begun_by, cause_of, set_out};
 
 use crate::packet::Packet;
 use crate::switch::Switch;
-use failover::DownSet;
+use failover::{DownSet, Route};
 use policy_rules::{Cause, Leg, Targets};
 use tunnel::Tunnel;
 
 impl Switch {
+    /// The route of a packet that sets out here on this leg, to the first of its targets that it
+    /// reaches, and found these links down, if any. No tunnel is made for it.
+    ///
+    /// `near` has a bit for each switch to which there is a usable link.
+    ///
+    /// # Errors
+    /// Why there is none.
+    pub fn way(
+        &self,
+        near: u64,
+        down: Option<&DownSet>,
+        leg: Leg,
+        targets: &Targets,
+    ) -> Result<Route, Cause>
+        ensures { (number : ℕ) (header : HeaderValue) (ingress : ℕ) → set_out self.now near
+            (packet_with number header ingress (unwrap_or (option_copied down.entry) no_links))
+            leg targets.now ≡ begun_by
+            (packet_with number header ingress (unwrap_or (option_copied down.entry) no_links))
+            leg targets.now result }
+    {
+        match down {
+            None => self.way_past(near, &DownSet::empty(), leg, targets),
+            Some(links) => self.way_past(near, links, leg, targets),
+        }
+    }
+
+    // Past these links.
+    #[tactic(auto, unfolding(crate::specs::Ends::set_out))]
+    fn way_past(
+        &self,
+        near: u64,
+        down: &DownSet,
+        leg: Leg,
+        targets: &Targets,
+    ) -> Result<Route, Cause>
+        ensures { (number : ℕ) (header : HeaderValue) (ingress : ℕ) →
+            set_out self.now near (packet_with number header ingress down.now) leg targets.now
+            ≡ begun_by (packet_with number header ingress down.now) leg targets.now result }
+    {
+        match self.database.route(self.number, targets, near, down) {
+            None => Err(self.cause(near, down, &leg, targets)),
+            Some(route) => Ok(route),
+        }
+    }
+
     /// The packet at the beginning of its route to the first of these targets that it reaches.
     ///
     /// # Errors
     /// Why there is none.
-    #[tactic(auto, unfolding(crate::specs::Ends::set_out))]
     pub(crate) fn set_out(
         &self,
         near: u64,
@@ -22,12 +70,9 @@ impl Switch {
     ) -> Result<Tunnel, Cause>
         ensures { result ≡ set_out self.now near packet.now leg targets.now }
     {
-        match self
-            .database
-            .route(self.number, targets, near, &packet.down)
-        {
-            None => Err(self.cause(near, &packet.down, &leg, targets)),
-            Some(route) => Ok(Tunnel::begin(
+        match self.way_past(near, &packet.down, leg, targets) {
+            Err(cause) => Err(cause),
+            Ok(route) => Ok(Tunnel::begin(
                 packet.number,
                 packet.header,
                 packet.ingress,

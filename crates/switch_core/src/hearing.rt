@@ -206,7 +206,7 @@ fn flood(alloc: Global, near: u64, advert: &Advert) -> Result<Replies, AllocErro
     ensures { IfOk result (λ list. list ≡ flood near (Advertise advert.now)) }
 {
     let mut messages = Vec::new(alloc);
-    for other in 0..64 {
+    for other in 0..64 - near.leading_zeros() {
         if has(near, other) {
             messages.push(Message {
                 to: Receiver::Switch(other),

@@ -34,3 +34,4 @@ pub use laws::{
     arrive_laws, decision_laws, enter_laws, exit_laws, hop_laws, lookup_laws, switch_laws,
 };
 pub use switch::Switch;
+pub use verdicts::{End, Received, Verdict};

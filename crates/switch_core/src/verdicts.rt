@@ -14,7 +14,7 @@ use net_file::Ports;
 use policy_rules::{Action, Cause, Leg, Targets};
 
 /// What a lookup or a rule says of a packet, before a route is taken: small beside the answer, which
-/// has room for a route.
+/// has room for a route. `Switch::way` finds the route.
 #[derive(Drop)]
 pub enum Verdict {
     /// Decided, and at its end.
@@ -35,6 +35,14 @@ pub enum Verdict {
         leg: Leg,
         targets: Targets,
     },
+}
+
+/// What is said of a packet at the end of its route, before another one is taken.
+#[derive(Drop)]
+pub enum Received {
+    /// Out of the network, by this port of the switch.
+    Out(u32),
+    Judged(Verdict),
 }
 
 /// Where a packet ends that takes no route.

@@ -2,10 +2,13 @@
 use Rattle.std.specs.Prelude.{ℕ, ◌≡◌, ◌+◌, ◌<◌, ◌≤◌, ◌==◌, Bool, true, false, if◌then◌else◌, Option, Some, None, List, IsSome, IsSomeAnd, MatchOption, filter, length, slice_index_or, unwrap_or}
 use Rattle.std.specs.List.{range_with_len}
 use Rattle.failover.specs.DownSet.{no_links}
-use Rattle.tunnel.specs.Moves.{here}
+use Rattle.five_tuple.specs.declared.header.Header.{Header}
+use Rattle.policy_rules.specs.declared.packet.Leg.{Leg}
+use Rattle.tunnel.specs.Moves.{begun, here}
 use Rattle.tunnel.specs.Tunnel.{TunnelValue}
 use Rattle.travelling.specs.Marks.{is_marked}
 use Rattle.travelling.specs.declared.kept.Kept.TheInside.{Inside}
+use Rattle.travelling.specs.declared.standing.Standing.TheInside as standing
 use Rattle.travelling.specs.declared.travelling.Traveller.{Traveller}
 
 -- of the packet of each number what is known of it, if it travels
@@ -48,6 +51,40 @@ placed_at place t = record t { tunnel = record t.tunnel { place = place } }
 abbrev pub IsKeptOn : Travellers → Traveller → Type 0
 IsKeptOn travellers t = IsSomeAnd (traveller travellers t.tunnel.packet)
     (λ was. placed_at t.tunnel.place was ≡ t)
+
+-- ---- one packet where it stands
+
+pub record Standing : Type 0 where
+  pub packet : ℕ
+  pub header : Header
+  pub ingress : ℕ
+  pub switch : ℕ
+  pub down : List ℕ
+
+-- on its way, at a switch
+abbrev pub standing_at : ℕ → Traveller → Standing
+standing_at switch traveller = record {
+  packet = traveller.tunnel.packet;
+  header = traveller.tunnel.header;
+  ingress = traveller.tunnel.ingress;
+  switch = switch;
+  down = traveller.tunnel.down;
+}
+
+-- at the beginning of this route on its leg
+abbrev pub begun_at : Standing → Leg → List ℕ → List ℕ → TunnelValue
+begun_at at leg targets route =
+    begun at.packet at.header at.ingress leg targets route at.down
+
+-- without a set of links it found none down
+abbrev pub standing_kept : standing.Inside → Standing
+standing_kept at = record {
+  packet = at.packet;
+  header = at.header;
+  ingress = at.ingress;
+  switch = at.switch;
+  down = unwrap_or at.down no_links;
+}
 
 -- ---- where they stand
 

@@ -1,7 +1,8 @@
 ghost use Rattle.std.specs.Prelude.{◌≡◌, ◌+◌, ◌<◌, IfOk, IfSome, length};
 ghost use Rattle.tunnel.specs.Moves.{here, next};
-ghost use Rattle.travelling.specs.Travelling.{HasPlace, placed_at, travels_by};
+ghost use Rattle.travelling.specs.Travelling.{HasPlace, begun_at, placed_at, standing_at, travels_by};
 
+use crate::standing::{Standing, clone_links};
 use crate::travelling::Traveller;
 use five_tuple::Header;
 use journal::{DownSet, SharedLinks, SharedRoute};
@@ -76,6 +77,76 @@ impl Kept {
         })
     }
 
+    /// What is kept of a packet that begins this route on its leg to these targets, with the version
+    /// and the rule of its decision. The route and the set of links stay shared.
+    ///
+    /// # Errors
+    /// Want of memory alone; no set is copied.
+    pub fn begin(
+        at: &Standing,
+        leg: Leg,
+        targets: Targets,
+        route: SharedRoute,
+        version: u32,
+        rule: Option<u32>,
+    ) -> Result<Kept, AllocError>
+        ensures { IfOk result (λ kept.
+            kept ≡ travels_by (begun_at at.now leg targets route) version rule) }
+    {
+        let _items = route.route().items();
+        let down = clone_links(&at.down)?;
+        Ok(Kept {
+            packet: at.packet,
+            header: at.header,
+            ingress: at.ingress,
+            leg,
+            targets,
+            route,
+            place: 0,
+            down,
+            version,
+            rule,
+        })
+    }
+
+    /// The packet at the switch where it stands; the set of links stays shared.
+    ///
+    /// # Errors
+    /// Want of memory alone.
+    pub fn standing(&self, switch: u32) -> Result<Standing, AllocError>
+        ensures { IfOk result (λ at. at ≡ standing_at switch self.now) }
+    {
+        let down = clone_links(&self.down)?;
+        Ok(Standing {
+            packet: self.packet,
+            header: self.header,
+            ingress: self.ingress,
+            switch,
+            down,
+        })
+    }
+
+    /// The leg that it is on.
+    pub fn leg(&self) -> Leg
+        ensures { result ≡ self.now.tunnel.leg }
+    {
+        self.leg
+    }
+
+    /// The version of its decision; 0 before it.
+    pub fn version(&self) -> u32
+        ensures { result ≡ self.now.version }
+    {
+        self.version
+    }
+
+    /// The rule of its decision: a row's priority, or `None` for the default and before it.
+    pub fn rule(&self) -> Option<u32>
+        ensures { result ≡ self.now.rule }
+    {
+        self.rule
+    }
+
     /// The traveller, with a copy of its route. It takes no memory.
     pub fn traveller(&self) -> Traveller
         ensures { result ≡ self.now }
@@ -135,5 +206,26 @@ impl Kept {
         ensures { self.new ≡ placed_at place self.old }
     {
         self.place = place;
+    }
+}
+
+impl Clone for Kept {
+    ghost is_clone = { λ kept copy. copy ≡ kept };
+
+    fn clone(&self) -> Result<Kept, AllocError> {
+        let route = self.route.clone()?;
+        let down = clone_links(&self.down)?;
+        Ok(Kept {
+            packet: self.packet,
+            header: self.header,
+            ingress: self.ingress,
+            leg: self.leg,
+            targets: self.targets,
+            route,
+            place: self.place,
+            down,
+            version: self.version,
+            rule: self.rule,
+        })
     }
 }

@@ -16,9 +16,11 @@
 
 mod kept;
 mod marks;
+mod standing;
 mod travelling;
 
 pub use journal::SharedRoute;
 pub use kept::Kept;
+pub use standing::Standing;
 pub use travelling::{Traveller, Travelling};
 pub use tunnel::Tunnel;

@@ -24,9 +24,10 @@ use Rattle.switch_table.specs.declared.tables.Tables.{Tables}
 use Rattle.ternary.specs.Word.{WordValue}
 use Rattle.travelling.specs.declared.travelling.Traveller.{Traveller}
 use Rattle.tunnel.specs.Tunnel.{TunnelValue}
-use Rattle.world_log.specs.Packets.{entry, standing_at}
+use Rattle.world_log.specs.Packets.{entry}
+use Rattle.travelling.specs.Travelling.{standing_at}
 use Rattle.world_log.specs.Writing.{answer_message, arrived_message, cache_message}
-use Rattle.world_log.specs.declared.log.Standing.{Standing}
+use Rattle.travelling.specs.Travelling.{Standing}
 
 -- a cache rule to a switch below 64
 rule_spelled : (s version : ℕ) (word : WordValue) (rule : Option ℕ) (act : Action) → s < 64

@@ -5,3 +5,4 @@ pub mod Hopping
 pub mod Turning
 pub mod LosingAt
 pub mod Passing
+pub mod Arriving

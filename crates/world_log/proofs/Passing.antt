@@ -140,7 +140,7 @@ move_hops r s near ports t old new asked packet other there number free is count
 -- it arrived
 pub last_hops : {T E : Type 0} (r : Result T E) (s mid : SwitchValue) (near : ℕ) (ports : Ports)
     (t : Traveller) (old new : Log) (asked : SwitchValue)
-    → next t.tunnel ≡ None → mid ≡ counted s → asked ≡ counted mid
+    → next t.tunnel ≡ None → mid ≡ counted s → OnOk r (asked ≡ counted mid)
     → OnOk r (new.journal
     ≡ old.journal ++ arrival_items (length old.bag + 1) mid near ports t)
     → OnOk r (new.bag ≡ old.bag ++ arrival_posts mid near ports t)
@@ -162,8 +162,8 @@ last_hops r s mid near ports t old new asked is counts counts_on written posted 
           travels;
       part = on_err_weaker r (λ some. subst (λ js. IsPart old.journal js new.journal) items some)
           part;
-      counted = on_ok_weaker r (λ _. counts_on ∙ ap counted counts
-          ∙ sym (last_switch s near ports t is)) written;
+      counted = on_ok_weaker r (λ grown. grown ∙ ap counted counts
+          ∙ sym (last_switch s near ports t is)) counts_on;
     }
 
 -- what a switch needs that was asked once more

@@ -14,10 +14,9 @@ use Rattle.switch_core.specs.declared.answers.Entered.{Entered}
 use Rattle.switch_core.specs.declared.answers.HopEnd.{HopEnd}
 use Rattle.switch_core.specs.declared.answers.HopEnd.TheVariants as hop
 use Rattle.tunnel.specs.Moves.{next}
-use Rattle.travelling.specs.Travelling.{OthersStay, Travellers, WithOne}
+use Rattle.travelling.specs.Travelling.{OthersStay, Standing, Travellers, WithOne, standing_at}
 use Rattle.world_log.specs.Writing.{IsPart, arrived_items, arrived_posts, arrived_traveller}
 use Rattle.world_log.specs.declared.log.Log.{Log}
-use Rattle.world_log.specs.declared.log.Standing.{Standing}
 use Rattle.travelling.specs.declared.travelling.Traveller.{Traveller}
 
 -- a packet that comes in at a switch
@@ -34,16 +33,6 @@ coming_in packet header switch = record {
 abbrev pub entry : SwitchValue → ℕ → Ports → ℕ → Header → Entered
 entry s near ports packet header =
     entered s (around near ports) (incoming s packet header)
-
--- a packet on its way that stands at a switch
-abbrev pub standing_at : ℕ → Traveller → Standing
-standing_at switch traveller = record {
-  packet = traveller.tunnel.packet;
-  header = traveller.tunnel.header;
-  ingress = traveller.tunnel.ingress;
-  switch = switch;
-  down = traveller.tunnel.down;
-}
 
 -- what its arrival writes where the next message has this number, what it posts, and where the
 -- packet is then

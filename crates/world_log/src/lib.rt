@@ -17,8 +17,11 @@
 
 mod log;
 mod losing;
+mod outcome;
 mod packets;
 mod sending;
 
-pub use log::{Log, Standing};
+pub use log::Log;
+pub use outcome::{Onward, Outcome};
 pub use packets::{enter, hop, hop_kept};
+pub use travelling::Standing;

@@ -4,17 +4,19 @@ ghost use Rattle.frame_laws.specs.Feeding.{HasShortSpelling};
 ghost use Rattle.journal.specs.declared.item.Item.TheVariants.{Hopped as HoppedItem, Rerouted, Sent as SentItem, Stuck as StuckItem};
 ghost use Rattle.update_machine.specs.Messages.{sent_from};
 ghost use Rattle.update_machine.specs.Moves.{takes_route};
+ghost use Rattle.switch_core.specs.Verdicts.{next_at};
+ghost use Rattle.world_log.specs.Outcomes.{next_as};
 ghost use Rattle.world_log.specs.Packets.{IsTurned, turned_items};
-ghost use Rattle.travelling.specs.Travelling.{HasPlace, IsKeptOn, WithOne, placed_at, traveller, travels_by};
+ghost use Rattle.travelling.specs.Travelling.{HasPlace, IsKeptOn, WithOne, begun_at, placed_at, traveller, travels_by};
 ghost use Rattle.world_log.specs.Writing.{IsPart, decided_items, decided_traveller, end_of, exit_leg, leaves, messages_in};
 
+use crate::outcome::Onward;
 use bag::Bag;
-use five_tuple::Header;
-use journal::{DownSet, Item, Journal, Leaving, Message, SharedLinks, SharedMessage, SharedRoute};
-use policy_rules::{Action, Cause, Leg};
+use journal::{Item, Journal, Leaving, Message, SharedMessage, SharedRoute};
+use policy_rules::{Action, Cause, Leg, Targets};
 use std::alloc::{AllocError, Global};
-use switch_core::{Decision, Hop, HopEnd, Next};
-use travelling::{Kept, Traveller, Travelling, Tunnel};
+use switch_core::{Decision, End, Hop, HopEnd};
+use travelling::{Kept, Standing, Traveller, Travelling};
 
 /// What happened so far, the packets that are on their way, and the messages that were sent.
 #[derive(Drop)]
@@ -24,61 +26,32 @@ pub struct Log {
     pub bag: Bag,
 }
 
-/// A packet where it stands.
-#[derive(Drop)]
-pub struct Standing {
-    pub packet: u32,
-    pub header: Header,
-    /// The switch where it came in.
-    pub ingress: u32,
-    pub switch: u32,
-    /// The links that it found down.
-    pub down: DownSet,
-}
-
-impl Standing {
-    /// It leaves by the port, with the version and the rule of its decision.
-    pub fn leaves(&self, version: u32, rule: Option<u32>, port: u32) -> Item
-        ensures { result ≡ leaves self.now version rule port }
-    {
-        Item::Left {
-            packet: self.packet,
-            port,
-            leaving: Leaving {
-                packet: self.packet,
-                header: self.header,
-                version,
-                rule,
-            },
-        }
-    }
-}
-
 impl Log {
-    /// The packet takes the route of its tunnel, which the item and the table share, with this
-    /// version and rule of its decision.
+    /// The packet takes this route on its leg, which the item and the table share, with this version
+    /// and rule of its decision.
     ///
     /// # Errors
     /// Want of memory alone; nothing is written then.
     pub fn set_out(
         &mut self,
-        alloc: Global,
-        packet: u32,
-        tunnel: &Tunnel,
+        at: &Standing,
+        leg: Leg,
+        targets: Targets,
+        route: SharedRoute,
         version: u32,
         rule: Option<u32>,
     ) -> Result<(), AllocError>
         ensures written { OnOk result (self.new.journal
-            ≡ self.old.journal ++ takes_route packet tunnel.now.leg tunnel.now.route ∷ []) }
-        ensures travels { OnOk result (WithOne self.old.travelling packet
-            (Some (travels_by tunnel.now version rule)) self.new.travelling) }
+            ≡ self.old.journal ++ takes_route at.now.packet leg route ∷ []) }
+        ensures travels { OnOk result (WithOne self.old.travelling at.now.packet
+            (Some (travels_by (begun_at at.now leg targets route) version rule))
+            self.new.travelling) }
         ensures unwritten { OnErr result (self.new.journal ≡ self.old.journal) }
         ensures unsent { self.new.bag ≡ self.old.bag }
     {
-        let route = SharedRoute::new(alloc, tunnel.route)?;
-        let kept = Kept::new(alloc, tunnel, version, rule, route.clone()?)?;
-        self.travelling.put(packet, kept)?;
-        self.journal.push(takes_route(packet, tunnel.leg, route))
+        let kept = Kept::begin(at, leg, targets, route.clone()?, version, rule)?;
+        self.travelling.put(at.packet, kept)?;
+        self.journal.push(takes_route(at.packet, leg, route))
     }
 
     /// The packet moves on to this place of its route, at this switch. It takes no memory but the
@@ -199,7 +172,7 @@ impl Log {
         ensures unwritten { OnErr result (self.new.journal ≡ self.old.journal) }
         ensures unsent { self.new.bag ≡ self.old.bag }
     {
-        let down = SharedLinks::new(alloc, at.down)?;
+        let down = at.shared_links(alloc)?;
         self.end(
             at.packet,
             Item::Stuck {
@@ -258,19 +231,19 @@ impl Log {
         at: &Standing,
         decision: Decision,
         message: Option<Message>,
-        next: &Next,
+        onward: Onward,
     ) -> Result<(), AllocError>
         requires spelling { IfSome message HasShortSpelling }
         requires few { IfSome message (λ message. length self.old.bag < 2 ^ 32 - 1) }
         ensures written { OnOk result (self.new.journal ≡ self.old.journal
             ++ decided_items at.now decision
-            (sent_from (length self.old.bag + 1) (messages_in message)) next.now) }
+            (sent_from (length self.old.bag + 1) (messages_in message)) (next_as at.now onward)) }
         ensures posted { OnOk result (self.new.bag
             ≡ self.old.bag ++ map posted (messages_in message)) }
         ensures travels { OnOk result (WithOne self.old.travelling at.now.packet
-            (decided_traveller decision next.now) self.new.travelling) }
+            (decided_traveller decision (next_as at.now onward)) self.new.travelling) }
         ensures part { OnErr result (IsPart self.old.journal (decided_items at.now decision
-            (sent_from (length self.old.bag + 1) (messages_in message)) next.now) self.new.journal) }
+            (sent_from (length self.old.bag + 1) (messages_in message)) (next_as at.now onward)) self.new.journal) }
     {
         self.journal.push(Item::Decided {
             packet: at.packet,
@@ -280,7 +253,7 @@ impl Log {
             how: decision.how,
         })?;
         self.send_if(alloc, message)?;
-        self.onward(alloc, at, decision, next)
+        self.onward(alloc, at, decision, onward)
     }
 
     // The packet ends or travels on by its decision.
@@ -289,25 +262,67 @@ impl Log {
         alloc: Global,
         at: &Standing,
         decision: Decision,
-        next: &Next,
+        onward: Onward,
     ) -> Result<(), AllocError>
         ensures written { OnOk result (self.new.journal
-            ≡ self.old.journal ++ end_of at.now decision next.now ∷ []) }
+            ≡ self.old.journal ++ end_of at.now decision (next_as at.now onward) ∷ []) }
         ensures travels { OnOk result (WithOne self.old.travelling at.now.packet
-            (decided_traveller decision next.now) self.new.travelling) }
+            (decided_traveller decision (next_as at.now onward)) self.new.travelling) }
         ensures unwritten { OnErr result (self.new.journal ≡ self.old.journal) }
         ensures unsent { self.new.bag ≡ self.old.bag }
     {
-        match next {
-            Next::Dropped => self.end(at.packet, Item::Dropped { packet: at.packet }),
-            Next::Out(port) => {
-                self.end(at.packet, at.leaves(decision.version, decision.rule, *port))
+        match onward {
+            Onward::Ends(end) => self.ended(alloc, at, decision, end),
+            Onward::Exit {
+                port,
+                targets,
+                route,
+            } => {
+                let leg = Leg::Exit { port };
+                self.set_out(at, leg, targets, route, decision.version, decision.rule)
             }
-            Next::Exit(tunnel) => {
-                self.set_out(alloc, at.packet, tunnel, decision.version, decision.rule)
-            }
-            Next::Stuck(cause) => self.stuck(alloc, at, *cause, exit_leg(decision.action)),
+            Onward::Stuck(cause) => self.stuck(alloc, at, cause, exit_leg(decision.action)),
         }
+    }
+
+    // The packet ends by its decision.
+    fn ended(
+        &mut self,
+        alloc: Global,
+        at: &Standing,
+        decision: Decision,
+        end: End,
+    ) -> Result<(), AllocError>
+        ensures written { OnOk result (self.new.journal
+            ≡ self.old.journal ++ end_of at.now decision (next_at end) ∷ []) }
+        ensures travels { OnOk result
+            (WithOne self.old.travelling at.now.packet None self.new.travelling) }
+        ensures unwritten { OnErr result (self.new.journal ≡ self.old.journal) }
+        ensures unsent { self.new.bag ≡ self.old.bag }
+    {
+        match end {
+            End::Dropped => self.end(at.packet, Item::Dropped { packet: at.packet }),
+            End::Out(port) => {
+                self.end(at.packet, leaves(at, decision.version, decision.rule, port))
+            }
+            End::Unowned => { self.stuck(alloc, at, Cause::NoRoute, exit_leg(decision.action)) }
+        }
+    }
+}
+
+/// The packet leaves by the port, with the version and the rule of its decision.
+pub fn leaves(at: &Standing, version: u32, rule: Option<u32>, port: u32) -> Item
+    ensures { result ≡ leaves at.now version rule port }
+{
+    Item::Left {
+        packet: at.packet,
+        port,
+        leaving: Leaving {
+            packet: at.packet,
+            header: at.header,
+            version,
+            rule,
+        },
     }
 }
 

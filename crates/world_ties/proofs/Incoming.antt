@@ -25,7 +25,7 @@ use Rattle.world_log.specs.Packets.{coming_in, entry}
 use Rattle.world_ties.specs.Tied.{AreTied, Control}
 use Rattle.travelling.specs.Travelling.{Travellers, WithOne, traveller}
 use Rattle.world_log.specs.Writing.{entered_items, entered_posts, entered_traveller}
-use Rattle.world_log.specs.declared.log.Standing.{Standing}
+use Rattle.travelling.specs.Travelling.{Standing}
 use Rattle.log_ties.proofs.ComePieces.{come_along, come_called, entered_once}
 use Rattle.world_ties.proofs.Asking.{known_of, seen}
 use Rattle.log_ties.proofs.Coming.{ComesTo, come_goes, come_law, looking}

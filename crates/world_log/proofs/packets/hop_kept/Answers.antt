@@ -19,7 +19,7 @@ arrive-requires-clause-authority c =
     let counts = counted_where c.args.switch.now c.pass.new.self c.pass.result
     c.if-not-pass.false c.pass.ensures.after in
     subst (λ (t : Traveller). IsAtAuthority c.pass.new.self t.tunnel.header t.tunnel.leg)
-    (sym c.traveller-traveller-in-None.ensures)
+    (sym c.in_ok-kept-in-None.ensures.cases)
     (authority_on c.args.switch.now c.pass.new.self c.args.near c.args.ports.now kept
     (sym c.next-onward.ensures.next ∙ c.in-None.is) counts (c.requires.authority kept (sym its)))
 
@@ -44,17 +44,17 @@ returns-in-Some c =
     c.place-place.ensures.place c.move_on.ensures.moved) c.move_on.ensures.written)
     c.move_on.ensures.unwritten c.move_on.ensures.unsent)
 
-pub returns-in-None : goal.returns-in-None
-returns-in-None c =
-    let its = ap Some c.traveller-traveller-in-None.ensures
+pub returns-in_ok-kept-in-None : goal.returns-in_ok-kept-in-None
+returns-in_ok-kept-in-None c =
+    let its = ap Some c.in_ok-kept-in-None.ensures.cases
     ∙ sym (ap option_copied c.unwrap-kept.ensures) ∙ c.look.ensures in
-    let last = ap (λ (t : Traveller). next t.tunnel) c.traveller-traveller-in-None.ensures
+    let last = ap (λ (t : Traveller). next t.tunnel) c.in_ok-kept-in-None.ensures.cases
     ∙ sym c.next-onward.ensures.next ∙ c.in-None.is in
     let counts = counted_where c.args.switch.now c.pass.new.self c.pass.result
     c.if-not-pass.false c.pass.ensures.after in
     of_kept (λ t. Hops c.arrive.result c.args.switch.now c.args.near c.args.ports.now t
-    c.args.log.now c.arrive.new.log c.arrive.new.switch) _ c.traveller-traveller-in-None.result its
+    c.args.log.now c.arrive.new.log c.arrive.new.switch) _ c.in_ok-kept-in-None.kept its
     (last_hops c.arrive.result c.args.switch.now c.pass.new.self c.args.near c.args.ports.now
-    c.traveller-traveller-in-None.result c.args.log.now c.arrive.new.log c.arrive.new.switch last counts
+    c.in_ok-kept-in-None.kept c.args.log.now c.arrive.new.log c.arrive.new.switch last counts
     c.arrive.ensures.counted c.arrive.ensures.written c.arrive.ensures.posted
     c.arrive.ensures.travels c.arrive.ensures.part)
