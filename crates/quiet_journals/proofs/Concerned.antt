@@ -17,6 +17,7 @@ use Rattle.update_machine.specs.Quiet.{Sending, sendings, speaker}
 use Rattle.quiet_journals.specs.declared.life.Life.{Life}
 use Rattle.quiet_journals.specs.declared.pending.Pending.{Pending}
 use Rattle.quiet_journals.specs.Judging.{boot_after, concerned, has_mark, is_of_boot, is_old, is_said, is_same_receiver, let_go, life_in, matters_to, names, noted, party, says_again, says_as_much, speaks, waiting_after, waiting_of}
+use Rattle.quiet_journals.specs.Lanes.{AreLanes}
 use Rattle.quiet_journals.specs.Pending.{ArePending, IsAfter, IsPending}
 use Rattle.quiet_journals.proofs.Lives.{boot_at_first, boot_of_item, none_at_first, waiting_of_item}
 use Rattle.quiet_journals.proofs.Replacing.{both}
@@ -167,32 +168,35 @@ pending_of_item journal marks items i s next row after within is was now = recor
   life = now.life ∙ was.life;
   boot = boot_of_item items i s row.boot after.boot next within is was.boot
       (now.boot ∙ ap (λ (l : Life). boot_after l.switch next row.boot) was.life);
-  messages = waiting_of_item (life_in journal s) marks items i row.boot next row.messages.items
-      after.messages.items within is was.messages was.boot
-      (now.messages
-      ∙ ap (λ l. waiting_after l marks row.boot next row.messages.items) was.life);
+  messages = subst (λ waiting. AreLanes waiting after.lanes.items)
+      (waiting_of_item (life_in journal s) marks items i row.boot next so_far
+      (waiting_after row.life marks row.boot next so_far) within is refl was.boot
+      (ap (λ l. waiting_after l marks row.boot next so_far) was.life))
+      (now.messages so_far was.messages);
 }
+  where
+    so_far : List Message
+    so_far = waiting_of (life_in journal s) marks [] (sendings (take i items))
 
 pending_of_other : (journal : List Item) (marks : List Bool) (items : List Item) (i s : ℕ)
     (next : Item) (row : Pending) → i < length items → next ≡ get_or items i next
     → IsPending journal marks (take i items) s row → names s (concerned next) ≡ false
     → IsPending journal marks (take (i + 1) items) s row
-pending_of_other journal marks items i s next row within is was other =
-    pending_of_item journal marks items i s next row row within is was
-    (record {
-      life = refl;
-      boot = boot_stays row.life.switch row.boot next its;
-      messages = waiting_stays row.life marks row.boot next row.messages.items its of;
-    })
+pending_of_other journal marks items i s next row within is was other = record {
+  life = was.life;
+  boot = boot_of_item items i s row.boot row.boot next within is was.boot
+      (boot_stays s row.boot next other);
+  messages = subst (λ waiting. AreLanes waiting row.lanes.items)
+      (waiting_of_item (life_in journal s) marks items i row.boot next so_far so_far within is
+      refl was.boot (waiting_stays (life_in journal s) marks row.boot next so_far other of))
+      was.messages;
+}
   where
-    its : names row.life.switch (concerned next) ≡ false
-    its = ap (λ (l : Life). names l.switch (concerned next)) was.life ∙ other
+    so_far : List Message
+    so_far = waiting_of (life_in journal s) marks [] (sendings (take i items))
 
-    of : AreOf row.life.switch row.messages.items
-    of = subst (AreOf row.life.switch) (sym was.messages)
-        (subst (λ (l : Life). AreOf l.switch
-        (waiting_of (life_in journal s) marks [] (sendings (take i items)))) (sym was.life)
-        (waiting_of_its (life_in journal s) marks [] (sendings (take i items)) tt))
+    of : AreOf s so_far
+    of = waiting_of_its (life_in journal s) marks [] (sendings (take i items)) tt
 
 pub pending_more : (journal : List Item) (marks : List Bool) (items : List Item) (i : ℕ)
     (next : Item) (rows after : List Pending) → i < length items → next ≡ get_or items i next
@@ -222,7 +226,7 @@ pending_more journal marks items i next rows after within is was count one other
 
 pub pending_at_first : (journal : List Item) (marks : List Bool) (rows : List Pending)
     (next : Pending) (n : ℕ) → length rows ≡ n → ArePending journal marks [] rows
-    → next.life ≡ life_in journal n → next.boot ≡ 1 → next.messages.items ≡ []
+    → next.life ≡ life_in journal n → next.boot ≡ 1 → AreLanes [] next.lanes.items
     → ArePending journal marks [] (rows ++ next ∷ [])
 pending_at_first journal marks rows next n count was life boot none s d there =
     elim (cases_lt s n) [
@@ -241,5 +245,6 @@ pending_at_first journal marks rows next n count was life boot none s d there =
     first = record {
       life = life;
       boot = boot ∙ sym (boot_at_first n);
-      messages = none ∙ sym (none_at_first (life_in journal n) marks);
+      messages = subst (λ waiting. AreLanes waiting next.lanes.items)
+          (sym (none_at_first (life_in journal n) marks)) none;
     }

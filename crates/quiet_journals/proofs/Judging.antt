@@ -20,12 +20,15 @@ use Rattle.update_machine.specs.Quiet.{IsQuiet, IsReceived, Replaces, Sending, i
 use Rattle.update_machine.specs.Setting.{Setting, switches_of}
 use Rattle.update_machine.specs.Settling.{to_switch}
 use Rattle.quiet_laws.proofs.Lists.{IsIn, all_in, each_in, each_of_in, in_range, in_right, of_range, some_in}
+use Rattle.quiet_journals.specs.declared.lane.Lane.{Lane}
 use Rattle.quiet_journals.specs.declared.life.Life.{Life}
 use Rattle.quiet_journals.specs.declared.pending.Pending.{Pending}
-use Rattle.quiet_journals.specs.Judging.{has_mark, is_missed, is_old, is_of_boot, is_settled, life_in, matters_to, says_again}
+use Rattle.quiet_journals.specs.Judging.{has_mark, is_missed, is_old, is_of_boot, is_settled, life_in, matters_to, says_again, waiting_of}
+use Rattle.quiet_journals.specs.Lanes.{are_empty}
 use Rattle.quiet_journals.specs.Pending.{ArePending, IsPending}
 use Rattle.quiet_journals.specs.Plain.{AreInOrder, IsPlain, WasSentTo}
 use Rattle.quiet_journals.proofs.Counting.{all_got, is_got, none_waits}
+use Rattle.quiet_journals.proofs.Lanes.{none_in_lanes}
 use Rattle.quiet_journals.proofs.Replacing.{is_cache_rule, means_says, says_means, both}
 
 -- ---- lists
@@ -481,14 +484,19 @@ pub marks_here : (items journal : List Item) (marks : List Bool) → items ≡ j
     → AreMarks items marks → AreMarks journal marks
 marks_here items journal marks same right = subst (λ js. AreMarks js marks) same right
 
--- whether nothing is pending of a switch is whether it is settled
+-- the answer for a switch is whether it is settled
 pub settled_row : (items journal : List Item) (rows : List Pending) (s : ℕ)
-    (given marks : List Bool) (row : Pending) → items ≡ journal → given ≡ marks
-    → ArePending items given items rows → s < length rows → row ≡ get_or rows s row
-    → (not (is_missed row.life) && length row.messages.items == 0) ≡ is_settled journal s marks
-settled_row items journal rows s given marks row same its are there is =
-    ap (λ life. not (is_missed life) && length row.messages.items == 0) here.life
-    ∙ ap (λ ms. not (is_missed (life_in items s)) && length ms == 0) here.messages
+    (given marks : List Bool) (row : Pending) (lanes : List Lane) (answer : Bool)
+    → items ≡ journal → given ≡ marks → ArePending items given items rows → s < length rows
+    → row ≡ get_or rows s row → lanes ≡ row.lanes.items
+    → answer ≡ (not (is_missed row.life) && are_empty lanes)
+    → answer ≡ is_settled journal s marks
+settled_row items journal rows s given marks row lanes answer same its are there is of now =
+    now ∙ ap (λ lanes. not (is_missed row.life) && are_empty lanes) of
+    ∙ ap (λ life. not (is_missed life) && are_empty row.lanes.items) here.life
+    ∙ ap (λ b. not (is_missed (life_in items s)) && b)
+    (none_in_lanes (waiting_of (life_in items s) given [] (sendings items)) row.lanes.items
+    here.messages)
     ∙ ap (is_settled items s) its ∙ ap (λ js. is_settled js s marks) same
   where
     here : IsPending items given items s row

@@ -2,5 +2,6 @@ pub mod Counting
 mod Replacing
 mod Lives
 mod Concerned
+mod Lanes
 mod Judging
 mod Plain

@@ -21,7 +21,7 @@ both false b e = absurd cc
 
 -- ---- of three messages
 
-advert_means : (one other : Advert) (b : Bool) → is_same one other ≡ b
+pub advert_means : (one other : Advert) (b : Bool) → is_same one other ≡ b
     → (b || (one.origin == other.origin && is_newer one other)) ≡ true
     → (one ≡ other) ⊎ IsTrue (one.origin == other.origin && is_newer one other)
 advert_means one other true e says = inl (same_advert one other e)

@@ -1,3 +1,4 @@
 pub mod Plain
 pub mod Judging
+pub mod Lanes
 pub mod Pending

@@ -1,10 +1,12 @@
 -- What is pending of each switch behind a part of a journal.
 use Rattle.std.specs.Prelude.{ℕ, ◌≡◌, ◌<◌, Bool, List, [], get_or, length}
+use Rattle.ctrl_msg.specs.declared.message.Message.{Message}
 use Rattle.journal.specs.declared.item.Item.{Item}
 use Rattle.update_machine.specs.Boots.{boot_of}
 use Rattle.update_machine.specs.Quiet.{sendings}
 use Rattle.quiet_journals.specs.declared.pending.Pending.{Pending}
 use Rattle.quiet_journals.specs.Judging.{boot_after, life_in, waiting_after, waiting_of}
+use Rattle.quiet_journals.specs.Lanes.{AreLanes}
 
 -- the switch's life at the end of the journal, and its boot and the messages that wait behind the
 -- first items
@@ -12,7 +14,7 @@ pub record IsPending (journal : List Item) (marks : List Bool) (before : List It
     (row : Pending) : Type 0 where
   pub life : row.life ≡ life_in journal s
   pub boot : row.boot ≡ boot_of before s
-  pub messages : row.messages.items ≡ waiting_of (life_in journal s) marks [] (sendings before)
+  pub messages : AreLanes (waiting_of (life_in journal s) marks [] (sendings before)) row.lanes.items
 
 -- these are the switches, by their numbers
 abbrev pub ArePending : List Item → List Bool → List Item → List Pending → Type 0
@@ -23,5 +25,5 @@ ArePending journal marks before rows = (s : ℕ) (d : Pending) → s < length ro
 pub record IsAfter (marks : List Bool) (item : Item) (before after : Pending) : Type 0 where
   pub life : after.life ≡ before.life
   pub boot : after.boot ≡ boot_after before.life.switch item before.boot
-  pub messages : after.messages.items
-      ≡ waiting_after before.life marks before.boot item before.messages.items
+  pub messages : (waiting : List Message) → AreLanes waiting before.lanes.items
+      → AreLanes (waiting_after before.life marks before.boot item waiting) after.lanes.items

@@ -30,7 +30,7 @@ pub fn quiet(alloc: Global, journal: &Journal, net: &Net) -> Result<bool, AllocE
     let rows = gather(alloc, items, count, &delivered)?;
     for switch in 0..count {
         let row = &rows[switch as usize];
-        if !is_settled(row.life, &row.messages) {
+        if !is_settled(row.life, &row.lanes) {
             return Ok(false);
         }
     }

@@ -12,6 +12,7 @@
 
 mod deliveries;
 mod judge;
+mod lane;
 mod laws;
 mod life;
 mod pending;

@@ -1,12 +1,14 @@
 //! What is pending of each switch, found in one pass over a journal for all of them.
 ghost use Rattle.std.specs.Prelude.{ℕ, ◌≡◌, ◌<◌, ◌==◌, ◌&&◌, Bool, true, false, not, List, [], get_or, length, IfOk, OnOk};
 ghost use Rattle.quiet_journals.specs.Judging.{concerned, is_missed, names, party, speaks};
+ghost use Rattle.quiet_journals.specs.Lanes.{are_empty};
 ghost use Rattle.quiet_journals.specs.Pending.{ArePending, IsAfter, IsPending};
 ghost use Rattle.quiet_journals.specs.declared.pending.Pending.{Pending};
 
+use crate::lane::{Lane, are_empty, empty_lanes};
 use crate::life::{Life, tidings};
 use crate::waiting;
-use journal::{Body, Item, Message, Receiver, SharedMessage};
+use journal::{Body, Item, Message, Receiver};
 use std::alloc::{AllocError, Global};
 
 /// A switch at the end of a journal, its boot behind the items that were read, and the messages to
@@ -15,7 +17,7 @@ use std::alloc::{AllocError, Global};
 pub struct Pending {
     pub life: Life,
     pub boot: u32,
-    pub messages: Vec<SharedMessage>,
+    pub lanes: Vec<Lane>,
 }
 
 impl Pending {
@@ -24,15 +26,15 @@ impl Pending {
         ensures { OnOk result (IsAfter delivered.now item.now self.old self.new) }
     {
         let life = self.life;
-        waiting::take_item(&mut self.messages, &mut self.boot, item, &life, delivered)
+        waiting::take_item(&mut self.lanes, &mut self.boot, item, &life, delivered)
     }
 }
 
 /// Whether nothing is pending of a switch: the controller doesn't miss it, and no message waits.
-pub fn is_settled(life: Life, messages: &[SharedMessage]) -> bool
-    ensures { result ≡ (not (is_missed life) && length messages.now == 0) }
+pub fn is_settled(life: Life, lanes: &[Lane]) -> bool
+    ensures { result ≡ (not (is_missed life) && are_empty lanes.now) }
 {
-    !life.is_missed() && messages.is_empty()
+    !life.is_missed() && are_empty(lanes)
 }
 
 /// What is pending of each of so many switches behind the journal.
@@ -64,10 +66,11 @@ fn at_first(alloc: Global, items: &[Item], count: u32) -> Result<Vec<Pending>, A
     let told = tidings(alloc, items)?;
     let mut rows = Vec::new(alloc);
     for switch in 0..count {
+        let lanes = empty_lanes(alloc)?;
         rows.push(Pending {
             life: Life::of(&told, switch),
             boot: 1,
-            messages: Vec::new(alloc),
+            lanes,
         })?;
     }
     Ok(rows)

@@ -1,29 +1,34 @@
 //! The messages to a switch, and those of it to the controller, that still have to be delivered.
-ghost use Rattle.std.specs.Prelude.{◌≡◌, ◌||◌, false, OnOk};
+ghost use Rattle.std.specs.Prelude.{◌≡◌, ◌||◌, false, List, OnOk};
 ghost use Rattle.std.specs.Option.{option_map_or};
+ghost use Rattle.ctrl_msg.specs.declared.message.Message.{Message};
 ghost use Rattle.update_machine.specs.Quiet.{carries, is_advert, speaker};
 ghost use Rattle.quiet_journals.specs.Judging.{boot_after, is_of_boot, is_old, is_said, let_go, matters_to, noted, says_again, says_as_much, waiting_after};
+ghost use Rattle.quiet_journals.specs.Lanes.{AreLanes};
 
 use crate::deliveries::is_marked;
+use crate::lane::{Lane, lane_of};
 use crate::life::Life;
 use journal::{Body, Item, Message, Receiver, SharedMessage};
 use std::alloc::AllocError;
 
 /// What one more item makes of the messages of a switch that wait, and of its boot. A message waits
 /// that matters at the end of the journal and was not delivered, and none behind it that replaces
-/// it; but no two of which one says as much as the other. So there are few, however many were sent.
+/// it; but no two of which one says as much as the other. So there are few, however many were sent,
+/// and the message is looked for in its lane alone.
 ///
 /// # Errors
 /// Want of memory alone.
 pub fn take_item(
-    messages: &mut Vec<SharedMessage>,
+    lanes: &mut Vec<Lane>,
     boot: &mut u32,
     item: &Item,
     life: &Life,
     delivered: &[bool],
 ) -> Result<(), AllocError>
-    ensures messages { OnOk result (messages.new.items
-        ≡ waiting_after life.now delivered.now boot.old item.now messages.old.items) }
+    ensures messages { OnOk result ((waiting : List Message) → AreLanes waiting lanes.old.items
+        → AreLanes (waiting_after life.now delivered.now boot.old item.now waiting)
+        lanes.new.items) }
     ensures boot { OnOk result (boot.new ≡ boot_after life.now.switch item.now boot.old) }
 {
     match item {
@@ -39,10 +44,27 @@ pub fn take_item(
         Item::Sent { number, message } => {
             let is_delivered = is_marked(delivered, *number);
             let matters = matters(message.message(), life, *boot);
-            note(messages, message, matters, is_delivered)
+            note_in_lane(lanes, message, matters, is_delivered)
         }
         _ => Ok(()),
     }
+}
+
+// The message goes, or is to go, in the place of those of its lane that it replaces.
+fn note_in_lane(
+    lanes: &mut Vec<Lane>,
+    next: &SharedMessage,
+    matters: bool,
+    is_delivered: bool,
+) -> Result<(), AllocError>
+    ensures { OnOk result ((waiting : List Message) → AreLanes waiting lanes.old.items
+        → AreLanes (noted matters is_delivered next.now waiting) lanes.new.items) }
+{
+    let lane = lane_of(&next.message().body) as usize;
+    if lane >= lanes.len() {
+        return Ok(());
+    }
+    note(&mut lanes[lane].messages, next, matters, is_delivered)
 }
 
 // The message goes, or is to go, in the place of those before it that it replaces.

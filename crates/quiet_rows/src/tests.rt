@@ -2,7 +2,7 @@
 ghost use Rattle.std.specs.Prelude.{IfOk};
 ghost use Rattle.net_file.specs.Net.{IsNet};
 
-use journal::{Body, Item, Journal, Message, Receiver, SharedMessage, SharedTables};
+use journal::{Advert, Body, Item, Journal, Message, Receiver, SharedMessage, SharedTables};
 use net_file::{Net, read_net, solo};
 use quiet_journals::quiet;
 use std::alloc::Global;
@@ -106,5 +106,56 @@ fn updates_are_answered(rt: HostRuntime) -> Result<(), Fail> {
     };
     send(alloc, &mut journal, 3, Receiver::Switch(0), stamp)?;
     assert!(rt; !is_quiet(alloc, &journal, &net)?);
+    Ok(())
+}
+
+// The advert of this number that the switch 1 tells in its boot is sent to the switch 0.
+fn advertise(alloc: Global, journal: &mut Journal, number: u32, seq: u32) -> Result<(), Fail> {
+    let advert = Advert {
+        origin: 1,
+        boot: 1,
+        seq,
+        up: 1,
+    };
+    send(
+        alloc,
+        journal,
+        number,
+        Receiver::Switch(0),
+        Body::Advertise { advert },
+    )
+}
+
+// Whether the network is quiet once two adverts of these numbers were sent, of which this message
+// was delivered and the other one forgotten.
+fn is_quiet_with(
+    alloc: Global,
+    net: &Net,
+    first: u32,
+    second: u32,
+    delivered: u32,
+) -> Result<bool, Fail>
+    requires { IsNet net.now }
+{
+    let mut journal = Journal::new(alloc);
+    advertise(alloc, &mut journal, 1, first)?;
+    advertise(alloc, &mut journal, 2, second)?;
+    let forgotten = if delivered == 1 { 2 } else { 1 };
+    push(&mut journal, Item::Forgotten { number: forgotten })?;
+    push(&mut journal, Item::Delivered { number: delivered })?;
+    is_quiet(alloc, &journal, net)
+}
+
+/// A newer advert, or the same, replaces one that was sent before it, and none that was sent later.
+#[test]
+fn later_adverts_replace(rt: HostRuntime) -> Result<(), Fail> {
+    let alloc = rt.alloc();
+    let net = two_switches(alloc)?;
+    assert!(rt; is_quiet_with(alloc, &net, 1, 2, 2)?);
+    assert!(rt; is_quiet_with(alloc, &net, 2, 2, 2)?);
+    assert!(rt; !is_quiet_with(alloc, &net, 2, 1, 2)?);
+    assert!(rt; !is_quiet_with(alloc, &net, 1, 2, 1)?);
+    assert!(rt; !is_quiet_with(alloc, &net, 2, 2, 1)?);
+    assert!(rt; !is_quiet_with(alloc, &net, 2, 1, 1)?);
     Ok(())
 }

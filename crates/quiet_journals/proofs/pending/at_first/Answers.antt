@@ -10,7 +10,7 @@ pub loop-switch-preserved : goal.loop-switch-preserved
 loop-switch-preserved c =
     let s = c.loop-switch.switch in
     let rows = c.loop-switch.rows.items in
-    let next : Pending = record { life = c.of.result; boot = 1; messages = c.new.result } in
+    let next : Pending = record { life = c.of.result; boot = 1; lanes = c.in_ok-lanes.lanes } in
     let is : c.push.new.self.items ≡ rows ++ next ∷ [] = c.in_ok-push.ensures.items in
     record {
       count = ap (λ (rows : List Pending). length rows) is ∙ length-append rows (next ∷ [])
@@ -20,5 +20,5 @@ loop-switch-preserved c =
           (c.loop-switch.invariant.each marks)
           (c.of.ensures ∙ ap (λ (js : List Item). life_in js s) c.deref.ensures.value
           ∙ c.in_ok-told.ensures s)
-          refl c.new.ensures.items);
+          refl c.in_ok-lanes.ensures);
     }
