@@ -52,13 +52,14 @@ rows_distinct (suc k) x place d inside = go (nat_lt place k) refl (rows_distinct
         → (place < k → has_priority (take place (rows_from k x).0)
         (slice_index_or (rows_from k x).0 place d).priority ≡ false)
         → has_priority (take place ((rows_from k x).0 ++ row_at (k + 1) (rows_from k x).1 ∷ []))
-        (slice_index_or ((rows_from k x).0 ++ row_at (k + 1) (rows_from k x).1 ∷ []) place d).priority
-        ≡ false
+        (slice_index_or ((rows_from k x).0 ++ row_at (k + 1) (rows_from k x).1 ∷ []) place
+        d).priority ≡ false
     go true e earlier =
         let below : place < length (rows_from k x).0 =
         omega (arith, ltb-true place k e, rows_count k x) in
         rw (
-          take-append-le place (rows_from k x).0 (row_at (k + 1) (rows_from k x).1 ∷ []) (omega (arith, below)),
+          take-append-le place (rows_from k x).0 (row_at (k + 1) (rows_from k x).1 ∷ [])
+              (omega (arith, below)),
           get_or-append (rows_from k x).0 (row_at (k + 1) (rows_from k x).1 ∷ []) d place below,
         )
         (earlier (ltb-true place k e))
@@ -67,7 +68,8 @@ rows_distinct (suc k) x place d inside = go (nat_lt place k) refl (rows_distinct
         omega (arith, ltb-false place k e, inside, rows_count k x) in
         rw (
           same,
-          take-append-le (length (rows_from k x).0) (rows_from k x).0 (row_at (k + 1) (rows_from k x).1 ∷ []) (omega arith),
+          take-append-le (length (rows_from k x).0) (rows_from k x).0
+              (row_at (k + 1) (rows_from k x).1 ∷ []) (omega arith),
           take_all (length (rows_from k x).0) (rows_from k x).0 (omega arith),
           get_or-append_seam (rows_from k x).0 (row_at (k + 1) (rows_from k x).1) [] d,
         )
@@ -148,8 +150,10 @@ case_playable n few =
     let late = groups_from (2 * n) early.1 in
     record {
       net = load_net_sound;
-      ports = All-cons Named (rows_from n n).0 ((rows_from n (rows_from n n).1).0 ∷ []) (ports_named n n)
-          (All-cons Named (rows_from n (rows_from n n).1).0 [] (ports_named n (rows_from n n).1) (All-nil Named));
+      ports = All-cons Named (rows_from n n).0 ((rows_from n (rows_from n n).1).0 ∷ [])
+          (ports_named n n)
+          (All-cons Named (rows_from n (rows_from n n).1).0 [] (ports_named n (rows_from n n).1)
+          (All-nil Named));
       may = All-append (IsEvent load_net 2) (early.0 ++ changes) late.0
           (All-append (IsEvent load_net 2) early.0 changes (groups_may (2 * n) start) changes_may)
           (groups_may (2 * n) early.1);

@@ -2,7 +2,7 @@
 use Rattle.std.specs.Prelude.{IsTrue, IsFalse, AllPairs, bytes_eq, slice_index}
 use Rattle.std.specs.Int.{bit_at}
 use Rattle.std.specs.List.{list_all, range_with_len}
-use Rattle.std.proofs.Common.{◌≡◌, ◌≢◌, ℕ, zero, suc, ◌+◌, ◌<◌, ◌≤◌, ◌^◌, ◌==◌, Bool, true, false, not, ◌&&◌, List, [], ◌∷◌, ◌++◌, length, map, All, refl, sym, ap, ◌∙◌, true≢false, eq-eqb, ne_eqb, eqb-true, ltb-true, nat_lt, is_some, arith}
+use Rattle.std.proofs.Common.{◌≡◌, ◌≢◌, ℕ, zero, suc, ◌+◌, ◌<◌, ◌≤◌, ◌^◌, ◌==◌, Bool, true, false, not, ◌&&◌, List, [], ◌∷◌, ◌++◌, length, map, All, refl, sym, ap, ◌∙◌, true≢false, eq-eqb, ne_eqb, eqb-true, ltb-true, leb-true, nat_lt, nat_le, is_some, arith}
 use Rattle.std.proofs.lemmas.Nat.Bits.{bit_at-pow_other}
 use Rattle.std.proofs.lemmas.Slice.Eq.{bytes_eq-Decides}
 use Rattle.std.proofs.lemmas.List.FromFn.{map-range_with_len_more}
@@ -48,21 +48,17 @@ module _ {A X : Type 0} (f : A → X) where
 
 -- ---- switches
 
-sound : (i : ℕ) → is_name (110 ∷ (48 + i) ∷ []) ≡ true → 2 ^ i < 2 ^ 64 → room_of i ≤ 8192
-    → IsSwitch (switch_of i)
-sound i name ports room = record { name = name; ports = ports; room = room }
-
 all_sound : All IsSwitch load_net.switches
-all_sound =
-    All-cons IsSwitch (switch_of 0) (switch_of 1 ∷ switch_of 2 ∷ switch_of 3 ∷ switch_of 4 ∷ switch_of 5 ∷ switch_of 6 ∷ switch_of 7 ∷ []) (sound 0 refl (omega arith) (omega arith))
-    (All-cons IsSwitch (switch_of 1) (switch_of 2 ∷ switch_of 3 ∷ switch_of 4 ∷ switch_of 5 ∷ switch_of 6 ∷ switch_of 7 ∷ []) (sound 1 refl (omega arith) (omega arith))
-    (All-cons IsSwitch (switch_of 2) (switch_of 3 ∷ switch_of 4 ∷ switch_of 5 ∷ switch_of 6 ∷ switch_of 7 ∷ []) (sound 2 refl (omega arith) (omega arith))
-    (All-cons IsSwitch (switch_of 3) (switch_of 4 ∷ switch_of 5 ∷ switch_of 6 ∷ switch_of 7 ∷ []) (sound 3 refl (omega arith) (omega arith))
-    (All-cons IsSwitch (switch_of 4) (switch_of 5 ∷ switch_of 6 ∷ switch_of 7 ∷ []) (sound 4 refl (omega arith) (omega arith))
-    (All-cons IsSwitch (switch_of 5) (switch_of 6 ∷ switch_of 7 ∷ []) (sound 5 refl (omega arith) (omega arith))
-    (All-cons IsSwitch (switch_of 6) (switch_of 7 ∷ []) (sound 6 refl (omega arith) (omega arith))
-    (All-cons IsSwitch (switch_of 7) [] (sound 7 refl (omega arith) (omega arith))
-    (All-nil IsSwitch))))))))
+all_sound = all_by switch_of IsSwitch
+    (λ i. is_name (switch_of i).name && (nat_lt (2 ^ i) (2 ^ 64) && nat_le (room_of i) 8192))
+    (λ i e.
+    let sizes = second (is_name (switch_of i).name) _ e in
+    record {
+      name = first (is_name (switch_of i).name) _ e;
+      ports = ltb-true _ _ (first (nat_lt (2 ^ i) (2 ^ 64)) _ sizes);
+      room = leb-true _ _ (second (nat_lt (2 ^ i) (2 ^ 64)) _ sizes);
+    })
+    (range_with_len 0 8) refl
 
 other_ports : (i j port : ℕ) → i ≢ j → IsTrue (has_port port (switch_of i))
     → IsFalse (has_port port (switch_of j))
@@ -147,7 +143,8 @@ in_range test from (suc count) k e low high =
 
 pub port_owned : (port : ℕ) → port < 8 → IsTrue (is_some (owner_of load_net.switches port))
 port_owned port below =
-    in_range (λ k. is_some (owner_of load_net.switches k)) 0 8 port refl (omega arith) (omega (arith, below))
+    in_range (λ k. is_some (owner_of load_net.switches k)) 0 8 port refl (omega arith)
+    (omega (arith, below))
 
 -- one more switch
 pub switches_more : (i : ℕ) → map switch_of (range_with_len 0 (i + 1))

@@ -1,6 +1,6 @@
 -- The load case of a number: a ring of eight switches with two more links, two policies, and a
--- schedule of packets with an update and a failed link in its middle. All numbers of it are drawn
--- from a linear congruential generator.
+-- schedule of packets with an update and a failed link in its middle. The policies and the packets
+-- are drawn from a linear congruential generator, whose state starts at the number.
 use Rattle.std.specs.Prelude.{⊤, ℕ, IsTrue, is_some, zero, suc, ◌≤◌, ◌+◌, ◌*◌, ◌/◌, ◌%◌, ◌^◌, ◌||◌, ◌==◌, if◌then◌else◌, List, [], ◌∷◌, ◌++◌, length, map, All}
 use Rattle.std.specs.List.{range_with_len}
 use Rattle.five_tuple.specs.Header.{header_of}

@@ -20,7 +20,8 @@ pub struct Case {
     pub events: Vec<Event>,
 }
 
-/// The load case of this number.
+/// The load case of this number, from 1 to 1,000. Its network is sound, its policies name ports of
+/// that network alone, and its events may happen on it.
 ///
 /// # Errors
 /// Want of memory alone.

@@ -6,7 +6,7 @@ use five_tuple::{Fields, Header};
 use std::alloc::{AllocError, Global};
 use steps::{Event, Step};
 
-/// The events of a case of so many packets, half of them before the changes.
+/// The events of a case: so many packets, the changes, and so many packets again.
 ///
 /// # Errors
 /// Want of memory alone.

@@ -15,7 +15,7 @@ pub struct Summary {
     pub dropped: usize,
     pub lost: usize,
     pub stuck: usize,
-    /// Packets that came in and have none of these ends.
+    /// Packets that came in, less the four counts above; none where these are more.
     pub travelling: usize,
     /// Decisions by cached rules.
     pub cached: usize,

@@ -1,9 +1,16 @@
 -- The commands of the grammar, by their lines.
 use Rattle.std.specs.Prelude.{nat_le, option_and_then}
-use Rattle.std.proofs.Common.{◌≡◌, ℕ, ◌==◌, ◌<◌, ◌≤◌, ◌^◌, Bool, true, false, cond, ◌||◌, Option, Some, None, is_some, List, [], ◌∷◌, length, refl, sym, true≢false, eqb-true, leb-true, arith}
+use Rattle.std.proofs.Common.{ap, drop, ◌≡◌, ℕ, ◌==◌, ◌<◌, ◌≤◌, ◌^◌, Bool, true, false, cond, ◌||◌, Option, Some, None, is_some, List, [], ◌∷◌, ◌∙◌, length, refl, sym, true≢false, eqb-true, leb-true, arith}
+use Rattle.clap.specs.Matches.{found_of}
+use Rattle.clap.specs.Simple.{App, HasMatchesOf}
+use Rattle.clap.specs.Takes.{takes}
+use Rattle.clap.specs.Walk.{rows_of}
+use Rattle.clap.specs.declared.parser.matches.ArgMatches.{ArgMatches}
 use Rattle.clap.proofs.WalkLemmas.{both}
+use Rattle.words.specs.Line.{line_app, net_and, none, options_of}
 use Rattle.words.specs.Named.{command_in, kind_name}
-use Rattle.words.specs.Words.{Line, command_by, line_of, load_from, load_number, load_of, print_of, replay_from}
+use Rattle.words.specs.Words.{Command, Line, command_by, line_of, load_from, load_number, load_of, print_of, replay_from}
+use Rattle.words.proofs.Parses.{Found, IsWithin, WalksTo, is_not, matches_found, reads, taken}
 use Rattle.words.specs.declared.grammar.Kind.{Kind}
 use Rattle.words.specs.declared.grammar.Kind.TheVariants as kind
 
@@ -26,7 +33,8 @@ replay_names line (s ∷ ps) e =
 print_names : (count : ℕ) (line : Line) → 0 < count → count < 3
     → is_some (print_of count line) ≡ true → HaveNames line.names
 print_names count line some few e =
-    let is : length line.names ≡ count = eqb-true _ _ (both (length line.names == count) _ (passes _ _ e)).0 in
+    let is : length line.names ≡ count =
+    eqb-true _ _ (both (length line.names == count) _ (passes _ _ e)).0 in
     (omega (arith, is, some), omega (arith, is, few))
 
 load_names : (line : Line) → is_some (load_of line) ≡ true → HaveNames line.names
@@ -47,17 +55,62 @@ line_names kind.Compile line e = print_names 1 line (omega arith) (omega arith) 
 line_names kind.Show line e = print_names 2 line (omega arith) (omega arith) e
 line_names kind.Load line e = load_names line e
 
--- the line of words that are a command of this kind
-pub line_there : (k : Kind) (words : List (List ℕ)) → is_some (command_in k words) ≡ true
-    → (line : Line) × (line_of words ≡ Some line) × (0 < length line.names)
-    × (length line.names < 2 ^ 16)
-line_there k words e = go (line_of words) refl e
+-- ---- options
+
+neither : (net quiet : Bool) (o : Option Command) → is_some (cond (net || quiet) None o) ≡ true
+    → (net ≡ false) × (quiet ≡ false)
+neither true quiet o e = absurd (true≢false (sym e))
+neither false true o e = absurd (true≢false (sym e))
+neither false false o e = (refl, refl)
+
+print_within : (count : ℕ) (line : Line) → is_some (print_of count line) ≡ true
+    → IsWithin (net_and false) line.net line.quiet
+print_within count line e =
+    let none : line.quiet ≡ false =
+    is_not line.quiet (both (length line.names == count) _ (passes _ _ e)).1 in
+    record { has_net = λ some. refl; has_flag = λ some. sym none ∙ some }
+
+load_within : (line : Line) → is_some (load_of line) ≡ true → IsWithin none line.net line.quiet
+load_within line e =
+    let bare = neither (is_some line.net) line.quiet (load_from (load_number line.names)) e in
+    record { has_net = λ some. sym bare.0 ∙ some; has_flag = λ some. sym bare.1 ∙ some }
+
+-- each line of a command has options of its own alone
+line_within : (k : Kind) (line : Line) → is_some (command_by (kind_name k) line) ≡ true
+    → IsWithin (options_of k) line.net line.quiet
+line_within kind.Replay line e = record { has_net = λ some. refl; has_flag = λ some. refl }
+line_within kind.Compile line e = print_within 1 line e
+line_within kind.Show line e = print_within 2 line e
+line_within kind.Load line e = load_within line e
+
+-- the line of words that are a command of this kind, and the walk of that command over them
+pub record Walked (k : Kind) (words : List (List ℕ)) : Type 0 where
+  pub line : Line
+  pub is : line_of words ≡ Some line
+  pub walks : WalksTo (kind_name k) (options_of k) words line
+
+pub line_walked : (k : Kind) (words : List (List ℕ)) → is_some (command_in k words) ≡ true
+    → Walked k words
+line_walked k words e = go (line_of words) refl e
   where
     go : (o : Option Line) → line_of words ≡ o
-        → is_some (option_and_then (command_by (kind_name k)) o) ≡ true
-        → (line : Line) × (line_of words ≡ Some line) × (0 < length line.names)
-        × (length line.names < 2 ^ 16)
+        → is_some (option_and_then (command_by (kind_name k)) o) ≡ true → Walked k words
     go None is e = absurd (true≢false (sym e))
     go (Some line) is e =
         let names = line_names k line e in
-        (line, is, names.0, names.1)
+        record {
+          line = line;
+          is = is;
+          walks = reads (kind_name k) (options_of k) words line is names.0 names.1
+              (line_within k line e);
+        }
+
+-- that command takes the words, and what it matches is the line
+module _ (k : Kind) (app : App) (all : List (List ℕ)) (is : app ≡ line_app k)
+    (w : Walked k (drop 1 all)) where
+  pub takes_line : takes app all ≡ true
+  takes_line = ap (λ a. takes a all) is ∙ taken (kind_name k) (options_of k) all w.line w.walks
+
+  pub finds_line : (m : ArgMatches) → HasMatchesOf app all m
+      → Found (options_of k) (rows_of (found_of m)) w.line
+  finds_line m has = matches_found (kind_name k) (options_of k) app all m w.line is has w.walks

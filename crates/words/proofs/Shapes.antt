@@ -87,12 +87,15 @@ pair_is option [] net rest e = absurd (true≢false (ap is_some (sym e)))
 pair_is option (value ∷ words) net rest e = go (bytes_eq option (codes "--net")) refl e
   where
     go : (b : Bool) → bytes_eq option (codes "--net") ≡ b
-        → cond {A = Option (List ℕ × List (List ℕ))} (b && is_name value) (Some (value, words)) None ≡ Some (net, rest)
+        → cond {A = Option (List ℕ × List (List ℕ))} (b && is_name value) (Some (value, words)) None
+        ≡ Some (net, rest)
         → IsNetCut (option ∷ value ∷ words) net rest
     go false s e = absurd (true≢false (ap is_some (sym e)))
     go true s e = named (is_name value) refl e
       where
-        named : (b : Bool) → is_name value ≡ b → cond {A = Option (List ℕ × List (List ℕ))} b (Some (value, words)) None ≡ Some (net, rest)
+        named : (b : Bool) → is_name value ≡ b
+            → cond {A = Option (List ℕ × List (List ℕ))} b (Some (value, words)) None
+            ≡ Some (net, rest)
             → IsNetCut (option ∷ value ∷ words) net rest
         named false n e = absurd (true≢false (ap is_some (sym e)))
         named true n e = record {
@@ -210,7 +213,8 @@ cut_is words = go (cut_quiet words) refl
 
 -- ---- names
 
-pub names_good : (words : List (List ℕ)) → list_all is_name (take (prefix_len is_name words) words) ≡ true
+pub names_good : (words : List (List ℕ))
+    → list_all is_name (take (prefix_len is_name words) words) ≡ true
 names_good [] = refl
 names_good (word ∷ words) = go (is_name word) refl (names_good words)
   where

@@ -1,9 +1,15 @@
 -- The grammar of words, tried on literals by computing.
 use Rattle.std.proofs.Common.{◌≡◌, true, false, Some, None, [], ◌∷◌, codes, refl, replicate}
+use Rattle.five_tuple.specs.Texts.{number_up_to}
 use Rattle.words.specs.Words.{Print, Replay, command_of}
 
 two_names : command_of (codes "replay" ∷ codes "s.csv" ∷ codes "p.csv" ∷ []) ≡ Some
-    (Replay (record { schedule = codes "s.csv"; policies = codes "p.csv" ∷ []; net = None; quiet = false }))
+    (Replay (record {
+      schedule = codes "s.csv";
+      policies = codes "p.csv" ∷ [];
+      net = None;
+      quiet = false;
+    }))
 two_names = refl
 
 no_option : command_of (codes "replay" ∷ codes "s.csv" ∷ codes "--net" ∷ []) ≡ None
@@ -81,6 +87,17 @@ no_two_flags : command_of
     (codes "replay" ∷ codes "--quiet" ∷ codes "s.csv" ∷ codes "p.csv" ∷ codes "--quiet" ∷ [])
     ≡ None
 no_two_flags = refl
+
+no_option_for_load : command_of (codes "load" ∷ codes "--net=n" ∷ codes "1" ∷ []) ≡ None
+no_option_for_load = refl
+
+no_load_0 : command_of (codes "load" ∷ codes "0" ∷ []) ≡ None
+unfolding number_up_to
+no_load_0 = refl
+
+no_leading_zero : command_of (codes "load" ∷ codes "05" ∷ []) ≡ None
+unfolding number_up_to
+no_leading_zero = refl
 
 no_flag_for_plans : command_of (codes "compile" ∷ codes "p.csv" ∷ codes "--quiet" ∷ []) ≡ None
 no_flag_for_plans = refl

@@ -4,13 +4,13 @@ use Rattle.std.specs.Bool.{⊤}
 use Rattle.std.specs.List.{list_all}
 use Rattle.std.proofs.Common.{◌≡◌, ℕ, ◌==◌, ◌<◌, ◌^◌, Bool, true, false, not, ◌&&◌, ◌||◌, Option, Some, None, List, [], ◌∷◌, ◌++◌, length, refl, sym, ap, ◌∙◌, subst, append_assoc, append-nil, true≢false, le-leb, arith}
 use Rattle.clap.specs.Lexer.{long_of, short_of, usize_max}
-use Rattle.clap.specs.Simple.{Shape, built, help_rule}
+use Rattle.clap.specs.Simple.{Shape, built, help_rule, new_shape}
 use Rattle.clap.specs.Takes.{settle_passes, turn_passes, use_passes, values_pass, walk_passes}
-use Rattle.clap.specs.Walk.{Held, Row, Rule, Waiting, Walk, has_row, idle, positional, used, walk_from, walked}
+use Rattle.clap.specs.Walk.{Row, Rule, Waiting, Walk, has_row, idle, positional, used, walked}
 use Rattle.clap.specs.Walk as clap
 use Rattle.clap.specs.declared.builder.value_parser.ValueParser.TheVariants as vp
 use Rattle.clap.proofs.WalkLemmas.{both}
-use Rattle.words.specs.Line.{line_app, names_arg, net_arg, quiet_arg}
+use Rattle.words.specs.Line.{Options, app_with, names_arg, net_and, net_arg, none, quiet_arg}
 use Rattle.words.specs.Words.{is_name}
 use Rattle.words.proofs.Shapes.{Given, is_good, joined, pair, quiet, spell, spelled}
 
@@ -38,18 +38,37 @@ help_built = record help_rule {
   parser = Some vp.String;
 }
 
-abbrev pub rules : List Rule
-rules = names_rule ∷ net_rule ∷ quiet_rule ∷ help_built ∷ []
+abbrev pub flag_rules : Bool → List Rule
+flag_rules true = quiet_rule ∷ help_built ∷ []
+flag_rules false = help_built ∷ []
 
-abbrev pub shape : Shape
-shape = record line_app.top {
-  rules = rules;
+abbrev pub option_rules : Options → List Rule
+option_rules none = help_built ∷ []
+option_rules (net_and flag) = net_rule ∷ flag_rules flag
+
+abbrev pub rules : Options → List Rule
+rules options = names_rule ∷ option_rules options
+
+abbrev pub shape : List ℕ → Options → Shape
+shape name options = record (new_shape name) {
+  rules = rules options;
+  args_override_self = true;
   is_built = true;
   disable_help_subcommand = true;
 }
 
-pub shape_is : (built line_app).top ≡ shape
-shape_is = refl
+pub shape_is : (name : List ℕ) (o : Options) → (built (app_with name o)).top ≡ shape name o
+shape_is name none = refl
+shape_is name (net_and true) = refl
+shape_is name (net_and false) = refl
+
+abbrev pub takes_net : Options → Bool
+takes_net none = false
+takes_net (net_and flag) = true
+
+abbrev pub takes_flag : Options → Bool
+takes_flag none = false
+takes_flag (net_and flag) = flag
 
 -- ---- where a walk stands between two words of a line
 
@@ -92,31 +111,25 @@ abbrev pub use_all : List Given → List Row → List Row
 use_all [] rows = rows
 use_all (g ∷ gs) rows = use_all gs (use_given g rows)
 
--- the walk takes these words, and then stands there
-pub record Goes (from : Walk) (words : List (List ℕ)) (to : Walk) : Type 0 where
-  pub walk : fold (walked rules []) from words ≡ to
-  pub passes : walk_passes shape [] from words ≡ true
+-- how many names there may be
+abbrev pub IsFew : List (List ℕ) → Type 0
+IsFew names = length names < 2 ^ 16
 
-goes_nowhere : (w : Walk) → Goes w [] w
-unfolding walk_passes
-goes_nowhere w = record { walk = refl; passes = refl }
+-- where a walk may stand by these options, and which of them may stand in the words
+abbrev pub MayStand : Options → At → Type 0
+MayStand o apart = ⊤
+MayStand o (valued net) = takes_net o ≡ true
+MayStand o (named n ns) = IsFew (n ∷ ns)
 
-goes_on : (w v u : Walk) (word : List ℕ) (words : List (List ℕ)) → walked rules [] w word ≡ v
-    → turn_passes shape [] w word ≡ true → Goes v words u → Goes w (word ∷ words) u
-unfolding walk_passes
-goes_on w v u word words step turn more = record {
-  walk = ap (λ x. fold (walked rules []) x words) step ∙ more.walk;
-  passes = rw (turn, step) more.passes;
-}
+abbrev pub may_give : Options → Given → Bool
+may_give o (joined net) = takes_net o
+may_give o (pair net) = takes_net o
+may_give o quiet = takes_flag o
 
-pub goes_far : (w v u : Walk) (xs ys : List (List ℕ)) → Goes w xs v → Goes v ys u
-    → Goes w (xs ++ ys) u
-unfolding walk_passes
-goes_far w v u [] ys front back = subst (λ x. Goes x ys u) (sym front.walk) back
-goes_far w v u (x ∷ xs) ys front back =
-    let p = both (turn_passes shape [] w x) _ front.passes in
-    goes_on w (walked rules [] w x) u x (xs ++ ys) refl p.0
-    (goes_far (walked rules [] w x) v u xs ys (record { walk = front.walk; passes = p.1 }) back)
+-- behind no names there are no names pending
+abbrev IsApart : At → Type 0
+IsApart (named n ns) = ⊥
+IsApart _ = ⊤
 
 -- ---- a name
 
@@ -134,10 +147,6 @@ plain_word (x ∷ xs) e = go (x == 45) refl e
     go true s e = absurd (true≢false (sym (both (nat_lt 0 (length (x ∷ xs))) false e).1))
     go false s e = record { dashes = rw s refl; long = rw s refl; short = rw s refl }
 
--- how many names there may be
-abbrev pub IsFew : List (List ℕ) → Type 0
-IsFew names = length names < 2 ^ 16
-
 all_pass : (vs : List (List ℕ)) → values_pass names_rule vs ≡ true
 all_pass [] = refl
 all_pass (v ∷ vs) = all_pass vs
@@ -150,10 +159,6 @@ names_pass n ns rows few =
     le-leb (length (n ∷ ns)) usize_max (omega arith) in
     rw (some, most) (all_pass ns)
 
-abbrev IsSmall : At → Type 0
-IsSmall (named n ns) = IsFew (n ∷ ns)
-IsSmall _ = ⊤
-
 -- a second use would replace the first, so what was used is not asked
 again_passes : (id : List ℕ) (rows : List Row) → (not (has_row id rows) || true) ≡ true
 again_passes id rows = go (not (has_row id rows))
@@ -162,48 +167,12 @@ again_passes id rows = go (not (has_row id rows))
     go true = refl
     go false = refl
 
-pub settles : (a : At) (rows : List Row) → IsSmall a
-    → settle_passes rules true (walk_at a rows).held ≡ true
-settles apart rows few = refl
-settles (valued net) rows few = rw (again_passes (codes "net") rows) refl
-settles (named n ns) rows few = names_pass n ns rows few
-
--- behind no names there are no names pending
-abbrev IsApart : At → Type 0
-IsApart (named n ns) = ⊥
-IsApart _ = ⊤
-
--- a name behind options
-pub name_first : (a : At) (rows : List Row) (n : List ℕ) → is_name n ≡ true
-    → IsApart a
-    → Goes (walk_at a rows) (n ∷ []) (walk_at (named n []) (rows_at a rows))
-unfolding walked
-name_first apart rows n good behind =
-    let word = plain_word n good in
-    goes_on _ _ _ n [] (rw (word.dashes, word.long, word.short) refl)
-    (rw (word.dashes, word.long, word.short) refl) (goes_nowhere _)
-name_first (valued net) rows n good behind =
-    let word = plain_word n good in
-    goes_on _ _ _ n [] (rw (word.dashes, word.long, word.short) refl)
-    (rw (word.dashes, word.long, word.short, again_passes (codes "net") rows) refl) (goes_nowhere _)
-name_first (named m ms) rows n good behind = absurd behind
-
--- more names behind one
-pub names_walk : (n : List ℕ) (ns ms : List (List ℕ)) (rows : List Row)
-    → list_all is_name ms ≡ true
-    → Goes (walk_at (named n ns) rows) ms (walk_at (named n (ns ++ ms)) rows)
-unfolding walked
-names_walk n ns [] rows good =
-    rw (append-nil ns) (goes_nowhere (walk_at (named n ns) rows))
-names_walk n ns (m ∷ ms) rows good =
-    let p = both (is_name m) _ good in
-    let word = plain_word m p.0 in
-    let more = names_walk n (ns ++ m ∷ []) ms rows p.1 in
-    goes_on (walk_at (named n ns) rows) (walk_at (named n (ns ++ m ∷ [])) rows) _ m ms
-    (rw (word.dashes, word.long, word.short) refl)
-    (rw (word.dashes, word.long, word.short) refl)
-    (subst (λ xs. Goes (walk_at (named n (ns ++ m ∷ [])) rows) ms (walk_at (named n xs) rows))
-    (append_assoc ns (m ∷ []) ms) more)
+pub settles : (o : Options) (a : At) (rows : List Row) → MayStand o a
+    → settle_passes (rules o) true (walk_at a rows).held ≡ true
+settles o apart rows may = refl
+settles none (valued net) rows may = absurd (true≢false (sym may))
+settles (net_and flag) (valued net) rows may = rw (again_passes (codes "net") rows) refl
+settles o (named n ns) rows may = names_pass n ns rows may
 
 -- ---- an option
 
@@ -224,117 +193,199 @@ walk_asking rows = record (walk_at apart rows) {
   waiting = clap.option (codes "net");
 }
 
-asks : (a : At) (rows : List Row) → walked rules [] (walk_at a rows) (codes "--net") ≡ walk_asking (rows_at a rows)
+asks : (flag : Bool) (a : At) (rows : List Row)
+    → walked (rules (net_and flag)) [] (walk_at a rows) (codes "--net")
+    ≡ walk_asking (rows_at a rows)
 unfolding walked
-asks apart rows = refl
-asks (valued net) rows = refl
-asks (named n ns) rows = refl
+asks flag apart rows = refl
+asks flag (valued net) rows = refl
+asks flag (named n ns) rows = refl
 
-may_ask : (a : At) (rows : List Row) → IsSmall a → turn_passes shape [] (walk_at a rows) (codes "--net") ≡ true
-may_ask apart rows few = refl
-may_ask (valued net) rows few = rw (again_passes (codes "net") rows) refl
-may_ask (named n ns) rows few = rw (names_pass n ns rows few) refl
-
-told : (net : List ℕ) (rows : List Row) → is_name net ≡ true
-    → Goes (walk_asking rows) (net ∷ []) (walk_at (valued net) rows)
-unfolding walked
-told net rows good =
-    let word = plain_word net good in
-    goes_on _ _ _ net [] (rw (word.dashes, word.long, word.short) refl)
-    (rw (word.dashes, word.long, word.short) refl) (goes_nowhere _)
-
-joins : (net : List ℕ) (a : At) (rows : List Row)
-    → walked rules [] (walk_at a rows) (codes "--net=" ++ net)
+joins : (flag : Bool) (net : List ℕ) (a : At) (rows : List Row)
+    → walked (rules (net_and flag)) [] (walk_at a rows) (codes "--net=" ++ net)
     ≡ walk_at apart (used net_rule (net ∷ []) (rows_at a rows))
 unfolding walked
-joins net apart rows = refl
-joins net (valued v) rows = refl
-joins net (named n ns) rows = refl
+joins flag net apart rows = refl
+joins flag net (valued v) rows = refl
+joins flag net (named n ns) rows = refl
 
-may_join : (net : List ℕ) (a : At) (rows : List Row) → IsSmall a
-    → turn_passes shape [] (walk_at a rows) (codes "--net=" ++ net) ≡ true
-may_join net apart rows few = rw (again_passes (codes "net") rows) refl
-may_join net (valued v) rows few = rw (
-  again_passes (codes "net") rows,
-  again_passes (codes "net") (rows_at (valued v) rows),
-) refl
-may_join net (named n ns) rows few = rw (
-  names_pass n ns rows few,
-  again_passes (codes "net") (rows_at (named n ns) rows),
-) refl
-
-flags : (a : At) (rows : List Row) → walked rules [] (walk_at a rows) (codes "--quiet")
+flags : (a : At) (rows : List Row)
+    → walked (rules (net_and true)) [] (walk_at a rows) (codes "--quiet")
     ≡ walk_at apart (used quiet_rule [] (rows_at a rows))
 unfolding walked
 flags apart rows = refl
 flags (valued v) rows = refl
 flags (named n ns) rows = refl
 
-may_flag : (a : At) (rows : List Row) → IsSmall a
-    → turn_passes shape [] (walk_at a rows) (codes "--quiet") ≡ true
-may_flag apart rows few = rw (again_passes (codes "quiet") rows) refl
-may_flag (valued v) rows few = rw (
-  again_passes (codes "net") rows,
-  again_passes (codes "quiet") (rows_at (valued v) rows),
-) refl
-may_flag (named n ns) rows few = rw (
-  names_pass n ns rows few,
-  again_passes (codes "quiet") (rows_at (named n ns) rows),
-) refl
-
-given_walks : (g : Given) (a : At) (rows : List Row) → is_good g ≡ true → IsSmall a
-    → Goes (walk_at a rows) (spell g) (walk_at (after g) (rows_then g (rows_at a rows)))
-given_walks (joined net) a rows good few =
-    goes_on _ _ _ _ [] (joins net a rows) (may_join net a rows few) (goes_nowhere _)
-given_walks (pair net) a rows good few =
-    goes_on _ _ _ _ (net ∷ []) (asks a rows) (may_ask a rows few)
-    (told net (rows_at a rows) good)
-given_walks quiet a rows good few =
-    goes_on _ _ _ _ [] (flags a rows) (may_flag a rows few) (goes_nowhere _)
-
 rows_given : (g : Given) (rows : List Row) → rows_at (after g) (rows_then g rows) ≡ use_given g rows
 rows_given (joined net) rows = refl
 rows_given (pair net) rows = refl
 rows_given quiet rows = refl
 
-small_after : (g : Given) → IsSmall (after g)
-small_after (joined net) = tt
-small_after (pair net) = tt
-small_after quiet = tt
+stands_after : (o : Options) (g : Given) → may_give o g ≡ true → MayStand o (after g)
+stands_after o (joined net) may = tt
+stands_after o (pair net) may = may
+stands_after o quiet may = tt
 
 apart_after : (g : Given) → IsApart (after g)
 apart_after (joined net) = tt
 apart_after (pair net) = tt
 apart_after quiet = tt
 
+-- ---- the walk of a command of this name with these options
+
+-- the walk takes these words, and then stands there
+pub record Goes (name : List ℕ) (o : Options) (from : Walk) (words : List (List ℕ))
+    (to : Walk) : Type 0 where
+  pub walk : fold (walked (rules o) []) from words ≡ to
+  pub passes : walk_passes (shape name o) [] from words ≡ true
+
 -- options: where the walk stands behind them
-pub record Passed (from : At) (gs : List Given) (old : List Row) : Type 0 where
+pub record Passed (name : List ℕ) (o : Options) (from : At) (gs : List Given)
+    (old : List Row) : Type 0 where
   pub at : At
   pub left : List Row
-  pub goes : Goes (walk_at from old) (spelled gs) (walk_at at left)
+  pub goes : Goes name o (walk_at from old) (spelled gs) (walk_at at left)
   pub rows : rows_at at left ≡ use_all gs (rows_at from old)
-  pub small : IsSmall at
+  pub stands : MayStand o at
   pub apart : IsApart from → IsApart at
 
-pub options_walk : (gs : List Given) (a : At) (rows : List Row) → list_all is_good gs ≡ true
-    → IsSmall a → Passed a gs rows
-options_walk [] a rows good few = record {
-  at = a;
-  left = rows;
-  goes = goes_nowhere (walk_at a rows);
-  rows = refl;
-  small = few;
-  apart = λ e. e;
-}
-options_walk (g ∷ gs) a rows good few =
-    let p = both (is_good g) _ good in
-    let then = rows_then g (rows_at a rows) in
-    let more = options_walk gs (after g) then p.1 (small_after g) in
-    record {
-      at = more.at;
-      left = more.left;
-      goes = goes_far _ _ _ (spell g) (spelled gs) (given_walks g a rows p.0 few) more.goes;
-      rows = more.rows ∙ ap (use_all gs) (rows_given g (rows_at a rows));
-      small = more.small;
-      apart = λ e. more.apart (apart_after g);
-    }
+module _ (name : List ℕ) where
+  goes_nowhere : (o : Options) (w : Walk) → Goes name o w [] w
+  unfolding walk_passes
+  goes_nowhere o w = record { walk = refl; passes = refl }
+
+  goes_on : (o : Options) (w v u : Walk) (word : List ℕ) (words : List (List ℕ))
+      → walked (rules o) [] w word ≡ v → turn_passes (shape name o) [] w word ≡ true
+      → Goes name o v words u → Goes name o w (word ∷ words) u
+  unfolding walk_passes
+  goes_on o w v u word words step turn more = record {
+    walk = ap (λ x. fold (walked (rules o) []) x words) step ∙ more.walk;
+    passes = rw (turn, step) more.passes;
+  }
+
+  pub goes_far : (o : Options) (w v u : Walk) (xs ys : List (List ℕ)) → Goes name o w xs v
+      → Goes name o v ys u → Goes name o w (xs ++ ys) u
+  unfolding walk_passes
+  goes_far o w v u [] ys front back = subst (λ x. Goes name o x ys u) (sym front.walk) back
+  goes_far o w v u (x ∷ xs) ys front back =
+      let p = both (turn_passes (shape name o) [] w x) _ front.passes in
+      goes_on o w (walked (rules o) [] w x) u x (xs ++ ys) refl p.0
+      (goes_far o (walked (rules o) [] w x) v u xs ys
+      (record { walk = front.walk; passes = p.1 }) back)
+
+  -- a name behind options
+  pub name_first : (o : Options) (a : At) (rows : List Row) (n : List ℕ) → is_name n ≡ true
+      → MayStand o a → IsApart a
+      → Goes name o (walk_at a rows) (n ∷ []) (walk_at (named n []) (rows_at a rows))
+  unfolding walked
+  name_first o apart rows n good may behind =
+      let word = plain_word n good in
+      goes_on o _ _ _ n [] (rw (word.dashes, word.long, word.short) refl)
+      (rw (word.dashes, word.long, word.short) refl) (goes_nowhere o _)
+  name_first none (valued net) rows n good may behind = absurd (true≢false (sym may))
+  name_first (net_and flag) (valued net) rows n good may behind =
+      let word = plain_word n good in
+      goes_on (net_and flag) _ _ _ n [] (rw (word.dashes, word.long, word.short) refl)
+      (rw (word.dashes, word.long, word.short, again_passes (codes "net") rows) refl)
+      (goes_nowhere (net_and flag) _)
+  name_first o (named m ms) rows n good may behind = absurd behind
+
+  -- more names behind one
+  pub names_walk : (o : Options) (n : List ℕ) (ns ms : List (List ℕ)) (rows : List Row)
+      → list_all is_name ms ≡ true
+      → Goes name o (walk_at (named n ns) rows) ms (walk_at (named n (ns ++ ms)) rows)
+  unfolding walked
+  names_walk o n ns [] rows good =
+      rw (append-nil ns) (goes_nowhere o (walk_at (named n ns) rows))
+  names_walk o n ns (m ∷ ms) rows good =
+      let p = both (is_name m) _ good in
+      let word = plain_word m p.0 in
+      let more = names_walk o n (ns ++ m ∷ []) ms rows p.1 in
+      goes_on o (walk_at (named n ns) rows) (walk_at (named n (ns ++ m ∷ [])) rows) _ m ms
+      (rw (word.dashes, word.long, word.short) refl)
+      (rw (word.dashes, word.long, word.short) refl)
+      (subst (λ xs. Goes name o (walk_at (named n (ns ++ m ∷ [])) rows) ms
+      (walk_at (named n xs) rows)) (append_assoc ns (m ∷ []) ms) more)
+
+  may_ask : (flag : Bool) (a : At) (rows : List Row) → MayStand (net_and flag) a
+      → turn_passes (shape name (net_and flag)) [] (walk_at a rows) (codes "--net") ≡ true
+  may_ask flag apart rows few = refl
+  may_ask flag (valued net) rows few = rw (again_passes (codes "net") rows) refl
+  may_ask flag (named n ns) rows few = rw (names_pass n ns rows few) refl
+
+  told : (flag : Bool) (net : List ℕ) (rows : List Row) → is_name net ≡ true
+      → Goes name (net_and flag) (walk_asking rows) (net ∷ []) (walk_at (valued net) rows)
+  unfolding walked
+  told flag net rows good =
+      let word = plain_word net good in
+      goes_on (net_and flag) _ _ _ net [] (rw (word.dashes, word.long, word.short) refl)
+      (rw (word.dashes, word.long, word.short) refl) (goes_nowhere (net_and flag) _)
+
+  may_join : (flag : Bool) (net : List ℕ) (a : At) (rows : List Row)
+      → MayStand (net_and flag) a
+      → turn_passes (shape name (net_and flag)) [] (walk_at a rows) (codes "--net=" ++ net) ≡ true
+  may_join flag net apart rows few = rw (again_passes (codes "net") rows) refl
+  may_join flag net (valued v) rows few = rw (
+    again_passes (codes "net") rows,
+    again_passes (codes "net") (rows_at (valued v) rows),
+  ) refl
+  may_join flag net (named n ns) rows few = rw (
+    names_pass n ns rows few,
+    again_passes (codes "net") (rows_at (named n ns) rows),
+  ) refl
+
+  may_flag : (a : At) (rows : List Row) → MayStand (net_and true) a
+      → turn_passes (shape name (net_and true)) [] (walk_at a rows) (codes "--quiet") ≡ true
+  may_flag apart rows few = rw (again_passes (codes "quiet") rows) refl
+  may_flag (valued v) rows few = rw (
+    again_passes (codes "net") rows,
+    again_passes (codes "quiet") (rows_at (valued v) rows),
+  ) refl
+  may_flag (named n ns) rows few = rw (
+    names_pass n ns rows few,
+    again_passes (codes "quiet") (rows_at (named n ns) rows),
+  ) refl
+
+  given_walks : (o : Options) (g : Given) (a : At) (rows : List Row) → is_good g ≡ true
+      → may_give o g ≡ true → MayStand o a
+      → Goes name o (walk_at a rows) (spell g) (walk_at (after g) (rows_then g (rows_at a rows)))
+  given_walks none (joined net) a rows good may few = absurd (true≢false (sym may))
+  given_walks none (pair net) a rows good may few = absurd (true≢false (sym may))
+  given_walks none quiet a rows good may few = absurd (true≢false (sym may))
+  given_walks (net_and flag) (joined net) a rows good may few =
+      goes_on (net_and flag) _ _ _ _ [] (joins flag net a rows) (may_join flag net a rows few)
+      (goes_nowhere (net_and flag) _)
+  given_walks (net_and flag) (pair net) a rows good may few =
+      goes_on (net_and flag) _ _ _ _ (net ∷ []) (asks flag a rows) (may_ask flag a rows few)
+      (told flag net (rows_at a rows) good)
+  given_walks (net_and true) quiet a rows good may few =
+      goes_on (net_and true) _ _ _ _ [] (flags a rows) (may_flag a rows few)
+      (goes_nowhere (net_and true) _)
+  given_walks (net_and false) quiet a rows good may few = absurd (true≢false (sym may))
+
+  pub options_walk : (o : Options) (gs : List Given) (a : At) (rows : List Row)
+      → list_all is_good gs ≡ true → list_all (may_give o) gs ≡ true → MayStand o a
+      → Passed name o a gs rows
+  options_walk o [] a rows good may stands = record {
+    at = a;
+    left = rows;
+    goes = goes_nowhere o (walk_at a rows);
+    rows = refl;
+    stands = stands;
+    apart = λ e. e;
+  }
+  options_walk o (g ∷ gs) a rows good may stands =
+      let p = both (is_good g) _ good in
+      let q = both (may_give o g) _ may in
+      let then = rows_then g (rows_at a rows) in
+      let more = options_walk o gs (after g) then p.1 q.1 (stands_after o g q.0) in
+      record {
+        at = more.at;
+        left = more.left;
+        goes = goes_far o _ _ _ (spell g) (spelled gs) (given_walks o g a rows p.0 q.0 stands)
+            more.goes;
+        rows = more.rows ∙ ap (use_all gs) (rows_given g (rows_at a rows));
+        stands = more.stands;
+        apart = λ e. more.apart (apart_after g);
+      }

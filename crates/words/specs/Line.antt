@@ -1,9 +1,13 @@
 -- What the crate `clap` is told of the words behind a command.
-use Rattle.std.specs.Prelude.{true, Some, codes}
-use Rattle.clap.specs.Walk.{Rule}
+use Rattle.std.specs.Prelude.{◌≡◌, ℕ, Bool, true, false, Option, Some, None, List, [], ◌∷◌, codes, fold}
+use Rattle.clap.specs.Walk.{Rule, Text}
 use Rattle.clap.specs.Simple.{App, new_app, new_rule, on_top, with_rule}
 use Rattle.clap.specs.Lexer.{usize_max}
+use Rattle.clap.specs.Values.{bool_text}
 use Rattle.clap.specs.declared.builder.action.ArgAction.TheVariants.{Append, Set, SetTrue}
+use Rattle.words.specs.Named.{kind_name}
+use Rattle.words.specs.declared.grammar.Kind.{Kind}
+use Rattle.words.specs.declared.grammar.Kind.TheVariants as kind
 
 -- names, at least one
 abbrev pub names_arg : Rule
@@ -18,7 +22,43 @@ net_arg = record (new_rule (codes "net")) { long = Some (codes "net"); action = 
 abbrev pub quiet_arg : Rule
 quiet_arg = record (new_rule (codes "quiet")) { long = Some (codes "quiet"); action = Some SetTrue }
 
--- which of two options of one name counts need not be asked
-abbrev pub line_app : App
-line_app = on_top (λ s. record s { args_override_self = true })
-    (with_rule (with_rule (with_rule (new_app (codes "difane")) names_arg) net_arg) quiet_arg)
+-- the options that a command takes: none, or a network's, and perhaps the flag
+pub data Options : Type 0 where
+  none : Options
+  net_and : Bool → Options
+
+abbrev pub options_of : Kind → Options
+options_of kind.Replay = net_and true
+options_of kind.Compile = net_and false
+options_of kind.Show = net_and false
+options_of kind.Load = none
+
+abbrev pub flag_args : Bool → List Rule
+flag_args true = quiet_arg ∷ []
+flag_args false = []
+
+abbrev pub option_args : Options → List Rule
+option_args none = []
+option_args (net_and flag) = net_arg ∷ flag_args flag
+
+-- names and these options alone; which of two options of one name counts need not be asked
+abbrev pub app_with : List ℕ → Options → App
+app_with name options = on_top (λ s. record s { args_override_self = true })
+    (fold with_rule (new_app name) (names_arg ∷ option_args options))
+
+-- a command has an app of its own
+abbrev pub line_app : Kind → App
+line_app k = app_with (kind_name k) (options_of k)
+
+-- ---- what is read of the matches
+
+-- a network, where the command takes one
+abbrev pub IsNetRead : Options → Option Text → Option Text → Type 0
+IsNetRead none found net = net ≡ None
+IsNetRead (net_and flag) found net = net ≡ found
+
+-- the flag, where the command takes it
+abbrev pub IsFlagRead : Options → Option Text → Bool → Type 0
+IsFlagRead none found quiet = quiet ≡ false
+IsFlagRead (net_and false) found quiet = quiet ≡ false
+IsFlagRead (net_and true) found quiet = found ≡ Some (bool_text quiet)

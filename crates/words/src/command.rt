@@ -56,19 +56,21 @@ pub fn read_words(alloc: Global, words: &[String]) -> Result<Option<Command<'_>>
     ensures value { IfOk result (λ found.
         option_map command_named found ≡ command_of (map string_bytes words.now)) }
     ensures named { IfOk result (λ found. IfSome found NamesPolicies) }
-    ensures needless { IfErr result (λ _. is_some (command_of (map string_bytes words.now)) ≡ true) }
+    ensures needless { IfErr result (λ _.
+        is_some (command_of (map string_bytes words.now)) ≡ true) }
 {
     let Some(kind) = kind_of(words) else {
         return Ok(None);
     };
-    let line = read_line(alloc, words)?;
+    let line = read_line(alloc, kind, words)?;
     Ok(Some(command_from(kind, line)))
 }
 
 // The command of a line that is one of this kind.
 fn command_from<'a>(kind: Kind, line: Line<'a>) -> Command<'a>
     requires { is_some (command_by (kind_name kind) (line_seen line)) ≡ true }
-    ensures command { Some (command_named result) ≡ command_by (kind_name kind) (line_seen line.entry) }
+    ensures command { Some (command_named result)
+        ≡ command_by (kind_name kind) (line_seen line.entry) }
     ensures named { NamesPolicies result }
 {
     match kind {

@@ -1,11 +1,11 @@
 //! The reading of words of the grammar with the crate `clap`.
-ghost use Rattle.std.specs.Prelude.{◌≡◌, ◌<◌, ◌^◌, Bool, true, false, IfOk, Some, codes, drop, is_some, length, map, option_map, string_bytes};
-ghost use Rattle.clap.specs.Values.{bool_text};
+ghost use Rattle.std.specs.Prelude.{◌≡◌, Bool, true, false, IfOk, Some, codes, drop, is_some, map, option_map, string_bytes};
 ghost use Rattle.clap.specs.Words.{app_of, first_value, found_of, kind_of, matched_of, one_text, raw_values, rule_of};
-ghost use Rattle.words.specs.Line.{line_app, names_arg, net_arg, quiet_arg};
-ghost use Rattle.words.specs.Named.{line_seen, names_seen, net_named};
-ghost use Rattle.words.specs.Words.{Line as Stated, line_of};
+ghost use Rattle.words.specs.Line.{IsFlagRead, IsNetRead, app_with, line_app, names_arg, net_and, net_arg, none, options_of, quiet_arg};
+ghost use Rattle.words.specs.Named.{command_in, kind_name, line_seen, names_seen, net_named};
+ghost use Rattle.words.specs.Words.{line_of};
 
+use crate::grammar::Kind;
 use clap::error::ErrorKind;
 use clap::{Arg, ArgAction, ArgMatches, Command};
 use std::alloc::{AllocError, Global};
@@ -18,19 +18,22 @@ pub(crate) struct Line<'a> {
     pub(crate) quiet: bool,
 }
 
-/// The line of the words behind the first one, which are a line with a name.
+/// The line of the words behind the first one, which are a command of this kind.
 ///
 /// # Errors
 /// Want of memory alone.
-pub(crate) fn read_line<'a>(alloc: Global, words: &'a [String]) -> Result<Line<'a>, AllocError>
-    requires { (line : Stated) × (line_of (drop 1 (map string_bytes words.now)) ≡ Some line)
-        × (0 < length line.names) × (length line.names < 2 ^ 16) }
+pub(crate) fn read_line<'a>(
+    alloc: Global,
+    kind: Kind,
+    words: &'a [String],
+) -> Result<Line<'a>, AllocError>
+    requires { is_some (command_in kind (drop 1 (map string_bytes words.now))) ≡ true }
     ensures { IfOk result (λ line.
         line_of (drop 1 (map string_bytes words.now)) ≡ Some (line_seen line)) }
 {
-    let command = line_command(alloc)?;
+    let command = line_command(alloc, kind)?;
     match command.try_get_matches_from(words) {
-        Ok(matches) => line_in(alloc, &matches),
+        Ok(matches) => line_in(alloc, kind, &matches),
         Err(error) => {
             if error.kind() == ErrorKind::OutOfMemory {
                 Err(AllocError)
@@ -41,14 +44,41 @@ pub(crate) fn read_line<'a>(alloc: Global, words: &'a [String]) -> Result<Line<'
     }
 }
 
-// The command as `clap` is told of it.
-fn line_command<'a>(alloc: Global) -> Result<Command<'a>, AllocError>
-    ensures { IfOk result (λ command. app_of command ≡ line_app) }
+// The command of this kind, as `clap` is told of it: what it takes, and nothing else.
+fn line_command<'a>(alloc: Global, kind: Kind) -> Result<Command<'a>, AllocError>
+    ensures { IfOk result (λ command. app_of command ≡ line_app kind) }
 {
-    let command = Command::new(alloc, "difane")
+    match kind {
+        Kind::Replay => replay_command(alloc),
+        Kind::Compile => print_command(alloc, "compile"),
+        Kind::Show => print_command(alloc, "show"),
+        Kind::Load => load_command(alloc),
+    }
+}
+
+fn replay_command<'a>(alloc: Global) -> Result<Command<'a>, AllocError>
+    ensures { IfOk result (λ command. app_of command ≡ app_with (codes "replay") (net_and true)) }
+{
+    let command = Command::new(alloc, "replay")
         .arg(names_arg(alloc))?
         .arg(net_arg(alloc))?
         .arg(quiet_arg(alloc))?;
+    Ok(command.args_override_self(true))
+}
+
+fn print_command<'a>(alloc: Global, name: &'a str) -> Result<Command<'a>, AllocError>
+    ensures { IfOk result (λ command. app_of command ≡ app_with name.entry.now (net_and false)) }
+{
+    let command = Command::new(alloc, name)
+        .arg(names_arg(alloc))?
+        .arg(net_arg(alloc))?;
+    Ok(command.args_override_self(true))
+}
+
+fn load_command<'a>(alloc: Global) -> Result<Command<'a>, AllocError>
+    ensures { IfOk result (λ command. app_of command ≡ app_with (codes "load") none) }
+{
+    let command = Command::new(alloc, "load").arg(names_arg(alloc))?;
     Ok(command.args_override_self(true))
 }
 
@@ -78,17 +108,17 @@ fn quiet_arg<'a>(alloc: Global) -> Arg<'a>
 }
 
 // What was matched.
-fn line_in<'a>(alloc: Global, matches: &ArgMatches<'a>) -> Result<Line<'a>, AllocError>
+fn line_in<'a>(alloc: Global, kind: Kind, matches: &ArgMatches<'a>) -> Result<Line<'a>, AllocError>
     requires names { is_some (matched_of (found_of matches.now) (codes "names")) ≡ true }
     requires quiet { (quiet : Bool) ×
-        (one_text (found_of matches.now) (codes "quiet") ≡ Some (bool_text quiet)) }
+        IsFlagRead (options_of kind) (one_text (found_of matches.now) (codes "quiet")) quiet }
     ensures names { IfOk result (λ line.
         option_map raw_values (matched_of (found_of matches.now) (codes "names"))
         ≡ Some (names_seen line.names.items)) }
-    ensures net { IfOk result (λ line.
-        net_named line.net ≡ first_value (found_of matches.now) (codes "net")) }
-    ensures quiet { IfOk result (λ line.
-        one_text (found_of matches.now) (codes "quiet") ≡ Some (bool_text line.quiet)) }
+    ensures net { IfOk result (λ line. IsNetRead (options_of kind)
+        (first_value (found_of matches.now) (codes "net")) (net_named line.net)) }
+    ensures quiet { IfOk result (λ line. IsFlagRead (options_of kind)
+        (one_text (found_of matches.now) (codes "quiet")) line.quiet) }
 {
     let names = match matches.get_strs("names") {
         None => unreachable!(),
@@ -96,7 +126,30 @@ fn line_in<'a>(alloc: Global, matches: &ArgMatches<'a>) -> Result<Line<'a>, Allo
     };
     Ok(Line {
         names,
-        net: matches.get_str("net"),
-        quiet: matches.get_flag("quiet"),
+        net: net_in(kind, matches),
+        quiet: flag_in(kind, matches),
     })
+}
+
+// The network, where the command takes one.
+fn net_in<'a>(kind: Kind, matches: &ArgMatches<'a>) -> Option<&'a str>
+    ensures { IsNetRead (options_of kind)
+        (first_value (found_of matches.now) (codes "net")) (net_named result) }
+{
+    match kind {
+        Kind::Replay | Kind::Compile | Kind::Show => matches.get_str("net"),
+        Kind::Load => None,
+    }
+}
+
+// Whether the flag stands there, where the command takes it.
+fn flag_in(kind: Kind, matches: &ArgMatches<'_>) -> bool
+    requires { (quiet : Bool) ×
+        IsFlagRead (options_of kind) (one_text (found_of matches.now) (codes "quiet")) quiet }
+    ensures { IsFlagRead (options_of kind) (one_text (found_of matches.now) (codes "quiet")) result }
+{
+    match kind {
+        Kind::Replay => matches.get_flag("quiet"),
+        Kind::Compile | Kind::Show | Kind::Load => false,
+    }
 }
