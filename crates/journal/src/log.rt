@@ -33,6 +33,7 @@ impl Journal {
     ///
     /// # Errors
     /// Want of memory, and then the journal is unchanged.
+    #[inline(always)]
     pub fn push(&mut self, item: Item) -> Result<(), AllocError>
         ensures pushed { OnOk result (self.new ≡ self.old ++ item ∷ []) }
         ensures unchanged { OnErr result (self.new ≡ self.old) }

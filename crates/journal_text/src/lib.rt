@@ -1,7 +1,8 @@
 //! The text of a journal: one line for each item, in which switches stand by their names.
 //!
 //! `text` and `lines` promise exactly the lines that their definition states, each ended by a line
-//! feed. `lines_fit` is the law that no line is longer than 2,048 bytes.
+//! feed, and `write_text` writes that text to a sink. `lines_fit` is the law that no line is longer
+//! than 2,048 bytes.
 #![tactic(auto)]
 
 mod items;

@@ -1,4 +1,4 @@
-ghost use Rattle.std.specs.Prelude.{◌≡◌, ◌++◌, [], if◌then◌else◌, filter, codes};
+ghost use Rattle.std.specs.Prelude.{◌≡◌, ◌<◌, ◌++◌, [], if◌then◌else◌, filter, codes};
 ghost use Rattle.masks.specs.Masks.{has, switches};
 ghost use Rattle.net_file.specs.Names.{name_of, names_text};
 ghost use Rattle.journal_text.specs.Lines.{mask_text};
@@ -19,12 +19,13 @@ pub(crate) fn push_mask(line: &mut Line, net: &Net, mask: u64)
     }
 }
 
-#[tactic(auto, using(crate::proofs::MaskLemmas::names_more, crate::proofs::MaskLemmas::names_all, text_line::proofs::CallerLemmas::pushed_nothing))]
+#[tactic(auto, using(crate::proofs::MaskLemmas::names_more, crate::proofs::MaskLemmas::names_none, crate::proofs::MaskLemmas::names_all, text_line::proofs::CallerLemmas::pushed_nothing))]
 fn push_switches(line: &mut Line, net: &Net, mask: u64)
+    requires { 0 < mask }
     ensures { line.new ≡ pushed line.old (names_text net.now (filter (has mask) switches)) }
 {
     let _within = line.bytes();
-    for s in 0..64 {
+    for s in mask.trailing_zeros()..64 - mask.leading_zeros() {
         push_if(line, net, has(mask, s), s);
     }
 }

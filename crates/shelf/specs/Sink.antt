@@ -1,5 +1,5 @@
 -- What a sink of bytes holds, and what a write to it may answer.
-use Rattle.std.specs.Prelude.{⊤, ◌≡◌, ◌<◌, ◌≤◌, ℕ, Bool, IsTrue, true, false, ◌&&◌, ◌==◌, not, List, ◌++◌, length, take, drop, Option, Some, None, Result, Ok, Err, OnOk, OnErr, IsErrOf}
+use Rattle.std.specs.Prelude.{⊤, ◌≡◌, ◌≢◌, ◌<◌, ◌≤◌, ℕ, Bool, IsTrue, true, false, ◌&&◌, ◌==◌, not, List, ◌++◌, length, take, drop, Option, Some, None, Result, Ok, Err, OnOk, OnErr, IsErrOf}
 use Rattle.std.proofs.Common.{refl, ap, append_assoc}
 use Rattle.shelf.specs.Faults.{CallScript, Rose}
 use Rattle.shelf.specs.declared.output.SinkError.{SinkError}
@@ -34,12 +34,14 @@ pub record IsGathered (text : List ℕ) (before now : Option (List ℕ)) (waitin
   pub waits : waiting ≡ drop written text
 
 -- what a write of these bytes leaves of a sink: all of them where it succeeds, and else a part; and
--- each error has its cause
+-- each error has its cause. No fault is counted unless it failed, so a write is not tried again
+-- behind a fault
 pub record IsAfterWrite (bytes : List ℕ) (takes_memory : Bool) (old new : SinkState)
     (result : Result (⊤) SinkError) : Type 0 where
   pub whole : OnOk result (new.bytes ≡ gained old.bytes bytes)
   pub part : OnErr result (GainedPart old.bytes bytes new.bytes)
   pub faults : old.faults ≤ new.faults
+  pub calm : result ≢ Err Failed → new.faults ≡ old.faults
   pub failed : IsErrOf result Failed → Rose old.faults new.faults
   pub no_memory : IsErrOf result NoMemory → IsTrue takes_memory
 

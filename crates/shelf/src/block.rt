@@ -1,5 +1,5 @@
 //! Pieces of a text that are gathered before they are written.
-ghost use Rattle.std.specs.Prelude.{◌≡◌, ◌≤◌, ◌+◌, ◌++◌, [], List, Option, ℕ, IsOk, IsErrOf, OnErr, OnOk, length, IsTrue};
+ghost use Rattle.std.specs.Prelude.{◌≡◌, ◌≢◌, ◌≤◌, ◌+◌, ◌++◌, [], List, Option, ℕ, IsOk, IsErrOf, OnErr, OnOk, length, IsTrue};
 ghost use Rattle.shelf.specs.Faults.{Rose};
 ghost use Rattle.shelf.specs.Sink.{GainedPart, IsGathered, gained};
 
@@ -66,6 +66,8 @@ impl Block {
             → IsGathered text before (K.state sink.old).bytes self.old
             → OnErr result (GainedPart before (text ++ piece.now) (K.state sink.new).bytes) }
         ensures faults { (K.state sink.old).faults ≤ (K.state sink.new).faults }
+        ensures calm { result ≢ Err SinkError.Failed
+            → (K.state sink.new).faults ≡ (K.state sink.old).faults }
         ensures failed { IsErrOf result SinkError.Failed
             → Rose (K.state sink.old).faults (K.state sink.new).faults }
         ensures no_memory { IsErrOf result SinkError.NoMemory → IsTrue K.takes_memory }
@@ -94,6 +96,8 @@ impl Block {
             → OnErr result (GainedPart before text (K.state sink.new).bytes) }
         ensures no_bytes { self ≡ [] → IsOk result × (sink.new ≡ sink.old) }
         ensures faults { (K.state sink.old).faults ≤ (K.state sink.new).faults }
+        ensures calm { result ≢ Err SinkError.Failed
+            → (K.state sink.new).faults ≡ (K.state sink.old).faults }
         ensures failed { IsErrOf result SinkError.Failed
             → Rose (K.state sink.old).faults (K.state sink.new).faults }
         ensures no_memory { IsErrOf result SinkError.NoMemory → IsTrue K.takes_memory }

@@ -1,5 +1,5 @@
 //! The sink of bytes, and a write of many bytes to it.
-ghost use Rattle.std.specs.Prelude.{◌≡◌, ◌≤◌, ◌<◌, Bool, IsTrue, [], length, take, IfOk, IsOk, OnErr, IsErrOf};
+ghost use Rattle.std.specs.Prelude.{◌≡◌, ◌≢◌, ◌≤◌, ◌<◌, Bool, IsTrue, [], length, take, IfOk, IsOk, OnErr, IsErrOf};
 ghost use Rattle.shelf.specs.Faults.{Rose};
 ghost use Rattle.shelf.specs.Sink.{SinkState, IsAfterWrite, gained};
 ghost use Rattle.shelf.specs.declared.output.SinkError.TheVariants.{NoMemory};
@@ -45,6 +45,10 @@ pub trait Sink {
         ensures failed { IsErrOf result SinkError.Failed
             → Rose (state self.old).faults (state self.new).faults }
         ensures no_memory { IsErrOf result SinkError.NoMemory → IsTrue takes_memory }
+
+        // No fault is counted of a call that didn't fail, nor take nothing of a piece with bytes.
+        ensures calm { result ≢ Err SinkError.Failed → (result ≡ Ok 0 → piece.now ≡ [])
+            → (state self.new).faults ≡ (state self.old).faults }
 
         // A sink that takes nothing of a piece has failed too.
         ensures stuck { result ≡ Ok 0 → 0 < length piece.now

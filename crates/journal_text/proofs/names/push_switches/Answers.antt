@@ -1,11 +1,11 @@
-use Rattle.std.proofs.Common.{ℕ, ◌++◌, Bool, List, [], ap, sym, ◌∙◌}
+use Rattle.std.proofs.Common.{ℕ, ◌≤◌, ◌++◌, Bool, List, [], length, ap, sym, ◌∙◌}
 use Rattle.std.specs.Prelude.{codes, filter, if◌then◌else◌}
 use Rattle.std.specs.List.{range_with_len}
 use Rattle.masks.specs.Masks.{has}
 use Rattle.net_file.specs.Names.{name_of, names_text}
-use Rattle.text_line.proofs.CallerLemmas.{pushed_append}
+use Rattle.text_line.proofs.CallerLemmas.{pushed_append, pushed_nothing}
 use Rattle.text_line.specs.Pushes.{pushed}
-use Rattle.journal_text.proofs.MaskLemmas.{names_more}
+use Rattle.journal_text.proofs.MaskLemmas.{names_all, names_more, names_none}
 use Rattle.journal_text.proofs.names.push_switches.Goals as goal
 
 pub loop-s-preserved : goal.loop-s-preserved
@@ -19,3 +19,17 @@ loop-s-preserved c =
     ∙ ap (λ t. pushed t (named (has c.args.mask c.loop-s.s))) c.loop-s.invariant
     ∙ pushed_append c.args.line.now before (named (has c.args.mask c.loop-s.s))
     ∙ ap (pushed c.args.line.now) (sym (names_more c.args.net.now c.args.mask c.loop-s.s))
+
+pub loop-s-init : goal.loop-s-init
+loop-s-init c =
+    let fits : length c.args.line.now ≤ 2048 =
+    rw (sym c.bytes-within.ensures.held) c.bytes-within.ensures.within in
+    sym (ap (pushed c.args.line.now)
+    (names_none c.args.net.now c.args.mask c.requires c.ranges.mask.fits)
+    ∙ pushed_nothing c.args.line.now fits)
+
+pub returns : goal.returns
+returns c =
+    c.loop-s.invariant
+    ∙ ap (pushed c.args.line.now) (names_all c.args.net.now c.args.mask c.loop-s.s c.ranges.mask.fits
+    c.loop-s-test.false)

@@ -18,6 +18,7 @@ returns-in-Err-clause-after g c =
           (rw (← c.set_line.ensures, ← c.bytes.ensures.held)
           (errs.part _ before c.loop-item.invariant.gathered)));
       faults = omega (arith, c.loop-item.invariant.faults, errs.faults);
+      calm = λ not. errs.calm not ∙ c.loop-item.invariant.faults;
       failed = λ is. omega (arith, c.loop-item.invariant.faults, errs.failed is);
       no_memory = errs.no_memory;
     }

@@ -1,4 +1,4 @@
-use Rattle.std.proofs.Common.{◌≡◌, ◌≤◌, [], take}
+use Rattle.std.proofs.Common.{◌≡◌, [], take}
 use Rattle.shelf.specs.Sink.{IsGathered}
 use Rattle.journal_text.specs.Lines.{journal_text}
 use Rattle.journal_text.proofs.write.write_text.Given as goal
@@ -8,5 +8,5 @@ invariant-loop-item g l = record {
   gathered : IsGathered (journal_text l.net (take l.item-index l.items))
       (g.K.Sink.state l.initial.sink).bytes (g.K.Sink.state l.sink).bytes l.block;
   untouched : l.items ≡ [] → (l.block ≡ []) × (l.sink ≡ l.initial.sink);
-  faults : (g.K.Sink.state l.initial.sink).faults ≤ (g.K.Sink.state l.sink).faults;
+  faults : (g.K.Sink.state l.sink).faults ≡ (g.K.Sink.state l.initial.sink).faults;
 }

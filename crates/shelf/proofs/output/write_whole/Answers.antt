@@ -17,5 +17,5 @@ loop-written-preserved g c =
       );
       written = cc (more, c.in_ok-taken.ensures.taken);
       untouched = λ empty. absurd (omega (arith, ap length empty));
-      faults = omega (arith, c.in_ok-taken.ensures.faults);
+      faults = grind arith;
     }

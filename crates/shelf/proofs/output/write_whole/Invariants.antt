@@ -8,7 +8,7 @@ invariant-loop-written g l = record {
   written : (g.K.Sink.state l.sink).bytes ≡ gained (g.K.Sink.state l.initial.sink).bytes
       (take l.written l.bytes);
   untouched : l.bytes ≡ [] → l.sink ≡ l.initial.sink;
-  faults : (g.K.Sink.state l.initial.sink).faults ≤ (g.K.Sink.state l.sink).faults;
+  faults : (g.K.Sink.state l.sink).faults ≡ (g.K.Sink.state l.initial.sink).faults;
 }
 
 abbrev pub decreases-loop-written : goal.decreases-loop-written
