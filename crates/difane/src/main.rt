@@ -10,7 +10,7 @@ use std::alloc::AllocError;
 use std::io::ErrorKind;
 use std::process::ExitCode;
 use std::rt::Env;
-use std::{env, io};
+use std::{env, io, mem};
 
 /// The words of the command line, without the program's name.
 fn read_words<R: Env + AllocGlobal>(rt: &R) -> io::Result<Vec<String>> {
@@ -33,6 +33,8 @@ fn do_words(rt: HostRuntime, words: &Vec<String>) -> Result<Status, AllocError> 
     let mut out = StdSink::new(rt.stdout());
     let mut shelf = DiskShelf::new(rt);
     let finished = run(alloc, words, &mut shelf, &mut out, &mut errs, meters);
+    // The process ends here: the system takes the journal's memory back at once.
+    mem::forget(finished.journal);
     Ok(finished.status)
 }
 

@@ -8,14 +8,15 @@ use Rattle.difane_cli.specs.Run.{IsAfterText}
 use Rattle.difane_cli.proofs.Gains.{some_on_err}
 
 -- a text that was made was written, or not
-pub text_written : (text : List ℕ) (takes_memory : Bool) (before now : SinkState)
+pub text_written : (text : List ℕ) (in_memory takes_memory : Bool) (before now : SinkState)
     (result : Result (⊤) SinkError) → IsAfterWrite text takes_memory before now result
-    → (text ≡ [] → now ≡ before) → IsAfterText text takes_memory before now result
-text_written text takes_memory before now result after untouched = record {
+    → (text ≡ [] → now ≡ before) → IsAfterText text in_memory takes_memory before now result
+text_written text in_memory takes_memory before now result after untouched = record {
   whole = after.whole;
   part = failed result after.part;
-  some = some_on_err result before.bytes now.bytes text after.part;
+  some = some_on_err result before now text after.part;
   untouched = untouched;
+  calm = after.calm;
   failed = after.failed;
   no_memory = λ is. inl (after.no_memory is);
   faults = after.faults;

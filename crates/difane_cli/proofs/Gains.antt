@@ -1,11 +1,11 @@
 -- What a sink gained by several writes.
-use Rattle.std.proofs.Common.{ℕ, suc, refl, [], ◌≡◌, ◌+◌, ◌<◌, Option, Result, Ok, Err, OnErr, List, ◌∷◌, ◌++◌, length, take, drop, get_or, ap, ◌∙◌, sym, arith, append-nil, length-append, drop-cons}
+use Rattle.std.proofs.Common.{ℕ, suc, refl, inr, [], ◌≡◌, ◌+◌, ◌<◌, Option, Result, Ok, Err, OnErr, List, ◌∷◌, ◌++◌, length, take, drop, get_or, ap, ◌∙◌, sym, arith, append-nil, length-append, drop-cons}
 use Rattle.std.specs.List.{flat_map}
 use Rattle.std.proofs.Math.Seq.{take-add, take-append-add}
 use Rattle.std.proofs.lemmas.Grind.{flat_map-append}
 use Rattle.std.proofs.lemmas.List.{take-append-drop, take-append-le}
-use Rattle.shelf.specs.Sink.{gained, gained-gained, GainedPart}
-use Rattle.difane_cli.specs.Writes.{GainedSome}
+use Rattle.shelf.specs.Sink.{gained, gained-gained, GainedPart, SinkState}
+use Rattle.difane_cli.specs.Writes.{WrotePart}
 
 -- a part of the next bytes, behind what was written, is a part of the whole
 pub GainedPart-behind : (before middle now : Option (List ℕ)) (front piece rest : List ℕ)
@@ -60,12 +60,7 @@ flat_map-one f xs i x within own =
     ∙ ap (λ bytes. flat_map f (take i xs) ++ bytes) (sym (append-nil (f (get_or xs i x))))
     ∙ flat_map-more f xs (get_or xs i x ∷ []) i (sym (ap (take 1) (drop-cons xs i x within)))
 
--- a part is some
-pub GainedSome-part : (before now : Option (List ℕ)) (bytes : List ℕ) → GainedPart before bytes now
-    → GainedSome before bytes now
-GainedSome-part before now bytes part = (part.0, part.2)
-
-pub some_on_err : {T E : Type 0} (r : Result T E) (before now : Option (List ℕ)) (bytes : List ℕ)
-    → OnErr r (GainedPart before bytes now) → OnErr r (GainedSome before bytes now)
+pub some_on_err : {T E : Type 0} (r : Result T E) (before now : SinkState) (bytes : List ℕ)
+    → OnErr r (GainedPart before.bytes bytes now.bytes) → OnErr r (WrotePart bytes before now)
 some_on_err (Ok x) before now bytes part = tt
-some_on_err (Err e) before now bytes part = GainedSome-part before now bytes part
+some_on_err (Err e) before now bytes part = inr part

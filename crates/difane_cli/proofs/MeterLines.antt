@@ -1,6 +1,6 @@
 -- The lines of meters, and the text of a replay, which has the last lines behind the journal's.
 use Rattle.std.specs.Prelude.{⊤, Bool}
-use Rattle.std.proofs.Common.{ℕ, ◌≡◌, ◌≢◌, Option, Some, None, Result, Ok, Err, List, [], ◌∷◌, ◌++◌, length, map, refl, ap, sym, subst, append-nil, ◌∙◌, ◌≤◌, arith}
+use Rattle.std.proofs.Common.{ℕ, ◌≡◌, ◌≢◌, Option, Some, None, Result, Ok, Err, List, [], ◌∷◌, ◌++◌, length, map, refl, ap, sym, subst, append-nil, ◌∙◌, arith}
 use Rattle.std.specs.List.{flat_map}
 use Rattle.journal.specs.declared.item.Item.{Item}
 use Rattle.journal_text.specs.Lines.{journal_text}
@@ -54,21 +54,23 @@ none_right (x ∷ xs) ys is = absurd (cc is)
 -- two texts, one after the other
 pub both_written : (before middle now : SinkState) (text lines : List ℕ) (takes_memory : Bool)
     (result : Result (⊤) SinkError) → middle.bytes ≡ gained before.bytes text
-    → before.faults ≤ middle.faults → IsAfterWrite lines takes_memory middle now result
+    → middle.faults ≡ before.faults → IsAfterWrite lines takes_memory middle now result
     → IsAfterWrite (text ++ lines) takes_memory before now result
-both_written before middle now text lines takes_memory (Ok done) written fewer after = record {
+both_written before middle now text lines takes_memory (Ok done) written same after = record {
   whole = after.whole ∙ ap (λ bytes. gained bytes lines) written
       ∙ gained-gained before.bytes text lines;
   part = tt;
-  faults = omega (arith, fewer, after.faults);
+  faults = omega (arith, same, after.faults);
+  calm = λ not. after.calm not ∙ same;
   failed = λ is. absurd (cc is);
   no_memory = λ is. absurd (cc is);
 }
-both_written before middle now text lines takes_memory (Err why) written fewer after = record {
+both_written before middle now text lines takes_memory (Err why) written same after = record {
   whole = tt;
   part = part_last before.bytes middle.bytes now.bytes text lines written after.part;
-  faults = omega (arith, fewer, after.faults);
-  failed = λ is. omega (arith, fewer, after.failed is);
+  faults = omega (arith, same, after.faults);
+  calm = λ not. after.calm not ∙ same;
+  failed = λ is. omega (arith, same, after.failed is);
   no_memory = after.no_memory;
 }
 
@@ -81,6 +83,7 @@ first_part before now text lines takes_memory why after = record {
   part = GainedPart-behind before.bytes before.bytes now.bytes [] text lines
       (gained_nothing before.bytes) after.part;
   faults = after.faults;
+  calm = after.calm;
   failed = after.failed;
   no_memory = after.no_memory;
 }

@@ -1,6 +1,6 @@
 -- What comes of a task that is done, by what became of its text.
 use Rattle.std.specs.Prelude.{⊤, is_some}
-use Rattle.std.proofs.Common.{ℕ, ◌≡◌, inl, inr, refl, Bool, zero, Option, Some, None, Result, Ok, Err, OnOk, OnErr, List, []}
+use Rattle.std.proofs.Common.{ℕ, ◌≡◌, ◌⊎◌, IsTrue, inl, inr, refl, Bool, Option, Some, None, Result, Ok, Err, OnOk, OnErr, List, []}
 use Rattle.std.specs.Option.{ForSome}
 use Rattle.boot_laws.specs.Always.{HoldsReached}
 use Rattle.journal.specs.declared.item.Item.{Item}
@@ -22,11 +22,10 @@ use Rattle.difane_cli.specs.Tasks.{Inputs, Play, Print, Printing}
 use Rattle.shelf.specs.Sink.{GainedPart, SinkState}
 use Rattle.shelf.specs.declared.output.SinkError.{SinkError}
 use Rattle.shelf.specs.declared.output.SinkError.TheVariants as sink
-use Rattle.difane_cli.specs.Meters.{kept_by, play_text}
+use Rattle.difane_cli.specs.Meters.{is_made, kept_by, play_text}
 use Rattle.difane_cli.specs.Verdict.{Decides, IsVerdict, asks_quiet, is_asked}
-use Rattle.difane_cli.proofs.MeterLines.{gained_nothing}
 use Rattle.difane_cli.proofs.Verdicts.{QuietLaws, verdict}
-use Rattle.difane_cli.specs.Run.{IsAfterText, IsAnswer, IsPlayOf, MayBePlayed, PlayOutcome, Unfinished}
+use Rattle.difane_cli.specs.Run.{IsAfterText, IsAnswer, IsPlayOf, MayBePlayed, PlayOutcome, Unfinished, WantsMemory}
 use Rattle.difane_cli.specs.Ending.{status_after}
 use Rattle.difane_cli.specs.Writes.{Known, Wrote}
 use Rattle.difane_cli.specs.Prints.{IsPrintingOf, PrintOutcome, printing_text}
@@ -87,18 +86,20 @@ judged laws command known inputs journal full net given answer own asked decides
     answer.sound.events (begins inputs journal full answer.play) sound))
 
 -- memory ran out before an answer was given, and nothing was written
-pub unjudged : (command : Command) (known : Known) (inputs : Inputs) (journal : List Item)
-    (full : Option ℕ) (taken given : List Seen) (now : SinkState)
+pub unjudged : (command : Command) (known : Known) (takes_memory : Bool) (inputs : Inputs)
+    (journal : List Item) (full : Option ℕ) (taken given : List Seen) (now : SinkState)
     → IsAnswer command known inputs journal full → given ≡ kept_by inputs.setting.net journal taken
-    → Unfinished command known journal taken given now now
-unjudged command known inputs journal full taken given now answer kept = record {
+    → IsTrue (is_asked (asks_quiet inputs.report) full)
+    → Unfinished command known takes_memory journal taken given now now
+unjudged command known takes_memory inputs journal full taken given now answer kept asked = record {
   inputs = inputs;
   full = full;
+  wanted = inr (inl asked);
   played = answer;
   kept = kept;
   answer = None;
   verdict = inl refl;
-  written = record { some = (zero, gained_nothing now.bytes); untouched = λ none. refl };
+  written = inl refl;
 }
 
 -- a journal that was played, and what is to be told of it that was written, or not
@@ -109,19 +110,9 @@ pub told : (command : Command) (known : Known) (inputs : Inputs) (journal : List
     → given ≡ kept_by inputs.setting.net journal taken
     → IsVerdict (asks_quiet inputs.report) inputs.setting journal full said
     → IsAfterText (play_text inputs.report inputs.setting.net journal full given said)
-    takes_memory before now written
-    → PlayOutcome command known (status_after written full) journal taken given before now
-told command known inputs journal None taken given said before now takes_memory (Ok done)
-    answer kept judged after =
-    record {
-      inputs = inputs;
-      played = answer;
-      kept = kept;
-      answer = said;
-      verdict = judged;
-      written = record { whole = after.whole; untouched = after.untouched };
-    }
-told command known inputs journal (Some row) taken given said before now takes_memory
+    (is_made inputs.report full) takes_memory before now written
+    → PlayOutcome command known takes_memory (status_after written full) journal taken given before now
+told command known inputs journal None taken given said before now takes_memory
     (Ok done) answer kept judged after =
     record {
       inputs = inputs;
@@ -131,8 +122,18 @@ told command known inputs journal (Some row) taken given said before now takes_m
       verdict = judged;
       written = record { whole = after.whole; untouched = after.untouched };
     }
-told command known inputs journal full taken given said before now takes_memory (Err sink.Failed)
-    answer kept judged after =
+told command known inputs journal (Some row) taken given said before now
+    takes_memory (Ok done) answer kept judged after =
+    record {
+      inputs = inputs;
+      played = answer;
+      kept = kept;
+      answer = said;
+      verdict = judged;
+      written = record { whole = after.whole; untouched = after.untouched };
+    }
+told command known inputs journal full taken given said before now takes_memory
+    (Err sink.Failed) answer kept judged after =
     record {
       inputs = inputs;
       full = full;
@@ -142,17 +143,23 @@ told command known inputs journal full taken given said before now takes_memory 
       verdict = judged;
       written = after.part refl;
     }
-told command known inputs journal full taken given said before now takes_memory (Err sink.NoMemory)
-    answer kept judged after =
+told command known inputs journal full taken given said before now takes_memory
+    (Err sink.NoMemory) answer kept judged after =
     inr (record {
       inputs = inputs;
       full = full;
+      wanted = wanted (after.no_memory refl);
       played = answer;
       kept = kept;
       answer = said;
       verdict = inr judged;
-      written = record { some = after.some; untouched = after.untouched };
+      written = after.some;
     })
+  where
+    wanted : IsTrue takes_memory ⊎ (IsTrue (is_made inputs.report full) × (now ≡ before))
+        → IsTrue takes_memory ⊎ WantsMemory inputs.report full
+    wanted (inl takes) = inl takes
+    wanted (inr (made, same)) = inr (inr made)
 
 -- a plan or tables whose text was written, or not
 pub printed : (command : PrintCommand) (known : Known) (printing : Printing)

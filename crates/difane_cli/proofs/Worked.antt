@@ -1,10 +1,19 @@
--- What the status of work that was begun says.
+-- What the status of work that was begun says, and what became of the memory.
 use Rattle.std.specs.Prelude.{⊤}
-use Rattle.std.proofs.Common.{ℕ, ◌≡◌, refl, Option, Some, None, Result, Ok, Err, IsErrOf}
+use Rattle.std.proofs.Common.{ℕ, ◌≡◌, ◌⊎◌, inl, inr, refl, subst, Bool, Option, Some, None, Result, Ok, Err, IsErrOf, OnErr, IsTrue, List}
+use Rattle.journal.specs.declared.item.Item.{Item}
+use Rattle.shelf.specs.Sink.{SinkState}
 use Rattle.shelf.specs.declared.output.SinkError.{SinkError}
 use Rattle.shelf.specs.declared.output.SinkError.TheVariants as sink
 use Rattle.difane_cli.specs.Ending.{IsAfterWork, status_after}
+use Rattle.difane_cli.specs.Meters.{is_made}
+use Rattle.difane_cli.specs.Run.{IsPlayOf, MayWantMemory, RanOut}
+use Rattle.difane_cli.specs.Tasks.{Inputs}
+use Rattle.difane_cli.specs.Verdict.{asks_quiet, is_asked}
+use Rattle.difane_cli.specs.declared.report.Report.{Report}
 use Rattle.difane_cli.specs.declared.status.Status.TheVariants as status
+use Rattle.words.specs.Words.{Command}
+use Rattle.words.specs.Words as words
 
 pub after_work : (written : Result (⊤) SinkError) (full : Option ℕ)
     → IsAfterWork (status_after written full)
@@ -28,3 +37,50 @@ by_memory (Ok done) None is = absurd (cc is)
 by_memory (Ok done) (Some row) is = absurd (cc is)
 by_memory (Err sink.Failed) full is = absurd (cc is)
 by_memory (Err sink.NoMemory) full is = refl
+
+-- and a failed write comes to a write fault
+pub of_failed : (written : Result (⊤) SinkError) (full : Option ℕ)
+    → IsErrOf written sink.Failed → status_after written full ≡ status.WriteFault
+of_failed (Ok done) full is = absurd (cc is)
+of_failed (Err sink.Failed) full is = refl
+of_failed (Err sink.NoMemory) full is = absurd (cc is)
+
+-- ---- where memory ran out
+
+wants_to_judge : (command : Command) (inputs : Inputs) (full : Option ℕ) → IsPlayOf command inputs
+    → IsTrue (is_asked (asks_quiet inputs.report) full) → MayWantMemory (Some command)
+wants_to_judge (words.Replay named) inputs None own is =
+    subst (λ (report : Report). IsTrue (asks_quiet report)) own.report is
+wants_to_judge (words.Replay named) inputs (Some row) own is = absurd (cc is)
+wants_to_judge (words.Print named) inputs full own is = absurd own
+wants_to_judge (words.Load n) inputs full own is = tt
+
+wants_to_make : (command : Command) (inputs : Inputs) (full : Option ℕ) → IsPlayOf command inputs
+    → IsTrue (is_made inputs.report full) → MayWantMemory (Some command)
+wants_to_make (words.Replay named) inputs full own is =
+    absurd (cc (subst (λ (report : Report). IsTrue (is_made report full)) own.report is))
+wants_to_make (words.Print named) inputs full own is = absurd own
+wants_to_make (words.Load n) inputs full own is = tt
+
+-- what holds at an error
+pub on_err : {T E : Type 0} (r : Result T E) (P : Type 0) → OnErr r P
+    → ((x : T) → r ≡ Ok x → ⊥) → P
+on_err (Ok x) P holds none = absurd (none x refl)
+on_err (Err e) P holds none = holds
+
+-- it ran out before the answer
+pub out_of_judging : (command : Command) (inputs : Inputs) (full : Option ℕ) (takes_memory : Bool)
+    (journal : List Item) (now : SinkState) → IsPlayOf command inputs
+    → IsTrue (is_asked (asks_quiet inputs.report) full)
+    → RanOut (Some command) takes_memory journal now now
+out_of_judging command inputs full takes_memory journal now own is =
+    inr (refl, inr (wants_to_judge command inputs full own is))
+
+-- it ran out in making or in writing the text
+pub out_of_writing : (command : Command) (inputs : Inputs) (full : Option ℕ) (takes_memory : Bool)
+    (journal : List Item) (before now : SinkState) → IsPlayOf command inputs
+    → IsTrue takes_memory ⊎ (IsTrue (is_made inputs.report full) × (now ≡ before))
+    → RanOut (Some command) takes_memory journal before now
+out_of_writing command inputs full takes_memory journal before now own (inl takes) = inl takes
+out_of_writing command inputs full takes_memory journal before now own (inr (made, same)) =
+    inr (same, inr (wants_to_make command inputs full own made))

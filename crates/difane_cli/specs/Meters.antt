@@ -61,6 +61,13 @@ play_text (report.Lines quiet) net journal full meters answer =
     replay_text net journal full meters answer
 play_text report.Summary net journal full meters answer = counts_text journal full
 
+-- the summary, which a play that stopped full has none of, is made in memory before it is written;
+-- lines aren't
+abbrev pub is_made : Report → Option ℕ → Bool
+is_made (report.Lines quiet) full = false
+is_made report.Summary None = true
+is_made report.Summary (Some row) = false
+
 -- words off the grammar, and a command that plays nothing
 abbrev pub PlaysNothing : Option Command → Type 0
 PlaysNothing None = ⊤

@@ -1,5 +1,5 @@
 -- What became of a call of the program, by its status: a replay's, or a load case's.
-use Rattle.std.specs.Prelude.{⊤, ℕ, ◌≡◌, ◌⊎◌, Bool, Option, Some, None, Result, Ok, IsErrOf, IsTrue, OnErr, OnOk, ◌≤◌, List, [], length, All}
+use Rattle.std.specs.Prelude.{⊤, ℕ, ◌≡◌, ◌≢◌, ◌⊎◌, Bool, Option, Some, None, Result, Ok, Err, IsErrOf, IsTrue, OnErr, OnOk, ◌≤◌, List, [], length, All}
 use Rattle.std.specs.Option.{ForSome}
 use Rattle.shelf.specs.Faults.{Rose}
 use Rattle.shelf.specs.Sink.{gained, GainedPart, SinkState}
@@ -16,28 +16,31 @@ use Rattle.way_laws.specs.StrongCauses.{StrongCause}
 use Rattle.entry_laws.specs.Entries.{AreEntered, rows_played}
 use Rattle.load_case.specs.Case.{load_case}
 use Rattle.difane_cli.specs.Inputs.{case_inputs}
-use Rattle.difane_cli.specs.Meters.{kept_by, play_text}
-use Rattle.difane_cli.specs.Verdict.{IsVerdict, asks_quiet}
+use Rattle.difane_cli.specs.Meters.{is_made, kept_by, play_text}
+use Rattle.difane_cli.specs.Verdict.{IsVerdict, asks_quiet, is_asked}
 use Rattle.words.specs.Words.{Command, ReplayCommand}
 use Rattle.words.specs.Words as asked
+use Rattle.difane_cli.specs.declared.report.Report.{Report}
 use Rattle.difane_cli.specs.declared.report.Report.TheVariants as report
 use Rattle.difane_cli.specs.declared.status.Status.{Status}
-use Rattle.difane_cli.specs.Writes.{Known, GainedSome, Wrote, WroteSome, Unplayed, IsNetOf}
+use Rattle.difane_cli.specs.Writes.{Known, Wrote, WrotePart, Unplayed, IsNetOf}
 use Rattle.difane_cli.specs.Prints.{PrintOutcome}
 use Rattle.difane_cli.specs.Tasks.{Inputs, Play}
 use Rattle.difane_cli.specs.declared.status.Status.TheVariants as status
 
--- what writing a text leaves of the output, where making it may take memory: all of it where it
--- succeeds, and else some of it, and not all where the output failed; where memory ran out, the
--- output wasn't touched, unless its own writes take memory
-pub record IsAfterText (text : List ℕ) (takes_memory : Bool) (before now : SinkState)
+-- what writing a text leaves of the output: all of it where it succeeds, and else a part of it, or
+-- the output wasn't touched. No fault is counted unless it failed. Memory ran out only in the
+-- output's own writes, if they take any; or before them, where the text is made in memory
+pub record IsAfterText (text : List ℕ) (in_memory takes_memory : Bool) (before now : SinkState)
     (result : Result (⊤) SinkError) : Type 0 where
   pub whole : OnOk result (now.bytes ≡ gained before.bytes text)
   pub part : IsErrOf result Failed → GainedPart before.bytes text now.bytes
-  pub some : OnErr result (GainedSome before.bytes text now.bytes)
+  pub some : OnErr result (WrotePart text before now)
   pub untouched : text ≡ [] → now ≡ before
+  pub calm : result ≢ Err Failed → now.faults ≡ before.faults
   pub failed : IsErrOf result Failed → Rose before.faults now.faults
-  pub no_memory : IsErrOf result NoMemory → IsTrue takes_memory ⊎ (now ≡ before)
+  pub no_memory : IsErrOf result NoMemory
+      → IsTrue takes_memory ⊎ (IsTrue in_memory × (now ≡ before))
   pub faults : before.faults ≤ now.faults
 
 -- ---- plays
@@ -104,45 +107,69 @@ pub record CutShort (command : Command) (known : Known) (journal : List Item)
   pub written : GainedPart before.bytes
       (play_text inputs.report inputs.setting.net journal full given answer) now.bytes
 
--- the same of either play, but that memory ran out behind it, and the output gained some of the
--- text; where it ran out before it was known whether the network is quiet, no line says so
-pub record Unfinished (command : Command) (known : Known) (journal : List Item)
-    (taken given : List Seen) (before now : SinkState) : Type 0 where
+-- a play that didn't stop full wants memory behind it: to see whether the network is quiet, where
+-- this is asked for, and for the summary
+abbrev pub WantsMemory : Report → Option ℕ → Type 0
+WantsMemory told full = IsTrue (is_asked (asks_quiet told) full) ⊎ IsTrue (is_made told full)
+
+-- the same of either play, but that memory ran out behind it, where it is wanted or the output's own
+-- writes take any; and the output wasn't touched or gained a part of the text. Where it ran out
+-- before it was known whether the network is quiet, no line says so
+pub record Unfinished (command : Command) (known : Known) (takes_memory : Bool)
+    (journal : List Item) (taken given : List Seen) (before now : SinkState) : Type 0 where
   pub inputs : Inputs
   pub full : Option ℕ
+  pub wanted : IsTrue takes_memory ⊎ WantsMemory inputs.report full
   pub played : IsAnswer command known inputs journal full
   pub kept : given ≡ kept_by inputs.setting.net journal taken
   pub answer : Option Bool
   pub verdict : (answer ≡ None)
       ⊎ IsVerdict (asks_quiet inputs.report) inputs.setting journal full answer
-  pub written : WroteSome (play_text inputs.report inputs.setting.net journal full given answer)
+  pub written : WrotePart (play_text inputs.report inputs.setting.net journal full given answer)
       before now
 
 -- the journal, the meters and the output that a status of a play comes with; where nothing was
--- played no meter is left, and where memory ran out before, nothing is said of the meters
-abbrev pub PlayOutcome : Command → Known → Status → List Item → (taken given : List Seen)
-    → (before now : SinkState) → Type 0
-PlayOutcome command known status.Ok journal taken given before now =
+-- played no meter is left, or, where memory ran out before the command was read, all are
+abbrev pub PlayOutcome : Command → Known → (takes_memory : Bool) → Status → List Item
+    → (taken given : List Seen) → (before now : SinkState) → Type 0
+PlayOutcome command known takes_memory status.Ok journal taken given before now =
     Played command known None journal taken given before now
-PlayOutcome command known (status.Full row) journal taken given before now =
+PlayOutcome command known takes_memory (status.Full row) journal taken given before now =
     Played command known (Some row) journal taken given before now
-PlayOutcome command known status.WriteFault journal taken given before now =
+PlayOutcome command known takes_memory status.WriteFault journal taken given before now =
     CutShort command known journal taken given before now
-PlayOutcome command known status.NoMemory journal taken given before now =
-    Unplayed journal before now ⊎ Unfinished command known journal taken given before now
-PlayOutcome command known _ journal taken given before now =
+PlayOutcome command known takes_memory status.NoMemory journal taken given before now =
+    (Unplayed journal before now × ((given ≡ []) ⊎ (given ≡ taken)))
+    ⊎ Unfinished command known takes_memory journal taken given before now
+PlayOutcome command known takes_memory _ journal taken given before now =
     Unplayed journal before now × (given ≡ [])
 
 -- ---- all commands
 
 -- the journal, the meters that were taken and given back, and the output that a status of a command
 -- comes with
-abbrev pub Outcome : Option Command → Known → Status → List Item → (taken given : List Seen)
-    → (before now : SinkState) → Type 0
-Outcome None known status journal taken given before now = Unplayed journal before now
-Outcome (Some (asked.Replay words)) known status journal taken given before now =
-    PlayOutcome (asked.Replay words) known status journal taken given before now
-Outcome (Some (asked.Print words)) known status journal taken given before now =
+abbrev pub Outcome : Option Command → Known → (takes_memory : Bool) → Status → List Item
+    → (taken given : List Seen) → (before now : SinkState) → Type 0
+Outcome None known takes_memory status journal taken given before now =
+    Unplayed journal before now
+Outcome (Some (asked.Replay words)) known takes_memory status journal taken given before now =
+    PlayOutcome (asked.Replay words) known takes_memory status journal taken given before now
+Outcome (Some (asked.Print words)) known takes_memory status journal taken given before now =
     PrintOutcome words known status journal before now
-Outcome (Some (asked.Load n)) known status journal taken given before now =
-    PlayOutcome (asked.Load n) known status journal taken given before now
+Outcome (Some (asked.Load n)) known takes_memory status journal taken given before now =
+    PlayOutcome (asked.Load n) known takes_memory status journal taken given before now
+
+-- behind its play a command may want memory: to see whether the network is quiet, where it is to
+-- say so, and for the summary of a load case. To write the lines of a play it wants none
+abbrev pub MayWantMemory : Option Command → Type 0
+MayWantMemory None = ⊥
+MayWantMemory (Some (asked.Replay words)) = IsTrue words.quiet
+MayWantMemory (Some (asked.Print words)) = ⊥
+MayWantMemory (Some (asked.Load n)) = ⊤
+
+-- memory ran out in the output's own writes, if they take any. Or the output wasn't touched, and
+-- either nothing was played, or memory was wanted behind the play
+abbrev pub RanOut : Option Command → (takes_memory : Bool) → List Item → (before now : SinkState)
+    → Type 0
+RanOut command takes_memory journal before now =
+    IsTrue takes_memory ⊎ ((now ≡ before) × ((journal ≡ []) ⊎ MayWantMemory command))

@@ -25,9 +25,10 @@ status_line status.WriteFault = codes "difane: write fault\n"
 status_line (status.Full row) = full_line row
 status_line status.NoMemory = codes "difane: no memory\n"
 
--- a sink gained the line, or a proper part of it where it failed or where its writes take memory
+-- a sink gained the line, and counted no fault; or it gained a proper part of it, where it failed or
+-- where its writes take memory
 pub record TellsLine (whole : List ℕ) (takes_memory : Bool) (old new : SinkState) : Type 0 where
   pub faults : old.faults ≤ new.faults
-  pub line : (new.bytes ≡ gained old.bytes whole)
+  pub line : ((new.bytes ≡ gained old.bytes whole) × (new.faults ≡ old.faults))
       ⊎ (GainedPart old.bytes whole new.bytes
       × (Rose old.faults new.faults ⊎ IsTrue takes_memory))

@@ -1,8 +1,8 @@
 -- What a command left of its journal and of the output, whatever it did.
-use Rattle.std.specs.Prelude.{ℕ, ◌≡◌, Option, Some, None, Result, List, [], take}
+use Rattle.std.specs.Prelude.{ℕ, ◌≡◌, ◌⊎◌, Option, Some, None, Result, List, []}
 use Rattle.net_file.specs.Net.{IsNet, solo_net}
 use Rattle.net_file.specs.declared.net.Net.{Net}
-use Rattle.shelf.specs.Sink.{gained, SinkState}
+use Rattle.shelf.specs.Sink.{gained, GainedPart, SinkState}
 use Rattle.journal.specs.declared.item.Item.{Item}
 use Rattle.difane_cli.specs.Tasks.{Task}
 use Rattle.difane_cli.specs.declared.status.Refusal.{Refusal}
@@ -11,20 +11,15 @@ use Rattle.difane_cli.specs.declared.status.Refusal.{Refusal}
 abbrev pub Known : Type 0
 Known = Option (Result Task Refusal)
 
--- the output gained some of these bytes from the front
-abbrev pub GainedSome : Option (List ℕ) → List ℕ → Option (List ℕ) → Type 0
-GainedSome before bytes now = (n : ℕ) × (now ≡ gained before (take n bytes))
-
 -- the output gained this text; where it is empty, it wasn't touched: no write was made, not even of
 -- nothing
 pub record Wrote (text : List ℕ) (before now : SinkState) : Type 0 where
   pub whole : now.bytes ≡ gained before.bytes text
   pub untouched : text ≡ [] → now ≡ before
 
--- the same of some of the text
-pub record WroteSome (text : List ℕ) (before now : SinkState) : Type 0 where
-  pub some : GainedSome before.bytes text now.bytes
-  pub untouched : text ≡ [] → now ≡ before
+-- the output wasn't touched, or gained a part of the text, and not all
+abbrev pub WrotePart : List ℕ → (before now : SinkState) → Type 0
+WrotePart text before now = (now ≡ before) ⊎ GainedPart before.bytes text now.bytes
 
 -- nothing was played, and the output wasn't touched: no write was made, not even of nothing
 pub record Unplayed (journal : List Item) (before now : SinkState) : Type 0 where

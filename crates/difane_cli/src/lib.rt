@@ -3,13 +3,14 @@
 //! plays it and writes its summary.
 //!
 //! `run` carries the headline. Where a replay answers `Ok` there are inputs that its journal
-//! answers, is a run of the abstract machine for, and whose items have their causes; where files are
-//! known, these are the inputs that the files state. The output gained the journal's text, then a
-//! line for each meter that still is there and has a note, and nothing else; the meters are those
-//! that stay in the journal. Where it answers `Full`, the same holds up to the row that it names.
-//! Of a load case all this holds of the case of its number, but that the output gained the counts
-//! of the journal. A plan and tables are the defined ones, and so are their lines. Each status but
-//! want of memory has its cause in a clause.
+//! answers, is a run of the abstract machine for, and whose items have their causes; where files
+//! are known, these are the inputs that the files state. The output gained the journal's text, then
+//! a line for each meter that still is there and has a note, then with `--quiet` the line that says
+//! whether the network is quiet, and nothing else; the meters are those that stay in the journal.
+//! Where it answers `Full`, the same holds up to the row that it names, without the lines behind
+//! the journal's. Of a load case all this holds of the case of its number, but that the output
+//! gained the counts of the journal, and nothing where it answers `Full`. A plan and tables are the
+//! defined ones, and so are their lines. Each status but want of memory has its cause in a clause.
 #![tactic(auto)]
 
 mod inputs;

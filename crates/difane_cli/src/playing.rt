@@ -1,16 +1,17 @@
 //! The play of accepted inputs, and the writing of its journal.
-ghost use Rattle.std.specs.Prelude.{◌≡◌, ◌≤◌, ◌⊎◌, [], Ok, IsTrue, map};
+ghost use Rattle.std.specs.Prelude.{◌≡◌, ◌≢◌, ◌≤◌, [], Ok, Some, map, true};
 ghost use Rattle.std.specs.Option.{ForSome};
 ghost use Rattle.net_file.specs.Net.{IsNet};
 ghost use Rattle.shelf.specs.Faults.{Rose};
 ghost use Rattle.shelf.specs.Sink.{IsAfterWrite};
 ghost use Rattle.difane_cli.specs.Commands.{IsReady, inputs_stated};
-ghost use Rattle.difane_cli.specs.Meters.{counts_text, last_lines, play_text, replay_text};
-ghost use Rattle.difane_cli.specs.Run.{IsAfterText, IsPlayOf, PlayOutcome};
+ghost use Rattle.difane_cli.specs.Meters.{counts_text, is_made, last_lines, play_text, replay_text};
+ghost use Rattle.difane_cli.specs.Run.{IsAfterText, IsPlayOf, PlayOutcome, RanOut};
 ghost use Rattle.difane_cli.specs.Tasks.{Play};
 ghost use Rattle.difane_cli.specs.Ending.{IsAfterWork};
 ghost use Rattle.difane_cli.specs.Writes.{Known};
 ghost use Rattle.words.specs.Words.{Command};
+ghost use Rattle.difane_cli.specs.declared.report.Report.TheVariants.{Summary};
 ghost use Rattle.difane_cli.specs.declared.status.Status.TheVariants as status;
 
 use crate::inputs::PlayInputs;
@@ -47,14 +48,18 @@ pub fn play<M: Meter, K: Sink>(
     ensures outcome { (command : Command) (known : Known)
         → IsPlayOf command (inputs_stated inputs)
         → ForSome known (λ read. read ≡ Ok (Play (inputs_stated inputs)))
-        → PlayOutcome command known result.status result.journal
+        → PlayOutcome command known K.takes_memory result.status result.journal
         (map M.seen meters.items) (map M.seen result.meters.items)
         (K.state out.old) (K.state out.new) }
-    ensures no_memory { result.status ≡ status.NoMemory
-        → IsTrue K.takes_memory ⊎ (K.state out.new ≡ K.state out.old) }
+    ensures no_memory { (command : Command) → IsPlayOf command (inputs_stated inputs)
+        → result.status ≡ status.NoMemory
+        → RanOut (Some command) K.takes_memory result.journal
+        (K.state out.old) (K.state out.new) }
     ensures worked { IsAfterWork result.status }
     ensures failed { result.status ≡ status.WriteFault
         → Rose (K.state out.old).faults (K.state out.new).faults }
+    ensures calm { result.status ≢ status.WriteFault
+        → (K.state out.new).faults ≡ (K.state out.old).faults }
     ensures faults { (K.state out.old).faults ≤ (K.state out.new).faults }
 {
     let PlayInputs {
@@ -104,7 +109,7 @@ fn write_report<M: Meter, K: Sink>(
 ) -> Result<(), SinkError>
     requires { IsNet net.now }
     ensures { IsAfterText (play_text report net.now played.now.journal played.now.full
-        (map M.seen played.now.meters.items) answer) K.takes_memory
+        (map M.seen played.now.meters.items) answer) (is_made report played.now.full) K.takes_memory
         (K.state out.old) (K.state out.new) result }
 {
     match report {
@@ -119,7 +124,8 @@ fn write_summary<M: Meter, K: Sink>(
     played: &Played<M>,
     out: &mut K,
 ) -> Result<(), SinkError>
-    ensures { IsAfterText (counts_text played.now.journal played.now.full) K.takes_memory
+    ensures { IsAfterText (counts_text played.now.journal played.now.full)
+        (is_made Summary played.now.full) K.takes_memory
         (K.state out.old) (K.state out.new) result }
 {
     match played.full {

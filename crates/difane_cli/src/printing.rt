@@ -1,5 +1,5 @@
 //! The plan of a policy, or the tables of a switch: its files, and the writing of its text.
-ghost use Rattle.std.specs.Prelude.{◌≡◌, ◌≤◌, [], Ok, None, Some, IfOk, IfErr, IsErrOf, IsTrue, ◌⊎◌};
+ghost use Rattle.std.specs.Prelude.{◌≡◌, ◌≢◌, ◌≤◌, [], Ok, None, Some, IfOk, IfErr, IsErrOf, IsTrue, ◌⊎◌};
 ghost use Rattle.std.specs.Option.{ForSome};
 ghost use Rattle.net_file.specs.Net.{IsNet};
 ghost use Rattle.shelf.specs.Faults.{Rose};
@@ -83,6 +83,8 @@ pub fn print<K: Sink>(alloc: Global, inputs: &PrintInputs, out: &mut K) -> Resul
         → IsTrue K.takes_memory ⊎ (K.state out.new ≡ K.state out.old) }
     ensures failed { IsErrOf result SinkError.Failed
         → Rose (K.state out.old).faults (K.state out.new).faults }
+    ensures calm { result ≢ Err SinkError.Failed
+        → (K.state out.new).faults ≡ (K.state out.old).faults }
     ensures faults { (K.state out.old).faults ≤ (K.state out.new).faults }
 {
     let text = text_of(alloc, inputs)?;

@@ -2,6 +2,7 @@
 ghost use Rattle.std.specs.Prelude.{◌≡◌, IfOk};
 ghost use Rattle.std.specs.List.{flat_map};
 ghost use Rattle.shelf.specs.Sink.{IsAfterWrite};
+ghost use Rattle.difane_cli.specs.declared.status.Status.TheVariants.{Ok as DoneStatus};
 ghost use Rattle.difane_cli.specs.declared.status.Stop.TheVariants.{NoMemory};
 ghost use Rattle.difane_cli.specs.Status.{TellsLine, full_line, input_line, status_line};
 ghost use Rattle.difane_cli.specs.Ending.{status_after, status_number, status_of};
@@ -149,19 +150,22 @@ impl Status {
     }
 }
 
-/// Writes the status's line; it takes no memory of its own.
+/// Writes the status's line; it takes no memory of its own. Of work that was done it says nothing,
+/// not even by an empty write.
 ///
 /// A fault of the sink changes nothing but the sink, which then has a part of the line.
 pub fn tell<E: Sink>(status: &Status, errs: &mut E)
-    ensures { TellsLine (status_line status.now) E.takes_memory
+    ensures line { TellsLine (status_line status.now) E.takes_memory
         (E.state errs.old) (E.state errs.new) }
+    ensures silent { status.now ≡ DoneStatus → errs.new ≡ errs.old }
 {
     let _ = write_line(status, errs);
 }
 
 fn write_line<E: Sink>(status: &Status, errs: &mut E) -> Result<(), SinkError>
-    ensures { IsAfterWrite (status_line status.now) E.takes_memory
+    ensures after { IsAfterWrite (status_line status.now) E.takes_memory
         (E.state errs.old) (E.state errs.new) result }
+    ensures silent { status.now ≡ DoneStatus → errs.new ≡ errs.old }
 {
     match status {
         Status::Ok => write_whole(errs, b""),

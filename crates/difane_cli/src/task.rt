@@ -1,5 +1,5 @@
 //! What a command is to do, once its files are read, and the doing of it.
-ghost use Rattle.std.specs.Prelude.{◌≡◌, ◌≤◌, ◌⊎◌, IsTrue, Ok, Some, IfOk, IfErr, Result, [], map};
+ghost use Rattle.std.specs.Prelude.{◌≡◌, ◌≢◌, ◌≤◌, Ok, Some, IfOk, IfErr, Result, [], map};
 ghost use Rattle.std.specs.Option.{ForSome};
 ghost use Rattle.shelf.specs.Faults.{Rose};
 ghost use Rattle.shelf.specs.Shelf.{IsAfterReads};
@@ -8,7 +8,7 @@ ghost use Rattle.difane_cli.specs.Inputs.{known_task, most_reads, Accounts};
 ghost use Rattle.difane_cli.specs.Tasks.{Task as Stated};
 ghost use Rattle.difane_cli.specs.declared.status.Refusal.{Refusal};
 ghost use Rattle.difane_cli.specs.Meters.{PlaysNothing};
-ghost use Rattle.difane_cli.specs.Run.{Outcome};
+ghost use Rattle.difane_cli.specs.Run.{Outcome, RanOut};
 ghost use Rattle.difane_cli.specs.Ending.{IsAfterWork, NeedsReadFault, status_of};
 ghost use Rattle.difane_cli.specs.Writes.{Known};
 ghost use Rattle.words.specs.Named.{NamesPolicies, command_named};
@@ -78,18 +78,22 @@ pub fn work<M: Meter, K: Sink>(alloc: Global, task: Task, meters: Vec<M>, out: &
     ensures outcome { (command : grammar.Command) (known : Known)
         → IsTaskOf command (task_stated task)
         → ForSome known (λ read. read ≡ Ok (task_stated task))
-        → Outcome (Some command) known result.status result.journal
+        → Outcome (Some command) known K.takes_memory result.status result.journal
         (map M.seen meters.items) (map M.seen result.meters.items)
         (K.state out.old) (K.state out.new) }
     ensures meters { (command : grammar.Command) → IsTaskOf command (task_stated task)
         → PlaysNothing (Some command) → result.meters ≡ meters }
     ensures accounts { (read : Result Stated Refusal) → read ≡ Ok (task_stated task)
         → Accounts read result.status }
-    ensures no_memory { result.status ≡ status.NoMemory
-        → IsTrue K.takes_memory ⊎ (K.state out.new ≡ K.state out.old) }
+    ensures no_memory { (command : grammar.Command) → IsTaskOf command (task_stated task)
+        → result.status ≡ status.NoMemory
+        → RanOut (Some command) K.takes_memory result.journal
+        (K.state out.old) (K.state out.new) }
     ensures worked { IsAfterWork result.status }
     ensures failed { result.status ≡ status.WriteFault
         → Rose (K.state out.old).faults (K.state out.new).faults }
+    ensures calm { result.status ≢ status.WriteFault
+        → (K.state out.new).faults ≡ (K.state out.old).faults }
     ensures faults { (K.state out.old).faults ≤ (K.state out.new).faults }
 {
     match task {

@@ -1,15 +1,16 @@
 //! The top call.
-ghost use Rattle.std.specs.Prelude.{◌≡◌, ◌≤◌, ◌⊎◌, ◌↔◌, ℕ, IsTrue, None, map};
+ghost use Rattle.std.specs.Prelude.{◌≡◌, ◌≢◌, ◌≤◌, ◌⊎◌, ◌↔◌, ℕ, None, map};
 ghost use Rattle.std.specs.Option.{ForSome};
 ghost use Rattle.shelf.specs.Faults.{Rose};
 ghost use Rattle.shelf.specs.Shelf.{IsAfterReads};
 ghost use Rattle.difane_cli.specs.Inputs.{IsAccepted, known_task, most_reads, Accounts};
 ghost use Rattle.difane_cli.specs.Meters.{PlaysNothing};
-ghost use Rattle.difane_cli.specs.Run.{Outcome};
+ghost use Rattle.difane_cli.specs.Run.{Outcome, RanOut};
 ghost use Rattle.difane_cli.specs.Status.{TellsLine, status_line};
 ghost use Rattle.difane_cli.specs.Ending.{NeedsReadFault};
 ghost use Rattle.words.specs.Words.{command_of, texts};
 ghost use Rattle.difane_cli.specs.declared.status.Status.TheVariants as status;
+ghost use Rattle.difane_cli.specs.declared.status.Status.TheVariants.{Ok as DoneStatus};
 
 use crate::status::{Ended, Finished, Status, tell};
 use crate::task::{read_task, unplayed, work};
@@ -42,7 +43,7 @@ pub fn run<F: Shelf, K: Sink, E: Sink>(
     // whose ends and items have their causes, which meters stayed, and what the output gained.
     ensures outcome { Outcome (command_of (texts words.now))
         (known_task (F.state shelf.old).files (command_of (texts words.now)))
-        result.status result.journal (map ⟦<Box<dyn Meter> as Meter>⟧.seen meters.items)
+        K.takes_memory result.status result.journal (map ⟦<Box<dyn Meter> as Meter>⟧.seen meters.items)
         (map ⟦<Box<dyn Meter> as Meter>⟧.seen result.meters.items)
         (K.state out.old) (K.state out.new) }
 
@@ -59,9 +60,15 @@ pub fn run<F: Shelf, K: Sink, E: Sink>(
     ensures write_fault { result.status ≡ status.WriteFault
         → Rose (K.state out.old).faults (K.state out.new).faults }
 
-    // Where memory runs out nothing was written, unless the output's own writes take memory.
+    // Only there is a fault of the output counted: what failed is not tried again with success.
+    ensures no_write_fault { result.status ≢ status.WriteFault
+        → (K.state out.new).faults ≡ (K.state out.old).faults }
+
+    // Where memory runs out nothing was written, unless the output's own writes take memory. And
+    // nothing was played, unless more than the lines of the play is asked for.
     ensures no_memory { result.status ≡ status.NoMemory
-        → IsTrue K.takes_memory ⊎ (K.state out.new ≡ K.state out.old) }
+        → RanOut (command_of (texts words.now)) K.takes_memory result.journal
+        (K.state out.old) (K.state out.new) }
 
     // Where the inputs are accepted and nothing fails, the work is done, to its end or as far as
     // there was room, or memory ran out.
@@ -72,9 +79,11 @@ pub fn run<F: Shelf, K: Sink, E: Sink>(
         ⊎ (result.status ≡ status.Ok) ⊎ ((row : ℕ) × (result.status ≡ status.Full row))
         ⊎ (result.status ≡ status.NoMemory) }
 
-    // The line of the status is written, whole unless the sink of errors fails.
+    // The line of the status is written, whole unless the sink of errors fails; of work that was
+    // done nothing is.
     ensures line { TellsLine (status_line result.status) E.takes_memory
         (E.state errs.old) (E.state errs.new) }
+    ensures silent { result.status ≡ status.Ok → errs.new ≡ errs.old }
 
     // Files are read in order, none behind the first that is refused, and stay as they are.
     ensures shelf { IsAfterReads
@@ -110,6 +119,7 @@ fn end<M: Meter, E: Sink>(
     ensures meters { result.meters ≡ meters }
     ensures line { TellsLine (status_line status) E.takes_memory
         (E.state errs.old) (E.state errs.new) }
+    ensures silent { status ≡ DoneStatus → errs.new ≡ errs.old }
 {
     tell(&status, errs);
     Ended {

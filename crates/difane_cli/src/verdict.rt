@@ -1,5 +1,5 @@
 //! Whether the network of a play is quiet, and the line that says so.
-ghost use Rattle.std.specs.Prelude.{◌≡◌, [], IfOk, is_some};
+ghost use Rattle.std.specs.Prelude.{◌≡◌, [], IfOk, IfErr, IsTrue, is_some};
 ghost use Rattle.net_file.specs.Net.{IsNet};
 ghost use Rattle.quiet_journals.specs.Plain.{IsPlain};
 ghost use Rattle.shelf.specs.Sink.{IsAfterWrite};
@@ -16,7 +16,7 @@ use std::alloc::{AllocError, Global};
 /// Whether the network is quiet, where this is asked for and the play didn't stop full.
 ///
 /// # Errors
-/// Want of memory alone.
+/// Want of memory, and that only where this is asked for and the play didn't stop full.
 pub fn judge<M: Meter>(
     alloc: Global,
     asked: bool,
@@ -25,6 +25,7 @@ pub fn judge<M: Meter>(
 ) -> Result<Option<bool>, AllocError>
     requires { IsNet net.now }
     ensures asked { IfOk result (λ answer. is_some answer ≡ is_asked asked played.now.full) }
+    ensures wants { IfErr result (λ _. IsTrue (is_asked asked played.now.full)) }
     ensures decides { IfOk result (λ answer. (setting : Setting) → setting.net ≡ net.now
         → IsPlain setting played.now.journal → Decides setting played.now.journal answer) }
 {

@@ -24,7 +24,7 @@ loop-meter-preserved g c =
           (middle_none (flat_map line (take i meters)) _ (flat_map line (drop (suc i) meters))
           (flat_map-there line meters i item c.loop-meter-test.true own
           ∙ lines_of g.M.Meter.seen meters ∙ none)) ∙ so_far.untouched none;
-      faults = omega (arith, so_far.faults, c.in-Ok.ensures.after.faults);
+      faults = c.in-Ok.ensures.after.calm (λ is. absurd (cc is)) ∙ so_far.faults;
     }
 
 pub returns-clause-after : goal.returns-clause-after
@@ -37,7 +37,8 @@ returns-clause-after g c =
           (ap (flat_map line) (take_all i meters (omega (arith, c.loop-meter-test.false)))
           ∙ lines_of g.M.Meter.seen meters);
       part = tt;
-      faults = c.loop-meter.invariant.faults;
+      faults = omega (arith, c.loop-meter.invariant.faults);
+      calm = λ not. c.loop-meter.invariant.faults;
       failed = λ is. absurd (cc is);
       no_memory = λ is. absurd (cc is);
     }
@@ -61,6 +62,7 @@ returns-in-Err-clause-after g c =
           (flat_map-there line meters i item c.loop-meter-test.true own ∙ lines_of g.M.Meter.seen meters)
           behind;
       faults = omega (arith, c.loop-meter.invariant.faults, after.faults);
+      calm = λ not. after.calm not ∙ c.loop-meter.invariant.faults;
       failed = λ is. omega (arith, c.loop-meter.invariant.faults, after.failed is);
       no_memory = after.no_memory;
     }

@@ -1,4 +1,4 @@
-use Rattle.std.proofs.Common.{◌≡◌, ◌≤◌, [], map, take}
+use Rattle.std.proofs.Common.{◌≡◌, [], map, take}
 use Rattle.std.specs.List.{flat_map}
 use Rattle.shelf.specs.Sink.{gained}
 use Rattle.difane_cli.specs.Meters.{meter_line, meter_lines}
@@ -9,5 +9,5 @@ invariant-loop-meter g l = record {
   written : (g.K.Sink.state l.out).bytes ≡ gained (g.K.Sink.state l.fn.out).bytes
       (flat_map (λ meter. meter_line (g.M.Meter.seen meter)) (take l.meter-index l.meters));
   untouched : meter_lines (map g.M.Meter.seen l.meters) ≡ [] → l.out ≡ l.fn.out;
-  faults : (g.K.Sink.state l.fn.out).faults ≤ (g.K.Sink.state l.out).faults;
+  faults : (g.K.Sink.state l.out).faults ≡ (g.K.Sink.state l.fn.out).faults;
 }

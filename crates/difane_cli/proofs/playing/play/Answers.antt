@@ -1,15 +1,15 @@
-use Rattle.std.proofs.Common.{ℕ, ◌∙◌, inr, List, ap, map, subst, sym}
+use Rattle.std.proofs.Common.{ℕ, ◌∙◌, inr, Bool, IsTrue, List, ap, map, subst, sym}
 use Rattle.meters.specs.Meters.{kept_meters}
 use Rattle.net_file.specs.declared.net.Net.{Net}
 use Rattle.replay.specs.Leavings.{left_in}
 use Rattle.steps.specs.declared.step.Event.{Event}
 use Rattle.update_machine.specs.Full.{IsPlay}
 use Rattle.difane_cli.specs.Commands.{inputs_stated}
-use Rattle.difane_cli.specs.Meters.{kept_by, play_text}
+use Rattle.difane_cli.specs.Meters.{is_made, kept_by, play_text}
 use Rattle.difane_cli.specs.Run.{IsAfterText}
 use Rattle.difane_cli.specs.Verdict.{is_asked}
 use Rattle.difane_cli.proofs.Plays.{AnswerLaws, judged, played, told, unjudged}
-use Rattle.difane_cli.proofs.Worked.{after_work, by_failed, by_memory}
+use Rattle.difane_cli.proofs.Worked.{after_work, by_failed, by_memory, of_failed, on_err, out_of_judging, out_of_writing}
 use Rattle.difane_cli.proofs.playing.play.Goals as goal
 
 pub returns-clause-outcome : goal.returns-clause-outcome
@@ -42,12 +42,14 @@ returns-clause-outcome g c = λ command known asked read.
     let before = g.K.Sink.state c.args.out.now in
     let now = g.K.Sink.state c.write_report-written.new.out in
     let written = c.write_report-written.result in
+    let in_memory = is_made inputs.report full in
     let takes_memory = g.K.Sink.takes_memory in
     let kept = c.in-Ok.ensures.kept
     ∙ ap (λ (ports : ℕ). kept_meters ports (left_in journal) taken) c.port_mask.ensures
     ∙ ap (λ (net : Net). kept_by net journal taken) (sym c.requires.net) in
     let after = subst (λ (net : Net).
-    IsAfterText (play_text inputs.report net journal full given said) takes_memory before now written)
+    IsAfterText (play_text inputs.report net journal full given said) in_memory takes_memory
+    before now written)
     (sym c.requires.net) c.write_report-written.ensures in
     rw c.after.ensures (told command known inputs journal full taken given said before now
     takes_memory written answer kept verdict after)
@@ -75,9 +77,12 @@ returns-in_default-judge-clause-outcome g c = λ command known asked read.
     let kept = c.in-Ok.ensures.kept
     ∙ ap (λ (ports : ℕ). kept_meters ports (left_in journal) (map g.M.Meter.seen c.args.meters.items))
     c.port_mask.ensures in
-    inr (unjudged command known inputs journal full (map g.M.Meter.seen c.args.meters.items)
+    let wants = on_err c.judge.result _ c.judge.ensures.wants c.in_default-judge.not-Ok in
+    inr (unjudged command known g.K.Sink.takes_memory inputs journal full
+    (map g.M.Meter.seen c.args.meters.items)
     (map g.M.Meter.seen c.in-Ok.played.meters.items) (g.K.Sink.state c.args.out.now) answer
-    (rw c.requires.net kept))
+    (rw c.requires.net kept)
+    (subst (λ (asked : Bool). IsTrue (is_asked asked full)) c.asks_quiet.ensures wants))
 
 pub returns-clause-worked : goal.returns-clause-worked
 returns-clause-worked g c =
@@ -89,6 +94,20 @@ returns-clause-failed g c = λ is.
     (by_failed c.write_report-written.result c.in-Ok.played.full (rw c.after.ensures at is))
 
 pub returns-clause-no_memory : goal.returns-clause-no_memory
-returns-clause-no_memory g c = λ is.
-    c.write_report-written.ensures.no_memory
-    (by_memory c.write_report-written.result c.in-Ok.played.full (rw c.after.ensures at is))
+returns-clause-no_memory g c = λ command own is.
+    out_of_writing command (inputs_stated c.args.inputs) c.in-Ok.played.full
+    g.K.Sink.takes_memory _ _ _ own
+    (c.write_report-written.ensures.no_memory
+    (by_memory c.write_report-written.result c.in-Ok.played.full (rw c.after.ensures at is)))
+
+pub returns-in_default-judge-clause-no_memory : goal.returns-in_default-judge-clause-no_memory
+returns-in_default-judge-clause-no_memory g c = λ command own is.
+    let full = c.in-Ok.played.full in
+    let wants = on_err c.judge.result _ c.judge.ensures.wants c.in_default-judge.not-Ok in
+    out_of_judging command (inputs_stated c.args.inputs) full g.K.Sink.takes_memory _ _ own
+    (subst (λ (asked : Bool). IsTrue (is_asked asked full)) c.asks_quiet.ensures wants)
+
+pub returns-clause-calm : goal.returns-clause-calm
+returns-clause-calm g c = λ not.
+    c.write_report-written.ensures.calm
+    (λ is. not (c.after.ensures ∙ of_failed c.write_report-written.result c.in-Ok.played.full is))

@@ -8,7 +8,9 @@ returns-in-Ok-clause-after g c =
     both_written (g.K.Sink.state c.args.out.now) (g.K.Sink.state c.write_meters.new.out)
     (g.K.Sink.state c.write_answer.new.out) (meter_lines (map g.M.Meter.seen c.args.meters.now))
     (quiet_line c.args.answer) g.K.Sink.takes_memory c.write_answer.result
-    c.in-Ok.ensures.after.whole c.in-Ok.ensures.after.faults c.write_answer.ensures.after
+    c.in-Ok.ensures.after.whole
+    (c.in-Ok.ensures.after.calm (λ is. absurd (cc is)))
+    c.write_answer.ensures.after
 
 pub returns-in-Err-clause-after : goal.returns-in-Err-clause-after
 returns-in-Err-clause-after g c =

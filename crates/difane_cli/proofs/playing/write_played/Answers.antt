@@ -19,7 +19,8 @@ returns-in-None-clause-after g c =
     ++ last_lines (map g.M.Meter.seen meters) c.args.answer) c.deref.ensures.value
     ∙ text_whole net journal c.args.played.now.full _ c.args.answer c.in-None.is)
     (both_written before middle now (journal_text net journal) lines g.K.Sink.takes_memory
-    c.write_last.result c.in-Ok.ensures.after.whole c.in-Ok.ensures.after.faults
+    c.write_last.result c.in-Ok.ensures.after.whole
+    (c.in-Ok.ensures.after.calm (λ is. absurd (cc is)))
     c.write_last.ensures.after)
 
 pub returns-in-None-clause-no_lines : goal.returns-in-None-clause-no_lines

@@ -1,4 +1,4 @@
-use Rattle.std.proofs.Common.{ℕ, List, ap, subst, ◌∙◌}
+use Rattle.std.proofs.Common.{ℕ, List, ap, subst, true, ◌∙◌}
 use Rattle.load_text.specs.Summary.{summary_text}
 use Rattle.difane_cli.specs.Run.{IsAfterText}
 use Rattle.difane_cli.proofs.AfterTexts.{text_written}
@@ -12,7 +12,7 @@ returns-in-Ok g c =
     ∙ ap (λ s. summary_text s) c.summarize.ensures in
     rw c.in-None.is
     (subst (λ (text : List ℕ).
-    IsAfterText text g.K.Sink.takes_memory before now c.write_whole.result) is
-    (text_written c.deref.result.now g.K.Sink.takes_memory before now c.write_whole.result
+    IsAfterText text true g.K.Sink.takes_memory before now c.write_whole.result) is
+    (text_written c.deref.result.now true g.K.Sink.takes_memory before now c.write_whole.result
     c.write_whole.ensures.after
     (λ none. ap (λ k. g.K.Sink.state k) (c.write_whole.ensures.no_bytes none).1)))

@@ -1,4 +1,4 @@
-use Rattle.std.proofs.Common.{subst, List, ℕ, drop, take, suc, arith}
+use Rattle.std.proofs.Common.{◌∙◌, subst, List, ℕ, drop, take, suc, arith}
 use Rattle.std.specs.Borrow.{Bor}
 use Rattle.std.specs.List.{flat_map}
 use Rattle.shelf.specs.Sink.{GainedPart}
@@ -21,6 +21,7 @@ returns-in-Err g c =
       part = subst (λ bytes. GainedPart before bytes now)
           (flat_map-at view pieces i _ c.loop-piece-test.true) behind;
       faults = omega (arith, c.loop-piece.invariant.faults, after.faults);
+      calm = λ not. after.calm not ∙ c.loop-piece.invariant.faults;
       failed = λ is. omega (arith, c.loop-piece.invariant.faults, after.failed is);
       no_memory = after.no_memory;
     }

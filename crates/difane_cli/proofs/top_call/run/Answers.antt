@@ -1,13 +1,13 @@
 use Rattle.std.specs.Prelude.{String, Vec, option_map, string_bytes}
 use Rattle.std.specs.Global.{Global}
-use Rattle.std.proofs.Common.{◌≡◌, ◌∙◌, Option, Some, List, ap, map, rules, subst, sym}
+use Rattle.std.proofs.Common.{◌≡◌, ◌∙◌, Bool, Option, Some, List, ap, map, rules, subst, sym}
 use Rattle.journal.specs.declared.item.Item.{Item}
 use Rattle.meters.specs.Meters.{Seen}
 use Rattle.shelf.specs.Shelf.{Files}
 use Rattle.shelf.specs.Sink.{SinkState}
 use Rattle.words.specs.Named.{command_named}
 use Rattle.difane_cli.specs.Inputs.{known_task}
-use Rattle.difane_cli.specs.Run.{Outcome}
+use Rattle.difane_cli.specs.Run.{Outcome, RanOut}
 use Rattle.words.specs.Words.{command_of}
 use Rattle.words.specs.Words as grammar
 use Rattle.difane_cli.specs.declared.status.Ended.{Ended}
@@ -23,28 +23,36 @@ command_is command found words owned is read same =
     sym (ap (option_map command_named) is) ∙ read
     ∙ ap (λ (all : List (String Global)). command_of (map string_bytes all)) same
 
+-- where work ran out of memory, a call that ends so did
+ran_out_so : (asked command : Option grammar.Command) (worked ended : List Item)
+    (takes_memory : Bool) (before now : SinkState) → asked ≡ command → ended ≡ worked
+    → RanOut asked takes_memory worked before now → RanOut command takes_memory ended before now
+ran_out_so asked command worked ended takes_memory before now own same out =
+    subst (λ (c : Option grammar.Command). RanOut c takes_memory ended before now) own
+    (subst (λ (items : List Item). RanOut asked takes_memory items before now) (sym same) out)
+
 -- what work came to, a call that ends so comes to
 ended_so : {M : Type 0} (seen : M → Seen) (files : Option Files)
-    (asked command : Option grammar.Command) (taken : List Seen) (before now : SinkState)
-    (worked ended : Ended M) → asked ≡ command → ended.status ≡ worked.status
+    (asked command : Option grammar.Command) (takes_memory : Bool) (taken : List Seen)
+    (before now : SinkState) (worked ended : Ended M) → asked ≡ command → ended.status ≡ worked.status
     → ended.journal ≡ worked.journal → ended.meters ≡ worked.meters
-    → Outcome asked (known_task files asked) worked.status worked.journal taken
+    → Outcome asked (known_task files asked) takes_memory worked.status worked.journal taken
     (map seen worked.meters.items) before now
-    → Outcome command (known_task files command) ended.status ended.journal taken
+    → Outcome command (known_task files command) takes_memory ended.status ended.journal taken
     (map seen ended.meters.items) before now
-ended_so {M} seen files asked command taken before now worked ended own is same stayed outcome =
+ended_so {M} seen files asked command takes_memory taken before now worked ended own is same stayed outcome =
     let meters = ended.meters in
     subst (λ (c : Option grammar.Command).
-    Outcome c (known_task files c) ended.status ended.journal taken (map seen meters.items)
+    Outcome c (known_task files c) takes_memory ended.status ended.journal taken (map seen meters.items)
     before now) own
     (subst (λ (s : Status).
-    Outcome asked (known_task files asked) s ended.journal taken (map seen meters.items)
+    Outcome asked (known_task files asked) takes_memory s ended.journal taken (map seen meters.items)
     before now) (sym is)
     (subst (λ (items : List Item).
-    Outcome asked (known_task files asked) worked.status items taken (map seen meters.items)
+    Outcome asked (known_task files asked) takes_memory worked.status items taken (map seen meters.items)
     before now) (sym same)
     (subst (λ (given : List M).
-    Outcome asked (known_task files asked) worked.status worked.journal taken (map seen given)
+    Outcome asked (known_task files asked) takes_memory worked.status worked.journal taken (map seen given)
     before now) (sym (ap (λ (all : Vec M Global). all.items) stayed)) outcome)))
 
 pub returns-clause-outcome : goal.returns-clause-outcome
@@ -52,9 +60,20 @@ returns-clause-outcome g c =
     let asked = command_named c.in-Ok-Some.command in
     let files = (g.F.Shelf.state c.args.shelf.now).files in
     let found : c.in-Ok-Some.field-0 ≡ Some c.in-Ok-Some.command = search rules in
-    ended_so _ files (Some asked) _ _ _ _ c.work-ended.result c.end-in-Ok.result
+    ended_so _ files (Some asked) _ _ _ _ _ c.work-ended.result c.end-in-Ok.result
     (command_is c.in-Ok-Some.command c.in-Ok-Some.field-0 _ _ found c.in-Ok-Some.ensures.value
     c.deref.ensures.value)
     c.end-in-Ok.ensures.status c.end-in-Ok.ensures.journal c.end-in-Ok.ensures.meters
     (c.work-ended.ensures.outcome asked (known_task files (Some asked)) c.in-Ok.ensures.asked
     c.in-Ok.ensures.value)
+
+pub returns-clause-no_memory : goal.returns-clause-no_memory
+returns-clause-no_memory g c = λ is.
+    let asked = command_named c.in-Ok-Some.command in
+    let found : c.in-Ok-Some.field-0 ≡ Some c.in-Ok-Some.command = search rules in
+    ran_out_so (Some asked) _ _ _ _ _ _
+    (command_is c.in-Ok-Some.command c.in-Ok-Some.field-0 _ _ found c.in-Ok-Some.ensures.value
+    c.deref.ensures.value)
+    c.end-in-Ok.ensures.journal
+    (c.work-ended.ensures.no_memory asked c.in-Ok.ensures.asked
+    (sym c.end-in-Ok.ensures.status ∙ is))
