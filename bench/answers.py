@@ -7,9 +7,10 @@ one clause that has no name. A clause of another call is `call.name`, or `crate:
 another crate; so they are named in all other text of the page. In the table of calls that take no
 memory the first cell names the crate.
 
-It ends with 1 where a crate, a call or a clause that is named isn't there, where a public call that
-may answer `None`, `false` or an error stands in no table, or where a call that is said to take no
-memory may answer that there is none.
+It ends with 1 where a crate, a call or a clause that is named isn't there, where a row names no
+clause and its third cell doesn't say that the answer is free, where a public call that may answer
+`None`, `false` or an error stands in no table, or where a call that is said to take no memory may
+answer that there is none.
 """
 import re
 import sys
@@ -124,7 +125,10 @@ def check_row(cells, crate, listed):
     calls = names_in(cells[0])
     listed.update((crate, call) for call in calls)
     yield from (missing(crate, call, None) for call in calls)
-    for name in names_in(cells[-1]):
+    clauses = names_in(cells[-1])
+    if not clauses and not re.match(r"free\b", cells[2].strip()):
+        yield f"no clause for an answer of {', '.join(calls)} that isn't free"
+    for name in clauses:
         if "." in name:
             yield missing(*of_reference(name, crate))
         else:

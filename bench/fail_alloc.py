@@ -1,11 +1,12 @@
 #!/usr/bin/env python3
 """Lets each allocation of a command fail in turn: `bench/fail_alloc.py BIN [WORD..]`.
 
-Without words the commands are a replay, a compile and a show of the day of the campus, whose files
-stand in crates/worked_rows/src/campus.rt. The N-th call for memory fails, alone and then with all
-after it, for N from 1 to the calls of a run in which none fails. Each run must end with status 0
-and the whole output, or with status 7 and a part of it from the front; and its line of errors must
-be that of the status, or a part of it. It needs a C compiler and Linux.
+Without words the commands are a load case, and a replay, a compile and a show of the day of the
+campus, whose files stand in crates/worked_rows/src/campus.rt. The N-th call for memory fails, alone
+and then with all after it, for N from 1 to the calls of a run in which none fails. Each run must
+end with status 0 and the whole output, or with status 7 and a part of it from the front, not all;
+and its line of errors must be that of the status, or a part of it. Else this ends with 1. It needs
+a C compiler and Linux.
 """
 import os
 import re
@@ -22,6 +23,7 @@ COMMANDS = (
     "replay day.csv one.csv two.csv --net campus.toml --quiet",
     "compile one.csv --net campus.toml",
     "show one.csv b --net campus.toml",
+    "load 2",
 )
 LINES = {0: b"", 7: b"difane: no memory\n"}
 MODES = (("one alone", {}), ("it and all after it", {"FAIL_REST": "1"}))
@@ -51,11 +53,12 @@ def play(words, folder, **settings):
 
 
 def is_right(ended, whole):
-    """Whether a run ended whole, or for want of memory with a part of the output."""
+    """Whether a run ended whole, or for want of memory with a part of the output, not all."""
     status, out, line = ended
     if status == 0:
         return out == whole and line == LINES[0]
-    return status == 7 and whole.startswith(out) and LINES[7].startswith(line)
+    is_part = out != whole and whole.startswith(out)
+    return status == 7 and is_part and LINES[7].startswith(line)
 
 
 def fail_each(words, folder, where, preload):

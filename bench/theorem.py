@@ -22,6 +22,7 @@ STOPS = {
     "kept_by": "meters",
     "IsVerdict": "quiet networks",
     "asks_quiet": "quiet networks",
+    "is_asked": "quiet networks",
     "command_of": "the grammar of the words",
     "known_task": "what the files state, and refusals",
     "case_inputs": "load cases",
