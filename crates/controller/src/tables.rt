@@ -22,7 +22,7 @@ pub fn tables_of(alloc: Global, plan: &Plan, version: u32, s: u32) -> Result<Tab
     Ok(Tables {
         version,
         parts: plan.rows().clone()?,
-        auth: Partitions::new(own),
+        auth: Partitions::new(own)?,
     })
 }
 

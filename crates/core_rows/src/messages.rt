@@ -16,7 +16,7 @@ fn install(alloc: Global) -> Result<Message, Fail>
     let tables = Tables {
         version: 3,
         parts: PartRows::new(Vec::new(alloc))?,
-        auth: Partitions::new(Vec::new(alloc)),
+        auth: Partitions::new(Vec::new(alloc))?,
     };
     let tables = SharedTables::new(alloc, tables)?;
     Ok(Message {

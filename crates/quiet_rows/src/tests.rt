@@ -34,7 +34,7 @@ fn install(alloc: Global, number: u32) -> Result<Item, Fail> {
     let tables = Tables {
         version: 2,
         parts: PartRows::new(Vec::new(alloc))?,
-        auth: Partitions::new(Vec::new(alloc)),
+        auth: Partitions::new(Vec::new(alloc))?,
     };
     let tables = SharedTables::new(alloc, tables)?;
     sent(

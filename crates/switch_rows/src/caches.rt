@@ -68,7 +68,7 @@ fn clones_share_the_rows(rt: HostRuntime) -> Result<(), Fail> {
     let tables = Tables {
         version: 1,
         parts: rows.clone()?,
-        auth: Partitions::new(Vec::new(rt.alloc())),
+        auth: Partitions::new(Vec::new(rt.alloc()))?,
     };
     assert_eq!(rt; tables.parts.items().len(), 1);
     assert!(rt; tables.auth.items().is_empty());

@@ -38,7 +38,7 @@ fn tables(alloc: Global, version: u32, auth: Vec<Partition>) -> Result<Tables, F
     Ok(Tables {
         version,
         parts: PartRows::new(rows)?,
-        auth: Partitions::new(auth),
+        auth: Partitions::new(auth)?,
     })
 }
 

@@ -58,33 +58,48 @@ impl Clone for PartRows {
     }
 }
 
-/// The partitions of which a switch is a target. Contracts see the list.
+/// The partitions of which a switch is a target, which its clones share. Contracts see the list.
 #[derive(Debug, Drop)]
 pub struct Partitions {
-    parts: Vec<Partition>,
+    shared: RcSlice<Partition>,
 }
 
 impl Model for Partitions {
     ghost use Rattle.std.specs.Prelude.{List};
+    ghost use Rattle.std.specs.Rc.{rc_slice_items};
     ghost use Rattle.policy_rules.specs.declared.rules.Partition.{Partition};
 
     ghost Value = { List Partition };
 
-    ghost view = { λ p. p.parts.items };
+    ghost view = { λ p. rc_slice_items p.shared };
 }
 
 impl Partitions {
-    pub fn new(parts: Vec<Partition>) -> Partitions
-        ensures { result ≡ parts.items }
+    /// These partitions, to be shared.
+    ///
+    /// # Errors
+    /// Want of memory alone.
+    pub fn new(parts: Vec<Partition>) -> Result<Partitions, AllocError>
+        ensures { IfOk result (λ list. list ≡ parts.items) }
     {
-        Partitions { parts }
+        let shared = RcSlice::from_vec(parts)?;
+        Ok(Partitions { shared })
     }
 
     /// The partitions, in the order of their numbers.
     pub fn items(&self) -> &[Partition]
         ensures { result.now ≡ self.now }
     {
-        &self.parts
+        self.shared.as_slice()
+    }
+}
+
+impl Clone for Partitions {
+    ghost is_clone = { λ parts copy. copy ≡ parts };
+
+    fn clone(&self) -> Result<Partitions, AllocError> {
+        let shared = self.shared.clone()?;
+        Ok(Partitions { shared })
     }
 }
 

@@ -40,7 +40,7 @@ fn tables(alloc: Global) -> Result<Tables, Fail>
     Ok(Tables {
         version: 1,
         parts: PartRows::new(rows)?,
-        auth: Partitions::new(Vec::new(alloc)),
+        auth: Partitions::new(Vec::new(alloc))?,
     })
 }
 

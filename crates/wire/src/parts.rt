@@ -95,7 +95,7 @@ pub(crate) fn read_tables(reader: &mut Reader) -> Result<Tables, WireError>
 {
     let version = reader.n4()?;
     let parts = PartRows::new(read_list(reader)?)?;
-    let auth = Partitions::new(read_list(reader)?);
+    let auth = Partitions::new(read_list(reader)?)?;
     Ok(Tables {
         version,
         parts,

@@ -99,7 +99,7 @@ pub fn install_at(
     let tables = Tables {
         version: 1,
         parts: PartRows::new(Vec::new(alloc))?,
-        auth: Partitions::new(auth),
+        auth: Partitions::new(auth)?,
     };
     let tables = SharedTables::new(alloc, tables)?;
     Ok(Message {

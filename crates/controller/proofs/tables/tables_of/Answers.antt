@@ -7,7 +7,7 @@ returns-clause-sound c =
     rw (
       c.in_ok-clone.ensures.cases,
       c.rows.ensures,
-      c.new.ensures,
+      c.in_ok-new.ensures,
       c.in_ok-own.ensures,
       c.placed.ensures.placed,
     )
