@@ -11,7 +11,9 @@ use Rattle.std.proofs.lemmas.Nat.Bits.{bit_at-lt}
 use Rattle.std.proofs.lemmas.List.Quantifiers.{position-Some}
 use Rattle.std.proofs.lemmas.Option.{none-some, same_Some, slice_get-get_or, slice_get-map, slice_get_past}
 use Rattle.five_tuple.specs.Header.{IsHeader, number_of}
+use Rattle.five_tuple.specs.Laws.{HeaderLaws}
 use Rattle.five_tuple.specs.declared.header.Header.{Header}
+use Rattle.ternary.specs.Laws.{HoldsLaws, MeetLaws}
 use Rattle.ternary.specs.Word.{WordValue, any_word, fix_of, holds, is_fixed_of}
 use Rattle.ternary.proofs.CallerLemmas.{any_holds, fix_holds}
 use Rattle.policy_rules.specs.Partitions.{is_in}
@@ -24,12 +26,13 @@ use Rattle.switch_table.specs.declared.search.Found.TheVariants.{Authority, Redi
 use Rattle.switch_table.specs.declared.tables.PartRow.{PartRow}
 use Rattle.switch_table.specs.declared.tables.Tables.{Tables}
 use Rattle.switch_table.proofs.TableLemmas.{count_by-map, find-there, row_at}
-use Rattle.table_tree.specs.Regions.{IsCutBit, has, side_of, spots_from, spots_of}
+use Rattle.table_tree.specs.Regions.{AreNodeSpots, has, side_of, spots_from, spots_of}
 use Rattle.table_tree.specs.Ruling.{RegionTree, part_tree, rule_shape, rule_tree, seen_tree}
 use Rattle.table_tree.specs.declared.rule_tree.RuleTree.{RuleTree}
-use Rattle.table_tree.specs.Finding.{Shape, Place, Sides, CutsHeaderBits, IsEnd, IsFinderTree, IsTreeOf, place_at}
+use Rattle.table_tree.specs.Finding.{Shape, Place, Sides, AreTreesOf, CutsHeaderBits, IsEnd, IsFinderTree, IsGrown, IsTreeOf, place_at, shape_of}
 use Rattle.table_tree.specs.declared.node.Spot.{Spot}
-use Rattle.table_tree.proofs.NodeLemmas.{count-cons, cut_is_free, found_from_count, side_finds, spot_at, spots_count, weight}
+use Rattle.table_tree.specs.declared.trees.Trees.{Trees}
+use Rattle.table_tree.proofs.NodeLemmas.{count-cons, cut_is_free, found_from_count, half_node, never_stuck, root_node, several_spots, side_finds, spot_at, spots_count, weight}
 
 -- ---- the cut bit
 
@@ -54,27 +57,27 @@ end_is (first ∷ []) spot place one is same = record {
 }
 end_is (first ∷ second ∷ rest) spot place one is same = absurd (omega (arith, one))
 
-pub sides_tree : (spots : List Spot) (region : WordValue) (bit : ℕ) (low high : List Spot)
-    (lower higher : WordValue) (a b : Shape) → 1 < length spots → IsCutBit spots region bit
-    → low ≡ side_of spots region bit false → lower ≡ fix_of region bit false
-    → high ≡ side_of spots region bit true → higher ≡ fix_of region bit true
-    → IsTreeOf low lower a → IsTreeOf high higher b → IsTreeOf spots region (Sides bit a b)
-sides_tree spots region bit low high lower higher a b several cut l lr h hr p q = (
-  several,
-  cut,
-  subst (λ r. IsTreeOf (side_of spots region bit false) r a) lr
-      (subst (λ rs. IsTreeOf rs lower a) l p),
-  subst (λ r. IsTreeOf (side_of spots region bit true) r b) hr
-      (subst (λ rs. IsTreeOf rs higher b) h q),
-)
+-- a tree that is grown of regions that meet a region of the header space is theirs
+pub grown_tree : HoldsLaws → MeetLaws → (tree : Shape) (spots : List Spot) (region : WordValue)
+    → AreNodeSpots spots region → IsGrown spots region tree → IsTreeOf spots region tree
+grown_tree holds_laws meet_laws (Place place) spots region node (inl end) = end
+grown_tree holds_laws meet_laws (Place place) spots region node (inr stuck) =
+    absurd (stuck.not_one (never_stuck holds_laws meet_laws spots region node stuck.none))
+grown_tree holds_laws meet_laws (Sides bit low high) spots region node is =
+    let free = cut_is_free spots region bit is.1 in (
+      several_spots holds_laws spots region node is.0,
+      is.1,
+      grown_tree holds_laws meet_laws low _ _ (half_node spots region bit false node free) is.2,
+      grown_tree holds_laws meet_laws high _ _ (half_node spots region bit true node free) is.3,
+    )
 
-pub tree_of_root : (spots : List Spot) (region : WordValue) (items rows : List PartRow)
-    (tree : Shape) → spots ≡ spots_of items → region ≡ any_word → items ≡ rows
-    → IsTreeOf spots region tree → IsFinderTree rows tree
-tree_of_root spots region items rows tree is whole same p =
-    subst (λ (rs : List PartRow). IsTreeOf (spots_of rs) any_word tree) same
-    (subst (λ r. IsTreeOf (spots_of items) r tree) whole
-    (subst (λ xs. IsTreeOf xs region tree) is p))
+-- that of the rows of sound tables is a finder's
+pub finder_tree : HeaderLaws → HoldsLaws → MeetLaws → (tables : Tables) (trees : Trees)
+    → AreSoundTables tables → AreTreesOf tables.parts tables.auth trees
+    → IsFinderTree tables.parts (shape_of trees.tree)
+finder_tree header_laws holds_laws meet_laws tables trees sound are =
+    grown_tree holds_laws meet_laws (shape_of trees.tree) (spots_of tables.parts) any_word
+    (root_node header_laws tables.parts sound.one are.words) are.tree
 
 -- ---- down the tree
 
@@ -415,13 +418,14 @@ row_decides tables header place d sound is at none =
 
 -- ---- as the lookup reads them
 
-pub place_is : (tables : Tables) (tree : Shape) (header : Header) (number place : ℕ)
-    → AreSoundTables tables → IsFinderTree tables.parts tree → IsHeader header
-    → number ≡ number_of header → place ≡ place_at number tree
+pub place_is : (tables : Tables) (trees read : Trees) (header : Header) (number place : ℕ)
+    → AreSoundTables tables → IsFinderTree tables.parts (shape_of trees.tree) → read ≡ trees
+    → IsHeader header → number ≡ number_of header → place ≡ place_at number (shape_of read.tree)
     → position (row_has header) tables.parts ≡ Some place
-place_is tables tree header number place sound is header_is same at =
-    leads_to_row tables.parts tree header is (sound.one header header_is)
-    ∙ ap (λ n. Some (place_at n tree)) (sym same) ∙ ap Some (sym at)
+place_is tables trees read header number place sound is there header_is same at =
+    leads_to_row tables.parts (shape_of trees.tree) header is (sound.one header header_is)
+    ∙ ap (λ n. Some (place_at n (shape_of trees.tree))) (sym same)
+    ∙ ap (λ (t : Trees). Some (place_at number (shape_of t.tree))) (sym there) ∙ ap Some (sym at)
 
 pub place_within : (header : Header) (rows : List PartRow) (place : ℕ)
     → position (row_has header) rows ≡ Some place → place < length rows

@@ -19,7 +19,7 @@ use Rattle.switch_table.specs.declared.tables.PartRow.{PartRow}
 use Rattle.cut_tree.specs.Cuts.{IsFreeBit}
 use Rattle.cut_tree.specs.DefinedTree.{free_count}
 use Rattle.table_tree.specs.Cutting.{NoneFree}
-use Rattle.table_tree.specs.Regions.{AreNodeSpots, IsCutBit, has, meets_region, side_of, some_fix, spots_from, spots_of}
+use Rattle.table_tree.specs.Regions.{AreNodeSpots, AreRegions, IsCutBit, has, meets_region, side_of, some_fix, spots_from, spots_of}
 use Rattle.table_tree.specs.declared.node.Spot.{Spot}
 
 -- ---- lists
@@ -86,15 +86,6 @@ spots_count place number (row ∷ rows) =
       spots_count (place + 1) number rows,
     )
 
-spots_all : (P : WordValue → Type 0) (place : ℕ) (rows : List PartRow)
-    → All (λ (row : PartRow). P row.region) rows
-    → All (λ (spot : Spot). P spot.region) (spots_from place rows)
-spots_all P place [] all = All-nil (λ (spot : Spot). P spot.region)
-spots_all P place (row ∷ rows) all =
-    All-cons (λ (spot : Spot). P spot.region) (spot_at place row)
-    (spots_from (place + 1) rows) (All-head (λ (r : PartRow). P r.region) row rows all)
-    (spots_all P (place + 1) rows (All-tail (λ (r : PartRow). P r.region) row rows all))
-
 pub any_meets : (spots : List Spot) → All (λ spot. IsTrue (meets_region any_word spot)) spots
 any_meets [] = All-nil (λ (spot : Spot). IsTrue (meets_region any_word spot))
 any_meets (spot ∷ spots) =
@@ -103,7 +94,7 @@ any_meets (spot ∷ spots) =
 
 pub root_node : HeaderLaws → (rows : List PartRow)
     → ((header : Header) → IsHeader header → count_by (row_has header) rows ≡ 1)
-    → All (λ (row : PartRow). IsWord row.region) rows → AreNodeSpots (spots_of rows) any_word
+    → AreRegions (spots_of rows) → AreNodeSpots (spots_of rows) any_word
 root_node laws rows one words =
     let count : (number : ℕ) → number < 2 ^ 104 → count_by (has number) (spots_of rows) ≡ 1 =
     λ number small. spots_count 0 number rows
@@ -112,7 +103,7 @@ root_node laws rows one words =
     ∙ one (header_numbered number) (laws.header number small) in
     record {
       whole = record { within = refl; bounded = omega arith };
-      words = spots_all IsWord 0 rows words;
+      words = words;
       meet = any_meets (spots_of rows);
       one = λ number small. omega (arith, count number small);
       held = λ number small inside. found_from_count (has number) (spots_of rows)

@@ -1,17 +1,20 @@
 -- A decision tree that finds the partition rule of a header: the tree is that of Yu, Rexford,
 -- Freedman and Wang, "Scalable Flow-Based Networking with DIFANE", SIGCOMM 2010; the order of the
 -- bits is this project's own.
-use Rattle.std.specs.Prelude.{⊤, ℕ, ◌≡◌, ◌<◌, ◌==◌, if◌then◌else◌, true, false, List, All, length, map}
+use Rattle.std.specs.Prelude.{⊤, ℕ, ◌≡◌, ◌≢◌, ◌⊎◌, ◌<◌, ◌==◌, if◌then◌else◌, true, false, List, All, length, map}
 use Rattle.std.specs.Int.{bit_at}
 use Rattle.ternary.specs.Word.{WordValue, any_word, fix_of}
 use Rattle.switch_table.specs.Tables.{AreSoundTables}
 use Rattle.switch_table.specs.declared.tables.PartRow.{PartRow}
 use Rattle.switch_table.specs.declared.tables.Tables.{Tables}
-use Rattle.table_tree.specs.Regions.{IsCutBit, side_of, spots_of}
+use Rattle.policy_rules.specs.declared.rules.Partition.{Partition}
+use Rattle.table_tree.specs.Cutting.{NoneFree}
+use Rattle.table_tree.specs.Regions.{AreRegions, IsCutBit, side_of, some_fix, spots_of}
 use Rattle.table_tree.specs.Ruling.{part_tree, seen_tree}
 use Rattle.table_tree.specs.declared.rule_tree.RuleTree.{RuleTree}
 use Rattle.table_tree.specs.declared.node.Spot.{Spot}
 use Rattle.table_tree.specs.declared.tree.Tree.{Tree, At, Cut'}
+use Rattle.table_tree.specs.declared.trees.Trees.{Trees}
 
 -- a tree apart from the memory that holds it: a place of the partition rules, or a cut of a bit with
 -- the side of its zeros and that of its ones
@@ -47,9 +50,28 @@ IsTreeOf spots region (Sides bit low high) =
     × IsTreeOf (side_of spots region bit false) (fix_of region bit false) low
     × IsTreeOf (side_of spots region bit true) (fix_of region bit true) high
 
+-- there is not just one region left, and none of these fixes a bit that is free
+pub record IsStuck (spots : List Spot) (region : WordValue) : Type 0 where
+  pub not_one : length spots ≢ 1
+  pub none : NoneFree region (some_fix spots)
+
+-- a tree that is grown in the same way of regions of any kind, some of which can't be parted
+abbrev pub IsGrown : List Spot → WordValue → Shape → Type 0
+IsGrown spots region (Place place) = IsEnd spots place ⊎ IsStuck spots region
+IsGrown spots region (Sides bit low high) =
+    (length spots ≢ 1) × IsCutBit spots region bit
+    × IsGrown (side_of spots region bit false) (fix_of region bit false) low
+    × IsGrown (side_of spots region bit true) (fix_of region bit true) high
+
 -- the tree of the partition rules
 abbrev pub IsFinderTree : List PartRow → Shape → Type 0
 IsFinderTree rows tree = IsTreeOf (spots_of rows) any_word tree
+
+-- the trees that are grown of these partition rules and authority partitions
+pub record AreTreesOf (rows : List PartRow) (parts : List Partition) (trees : Trees) : Type 0 where
+  pub words : AreRegions (spots_of rows)
+  pub tree : IsGrown (spots_of rows) any_word (shape_of trees.tree)
+  pub rules : map seen_tree trees.rule_trees.items ≡ map part_tree parts
 
 -- the tables of a finder, and its tree
 pub record FinderValue : Type 0 where

@@ -42,11 +42,15 @@ IsCutBit spots region bit =
     IsLeastFree region (all_fix spots) bit
     ⊎ (NoneFree region (all_fix spots) × IsLeastFree region (some_fix spots) bit)
 
+-- their regions are words
+abbrev pub AreRegions : List Spot → Type 0
+AreRegions spots = All (λ spot. IsWord spot.region) spots
+
 -- what holds of the regions that meet a region of the header space: no header is in two of them,
 -- and each of its own is in one
 pub record AreNodeSpots (spots : List Spot) (region : WordValue) : Type 0 where
   pub whole : IsWord region
-  pub words : All (λ spot. IsWord spot.region) spots
+  pub words : AreRegions spots
   pub meet : All (λ spot. IsTrue (meets_region region spot)) spots
   pub one : (number : ℕ) → number < 2 ^ 104 → count_by (has number) spots ≤ 1
   pub held : (number : ℕ) → number < 2 ^ 104 → IsTrue (holds region number)

@@ -1,5 +1,6 @@
 ghost use Rattle.std.specs.Prelude.{ℕ, ◌≡◌, ◌<◌, ◌==◌, IfNone, IfSome};
 ghost use Rattle.std.specs.Int.{bit_at};
+ghost use Rattle.cut_tree.specs.Cuts.{IsFreeBit};
 ghost use Rattle.table_tree.specs.Cutting.{IsLowest, NoneFree};
 ghost use Rattle.table_tree.specs.Regions.{IsCutBit, all_fix, some_fix};
 
@@ -14,6 +15,7 @@ const ALL_BITS: u128 = (1 << 104) - 1;
 /// that all of them fix, else the least one that some one fixes. `None` where no one fixes any.
 pub fn cut_bit(spots: &[Spot], region: &Word) -> Option<u32>
     ensures some { IfSome result (λ bit. IsCutBit spots.now region.now bit) }
+    ensures free { IfSome result (λ bit. IsFreeBit region.now bit) }
     ensures none { IfNone result (NoneFree region.now (some_fix spots.now)) }
 {
     let free = free_bits(region);

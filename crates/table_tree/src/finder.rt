@@ -1,4 +1,4 @@
-ghost use Rattle.std.specs.Prelude.{◌≡◌, ◌<◌, ◌^◌, ◌==◌, All, IfOk, IfSome, IsSomeAnd, IsTrue, find, length, map, position, slice_get};
+ghost use Rattle.std.specs.Prelude.{◌≡◌, ◌<◌, ◌^◌, ◌==◌, IfOk, IfSome, IsSomeAnd, IsTrue, find, position, slice_get};
 ghost use Rattle.std.specs.Option.{option_and_then};
 ghost use Rattle.five_tuple.specs.Header.{IsHeader, number_of};
 ghost use Rattle.policy_rules.specs.Partitions.{is_in};
@@ -6,26 +6,24 @@ ghost use Rattle.policy_rules.specs.Rules.{is_held};
 ghost use Rattle.switch_table.specs.Cache.{first_entry};
 ghost use Rattle.switch_table.specs.Lookup.{lookup_of, table_lookup};
 ghost use Rattle.switch_table.specs.Tables.{AreSoundTables};
-ghost use Rattle.table_tree.specs.Finding.{IsFinderTree, shape_of};
-ghost use Rattle.table_tree.specs.Ruling.{part_tree, seen_tree};
+ghost use Rattle.table_tree.specs.Finding.{AreTreesOf, IsFinderTree, shape_of};
 
-use crate::node::Node;
-use crate::rule_tree::RuleTree;
-use crate::tree::{Tree, grow};
-use five_tuple::Header;
+use crate::tree::Tree;
+use crate::trees::Trees;
+use five_tuple::{Header, header_laws};
 use policy_rules::Partition;
 use std::alloc::{AllocError, Global};
 use std::marker::Model;
 use std::rc::Rc;
 use switch_table::{Cache, CacheEntry, Found, Tables};
+use ternary::{holds_laws, meet_laws};
 
-/// The tables of a switch for one version, with a tree over their partition rules, and one over the
-/// rules of each authority partition. Contracts see the tables and the first tree.
+/// The tables of a switch for one version, with trees for them: both may be shared. Contracts see
+/// the tables and the tree over their partition rules.
 #[derive(Drop)]
 pub struct Finder {
     tables: Rc<Tables>,
-    tree: Tree,
-    rule_trees: Vec<RuleTree>,
+    trees: Rc<Trees>,
 }
 
 impl Model for Finder {
@@ -37,10 +35,11 @@ impl Model for Finder {
 
     ghost coded = { Prim.hlevel (codes, the_row.coded) };
 
-    ghost view = { λ f. record { tables = f.tables.value; tree = f.tree } };
+    ghost view = { λ f. record { tables = f.tables.value; tree = f.trees.value.tree } };
 
     ghost invariant = { λ f.
-        IsFinder (record { tables = f.tables.value; tree = f.tree }) f.rule_trees.items };
+        IsFinder (record { tables = f.tables.value; tree = f.trees.value.tree })
+        f.trees.value.rule_trees.items };
 }
 
 impl Finder {
@@ -54,14 +53,22 @@ impl Finder {
         ensures tables { IfOk result (λ finder. finder.tables ≡ tables.value) }
         ensures tree { IfOk result (λ finder. IsFinderTree tables.value.parts (shape_of finder.tree)) }
     {
-        let root = Node::root(alloc, tables.parts.items())?;
-        let tree = grow(alloc, root)?;
-        let rule_trees = rule_trees(alloc, tables.auth.items())?;
-        Ok(Finder {
-            tables,
-            tree,
-            rule_trees,
-        })
+        let trees = Trees::grow(alloc, tables.parts.items(), tables.auth.items())?;
+        let trees = Rc::new(alloc, trees)?;
+        Ok(Finder::of(tables, trees))
+    }
+
+    /// The finder of these tables, by trees that were grown for equal ones.
+    pub fn of(tables: Rc<Tables>, trees: Rc<Trees>) -> Finder
+        requires sound { AreSoundTables tables.value }
+        requires trees { AreTreesOf tables.value.parts tables.value.auth trees.value }
+        ensures tables { result.tables ≡ tables.value }
+        ensures tree { IsFinderTree tables.value.parts (shape_of result.tree) }
+    {
+        header_laws();
+        holds_laws();
+        meet_laws();
+        Finder { tables, trees }
     }
 
     /// Looks a header up, as `switch_table::lookup` does: the first cached rule of the tables'
@@ -87,7 +94,7 @@ impl Finder {
     pub fn tree(&self) -> &Tree
         ensures { result.now ≡ self.now.tree }
     {
-        &self.tree
+        &self.trees.tree
     }
 
     /// The place of the first rule that holds the header, in the authority partition of this number.
@@ -119,14 +126,14 @@ impl Finder {
         ensures small { IfSome result (λ place. place < 2 ^ 32) }
     {
         let part = &self.tables.auth.items()[own];
-        self.rule_trees[own].first(part.rules.items(), header)
+        self.trees.rule_trees[own].first(part.rules.items(), header)
     }
 
     // What the tables say of the header.
     fn table_lookup(&self, header: &Header) -> Found
         ensures { result ≡ table_lookup self.now.tables header.now }
     {
-        let place = self.tree.place(header.number());
+        let place = self.trees.tree.place(header.number());
         match own_place(self.tables.auth.items(), place) {
             Some(own) => Found::Authority {
                 partition: place,
@@ -152,16 +159,4 @@ fn own_place(parts: &[Partition], number: u32) -> Option<usize>
     ensures { result ≡ position (λ part. part.number == number) parts.now }
 {
     parts.iter().position(|part| part.number == number)
-}
-
-// Of each partition the tree of its rules.
-fn rule_trees(alloc: Global, parts: &[Partition]) -> Result<Vec<RuleTree>, AllocError>
-    requires { All (λ part. length part.rules < 2 ^ 32) parts.now }
-    ensures { IfOk result (λ trees. map seen_tree trees.items ≡ map part_tree parts.now) }
-{
-    let mut trees = Vec::with_capacity(alloc, parts.len())?;
-    for part in parts {
-        trees.push(RuleTree::build(alloc, part.rules.items(), &part.region)?)?;
-    }
-    Ok(trees)
 }

@@ -2,9 +2,10 @@
 //! the place of a search through the partition rules and through a partition's rules.
 //!
 //! A `RuleTree` leads a header to the places of the few rules of a list that may hold it; its `first`
-//! promises what `first_hit` answers. A `Finder` is built once for the tables of a version, with a
-//! rule tree for each authority partition. Its `lookup` promises the answer of
-//! `switch_table::lookup` for these tables. Neither lookup takes memory.
+//! promises what `first_hit` answers. `Trees` are grown once for equal tables, whatever their version:
+//! a tree over the partition rules, and a rule tree for each authority partition. A `Finder` shares
+//! them with others, and its tables. Its `lookup` promises the answer of `switch_table::lookup` for
+//! these tables. Neither lookup takes memory.
 #![tactic(auto)]
 
 mod bits;
@@ -13,8 +14,10 @@ mod node;
 mod rule_node;
 mod rule_tree;
 mod tree;
+mod trees;
 
 pub use finder::Finder;
 pub use rule_node::RuleNode;
 pub use rule_tree::RuleTree;
 pub use tree::Tree;
+pub use trees::Trees;

@@ -1,17 +1,11 @@
-ghost use Rattle.std.specs.Prelude.{Bool, ◌≡◌, ◌≢◌, ◌^◌, ◌<◌, All, IfOk, count_by, filter, length};
-ghost use Rattle.five_tuple.specs.Header.{IsHeader};
-ghost use Rattle.five_tuple.specs.declared.header.Header.{Header};
-ghost use Rattle.ternary.specs.Word.{IsWord, any_word, fix_of, meets};
-ghost use Rattle.switch_table.specs.Tables.{row_has};
-ghost use Rattle.switch_table.specs.declared.tables.PartRow.{PartRow};
+ghost use Rattle.std.specs.Prelude.{Bool, ◌≡◌, ◌^◌, ◌<◌, IfOk, filter, length};
+ghost use Rattle.ternary.specs.Word.{any_word, fix_of, meets};
 ghost use Rattle.cut_tree.specs.Cuts.{IsFreeBit};
-ghost use Rattle.table_tree.specs.Regions.{AreNodeSpots, IsCutBit, meets_region, side_of, spots_of};
+ghost use Rattle.table_tree.specs.Regions.{AreRegions, meets_region, side_of, spots_of};
 
-use crate::bits::cut_bit;
-use five_tuple::header_laws;
 use std::alloc::{AllocError, Global};
 use switch_table::PartRow;
-use ternary::{Word, holds_laws, meet_laws};
+use ternary::Word;
 
 /// A place of the partition rules, from 0, and the region there.
 #[derive(Clone, Copy)]
@@ -25,41 +19,21 @@ pub struct Spot {
 pub struct Node {
     pub spots: Vec<Spot>,
     pub region: Word,
-    ghost sound: { AreNodeSpots spots.items region },
 }
 
 impl Node {
-    /// The whole header space, which the rows part.
+    /// The whole header space, with the regions of all rows.
     pub fn root(alloc: Global, rows: &[PartRow]) -> Result<Node, AllocError>
-        requires one { (header : Header) → IsHeader header →
-            count_by (row_has header) rows.now ≡ 1 }
-        requires few { length rows.now < 2 ^ 32 }
+        requires { length rows.now < 2 ^ 32 }
         ensures spots { IfOk result (λ node. node.spots.items ≡ spots_of rows.now) }
         ensures region { IfOk result (λ node. node.region ≡ any_word) }
+        ensures words { IfOk result (λ node. AreRegions node.spots.items) }
     {
-        header_laws();
-        regions_are_words(rows);
         let spots = numbered(alloc, rows)?;
         Ok(Node {
             spots,
             region: Word::any(),
         })
-    }
-
-    /// The bit at which the regions are parted. Where there are several, some one fixes a free bit,
-    /// since no header is in two.
-    pub fn cut_bit(&self) -> u32
-        requires { length self.now.spots.items ≢ 1 }
-        ensures bit { IsCutBit self.now.spots.items self.now.region result }
-        ensures free { IsFreeBit self.now.region result }
-        ensures several { 1 < length self.now.spots.items }
-    {
-        holds_laws();
-        meet_laws();
-        match cut_bit(&self.spots, &self.region) {
-            Some(bit) => bit,
-            None => unreachable!(),
-        }
     }
 
     /// The side of a cut at this bit on which it is 1, or 0.
@@ -78,11 +52,13 @@ impl Node {
 // The regions of the rows, each with its place.
 fn numbered(alloc: Global, rows: &[PartRow]) -> Result<Vec<Spot>, AllocError>
     requires { length rows.now < 2 ^ 32 }
-    ensures { IfOk result (λ spots. spots.items ≡ spots_of rows.now) }
+    ensures spots { IfOk result (λ spots. spots.items ≡ spots_of rows.now) }
+    ensures words { IfOk result (λ spots. AreRegions spots.items) }
 {
     let mut spots = Vec::with_capacity(alloc, rows.len())?;
     for row in rows {
         let place = spots.len() as u32;
+        let _ = row.region.mask();
         spots.push(Spot {
             place,
             region: row.region,
@@ -111,13 +87,4 @@ fn meets(a: &Word, b: &Word) -> bool
     ensures { result ≡ meets a.now b.now }
 {
     a.meet(b).is_some()
-}
-
-// The regions of rows are words.
-fn regions_are_words(rows: &[PartRow])
-    ensures { All (λ (row : PartRow). IsWord row.region) rows.now }
-{
-    for row in rows {
-        let _ = row.region.mask();
-    }
 }

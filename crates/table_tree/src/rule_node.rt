@@ -11,7 +11,7 @@ use std::alloc::{AllocError, Global};
 const FEW_RULES: usize = 16;
 
 /// A decision tree over the bits of a header number.
-#[derive(Drop)]
+#[derive(Debug, Drop)]
 pub enum RuleNode {
     /// The places of the rules that are left, in order.
     End {

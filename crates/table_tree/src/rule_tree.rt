@@ -18,7 +18,7 @@ const MOST_CUTS: u32 = 12;
 
 /// A tree over the rules of a region: it leads each header to the places of the few rules that may
 /// be the first to hold it.
-#[derive(Drop)]
+#[derive(Debug, Drop)]
 pub struct RuleTree {
     pub region: Word,
     pub root: RuleNode,

@@ -1,11 +1,12 @@
 ghost use Rattle.std.specs.Prelude.{◌≡◌, IfOk};
-ghost use Rattle.table_tree.specs.Finding.{CutsHeaderBits, IsTreeOf, place_at, shape_of};
+ghost use Rattle.table_tree.specs.Finding.{CutsHeaderBits, IsGrown, place_at, shape_of};
 
+use crate::bits::cut_bit;
 use crate::node::Node;
 use std::alloc::{AllocError, Global};
 
 /// A decision tree over the bits of a header number.
-#[derive(Drop)]
+#[derive(Debug, Drop)]
 pub enum Tree {
     /// The place of the partition rule.
     At {
@@ -38,16 +39,19 @@ impl Tree {
     }
 }
 
-/// The tree of the regions of a node.
+/// The tree of the regions of a node. A node that has several, or none, and can't be cut gets an end
+/// at place 0: there is none in the tree of sound tables.
 #[tactic(auto, using(crate::proofs::NodeLemmas::half_smaller, crate::proofs::FindLemmas::end_is))]
 pub fn grow(alloc: Global, node: Node) -> Result<Tree, AllocError>
-    ensures { IfOk result (λ tree. IsTreeOf node.spots.items node.region (shape_of tree)) }
+    ensures { IfOk result (λ tree. IsGrown node.spots.items node.region (shape_of tree)) }
 {
     if node.spots.len() == 1 {
         let place = node.spots[0].place;
         return Ok(Tree::At { place });
     }
-    let bit = node.cut_bit();
+    let Some(bit) = cut_bit(&node.spots, &node.region) else {
+        return Ok(Tree::At { place: 0 });
+    };
     let low = node.half(alloc, bit, false)?;
     let high = node.half(alloc, bit, true)?;
     // The way down keeps the lists of the halves alone.

@@ -2,6 +2,7 @@ use Rattle.std.proofs.Common.{inl, inr}
 use Rattle.std.proofs.lemmas.Option.{IfSome_then, MatchOption-at_none, MatchOption-at_some}
 use Rattle.table_tree.specs.Regions.{all_fix, some_fix}
 use Rattle.table_tree.proofs.BitLemmas.{if_none_then, least_free, none_free}
+use Rattle.table_tree.proofs.NodeLemmas.{cut_is_free}
 use Rattle.table_tree.proofs.bits.cut_bit.Goals as goal
 
 pub returns-in-Some-clause-some : goal.returns-in-Some-clause-some
@@ -26,3 +27,12 @@ returns-in-None-clause-none c =
     if_none_then c.lowest-in-None.result c.lowest-in-None.ensures.none
     (none_free c.args.region.now (some_fix c.args.spots.now) c.fixed_by_some.result
     c.free_bits-free.result (λ k within. c.fixed_by_some.ensures k) c.free_bits-free.ensures)
+
+pub returns-in-Some-clause-free : goal.returns-in-Some-clause-free
+returns-in-Some-clause-free c =
+    cut_is_free c.args.spots.now c.args.region.now c.in-Some.bit (returns-in-Some-clause-some c)
+
+pub returns-in-None-clause-free : goal.returns-in-None-clause-free
+returns-in-None-clause-free c =
+    IfSome_then c.lowest-in-None.result (returns-in-None-clause-some c)
+    (cut_is_free c.args.spots.now c.args.region.now)

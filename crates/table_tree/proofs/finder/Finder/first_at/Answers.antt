@@ -1,8 +1,9 @@
-use Rattle.std.proofs.Common.{◌∙◌, ap, position, slice_get, sym}
+use Rattle.std.proofs.Common.{◌∙◌, ap, get_or, position, slice_get, sym}
 use Rattle.std.specs.Option.{option_and_then}
 use Rattle.five_tuple.specs.Header.{number_of}
 use Rattle.policy_rules.specs.Rules.{is_held}
 use Rattle.switch_table.specs.declared.tables.Tables.{Tables}
+use Rattle.table_tree.specs.declared.trees.Trees.{Trees}
 use Rattle.table_tree.specs.Finding.{FinderValue}
 use Rattle.table_tree.specs.Ruling.{rule_tree}
 use Rattle.table_tree.proofs.FindLemmas.{IsThere, first_in, is_there}
@@ -13,10 +14,12 @@ there : (c : After-items-2) → IsThere c.self.inside.tables.value c.args.header
     c.index-items-own.result c.index.result.now
 there c =
     is_there c.self.inside.tables.value c.args.self.now.tables c.args.header.now c.args.own
-    c.index-items-own.result c.index.result.now c.items.result.now c.self.inside.rule_trees.items
+    c.index-items-own.result c.index.result.now c.items.result.now c.self.inside.trees.value.rule_trees.items
     (ap (λ (v : FinderValue). v.tables) c.self.view_is) c.requires
     (c.items.ensures ∙ ap (λ (t : Tables). t.auth) c.deref.ensures) c.self.invariant.rules
-    c.index-items-own.is c.index.ensures
+    c.index-items-own.is
+    (c.index.ensures ∙ ap (λ (t : Trees). get_or t.rule_trees.items c.args.own c.index.result.now)
+    c.deref-2.ensures)
 
 pub first-requires-clause-built : goal.first-requires-clause-built
 first-requires-clause-built c = (there c).shape

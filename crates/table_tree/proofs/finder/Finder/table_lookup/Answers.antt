@@ -8,24 +8,26 @@ use Rattle.switch_table.specs.Lookup.{table_lookup}
 use Rattle.switch_table.specs.declared.search.Found.TheVariants.{Authority, Redirect}
 use Rattle.switch_table.specs.declared.tables.PartRow.{PartRow}
 use Rattle.switch_table.specs.declared.tables.Tables.{Tables}
-use Rattle.table_tree.specs.Finding.{FinderValue, shape_of}
+use Rattle.table_tree.specs.declared.trees.Trees.{Trees}
+use Rattle.table_tree.specs.Finding.{CutsHeaderBits, FinderValue, shape_of}
 use Rattle.table_tree.specs.Regions.{spots_of}
 use Rattle.table_tree.proofs.FindLemmas.{cuts_bits, first_in, none_there, own_decides, own_has, place_is, place_within, row_decides}
 use Rattle.table_tree.proofs.finder.Finder.table_lookup.Goals as goal
 
 pub place-place-requires : goal.place-place-requires
-place-place-requires c = cuts_bits (shape_of c.self.inside.tree)
-    (spots_of c.self.inside.tables.value.parts) any_word c.self.invariant.tree
+place-place-requires c = subst (λ (t : Trees). CutsHeaderBits (shape_of t.tree))
+    (sym c.deref.ensures) (cuts_bits (shape_of c.self.inside.trees.value.tree)
+    (spots_of c.self.inside.tables.value.parts) any_word c.self.invariant.tree)
 
 pub first_at-requires : goal.first_at-requires
 first_at-requires c =
     let tables = c.self.inside.tables.value in
     let place = c.place-place.result in
-    let at = place_is tables (shape_of c.self.inside.tree) c.args.header.now c.number.result place
-    c.self.invariant.sound c.self.invariant.tree c.number.ensures.header c.number.ensures.number
+    let at = place_is tables c.self.inside.trees.value c.deref.result.now c.args.header.now c.number.result place
+    c.self.invariant.sound c.self.invariant.tree c.deref.ensures c.number.ensures.header c.number.ensures.number
     c.place-place.ensures in
     let there = sym (c.in-Some.ensures ∙ ap (position (λ (p : Partition). p.number == place))
-    (c.items.ensures ∙ ap (λ (t : Tables). t.auth) c.deref.ensures)) in
+    (c.items.ensures ∙ ap (λ (t : Tables). t.auth) c.deref-2.ensures)) in
     subst (λ (v : FinderValue). IsSomeAnd (slice_get v.tables.auth c.in-Some.own)
     (λ (part : Partition). IsTrue (is_in c.args.header.now part))) c.self.view_is
     (own_has tables c.args.header.now place c.in-Some.own c.self.invariant.sound
@@ -34,8 +36,8 @@ first_at-requires c =
 pub bounds-items-place : goal.bounds-items-place
 bounds-items-place c =
     let tables = c.self.inside.tables.value in
-    let at = place_is tables (shape_of c.self.inside.tree) c.args.header.now c.number.result
-    c.place-place.result c.self.invariant.sound c.self.invariant.tree c.number.ensures.header
+    let at = place_is tables c.self.inside.trees.value c.deref.result.now c.args.header.now c.number.result
+    c.place-place.result c.self.invariant.sound c.self.invariant.tree c.deref.ensures c.number.ensures.header
     c.number.ensures.number c.place-place.ensures in
     subst (λ (rows : List PartRow). c.place-place.result < length rows)
     (sym (c.items-in-None.ensures ∙ ap (λ (t : Tables). t.parts) c.deref-in-None.ensures))
@@ -49,11 +51,11 @@ returns-in-Some c =
     let tables = c.self.inside.tables.value in
     let header = c.args.header.now in
     let place = c.place-place.result in
-    let at = place_is tables (shape_of c.self.inside.tree) header c.number.result place
-    c.self.invariant.sound c.self.invariant.tree c.number.ensures.header c.number.ensures.number
+    let at = place_is tables c.self.inside.trees.value c.deref.result.now header c.number.result place
+    c.self.invariant.sound c.self.invariant.tree c.deref.ensures c.number.ensures.header c.number.ensures.number
     c.place-place.ensures in
     let there = sym (c.in-Some.ensures ∙ ap (position (λ (p : Partition). p.number == place))
-    (c.items.ensures ∙ ap (λ (t : Tables). t.auth) c.deref.ensures)) in
+    (c.items.ensures ∙ ap (λ (t : Tables). t.auth) c.deref-2.ensures)) in
     let first = c.first_at.ensures.place
     ∙ sym (ap (λ (v : FinderValue). option_and_then (first_in header)
     (slice_get v.tables.auth c.in-Some.own)) c.self.view_is) in
@@ -68,12 +70,12 @@ returns-in-None c =
     let header = c.args.header.now in
     let place = c.place-place.result in
     let d = c.index-items-place.result in
-    let at = place_is tables (shape_of c.self.inside.tree) header c.number.result place
-    c.self.invariant.sound c.self.invariant.tree c.number.ensures.header c.number.ensures.number
+    let at = place_is tables c.self.inside.trees.value c.deref.result.now header c.number.result place
+    c.self.invariant.sound c.self.invariant.tree c.deref.ensures c.number.ensures.header c.number.ensures.number
     c.place-place.ensures in
     let none = none_there c.items.result.now place c.in-None.ensures
     ∙ ap (find (λ (p : Partition). p.number == place))
-    (c.items.ensures ∙ ap (λ (t : Tables). t.auth) c.deref.ensures) in
+    (c.items.ensures ∙ ap (λ (t : Tables). t.auth) c.deref-2.ensures) in
     ap (λ (rows : List PartRow). Redirect place (get_or rows place d).targets)
     (c.items-in-None.ensures ∙ ap (λ (t : Tables). t.parts) c.deref-in-None.ensures)
     ∙ row_decides tables header place d c.self.invariant.sound c.number.ensures.header at none

@@ -1,6 +1,6 @@
 use Rattle.std.proofs.Common.{◌≡◌, ◌++◌, drop, map}
 use Rattle.table_tree.specs.Ruling.{part_tree, seen_tree}
-use Rattle.table_tree.proofs.finder.rule_trees.Given as goal
+use Rattle.table_tree.proofs.trees.rule_trees.Given as goal
 
 abbrev pub invariant-loop-part : goal.invariant-loop-part
 invariant-loop-part l = map part_tree l.parts

@@ -1,0 +1,48 @@
+ghost use Rattle.std.specs.Prelude.{◌≡◌, ◌<◌, ◌^◌, All, IfOk, length, map};
+ghost use Rattle.table_tree.specs.Finding.{AreTreesOf};
+ghost use Rattle.table_tree.specs.Ruling.{part_tree, seen_tree};
+
+use crate::node::Node;
+use crate::rule_tree::RuleTree;
+use crate::tree::{self, Tree};
+use policy_rules::Partition;
+use std::alloc::{AllocError, Global};
+use switch_table::PartRow;
+
+/// Trees for the tables of a switch, whatever their version: one over their partition rules, and one
+/// over the rules of each authority partition.
+#[derive(Debug, Drop)]
+pub struct Trees {
+    pub tree: Tree,
+    pub rule_trees: Vec<RuleTree>,
+}
+
+impl Trees {
+    /// The trees for tables with these partition rules and authority partitions. They may be any:
+    /// `Finder::of` asks for sound tables.
+    ///
+    /// # Errors
+    /// Want of memory alone.
+    pub fn grow(alloc: Global, parts: &[PartRow], auth: &[Partition]) -> Result<Trees, AllocError>
+        requires parts { length parts.now < 2 ^ 32 }
+        requires auth { All (λ part. length part.rules < 2 ^ 32) auth.now }
+        ensures { IfOk result (AreTreesOf parts.now auth.now) }
+    {
+        let root = Node::root(alloc, parts)?;
+        let tree = tree::grow(alloc, root)?;
+        let rule_trees = rule_trees(alloc, auth)?;
+        Ok(Trees { tree, rule_trees })
+    }
+}
+
+// Of each partition the tree of its rules.
+fn rule_trees(alloc: Global, parts: &[Partition]) -> Result<Vec<RuleTree>, AllocError>
+    requires { All (λ part. length part.rules < 2 ^ 32) parts.now }
+    ensures { IfOk result (λ trees. map seen_tree trees.items ≡ map part_tree parts.now) }
+{
+    let mut trees = Vec::with_capacity(alloc, parts.len())?;
+    for part in parts {
+        trees.push(RuleTree::build(alloc, part.rules.items(), &part.region)?)?;
+    }
+    Ok(trees)
+}
