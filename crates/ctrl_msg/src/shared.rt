@@ -1,26 +1,38 @@
-ghost use Rattle.std.specs.Prelude.{◌≡◌, IfOk};
+ghost use Rattle.std.specs.Prelude.{◌≡◌, ◌<◌, ◌^◌, All, IfOk, IsTrue, length};
+ghost use Rattle.switch_table.specs.Tables.{AreSoundTables};
 
 use std::alloc::{AllocError, Global};
 use std::marker::Model;
 use std::rc::Rc;
 use switch_table::Tables;
+use table_tree::{Finder, Trees};
 
-/// The tables of a switch for one version, which clones share. Contracts see the tables.
+/// No trees are grown for a list of so many entries.
+const MANY: usize = 1 << 32;
+
+/// The tables of a switch for one version, which clones share, and trees for them, which tables of
+/// other versions may share. Contracts see the tables.
 #[derive(Debug, Drop)]
 pub struct SharedTables {
     shared: Rc<Tables>,
+    trees: Option<Rc<Trees>>,
 }
 
 impl Model for SharedTables {
+    ghost use Rattle.std.specs.Prelude.{IfSome};
     ghost use Rattle.switch_table.specs.declared.tables.Tables.{Tables};
+    ghost use Rattle.table_tree.specs.Finding.{AreTreesOf};
 
     ghost Value = { Tables };
 
     ghost view = { λ t. t.shared.value };
+
+    ghost invariant = { λ t. IfSome t.trees (λ trees.
+        AreTreesOf t.shared.value.parts t.shared.value.auth trees.value) };
 }
 
 impl SharedTables {
-    /// These tables, to be shared.
+    /// These tables, to be shared, with no trees.
     ///
     /// # Errors
     /// Want of memory alone.
@@ -28,7 +40,46 @@ impl SharedTables {
         ensures { IfOk result (λ shared. shared ≡ tables) }
     {
         let shared = Rc::new(alloc, tables)?;
-        Ok(SharedTables { shared })
+        Ok(SharedTables {
+            shared,
+            trees: None,
+        })
+    }
+
+    /// The same tables with trees, which are grown unless there are some. Tables of which a list has
+    /// 2^32 entries or more get none.
+    ///
+    /// # Errors
+    /// Want of memory alone.
+    pub fn with_trees(self, alloc: Global) -> Result<SharedTables, AllocError>
+        ensures { IfOk result (λ tables. tables ≡ self) }
+    {
+        if self.trees.is_some() || !are_few(&self.shared) {
+            return Ok(self);
+        }
+        let trees = Trees::grow(alloc, self.shared.parts.items(), self.shared.auth.items())?;
+        let trees = Rc::new(alloc, trees)?;
+        Ok(SharedTables {
+            shared: self.shared,
+            trees: Some(trees),
+        })
+    }
+
+    /// The same tables under another version. Partition rules, partitions and trees are shared.
+    ///
+    /// # Errors
+    /// Want of memory alone.
+    pub fn of_version(&self, alloc: Global, version: u32) -> Result<SharedTables, AllocError>
+        ensures { IfOk result (λ tables. tables ≡ record self.now { version = version }) }
+    {
+        let tables = Tables {
+            version,
+            parts: self.shared.parts.clone()?,
+            auth: self.shared.auth.clone()?,
+        };
+        let shared = Rc::new(alloc, tables)?;
+        let trees = self.trees.as_ref().cloned()?;
+        Ok(SharedTables { shared, trees })
     }
 
     /// The tables.
@@ -38,14 +89,19 @@ impl SharedTables {
         &self.shared
     }
 
-    /// The tables, shared once more.
+    /// A finder for the tables. It shares their trees; where there are none, it grows some.
     ///
     /// # Errors
     /// Want of memory alone.
-    pub fn share(&self) -> Result<Rc<Tables>, AllocError>
-        ensures { IfOk result (λ shared. shared.value ≡ self.now) }
+    pub fn finder(&self, alloc: Global) -> Result<Finder, AllocError>
+        requires { AreSoundTables self.now }
+        ensures { IfOk result (λ finder. finder.tables ≡ self.now) }
     {
-        self.shared.clone()
+        let tables = self.shared.clone()?;
+        match &self.trees {
+            Some(trees) => Ok(Finder::of(tables, trees.clone()?)),
+            None => Finder::build(alloc, tables),
+        }
     }
 }
 
@@ -54,6 +110,20 @@ impl Clone for SharedTables {
 
     fn clone(&self) -> Result<SharedTables, AllocError> {
         let shared = self.shared.clone()?;
-        Ok(SharedTables { shared })
+        let trees = self.trees.as_ref().cloned()?;
+        Ok(SharedTables { shared, trees })
     }
+}
+
+// Whether trees can be grown for the tables: no list has too many entries.
+fn are_few(tables: &Tables) -> bool
+    ensures parts { IsTrue result → length tables.now.parts < 2 ^ 32 }
+    ensures auth { IsTrue result → All (λ part. length part.rules < 2 ^ 32) tables.now.auth }
+{
+    tables.parts.items().len() < MANY
+        && tables
+            .auth
+            .items()
+            .iter()
+            .all(|part| part.rules.items().len() < MANY)
 }
