@@ -28,7 +28,7 @@ impl Model for KeptTables {
 }
 
 impl KeptTables {
-    /// These tables, with trees for them.
+    /// These tables, with their trees, or with new ones where they have none.
     ///
     /// # Errors
     /// Want of memory alone.
@@ -36,7 +36,7 @@ impl KeptTables {
         requires { AreSoundTables tables.now }
         ensures { IfOk result (λ kept. kept ≡ tables.now) }
     {
-        let finder = Finder::build(alloc, tables.share()?)?;
+        let finder = tables.finder(alloc)?;
         Ok(KeptTables { finder })
     }
 
