@@ -4,3 +4,4 @@ mod Parts
 pub mod Coming
 pub mod InOrder
 pub mod Installing
+pub mod Versions

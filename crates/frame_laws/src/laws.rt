@@ -5,7 +5,7 @@ ghost use Rattle.ctrl_msg.specs.declared.message.Message.{Message};
 ghost use Rattle.ctrl_msg.specs.declared.message.Receiver.{Receiver};
 ghost use Rattle.switch_table.specs.declared.tables.Tables.{Tables};
 ghost use Rattle.wire.specs.Assembly.{AreAllHeld, IsRefused};
-ghost use Rattle.wire.specs.Frames.{AreFrames, count_of, frames};
+ghost use Rattle.wire.specs.Frames.{AreFrames, count_of, frames, frames_of_version};
 ghost use Rattle.frame_laws.specs.Feeding.{AreAllAmong, AreOf, HasFrames, held_after};
 ghost use Rattle.frame_laws.specs.Installing.{install_frames};
 
@@ -38,4 +38,12 @@ pub fn frames_behind_the_first_say_the_tables()
     ensures { (to : Receiver) (boot : ℕ) (tables : Tables)
         → frames (record { to = to; body = Install boot tables })
         ≡ install_frames to boot tables }
+{}
+
+/// An installation of the same tables under another version has the same frames, but for the four
+/// bytes of the version where the second one begins.
+pub fn frames_of_another_version()
+    ensures { (to : Receiver) (boot version : ℕ) (tables : Tables)
+        → frames (record { to = to; body = Install boot (record tables { version = version }) })
+        ≡ frames_of_version version (frames (record { to = to; body = Install boot tables })) }
 {}

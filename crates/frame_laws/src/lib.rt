@@ -8,4 +8,5 @@ mod laws;
 
 pub use laws::{
     frames_are_of_one_message, frames_behind_the_first_say_the_tables, frames_come_in_any_order,
+    frames_of_another_version,
 };

@@ -1,5 +1,5 @@
 -- How the spelling of a message is cut into frames.
-use Rattle.std.specs.Prelude.{◌≡◌, ℕ, zero, suc, ◌+◌, ◌-◌, true, List, [], ◌∷◌, ◌++◌, length, take, drop}
+use Rattle.std.specs.Prelude.{◌≡◌, ℕ, zero, suc, ◌+◌, ◌-◌, true, List, [], ◌∷◌, ◌++◌, length, take, drop, slice_index_or, slice_set}
 use Rattle.std.specs.Int.{w32, from_be_bytes, div_ceil}
 use Rattle.ctrl_msg.specs.declared.message.Body.{Body}
 use Rattle.ctrl_msg.specs.declared.message.Body.TheVariants.{Install}
@@ -51,6 +51,17 @@ frames m = frames_of (pieces m)
 pub record AreFrames (m : Message) (fs : List (List ℕ)) : Type 0 where
   pub fits : message.fits m ≡ true
   pub frames_are : fs ≡ frames m
+
+-- ---- the same tables under another version
+
+-- the frame whose piece begins with the four bytes of this version
+abbrev pub begun_with : ℕ → List ℕ → List ℕ
+begun_with version bytes = take 8 bytes ++ n4.spell version ++ drop 12 bytes
+
+-- the frames of an installation of the same tables under this version: they begin behind the first
+-- one, with the version
+abbrev pub frames_of_version : ℕ → List (List ℕ) → List (List ℕ)
+frames_of_version version fs = slice_set fs 1 (begun_with version (slice_index_or fs 1 []))
 
 -- ---- the parts of a frame
 

@@ -37,6 +37,14 @@ impl Frame {
         put_n4(&mut bytes, place)?;
         put_n4(&mut bytes, count)?;
         bytes.extend_from_slice(piece)?;
+        Frame::of_bytes(bytes)
+    }
+
+    /// Of these bytes, which are a frame.
+    pub fn of_bytes(bytes: Vec<u8>) -> Result<Frame, AllocError>
+        requires { 8 ≤ length bytes.items }
+        ensures { IfOk result (λ f. f ≡ bytes.items) }
+    {
         let bytes = RcSlice::from_vec(bytes)?;
         Ok(Frame { bytes })
     }
@@ -73,6 +81,15 @@ impl Frame {
         ensures { result.now ≡ piece_of self.now }
     {
         &self.bytes()[HEADER_LEN..]
+    }
+}
+
+impl Clone for Frame {
+    ghost is_clone = { λ frame copy. copy ≡ frame };
+
+    fn clone(&self) -> Result<Frame, AllocError> {
+        let bytes = self.bytes.clone()?;
+        Ok(Frame { bytes })
     }
 }
 

@@ -1,10 +1,11 @@
 ghost use Rattle.std.specs.Prelude.{◌≡◌, ◌<◌, ◌≤◌, ◌^◌, ◌↔◌, Some, length, map, take, drop, slice_get, IfOk, IfSome, IsNone};
-ghost use Rattle.wire.specs.Frames.{AreFrames, cut, head_len, frames_of};
+ghost use Rattle.wire.specs.Frames.{AreFrames, begun_with, cut, head_len, frames_of, frames_of_version};
 ghost use Rattle.wire.specs.Messages as kinds;
 ghost use Rattle.wire.specs.Messages.{HasSpelling};
 
 use crate::codec::encode;
 use crate::frame::{Frame, HEADER_LEN};
+use crate::writer::put_n4;
 use ctrl_msg::{Body, Message};
 use std::alloc::{AllocError, Global};
 use std::marker::Model;
@@ -14,6 +15,9 @@ pub(crate) const MOST_OF_FRAME: usize = 16_384;
 
 /// The most bytes of a piece.
 const MOST_OF_PIECE: usize = MOST_OF_FRAME - HEADER_LEN;
+
+/// Where the version of tables ends in the frame that begins with it.
+const VERSION_END: usize = HEADER_LEN + 4;
 
 /// The frames of a message. Contracts see the list of their bytes.
 #[derive(Debug, Drop)]
@@ -40,6 +44,44 @@ impl Frames {
             None => None,
         }
     }
+
+    /// The frames of an installation of the same tables under another version: behind the first
+    /// frame they begin with it, and all else is the same. The frames that don't differ are shared.
+    ///
+    /// # Errors
+    /// Want of memory alone.
+    pub fn of_version(&self, alloc: Global, version: u32) -> Result<Frames, AllocError>
+        ensures { IfOk result (λ frames. frames ≡ frames_of_version version self.now) }
+    {
+        let mut frames = shared(alloc, &self.frames)?;
+        if frames.len() > 1 {
+            frames[1] = begun_with(alloc, version, frames[1].bytes())?;
+        }
+        Ok(Frames { frames })
+    }
+}
+
+// These frames, shared once more.
+fn shared(alloc: Global, frames: &[Frame]) -> Result<Vec<Frame>, AllocError>
+    ensures { IfOk result (λ all. all.items ≡ frames.now) }
+{
+    let mut all = Vec::with_capacity(alloc, frames.len())?;
+    for frame in frames {
+        all.push(frame.clone()?)?;
+    }
+    Ok(all)
+}
+
+// The frame with the four bytes of this version where its piece begins.
+fn begun_with(alloc: Global, version: u32, frame: &[u8]) -> Result<Frame, AllocError>
+    requires { 8 ≤ length frame.now }
+    ensures { IfOk result (λ f. f ≡ begun_with version frame.now) }
+{
+    let mut bytes = Vec::with_capacity(alloc, frame.len())?;
+    bytes.extend_from_slice(split_front(frame, HEADER_LEN).0)?;
+    put_n4(&mut bytes, version)?;
+    bytes.extend_from_slice(split_front(frame, VERSION_END).1)?;
+    Frame::of_bytes(bytes)
 }
 
 /// The frames of a message: of an installation its first six bytes are a piece, and the rest in
