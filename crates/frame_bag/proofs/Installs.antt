@@ -1,5 +1,5 @@
 -- Messages with tables and without: of how many frames they are, and what the first one says.
-use Rattle.std.proofs.Common.{◌≡◌, ℕ, ◌+◌, ◌-◌, ◌≤◌, true, Some, None, Result, Ok, Err, List, [], ◌∷◌, ◌++◌, length, take, drop, get_or, add-one, refl, sym, ap, subst, ◌∙◌, append_assoc, arith}
+use Rattle.std.proofs.Common.{◌≡◌, ℕ, ◌+◌, ◌-◌, ◌≤◌, ◌<◌, ◌^◌, true, Some, None, Result, Ok, Err, List, [], ◌∷◌, ◌++◌, length, take, drop, get_or, add-one, refl, sym, ap, subst, ◌∙◌, append_assoc, arith}
 use Rattle.std.specs.Prelude.{IfOk, MatchResult, OnOk, slice_get}
 use Rattle.std.proofs.lemmas.List.{length-append, length-take, take_all, take_at}
 use Rattle.ctrl_msg.specs.declared.message.Body.{Body}
@@ -8,13 +8,14 @@ use Rattle.ctrl_msg.specs.declared.message.Message.{Message}
 use Rattle.ctrl_msg.specs.declared.message.Receiver.{Receiver}
 use Rattle.switch_table.specs.declared.tables.Tables.{Tables}
 use Rattle.wire.specs.Fields.{n4, tables}
-use Rattle.wire.specs.Frames.{AreFrames, cut, frame, frames, frames_of, head_len, piece_of}
+use Rattle.wire.specs.Frames.{AreFrames, cut, frame, frames, frames_of, frames_of_version, head_len, piece_of}
 use Rattle.wire.specs.Messages.{IsFront, front, message, spelled_front, suits}
 use Rattle.wire.proofs.Framing.{length_frame, length_n4, piece_of_frame}
 use Rattle.wire.proofs.Fronts.{one_front}
 use Rattle.wire.proofs.Laws.{some_is}
 use Rattle.frame_laws.specs.Installing.{frame_count, install_frames, table_frames}
 use Rattle.frame_laws.proofs.Coming.{same_message}
+use Rattle.frame_laws.proofs.Versions.{behind, fits_too, same_count}
 use Rattle.frame_laws.proofs.Installing.{fits_parts, fits_whole, installed, length_behind, some_behind, suits_any}
 use Rattle.frame_bag.specs.Kept.{AreOfInstall, AreOfMessage, SayTables, tables_version}
 
@@ -64,6 +65,21 @@ says m fs boot t are carries =
       behind = record { fits = tables_fit m boot t carries are.fits; are = refl };
       count = sym (add-one (length (table_frames t))) ∙ length_behind t;
       header = header_of 0 (frame_count t) (spelled_front m.to boot);
+    })
+
+-- ---- the same tables under another version
+
+pub says_too : (version : ℕ) (t : Tables) (fs : List (List ℕ)) → version < 2 ^ 32 → SayTables t fs
+    → SayTables (record t { version = version }) (frames_of_version version fs)
+says_too version t [] few say = absurd (omega (arith, say.count, length_behind t))
+says_too version t (first ∷ others) few say =
+    let u : Tables = record t { version = version } in
+    let is : frames_of_version version (first ∷ others) ≡ first ∷ table_frames u =
+    ap (λ fs. frames_of_version version (first ∷ fs)) say.behind.are ∙ behind version first t in
+    subst (SayTables u) (sym is) (record {
+      behind = record { fits = fits_too version t few say.behind.fits; are = refl };
+      count = sym (add-one (length (table_frames u))) ∙ length_behind u;
+      header = say.header ∙ ap (λ n. n4.spell 0 ++ n4.spell n) (sym (same_count version t));
     })
 
 -- ---- the tables that come out of the frames of an installation

@@ -66,6 +66,11 @@ pub record SayTables (t : Tables) (fs : List (List ℕ)) : Type 0 where
   pub count : length fs ≡ frame_count t
   pub header : take 8 (get_or fs 0 []) ≡ n4.spell 0 ++ n4.spell (frame_count t)
 
+-- these are the frames of an installation of these tables under some version
+pub record SayRows (t : Tables) (fs : List (List ℕ)) : Type 0 where
+  pub version : ℕ
+  pub say : SayTables (record t { version = version }) fs
+
 -- what was kept is there still, under its number
 abbrev pub IsGrown : List (List (List ℕ)) → List (List (List ℕ)) → Type 0
 IsGrown before after = take (length before) after ≡ before

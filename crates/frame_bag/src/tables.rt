@@ -1,12 +1,13 @@
 //! The frames of tables, which installations of the same tables share.
 ghost use Rattle.std.specs.Prelude.{◌≡◌, ◌<◌, ◌^◌, ◌++◌, ◌∷◌, ℕ, [], Some, true, drop, get_or, length, IfOk, IfSome, IsTrue, OnOk};
 ghost use Rattle.ctrl_msg.specs.declared.message.Body.TheVariants.{Install};
+ghost use Rattle.switch_table.specs.declared.tables.Tables.{Tables};
 ghost use Rattle.wire.specs.Frames.{AreFrames, frame, frames};
 ghost use Rattle.wire.specs.Messages.{HasSpelling, IsSwitch, front, message as form, spelled_front};
-ghost use Rattle.frame_bag.specs.Kept.{AreOfMessage, IsGrown, SayTables, frames_in};
+ghost use Rattle.frame_bag.specs.Kept.{AreOfMessage, IsGrown, SayRows, SayTables, frames_in};
 
 use crate::reading::{shared, tables_in};
-use crate::same::are_same_tables;
+use crate::same::{are_same_tables, have_same_rows};
 use ctrl_msg::{Message, Receiver, SharedTables};
 use std::alloc::{AllocError, Global};
 use std::marker::Model;
@@ -16,17 +17,14 @@ use wire::{Frames, append_front, split};
 /// How many bytes of a frame say its place and the count of frames.
 const HEADER_LEN: usize = 8;
 
-/// The frames of the first installation of some tables that was posted: those behind its first one
-/// say the tables, and each other installation of the same tables shares them. Contracts see the
-/// frames.
+/// The frames of an installation of some tables: those behind its first one say the tables, and each
+/// installation of the same tables that is posted shares them. Contracts see the frames.
 #[derive(Drop)]
 pub struct TableFrames {
     version: u32,
-    // As they were posted: the controller's own, by which a repeat is known.
-    posted: SharedTables,
-    frames: Frames,
-    // As they came out of the frames: those of each message that is taken.
+    // The tables as they come out of the frames: those of each message that is taken.
     said: SharedTables,
+    frames: Frames,
 }
 
 impl Model for TableFrames {
@@ -37,36 +35,52 @@ impl Model for TableFrames {
 
     ghost view = { λ t. t.frames };
 
-    ghost invariant = { λ t. SayTables t.posted t.frames × SayTables t.said t.frames };
+    ghost invariant = { λ t. SayTables t.said t.frames };
 }
 
 impl TableFrames {
-    // Of an installation of these tables.
-    fn new(
-        alloc: Global,
-        message: &Message,
-        tables: &SharedTables,
-    ) -> Result<TableFrames, AllocError>
+    // Of an installation of these tables, which are spelled and read.
+    fn new(alloc: Global, message: &Message, tables: &Tables) -> Result<TableFrames, AllocError>
         requires spelling { HasSpelling message.now }
         requires short { length (form.spell message.now) < 2 ^ 40 }
         requires carries { (boot : ℕ) × (message.now.body ≡ Install boot tables.now) }
         ensures { IfOk result (SayTables tables.now) }
     {
         let frames = split(alloc, message)?;
-        let said = tables_in(alloc, &frames)?;
+        let said = tables_in(alloc, &frames)?.with_trees(alloc)?;
         Ok(TableFrames {
-            version: tables.tables().version,
-            posted: tables.clone()?,
-            frames,
+            version: tables.version,
             said,
+            frames,
         })
     }
 
-    // Whether these are the tables that were posted.
-    fn are_of(&self, tables: &Tables) -> bool
+    // Of the same tables under another version, which are neither spelled nor read anew.
+    fn of_version(&self, alloc: Global, version: u32) -> Result<TableFrames, AllocError>
+        ensures { IfOk result (λ kept. (t : Tables) → SayTables t self.now
+            → SayTables (record t { version = version }) kept) }
+    {
+        let said = self.said.of_version(alloc, version)?;
+        let frames = self.frames.of_version(alloc, version)?;
+        Ok(TableFrames {
+            version,
+            said,
+            frames,
+        })
+    }
+
+    // Whether they say these tables.
+    fn say(&self, tables: &Tables) -> bool
         ensures { IsTrue result → SayTables tables.now self.now }
     {
-        self.version == tables.version && are_same_tables(self.posted.tables(), tables)
+        self.version == tables.version && are_same_tables(self.said.tables(), tables)
+    }
+
+    // Whether they say these tables under some version.
+    fn say_rows(&self, tables: &Tables) -> bool
+        ensures { IsTrue result → SayRows tables.now self.now }
+    {
+        have_same_rows(self.said.tables(), tables)
     }
 
     // Writes at the end the first frame of an installation of these tables: only the receiver and
@@ -104,20 +118,53 @@ fn find(kept: &[TableFrames], tables: &Tables) -> Option<usize>
 {
     for before in 0..kept.len() {
         let number = kept.len() - 1 - before;
-        if kept[number].are_of(tables) {
+        if kept[number].say(tables) {
             return Some(number);
         }
     }
     None
 }
 
+// The number of the frames that say these tables under some version.
+fn find_rows(kept: &[TableFrames], tables: &Tables) -> Option<usize>
+    ensures there { IfSome result (λ number. number < length kept.now) }
+    ensures say { IfSome result (λ number. SayRows tables.now (get_or kept.now number [])) }
+{
+    for before in 0..kept.len() {
+        let number = kept.len() - 1 - before;
+        if kept[number].say_rows(tables) {
+            return Some(number);
+        }
+    }
+    None
+}
+
+// The frames of an installation of these tables: those that are there under another version, but
+// for the version, or its own.
+fn made(
+    kept: &[TableFrames],
+    alloc: Global,
+    message: &Message,
+    tables: &Tables,
+) -> Result<TableFrames, AllocError>
+    requires spelling { HasSpelling message.now }
+    requires short { length (form.spell message.now) < 2 ^ 40 }
+    requires carries { (boot : ℕ) × (message.now.body ≡ Install boot tables.now) }
+    ensures { IfOk result (SayTables tables.now) }
+{
+    match find_rows(kept, tables) {
+        Some(number) => Ok(kept[number].of_version(alloc, tables.version)?),
+        None => Ok(TableFrames::new(alloc, message, tables)?),
+    }
+}
+
 // The number of the kept frames that say the tables of this installation: of those that are there,
-// or of its own, which are kept from now on.
+// or of those that are made for it and kept from now on.
 fn keep(
     kept: &mut Vec<TableFrames>,
     alloc: Global,
     message: &Message,
-    tables: &SharedTables,
+    tables: &Tables,
 ) -> Result<usize, AllocError>
     requires spelling { HasSpelling message.now }
     requires short { length (form.spell message.now) < 2 ^ 40 }
@@ -127,11 +174,12 @@ fn keep(
         SayTables tables.now (get_or kept.new.items number [])) }
     ensures grown { IsGrown kept.old.items kept.new.items }
 {
-    match find(kept, tables.tables()) {
+    match find(kept, tables) {
         Some(number) => Ok(number),
         None => {
             let number = kept.len();
-            kept.push(TableFrames::new(alloc, message, tables)?)?;
+            let own = made(kept, alloc, message, tables)?;
+            kept.push(own)?;
             Ok(number)
         }
     }
@@ -155,7 +203,8 @@ fn put_first_of(
 }
 
 /// Spells an installation: its first frame, in place of what was in the buffer, and the number of
-/// the kept frames that has the others. They are spelled only where the same tables aren't kept.
+/// the kept frames that has the others. These are spelled only where none of the same rows and
+/// partitions are kept.
 ///
 /// # Errors
 /// Want of memory alone.
@@ -176,7 +225,7 @@ pub fn spell(
         frames_in kept.new.items (first.new.items, Some number) ≡ frames message.now) }
     ensures grown { IsGrown kept.old.items kept.new.items }
 {
-    let number = keep(kept, alloc, message, tables)?;
+    let number = keep(kept, alloc, message, tables.tables())?;
     first.clear();
     put_first_of(kept, number, first, message.to, boot)?;
     Ok(number)

@@ -5,12 +5,8 @@ use Rattle.frame_bag.proofs.Installs.{says}
 use Rattle.frame_bag.proofs.tables.TableFrames.new.Goals as goal
 
 pub invariant_of-result : goal.invariant_of-result
-invariant_of-result c = (
-  subst (λ (t : Tables). SayTables t c.in_ok-frames.frames) (sym c.in_ok-clone.ensures.cases)
-      (says c.args.message.now c.in_ok-frames.frames c.requires.carries.0 c.args.tables.now
-      c.in_ok-frames.ensures c.requires.carries.1),
-  c.in_ok-said.ensures,
-)
+invariant_of-result c =
+    subst (λ (t : Tables). SayTables t c.in_ok-frames.frames) (sym c.in_ok-said.ensures) c.in_ok-tables_in.ensures
 
 pub returns : goal.returns
 returns c =
