@@ -1,2 +1,2 @@
 pub mod CallerLemmas
-mod Digits
+mod ShortNumbers

@@ -1,6 +1,7 @@
-ghost use Rattle.std.specs.Prelude.{◌≡◌, ◌<◌, ◌≤◌, ◌+◌, ◌/◌, ◌%◌, [], length, take, decimal};
+ghost use Rattle.std.specs.Prelude.{◌≡◌, ◌≤◌, [], length, take, decimal};
 ghost use Rattle.text_line.specs.Pushes.{pushed};
 
+use crate::digits::put_short;
 use itoa::Buffer;
 use std::marker::Model;
 
@@ -40,15 +41,6 @@ fn put(bytes: &mut [u8; 2048], len: usize, piece: &[u8]) -> usize
         bytes[len..].copy_from_slice(&piece[..room]);
         LINE_BYTES
     }
-}
-
-// The last decimal digit of a number, whose tenth is given.
-#[inline]
-fn digit(n: u64, tenth: u64) -> u8
-    requires { tenth ≡ n / 10 }
-    ensures { result ≡ 48 + n % 10 }
-{
-    b'0' + (n - 10 * tenth) as u8
 }
 
 impl Line {
@@ -94,52 +86,19 @@ impl Line {
     }
 
     /// Adds a number in decimal digits.
-    #[tactic(auto, using(crate::proofs::Digits::few_digits))]
     pub fn push_number(&mut self, n: u64)
         ensures { self.new ≡ pushed self.old (decimal n) }
     {
-        if n < 10 {
-            self.push_bytes(&[digit(n, 0)]);
-        } else if n < 100 {
-            let tens = n / 10;
-            self.push_bytes(&[digit(tens, 0), digit(n, tens)]);
-        } else if n < 1_000 {
-            let (hundreds, tens) = (n / 100, n / 10);
-            self.push_bytes(&[digit(hundreds, 0), digit(tens, hundreds), digit(n, tens)]);
-        } else if n < 100_000 {
-            self.push_four_or_five(n);
+        if n < 1_000_000 && self.len <= LINE_BYTES - 6 {
+            self.len = put_short(&mut self.bytes, self.len, n);
         } else {
             self.push_long_number(n);
         }
     }
 
-    // Adds a number of four or five digits.
-    #[inline]
-    #[tactic(auto, using(crate::proofs::Digits::few_digits))]
-    fn push_four_or_five(&mut self, n: u64)
-        requires least { 1000 ≤ n }
-        requires most { n < 100000 }
-        ensures { self.new ≡ pushed self.old (decimal n) }
-    {
-        let (thousands, hundreds, tens) = (n / 1_000, n / 100, n / 10);
-        let hundred = digit(hundreds, thousands);
-        let ten = digit(tens, hundreds);
-        let one = digit(n, tens);
-        if n < 10_000 {
-            self.push_bytes(&[digit(thousands, 0), hundred, ten, one]);
-        } else {
-            let myriads = n / 10_000;
-            self.push_bytes(&[
-                digit(myriads, 0),
-                digit(thousands, myriads),
-                hundred,
-                ten,
-                one,
-            ]);
-        }
-    }
-
     // Adds a number of any length.
+    #[cold]
+    #[inline(never)]
     fn push_long_number(&mut self, n: u64)
         ensures { self.new ≡ pushed self.old (decimal n) }
     {

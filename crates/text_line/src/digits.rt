@@ -1,0 +1,58 @@
+// The decimal digits of short numbers, put behind the first bytes of a line's array.
+ghost use Rattle.std.specs.Prelude.{◌≡◌, ◌<◌, ◌≤◌, ◌+◌, ◌/◌, ◌%◌, ◌++◌, [], ◌∷◌, take, decimal};
+
+/// The two digits of each number below 100, one after another.
+static PAIRS: [u8; 200] =
+    *b"00010203040506070809101112131415161718192021222324252627282930313233343536373839404142434445464748495051525354555657585960616263646566676869707172737475767778798081828384858687888990919293949596979899";
+
+#[inline]
+fn put_pair(bytes: &mut [u8; 2048], len: usize, pair: u64)
+    requires pair { pair < 100 }
+    requires room { len + 2 ≤ 2048 }
+    ensures { take (len + 2) bytes.new
+        ≡ take len bytes.old ++ (48 + pair / 10) ∷ (48 + pair % 10) ∷ [] }
+{
+    let from = pair as usize * 2;
+    let (ten, one) = (PAIRS[from], PAIRS[from + 1]);
+    bytes[len] = ten;
+    bytes[len + 1] = one;
+}
+
+// Puts a number of one or two digits, and says how many bytes there are then.
+#[inline]
+fn put_first(bytes: &mut [u8; 2048], len: usize, n: u64) -> usize
+    requires short { n < 100 }
+    requires room { len + 2 ≤ 2048 }
+    ensures within { result ≤ len + 2 }
+    ensures held { take result bytes.new ≡ take len bytes.old ++ decimal n }
+{
+    if n < 10 {
+        bytes[len] = b'0' + n as u8;
+        len + 1
+    } else {
+        put_pair(bytes, len, n);
+        len + 2
+    }
+}
+
+/// Puts a number of at most six digits, and says how many bytes there are then.
+#[inline]
+pub(crate) fn put_short(bytes: &mut [u8; 2048], len: usize, n: u64) -> usize
+    requires short { n < 1000000 }
+    requires room { len + 6 ≤ 2048 }
+    ensures within { result ≤ 2048 }
+    ensures held { take result bytes.new ≡ take len bytes.old ++ decimal n }
+{
+    if n < 100 {
+        put_first(bytes, len, n)
+    } else if n < 10_000 {
+        let end = put_first(bytes, len, n / 100);
+        put_pair(bytes, end, n % 100);
+        end + 2
+    } else {
+        let end = put_first(bytes, len, n / 10_000);
+        put_pair(bytes, end, n / 100 % 100);
+        put_pair(bytes, end + 2, n % 100);
+        end + 4
+    }
+}
