@@ -13,5 +13,6 @@
 
 mod digits;
 mod line;
+mod pieces;
 
 pub use line::Line;

@@ -1,12 +1,13 @@
-ghost use Rattle.std.specs.Prelude.{◌≡◌, ◌≤◌, [], length, take, decimal};
+ghost use Rattle.std.specs.Prelude.{◌≡◌, ◌≤◌, [], length, decimal};
 ghost use Rattle.text_line.specs.Pushes.{pushed};
 
 use crate::digits::put_short;
+use crate::pieces::put;
 use itoa::Buffer;
 use std::marker::Model;
 
 /// How many bytes a line holds.
-const LINE_BYTES: usize = 2048;
+pub(crate) const LINE_BYTES: usize = 2048;
 
 /// The first 2,048 bytes of a text that is made piece by piece. Contracts see these bytes.
 #[derive(Drop)]
@@ -23,24 +24,6 @@ impl Model for Line {
     ghost view = { λ line. take line.len line.bytes };
 
     ghost invariant = { λ line. line.len ≤ 2048 };
-}
-
-// Copies the front of a piece behind the first bytes of a line, and says how many bytes there are
-// then.
-#[inline]
-fn put(bytes: &mut [u8; 2048], len: usize, piece: &[u8]) -> usize
-    requires { len ≤ LINE_BYTES }
-    ensures within { result ≤ LINE_BYTES }
-    ensures held { take result bytes.new ≡ pushed (take len bytes.old) piece.now }
-{
-    let room = LINE_BYTES - len;
-    if piece.len() <= room {
-        bytes[len..len + piece.len()].copy_from_slice(piece);
-        len + piece.len()
-    } else {
-        bytes[len..].copy_from_slice(&piece[..room]);
-        LINE_BYTES
-    }
 }
 
 impl Line {
