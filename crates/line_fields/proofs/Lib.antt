@@ -1,1 +1,2 @@
+mod HexPairs
 pub mod Lengths

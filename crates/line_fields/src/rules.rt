@@ -1,5 +1,4 @@
-ghost use Rattle.std.specs.Prelude.{◌≡◌, ◌<◌, false};
-ghost use Rattle.std.specs.Fmt.{digit_glyph};
+ghost use Rattle.std.specs.Prelude.{◌≡◌};
 ghost use Rattle.policy_rules.specs.Print.{action_text, rule_text};
 ghost use Rattle.ternary.specs.Word.{hex_digits, word_text};
 ghost use Rattle.line_fields.specs.Sizes.{IsAction, IsRule};
@@ -9,14 +8,16 @@ use policy_rules::Action;
 use ternary::Word;
 use text_line::Line;
 
-// The hexadecimal digit of a number below 16.
-#[inline]
-fn glyph(n: u8) -> u8
-    requires { n < 16 }
-    ensures { result ≡ digit_glyph false n }
-{
-    if n < 10 { b'0' + n } else { b'a' + (n - 10) }
-}
+// The two hexadecimal digits of each number below 256, one after another.
+static HEX_PAIRS: [u8; 512] = *b"\
+000102030405060708090a0b0c0d0e0f101112131415161718191a1b1c1d1e1f\
+202122232425262728292a2b2c2d2e2f303132333435363738393a3b3c3d3e3f\
+404142434445464748494a4b4c4d4e4f505152535455565758595a5b5c5d5e5f\
+606162636465666768696a6b6c6d6e6f707172737475767778797a7b7c7d7e7f\
+808182838485868788898a8b8c8d8e8f909192939495969798999a9b9c9d9e9f\
+a0a1a2a3a4a5a6a7a8a9aaabacadaeafb0b1b2b3b4b5b6b7b8b9babbbcbdbebf\
+c0c1c2c3c4c5c6c7c8c9cacbcccdcecfd0d1d2d3d4d5d6d7d8d9dadbdcdddedf\
+e0e1e2e3e4e5e6e7e8e9eaebecedeeeff0f1f2f3f4f5f6f7f8f9fafbfcfdfeff";
 
 // The number in 26 hexadecimal digits.
 fn hex_of(number: u128) -> [u8; 26]
@@ -26,9 +27,11 @@ fn hex_of(number: u128) -> [u8; 26]
     let mut left = number;
     let mut at = 26;
     while at > 0 {
-        at -= 1;
-        digits[at] = glyph((left % 16) as u8);
-        left /= 16;
+        at -= 2;
+        let from = (left % 256) as usize * 2;
+        digits[at] = HEX_PAIRS[from];
+        digits[at + 1] = HEX_PAIRS[from + 1];
+        left /= 256;
     }
     digits
 }

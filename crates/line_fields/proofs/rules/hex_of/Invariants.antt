@@ -1,4 +1,4 @@
-use Rattle.std.proofs.Common.{◌≡◌, ◌≤◌, ◌++◌, drop, length}
+use Rattle.std.proofs.Common.{◌≡◌, ◌%◌, ◌≤◌, ◌++◌, drop, length}
 use Rattle.ternary.specs.Word.{hex_digits}
 use Rattle.line_fields.proofs.rules.hex_of.Given as goal
 
@@ -8,6 +8,7 @@ invariant-loop-at l = record {
   digits : hex_digits 26 l.number ≡ hex_digits l.at l.left ++ drop l.at l.digits;
   many : length l.digits ≡ 26;
   small : l.at ≤ 26;
+  even : l.at % 2 ≡ 0;
 }
 
 abbrev pub decreases-loop-at : goal.decreases-loop-at
