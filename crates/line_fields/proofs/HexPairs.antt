@@ -17,7 +17,8 @@ are_pairs (suc n) = (eqb (get_or HEX_PAIRS (n * 2) 0) (glyph (n / 16))
     && eqb (get_or HEX_PAIRS (n * 2 + 1) 0) (glyph (n % 16))) && are_pairs n
 
 below : (n p : ℕ) → T (are_pairs n) → p < n
-    → (get_or HEX_PAIRS (p * 2) 0 ≡ glyph (p / 16)) × (get_or HEX_PAIRS (p * 2 + 1) 0 ≡ glyph (p % 16))
+    → (get_or HEX_PAIRS (p * 2) 0 ≡ glyph (p / 16))
+    × (get_or HEX_PAIRS (p * 2 + 1) 0 ≡ glyph (p % 16))
 below zero p all within = absurd (omega arith)
 below (suc n) p all within = elim (eq-zero-or-pos (n - p)) [
   | inl last ↦
@@ -29,7 +30,8 @@ below (suc n) p all within = elim (eq-zero-or-pos (n - p)) [
 
 -- the table has both digits of a number below 256
 pub pairs_at : (n : ℕ) → n < 256
-    → (get_or HEX_PAIRS (n * 2) 0 ≡ glyph (n / 16)) × (get_or HEX_PAIRS (n * 2 + 1) 0 ≡ glyph (n % 16))
+    → (get_or HEX_PAIRS (n * 2) 0 ≡ glyph (n / 16))
+    × (get_or HEX_PAIRS (n * 2 + 1) 0 ≡ glyph (n % 16))
 pairs_at n within = below 256 n tt within
 
 -- one digit more stands

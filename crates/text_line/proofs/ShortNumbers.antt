@@ -46,7 +46,8 @@ take_two_set bytes len a b room =
     ) refl
 
 pub decimal_two : (n : ℕ) → 10 ≤ n → n < 100 → decimal n ≡ pair n
-decimal_two n from within = rw (decimal_step n from (omega arith), decimal_digit (n / 10) (omega arith)) refl
+decimal_two n from within =
+    rw (decimal_step n from (omega arith), decimal_digit (n / 10) (omega arith)) refl
 
 -- the last two digits
 pub decimal_pair : (n : ℕ) → 100 ≤ n → n < 1000000
