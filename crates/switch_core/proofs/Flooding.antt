@@ -1,13 +1,14 @@
 -- A body for each neighbour below a number.
-use Rattle.std.proofs.Common.{◌≡◌, ◌∙◌, sym, ℕ, zero, suc, ◌+◌, ◌-◌, ◌*◌, ◌^◌, ◌<◌, ◌≤◌, ◌==◌, Bool, true, false, cond, List, [], ◌∷◌, ◌++◌, map, filter, refl, ap, arith, append-nil}
-use Rattle.std.specs.Int.{leading_zeros, w64}
+use Rattle.std.proofs.Common.{◌≡◌, ◌∙◌, sym, ℕ, zero, suc, ◌+◌, ◌-◌, ◌*◌, ◌^◌, ◌<◌, ◌≤◌, ◌==◌, Bool, true, false, cond, List, [], ◌∷◌, ◌++◌, map, filter, inl, inr, ap, arith, append-nil, eq-zero-or-pos}
+use Rattle.std.specs.Int.{leading_zeros, trailing_zeros, w64}
 use Rattle.std.specs.Int.Count.{count_leading_zeros}
 use Rattle.std.specs.List.{range_with_len}
 use Rattle.std.proofs.lemmas.Nat.{leading_length}
 use Rattle.std.proofs.lemmas.Nat.Bits.{bit_at_above}
 use Rattle.std.proofs.lemmas.List.{map-append}
 use Rattle.policy_rules.proofs.CallerLemmas.{filter_more}
-use Rattle.masks.specs.Masks.{has, switches}
+use Rattle.masks.specs.Masks.{has, least_in, switches}
+use Rattle.masks.proofs.CallerLemmas.{has-zero, least_below}
 use Rattle.ctrl_msg.specs.declared.message.Body.{Body}
 use Rattle.ctrl_msg.specs.declared.message.Message.{Message}
 use Rattle.ctrl_msg.specs.declared.message.Receiver.TheVariants.{Switch}
@@ -29,10 +30,6 @@ told_one near body n =
     ap (map (for_switch body)) (filter_more (has near) n)
     ∙ map-append (for_switch body) (filter (has near) (range_with_len 0 n))
     (cond (has near n) (n ∷ []) [])
-
-pub told_none : (near : ℕ) (body : Body) → told near body 0 ≡ []
-unfolding told
-told_none near body = refl
 
 pub told_near : (near : ℕ) (body : Body) (n : ℕ) → has near n ≡ true →
     told near body (n + 1) ≡ told near body n ++ record { to = Switch n; body = body } ∷ []
@@ -58,6 +55,23 @@ told_same near body n (suc k) none =
     ap (told near body) next
     ∙ told_far near body (n + k) (none (n + k) (omega arith) (omega arith))
     ∙ told_same near body n k (λ j from below. none j from (omega arith))
+
+-- no neighbour is below the least one, nor any where there is none
+none_below : (near j : ℕ) → near < 2 ^ 64 → j < trailing_zeros w64 near → has near j ≡ false
+unfolding least_in
+none_below near j fits below = elim (eq-zero-or-pos near) [
+  | inl none ↦ ap (λ n. has n j) none ∙ has-zero j
+  | inr some ↦ least_below near some fits j below
+]
+
+pub told_none : (near : ℕ) (body : Body) → near < 2 ^ 64
+    → told near body (trailing_zeros w64 near) ≡ []
+unfolding told
+told_none near body fits =
+    let least : ℕ = trailing_zeros w64 near in
+    let here : least ≡ 0 + least = omega arith in
+    ap (told near body) here
+    ∙ told_same near body 0 least (λ j from below. none_below near j fits (omega (arith, below)))
 
 pub told_all : (near : ℕ) (body : Body) (n : ℕ) → near < 2 ^ 64 → 64 - leading_zeros w64 near ≤ n
     → told near body n ≡ flood near body

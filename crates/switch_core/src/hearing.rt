@@ -205,8 +205,8 @@ fn to_controller(body: Body) -> Message
 fn flood(alloc: Global, near: u64, advert: &Advert) -> Result<Replies, AllocError>
     ensures { IfOk result (λ list. list ≡ flood near (Advertise advert.now)) }
 {
-    let mut messages = Vec::new(alloc);
-    for other in 0..64 - near.leading_zeros() {
+    let mut messages = Vec::with_capacity(alloc, near.count_ones() as usize)?;
+    for other in near.trailing_zeros()..64 - near.leading_zeros() {
         if has(near, other) {
             messages.push(Message {
                 to: Receiver::Switch(other),

@@ -1,6 +1,10 @@
-use Rattle.std.proofs.Common.{◌∙◌}
-use Rattle.switch_core.proofs.Flooding.{told_all}
+use Rattle.std.proofs.Common.{◌∙◌, sym}
+use Rattle.switch_core.proofs.Flooding.{told_all, told_none}
 use Rattle.switch_core.proofs.hearing.flood.Goals as goal
+
+pub loop-other-init : goal.loop-other-init
+loop-other-init c =
+    c.in_ok-messages.ensures.items ∙ sym (told_none _ _ c.ranges.near.fits)
 
 pub returns : goal.returns
 returns c = c.of.ensures ∙ c.loop-other.invariant
