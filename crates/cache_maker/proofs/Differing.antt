@@ -3,8 +3,7 @@
 use Rattle.std.proofs.Common.{ℕ, suc, zero, ◌≡◌, ◌≢◌, ◌+◌, ◌-◌, ◌*◌, ◌/◌, ◌%◌, ◌^◌, ◌<◌, ◌≤◌, min, max, Bool, true, false, ◌&&◌, ◌||◌, ◌⊎◌, List, [], ◌∷◌, All, get_or, length, take, cond, refl, ap, sym, ◌∙◌, subst, arith, inl, inr}
 use Rattle.std.specs.Prelude.{IsTrue, IsNone, IsSomeAnd, not, ◌==◌, bit_or, bit_and, bit_xor, is_some, is_none}
 use Rattle.std.specs.Int.{bit_at}
-use Rattle.std.proofs.Math.Nat.{div-eq_of_lt-le, mod-eq_of_lt}
-use Rattle.std.proofs.Math.Pow.{pow-lt}
+use Rattle.std.proofs.Math.Nat.{div-eq_of_lt-le}
 use Rattle.std.specs.List.{list_all}
 use Rattle.std.proofs.lemmas.Bool.{both_ways, cases_Bool, cases_lt, cases_eq, eq-eqb, eqb-true}
 use Rattle.std.proofs.lemmas.Option.{slice_get-get_or}
@@ -400,16 +399,12 @@ top_set n k low high =
 twice : (k : ℕ) → 2 * 2 ^ k ≡ 2 ^ (suc k)
 twice k = omega arith
 
-pub highest_set : (n bit k : ℕ) → bit < 128 → 2 ^ bit ≤ n → n < 2 * 2 ^ bit → IsHighest n k
-    → bit_at (1 * 2 ^ bit % 2 ^ 128) k ≡ 1
-highest_set n bit k small low high is = by_order (cases_eq k bit)
+pub highest_set : (n bit k : ℕ) → 2 ^ bit ≤ n → n < 2 * 2 ^ bit → IsHighest n k
+    → bit_at (2 ^ bit) k ≡ 1
+highest_set n bit k low high is = by_order (cases_eq k bit)
   where
-    by_order : (k ≡ bit) ⊎ (k ≢ bit) → bit_at (1 * 2 ^ bit % 2 ^ 128) k ≡ 1
-    by_order (inl same) =
-        let below : 2 ^ bit < 2 ^ 128 = pow-lt small in
-        let plain : 1 * 2 ^ bit ≡ 2 ^ bit = omega arith in
-        ap (λ x. bit_at x k) (ap (λ x. x % 2 ^ 128) plain ∙ mod-eq_of_lt below)
-        ∙ ap (λ x. bit_at (2 ^ bit) x) same ∙ bit_at-pow_same bit
+    by_order : (k ≡ bit) ⊎ (k ≢ bit) → bit_at (2 ^ bit) k ≡ 1
+    by_order (inl same) = ap (λ x. bit_at (2 ^ bit) x) same ∙ bit_at-pow_same bit
     by_order (inr other) = elim (cases_lt k bit) [
       | inl lower ↦ let none = is.above bit lower in let one = top_set n bit low high in absurd
           (omega arith)

@@ -100,12 +100,16 @@ fn last_differences(h: u128, free: u128, rules: &[Rule]) -> u128
     bits
 }
 
-// The number's highest bit alone, or 0 of 0.
+// The number's highest bit alone, or 0 of 0: that of its high half, if this isn't 0.
 fn highest_bit(n: u128) -> u128
     ensures { (k : ℕ) → IsHighest n k → bit_at result k ≡ 1 }
 {
-    match n.checked_ilog2() {
-        Some(bit) => 1 << bit,
+    let high = (n >> 64) as u64;
+    if high != 0 {
+        return u128::from(1u64 << high.ilog2()) << 64;
+    }
+    match (n as u64).checked_ilog2() {
+        Some(bit) => u128::from(1u64 << bit),
         None => 0,
     }
 }
