@@ -1,11 +1,13 @@
 //! Messages that come out of a bag of frames.
 ghost use Rattle.wire.specs.Messages.{HasSpelling};
 
-use crate::messages::{collect, hello, install, install_at};
+use crate::messages::{collect, hello, install, install_at, install_of};
 use ctrl_msg::{Body, Message, Receiver};
 use frame_bag::FrameBag;
+use policy_rules::Rule;
 use std::alloc::Global;
 use std::test::*;
+use switch_table::Tables;
 use wire::encode;
 
 // Posts a message that isn't too long, where the bag isn't full.
@@ -96,5 +98,54 @@ fn the_same_tables_for_two_switches_in_two_boots(rt: HostRuntime) -> Result<(), 
         assert!(rt; installed(&bag, alloc, 4)? == Some((Receiver::Switch(5), 2, 4)));
         assert!(rt; installed(&bag, alloc, 5)? == Some((Receiver::Switch(5), 2, 5)));
     }
+    Ok(())
+}
+
+// The rules of the first partition.
+fn first_rules(tables: &Tables) -> Option<&[Rule]> {
+    match tables.auth.items().first() {
+        Some(part) => Some(part.rules.items()),
+        None => None,
+    }
+}
+
+// Whether the installation of this number is this one, whose tables have one partition.
+fn gives(bag: &FrameBag, alloc: Global, number: u32, message: &Message) -> Result<bool, Fail> {
+    let taken = take(bag, alloc, number)?;
+    match (&taken.body, &message.body) {
+        (
+            Body::Install { boot, tables },
+            Body::Install {
+                boot: own,
+                tables: others,
+            },
+        ) => {
+            let (tables, others) = (tables.tables(), others.tables());
+            Ok(
+                taken.to == message.to
+                    && boot == own
+                    && tables.version == others.version
+                    && first_rules(tables) == first_rules(others),
+            )
+        }
+        _ => Ok(false),
+    }
+}
+
+#[test]
+fn the_same_tables_under_two_versions(rt: HostRuntime) -> Result<(), Fail> {
+    let alloc = rt.alloc();
+    let mut bag = FrameBag::new(alloc);
+    // Tables of two frames under the versions 1 and 300, and others.
+    let first = install_of(alloc, 1, 1, 1, 440, 2)?;
+    let second = install_of(alloc, 300, 5, 1, 440, 2)?;
+    let other = install_of(alloc, 300, 1, 1, 440, 3)?;
+    let again = install_of(alloc, 300, 1, 2, 440, 2)?;
+    assert_eq!(rt; post(&mut bag, alloc, &first)?, 1);
+    assert_eq!(rt; post(&mut bag, alloc, &second)?, 2);
+    assert_eq!(rt; post(&mut bag, alloc, &other)?, 3);
+    assert_eq!(rt; post(&mut bag, alloc, &again)?, 4);
+    assert!(rt; gives(&bag, alloc, 1, &first)? && gives(&bag, alloc, 2, &second)?);
+    assert!(rt; gives(&bag, alloc, 3, &other)? && gives(&bag, alloc, 4, &again)?);
     Ok(())
 }

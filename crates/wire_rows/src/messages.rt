@@ -89,6 +89,21 @@ pub fn install_at(
     requires { switch < 64 }
     ensures { IfOk result HasSpelling }
 {
+    install_of(alloc, 1, switch, boot, defaults, rows)
+}
+
+/// The same tables under this version.
+pub fn install_of(
+    alloc: Global,
+    version: u32,
+    switch: u32,
+    boot: u32,
+    defaults: u32,
+    rows: u32,
+) -> Result<Message, Fail>
+    requires { switch < 64 }
+    ensures { IfOk result HasSpelling }
+{
     let part = Partition {
         number: 0,
         region: Word::any(),
@@ -97,7 +112,7 @@ pub fn install_at(
     let mut auth = Vec::new(alloc);
     auth.push(part)?;
     let tables = Tables {
-        version: 1,
+        version,
         parts: PartRows::new(Vec::new(alloc))?,
         auth: Partitions::new(auth)?,
     };
