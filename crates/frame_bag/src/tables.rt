@@ -21,7 +21,6 @@ const HEADER_LEN: usize = 8;
 /// installation of the same tables that is posted shares them. Contracts see the frames.
 #[derive(Drop)]
 pub struct TableFrames {
-    version: u32,
     // The tables as they come out of the frames: those of each message that is taken.
     said: SharedTables,
     frames: Frames,
@@ -48,11 +47,7 @@ impl TableFrames {
     {
         let frames = split(alloc, message)?;
         let said = tables_in(alloc, &frames)?.with_trees(alloc)?;
-        Ok(TableFrames {
-            version: tables.version,
-            said,
-            frames,
-        })
+        Ok(TableFrames { said, frames })
     }
 
     // Of the same tables under another version, which are neither spelled nor read anew.
@@ -62,18 +57,14 @@ impl TableFrames {
     {
         let said = self.said.of_version(alloc, version)?;
         let frames = self.frames.of_version(alloc, version)?;
-        Ok(TableFrames {
-            version,
-            said,
-            frames,
-        })
+        Ok(TableFrames { said, frames })
     }
 
     // Whether they say these tables.
     fn say(&self, tables: &Tables) -> bool
         ensures { IsTrue result → SayTables tables.now self.now }
     {
-        self.version == tables.version && are_same_tables(self.said.tables(), tables)
+        are_same_tables(self.said.tables(), tables)
     }
 
     // Whether they say these tables under some version.
