@@ -11,11 +11,14 @@ use crate::same::{are_same_tables, have_same_rows};
 use ctrl_msg::{Message, Receiver, SharedTables};
 use std::alloc::{AllocError, Global};
 use std::marker::Model;
-use switch_table::Tables;
+use switch_table::{PartRow, Tables};
 use wire::{Frames, append_front, split};
 
 /// How many bytes of a frame say its place and the count of frames.
 const HEADER_LEN: usize = 8;
+
+/// How many bits the number of a packet's header has.
+const HEADER_BITS: u32 = 104;
 
 /// The frames of an installation of some tables: those behind its first one say the tables, and each
 /// installation of the same tables that is posted shares them. Contracts see the frames.
@@ -46,7 +49,7 @@ impl TableFrames {
         ensures { IfOk result (SayTables tables.now) }
     {
         let frames = split(alloc, message)?;
-        let said = tables_in(alloc, &frames)?.with_trees(alloc)?;
+        let said = with_trees(alloc, tables_in(alloc, &frames)?)?;
         Ok(TableFrames { said, frames })
     }
 
@@ -100,6 +103,28 @@ impl TableFrames {
     {
         shared(alloc, first, &self.said)
     }
+}
+
+// The same tables. They get trees where their regions may part all headers, as those of plans do:
+// trees over others might be far larger than the tables.
+fn with_trees(alloc: Global, tables: SharedTables) -> Result<SharedTables, AllocError>
+    ensures { IfOk result (λ grown. grown ≡ tables) }
+{
+    if are_whole(tables.tables().parts.items()) {
+        tables.with_trees(alloc)
+    } else {
+        Ok(tables)
+    }
+}
+
+// Whether the regions have, taken together, as many headers as there are.
+fn are_whole(rows: &[PartRow]) -> bool {
+    let mut headers: u128 = 0;
+    for row in rows {
+        let free = HEADER_BITS.saturating_sub(row.region.mask().count_ones());
+        headers = headers.saturating_add(1 << free);
+    }
+    headers == 1 << HEADER_BITS
 }
 
 // The number of the frames that say these tables. Most often they are among the last.
