@@ -14,13 +14,14 @@ use Rattle.net_file.specs.Net.{IsNet, IsSwitch, solo_net}
 use Rattle.steps.specs.declared.step.Step.TheVariants as step
 use Rattle.update_machine.specs.Adverts.{advert_known, adverts_known, held_adverts, own_advert, own_seq}
 use Rattle.update_machine.specs.Answers.{StepOfRow, after_steps}
-use Rattle.update_machine.specs.Boots.{boot_of, heard, is_up, serves, message_of}
+use Rattle.update_machine.specs.Boots.{boot_of, heard, is_up}
 use Rattle.update_machine.specs.Deliveries.{link_changes}
-use Rattle.update_machine.specs.Links.{is_link_up, near}
+use Rattle.update_machine.specs.Links.{is_link_up, serves, message_of}
 use Rattle.update_machine.specs.Messages.{next_message, sent_from}
 use Rattle.update_machine.specs.Pieces.{crash_items, link_items, piece, restart_items}
 use Rattle.update_machine.specs.Setting.{Setting}
 use Rattle.update_machine.specs.Steps.{steps_in}
+use Rattle.update_machine.specs.LinkMasks.{near}
 use Rattle.update_machine.proofs.Examples.{advert, at, open_net, to, to_controller, two_switches}
 use Rattle.advert_laws.specs.Adverts.{AdvertsAreOfSwitches, IsNoNewer, IsOverLinks, LinksAreThere, NamesLinks, OwnAreNewest}
 use Rattle.advert_laws.proofs.BothCauses.{behind_both}

@@ -20,12 +20,13 @@ use Rattle.steps.specs.Steps.{HasSwitch}
 use Rattle.journal.specs.declared.item.Item.{Item}
 use Rattle.journal.specs.declared.item.Item.TheVariants as item
 use Rattle.update_machine.specs.Adverts.{advert_known, own_advert, own_if_told}
-use Rattle.update_machine.specs.Boots.{heard, is_in_first_boot, said_to, message_of}
+use Rattle.update_machine.specs.Boots.{heard, is_in_first_boot, said_to}
 use Rattle.update_machine.specs.Causes.{HaveCauses}
 use Rattle.update_machine.specs.Deliveries.{advert_to}
-use Rattle.update_machine.specs.Links.{near, adverts_begun, adverts_heard, other_advert}
+use Rattle.update_machine.specs.LinkMasks.{near, adverts_begun, adverts_heard, other_advert}
 use Rattle.update_machine.specs.Setting.{Setting, switches_of}
 use Rattle.update_machine.specs.Settling.{to_switch}
+use Rattle.update_machine.specs.Links.{message_of}
 use Rattle.update_machine.proofs.CallerLemmas.{known_link_laws, start_laws}
 use Rattle.boot_laws.proofs.Boots.{by_number}
 use Rattle.boot_laws.proofs.Facts.{AreKept, fact_on}

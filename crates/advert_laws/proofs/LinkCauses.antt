@@ -9,7 +9,7 @@ use Rattle.journal.specs.declared.item.Item.TheVariants as item
 use Rattle.update_machine.specs.Adverts.{advert_known, own_advert}
 use Rattle.update_machine.specs.Causes.{HaveCauses}
 use Rattle.update_machine.specs.Concerns.{NoneConcern, concerns_links}
-use Rattle.update_machine.specs.Links.{near, adverts_heard}
+use Rattle.update_machine.specs.LinkMasks.{near, adverts_heard}
 use Rattle.update_machine.specs.Setting.{Setting}
 use Rattle.update_machine.specs.Steps.{StepItems, steps_in}
 

@@ -18,8 +18,9 @@ use Rattle.steps.specs.Steps.{HasLink}
 use Rattle.journal.specs.declared.item.Item.{Item}
 use Rattle.update_machine.specs.Adverts.{advert_known, adverts_known, own_advert, own_if_told}
 use Rattle.update_machine.specs.Causes.{HaveCauses}
-use Rattle.update_machine.specs.Links.{is_usable, near, adverts_begun, adverts_heard, links_known}
+use Rattle.update_machine.specs.Links.{is_usable}
 use Rattle.update_machine.specs.Setting.{Setting}
+use Rattle.update_machine.specs.LinkMasks.{near, adverts_begun, adverts_heard, links_known}
 use Rattle.update_machine.proofs.CallerLemmas.{has_known_link, known_link_laws}
 use Rattle.advert_laws.specs.Adverts.{AllAdverts, GoesOverLinks, IsOverLinks, LinksAreThere, NamesLinks}
 use Rattle.advert_laws.proofs.AllAdverts.{IsAdvertFact, all_such, own_told}

@@ -11,7 +11,7 @@ use Rattle.update_machine.specs.Adverts.{own_advert, own_seq}
 use Rattle.update_machine.specs.Boots.{boot_of, is_up}
 use Rattle.update_machine.specs.Causes.{HaveCauses}
 use Rattle.update_machine.specs.Setting.{Setting}
-use Rattle.update_machine.specs.Links.{adverts_heard}
+use Rattle.update_machine.specs.LinkMasks.{adverts_heard}
 use Rattle.update_machine.proofs.CallerLemmas.{start_laws}
 use Rattle.boot_laws.specs.ItemCauses.{HasItemCause}
 use Rattle.boot_laws.proofs.Boots.{boot_rises}

@@ -10,7 +10,7 @@ use Rattle.journal.specs.declared.item.Item.{Item}
 use Rattle.update_machine.specs.Adverts.{own_advert}
 use Rattle.update_machine.specs.Causes.{HaveCauses}
 use Rattle.update_machine.specs.Deliveries.{advert_to}
-use Rattle.update_machine.specs.Links.{near}
+use Rattle.update_machine.specs.LinkMasks.{near}
 use Rattle.update_machine.specs.Setting.{Setting}
 use Rattle.advert_laws.specs.Adverts.{AdvertsAreOfSwitches}
 use Rattle.advert_laws.proofs.AllAdverts.{AreSuch, IsAdvertFact, known_such, such_on}

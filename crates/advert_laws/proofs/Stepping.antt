@@ -11,7 +11,7 @@ use Rattle.journal.specs.declared.item.Item.{Item}
 use Rattle.journal.specs.declared.item.Item.TheVariants as item
 use Rattle.steps.specs.declared.step.Step.{Step}
 use Rattle.steps.specs.declared.step.Step.TheVariants.{Packet, Hop, Lose, Deliver, Forget, Expire, Update, LinkDown, LinkUp, Crash, Restart, Confirm, Resend}
-use Rattle.update_machine.specs.Boots.{heard, said_to, serves, message_of}
+use Rattle.update_machine.specs.Boots.{heard, said_to}
 use Rattle.update_machine.specs.Concerns.{concerns_links}
 use Rattle.update_machine.specs.Deliveries.{controller_items, delivery_items, is_news_to, link_changes, passed_on, received_items, switch_items, to_controller}
 use Rattle.update_machine.specs.Messages.{sends, sent_from}
@@ -22,6 +22,7 @@ use Rattle.update_machine.specs.Quiet.{is_advert}
 use Rattle.update_machine.specs.Setting.{Setting}
 use Rattle.update_machine.specs.Steps.{changes_steps, steps_in}
 use Rattle.update_machine.specs.Versions.{stamp_of}
+use Rattle.update_machine.specs.Links.{serves, message_of}
 use Rattle.update_machine.proofs.CallerLemmas.{PiecesHave, folded_append, have_append, have_first, have_put}
 use Rattle.boot_laws.proofs.Facts.{have_weaker}
 use Rattle.boot_laws.proofs.SwitchBlocks.{said_row}

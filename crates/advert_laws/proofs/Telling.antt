@@ -13,9 +13,9 @@ use Rattle.journal.specs.declared.item.Item.{Item}
 use Rattle.journal.specs.declared.item.Item.TheVariants as item
 use Rattle.update_machine.specs.Adverts.{adverts_known, held_adverts, own_advert}
 use Rattle.update_machine.specs.Boots.{heard}
-use Rattle.update_machine.specs.Deliveries.{advert_to, has_changed, link_changes, passed_on, told_by, told_over}
+use Rattle.update_machine.specs.Deliveries.{advert_to, has_changed, link_changes, passed_on, told_by, told_over, switches_in}
 use Rattle.update_machine.specs.Laws.{KnownKeeps, LinksKeep, SwitchKeeps}
-use Rattle.update_machine.specs.Links.{near, switches_in, other_advert}
+use Rattle.update_machine.specs.LinkMasks.{near, other_advert}
 use Rattle.update_machine.specs.Messages.{next_message, sends, sent_from}
 use Rattle.update_machine.specs.Setting.{Setting, switches_of}
 use Rattle.update_machine.proofs.CallerLemmas.{known_keeps, links_keep, switch_keeps}

@@ -10,10 +10,11 @@ use Rattle.net_file.specs.declared.net.Net.{Net}
 use Rattle.steps.specs.Steps.{HasLink, HasSwitch}
 use Rattle.journal.specs.declared.item.Item.{Item}
 use Rattle.update_machine.specs.Adverts.{advert_known, own_advert, route_from}
-use Rattle.update_machine.specs.Boots.{boot_of, is_up, message_of}
+use Rattle.update_machine.specs.Boots.{boot_of, is_up}
 use Rattle.update_machine.specs.Deliveries.{advert_to}
-use Rattle.update_machine.specs.Links.{near, adverts_heard, links_known}
+use Rattle.update_machine.specs.LinkMasks.{near, adverts_heard, links_known}
 use Rattle.update_machine.specs.Setting.{Setting}
+use Rattle.update_machine.specs.Links.{message_of}
 
 -- ---- all adverts of a journal
 

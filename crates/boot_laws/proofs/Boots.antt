@@ -12,11 +12,12 @@ use Rattle.ctrl_msg.specs.declared.message.Receiver.{Receiver}
 use Rattle.ctrl_msg.specs.declared.message.Receiver.TheVariants as receiver
 use Rattle.journal.specs.declared.item.Item.{Item}
 use Rattle.journal.specs.declared.item.Item.TheVariants as item
-use Rattle.update_machine.specs.Boots.{boot_of, message_of}
+use Rattle.update_machine.specs.Boots.{boot_of}
 use Rattle.update_machine.specs.Deliveries.{to_controller}
 use Rattle.update_machine.specs.Marks.{hello_boot, known_boot, said_to_controller}
 use Rattle.update_machine.specs.Quiet.{speaker}
 use Rattle.update_machine.specs.Setting.{Setting}
+use Rattle.update_machine.specs.Links.{message_of}
 use Rattle.update_machine.proofs.CallerLemmas.{start_laws}
 use Rattle.boot_laws.specs.BootLaws.{BootsAreKnown, HasPastBoot}
 use Rattle.boot_laws.specs.ItemCauses.{HasItemCause, IsRightMessage}

@@ -9,11 +9,12 @@ use Rattle.ctrl_msg.specs.declared.message.Body.{Body}
 use Rattle.ctrl_msg.specs.declared.message.Body.TheVariants.{OpenAt}
 use Rattle.journal.specs.declared.item.Item.{Item}
 use Rattle.journal.specs.declared.item.Item.TheVariants as item
-use Rattle.update_machine.specs.Boots.{boot_of, changes_heard, heard, is_up, said_to, serves, tells_boot, tells_serving, tells_up, message_of, tells_message}
+use Rattle.update_machine.specs.Boots.{boot_of, changes_heard, heard, is_up, said_to, tells_boot, tells_up}
 use Rattle.update_machine.specs.Folds.{all_given, count_of, last_told}
 use Rattle.update_machine.specs.Marks.{first_of, said_to_controller, changes_over, changes_told, controller_heard, current_mark, hello_boot, is_over, known_boot, open_sent, opened_at, retired_mark, tells_current, tells_retired}
 use Rattle.update_machine.specs.Settling.{to_switch}
 use Rattle.update_machine.specs.Versions.{first_stamp, greatest, stamp_in, stamp_of, is_submission, version_count}
+use Rattle.update_machine.specs.Links.{serves, tells_serving, message_of, tells_message}
 use Rattle.update_machine.proofs.CallerLemmas.{all_given_append, count_of_append, folded_append, last_told_append}
 
 -- the last item tells, or else those before it

@@ -7,8 +7,8 @@ use Rattle.failover.specs.declared.advert.Advert.{Advert}
 use Rattle.journal.specs.declared.item.Item.{Item}
 use Rattle.update_machine.specs.Adverts.{held_adverts}
 use Rattle.update_machine.specs.Boots.{is_up}
-use Rattle.update_machine.specs.Deliveries.{advert_to}
-use Rattle.update_machine.specs.Links.{near, switches_in}
+use Rattle.update_machine.specs.Deliveries.{advert_to, switches_in}
+use Rattle.update_machine.specs.LinkMasks.{near}
 use Rattle.update_machine.specs.Marks.{acked_stamp, current_mark, has_acked, is_member, is_over, known_boot, open_version, opened_at, retired_mark}
 use Rattle.update_machine.specs.Pieces.{hello_of, resend_items, resent_by_switch, sends_or_nothing}
 use Rattle.update_machine.specs.Setting.{Setting}

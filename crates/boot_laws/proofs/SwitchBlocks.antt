@@ -14,7 +14,7 @@ use Rattle.ctrl_msg.specs.declared.message.Receiver.TheVariants as receiver
 use Rattle.journal.specs.declared.item.Item.{Item}
 use Rattle.journal.specs.declared.item.Item.TheVariants as item
 use Rattle.steps.specs.declared.step.Step.{Step}
-use Rattle.update_machine.specs.Boots.{boot_of, heard, is_for_boot, is_up, said_to, message_of}
+use Rattle.update_machine.specs.Boots.{boot_of, heard, is_for_boot, is_up, said_to}
 use Rattle.update_machine.specs.Causes.{HaveCauses}
 use Rattle.update_machine.specs.Deliveries.{after_hello, controller_items, delivery_items, is_new_boot, received_items, switch_items, to_controller}
 use Rattle.update_machine.specs.Marks.{is_over, known_boot, hello_boot, raises_known, said_to_controller}
@@ -23,6 +23,7 @@ use Rattle.update_machine.specs.Moves.{in_turn}
 use Rattle.update_machine.specs.Setting.{Setting}
 use Rattle.update_machine.specs.Settling.{current_items, installs_to, open_items, retired_items, settling, to_switch}
 use Rattle.update_machine.specs.Versions.{installs, stamp_in, stamp_of}
+use Rattle.update_machine.specs.Links.{message_of}
 use Rattle.update_machine.proofs.CallerLemmas.{have_first, have_in_turn, have_put}
 use Rattle.boot_laws.specs.ItemCauses.{HasItemCause, OpensRightly}
 use Rattle.boot_laws.proofs.ControllerBlocks.{installs_have, settling_have}

@@ -20,23 +20,23 @@ use Rattle.five_tuple.specs.declared.header.Header.{Header}
 use Rattle.journal.specs.declared.item.Item.{Item}
 use Rattle.journal.specs.declared.item.Item.TheVariants as item
 use Rattle.update_machine.specs.Adverts.{held_adverts, own_advert}
-use Rattle.update_machine.specs.Boots.{serves}
+use Rattle.update_machine.specs.Links.{serves}
 use Rattle.update_machine.specs.Caches.{lookup_at}
 use Rattle.update_machine.specs.Causes.{HaveCauses}
-use Rattle.update_machine.specs.Deliveries.{advert_to, has_changed, link_changes, passed_on, told_by, told_over}
-use Rattle.update_machine.specs.Links.{near, switches_in}
+use Rattle.update_machine.specs.Deliveries.{advert_to, has_changed, link_changes, passed_on, told_by, told_over, switches_in}
+use Rattle.update_machine.specs.LinkMasks.{near}
 use Rattle.update_machine.specs.Messages.{next_message, sends, sent_from}
 use Rattle.update_machine.specs.Moves.{put, AuthorityRule, arrive_by, arrive_items, authority_items, cache_items, end_items, found_items, go_on, header_at, leg_items, lookup_items, move_items, reroute_by, reroute_items, authority_rule, cache_rule, first_place, in_turn}
 use Rattle.update_machine.specs.Travels.{leg_of, ingress_of, is_at}
 use Rattle.update_machine.specs.Pieces.{expire_items, forget_items, hop_items, lose_items, packet_items}
-use Rattle.update_machine.specs.Setting.{Setting, switches_of, placed_in, policy_of_file, file_of, plan_at}
+use Rattle.update_machine.specs.Setting.{Setting, switches_of, policy_of_file}
 use Rattle.update_machine.proofs.CallerLemmas.{have_first, have_in_turn, have_put, version_kept}
 use Rattle.std.specs.Option.{option_map_or}
 use Rattle.partition.specs.Plan.{Placed}
 use Rattle.policy_rules.specs.declared.packet.Leg.TheVariants.{Seek, Exit}
 use Rattle.policy_rules.specs.declared.rules.Rule.{Rule}
 use Rattle.switch_table.specs.Tables.{part_of}
-use Rattle.update_machine.specs.Versions.{holds_version, is_version, stamp_of}
+use Rattle.update_machine.specs.Versions.{holds_version, is_version, stamp_of, placed_in, file_of, plan_at}
 use Rattle.boot_laws.specs.ItemCauses.{HasItemCause, IsRightMessage}
 use Rattle.boot_laws.proofs.Facts.{Has, have_weaker}
 use Rattle.boot_laws.proofs.Sends.{each_flat_map, each_map, each_append, each_kept, each_range}

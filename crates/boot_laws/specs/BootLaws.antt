@@ -8,10 +8,11 @@ use Rattle.ctrl_msg.specs.declared.message.Message.{Message}
 use Rattle.ctrl_msg.specs.declared.message.Receiver.{Receiver}
 use Rattle.ctrl_msg.specs.declared.message.Receiver.TheVariants as receiver
 use Rattle.journal.specs.declared.item.Item.{Item}
-use Rattle.update_machine.specs.Boots.{boot_of, is_up, serves, message_of}
+use Rattle.update_machine.specs.Boots.{boot_of, is_up}
 use Rattle.update_machine.specs.Marks.{is_member, is_over, known_boot}
 use Rattle.update_machine.specs.Quiet.{speaker}
 use Rattle.update_machine.specs.Settling.{to_switch}
+use Rattle.update_machine.specs.Links.{serves, message_of}
 
 -- a message to a switch carries no boot above the one that is known of it, and one of a switch none
 -- above its own

@@ -11,15 +11,16 @@ use Rattle.journal.specs.declared.item.Item.{Item}
 use Rattle.journal.specs.declared.item.Item.TheVariants as item
 use Rattle.steps.specs.declared.step.Step.{Step}
 use Rattle.steps.specs.declared.step.Step.TheVariants.{Confirm, Deliver}
-use Rattle.update_machine.specs.Boots.{is_up, message_of}
+use Rattle.update_machine.specs.Boots.{is_up}
 use Rattle.update_machine.specs.Deliveries.{after_hello, controller_items, delivery_items, is_new_boot, received_items, to_controller}
 use Rattle.update_machine.specs.Marks.{current_mark, known_boot, said_to_controller}
 use Rattle.update_machine.specs.Messages.{is_deliverable, is_to_controller}
 use Rattle.update_machine.specs.Moves.{put}
 use Rattle.update_machine.specs.Pieces.{confirm_items, deliver_items, nothing, piece}
-use Rattle.update_machine.specs.Setting.{Setting, placed_in, file_of}
+use Rattle.update_machine.specs.Setting.{Setting}
 use Rattle.update_machine.specs.Settling.{install_for, installs_to, settling, versions_from_current}
-use Rattle.update_machine.specs.Versions.{policy_at, version_count}
+use Rattle.update_machine.specs.Versions.{policy_at, version_count, placed_in, file_of}
+use Rattle.update_machine.specs.Links.{message_of}
 use Rattle.update_machine.proofs.CallerLemmas.{controller_keeps, have_append, of_its_file, start_laws}
 use Rattle.boot_laws.specs.ItemCauses.{HasItemCause}
 use Rattle.boot_laws.proofs.Grown.{count_more, current_more, message_more, up_more}

@@ -9,9 +9,9 @@ use Rattle.partition.specs.Plan.{Placed}
 use Rattle.journal.specs.declared.item.Item.{Item}
 use Rattle.update_machine.specs.Laws.{ControllerKeeps}
 use Rattle.update_machine.specs.Marks.{current_mark}
-use Rattle.update_machine.specs.Setting.{Setting, plan_at}
+use Rattle.update_machine.specs.Setting.{Setting}
 use Rattle.update_machine.specs.Settling.{settling, versions_from_current}
-use Rattle.update_machine.specs.Versions.{is_version, policy_at, version_count}
+use Rattle.update_machine.specs.Versions.{is_version, policy_at, version_count, plan_at}
 use Rattle.update_machine.proofs.CallerLemmas.{plan_kept, policy_kept}
 use Rattle.boot_laws.proofs.Versions.{caused_numbered}
 use Rattle.mark_laws.proofs.Marks.{bounded}

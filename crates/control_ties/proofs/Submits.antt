@@ -12,9 +12,9 @@ use Rattle.update_machine.specs.Marks as machine
 use Rattle.update_machine.specs.Marks.{current_mark, known_boot, most_live, most_versions, retired_mark}
 use Rattle.update_machine.specs.Moves.{put}
 use Rattle.update_machine.specs.Pieces.{marks_code, piece, plan_code, update_code, update_items}
-use Rattle.update_machine.specs.Setting.{Setting, placed_in, plan_of_file, switches_of, file_of, plan_at}
+use Rattle.update_machine.specs.Setting.{Setting, plan_of_file, switches_of}
 use Rattle.update_machine.specs.Settling.{install_for, installs_to_all, settling, submitted_items, versions_from_current}
-use Rattle.update_machine.specs.Versions.{policy_at, version_count}
+use Rattle.update_machine.specs.Versions.{policy_at, version_count, placed_in, file_of, plan_at}
 use Rattle.update_machine.proofs.CallerLemmas.{controller_keeps, file_append, have_append, of_its_file}
 use Rattle.boot_laws.specs.ItemCauses.{HasItemCause, SubmitsRightly}
 use Rattle.boot_laws.proofs.ControllerBlocks.{submitted_have}

@@ -14,9 +14,8 @@ use Rattle.update_machine.specs.Marks.{controller_heard, current_mark, known_boo
 use Rattle.update_machine.specs.Messages.{next_message, sent_from}
 use Rattle.update_machine.specs.Pieces.{update_code}
 use Rattle.update_machine.specs.Settling.{installs_to_all, versions_from_current}
-use Rattle.update_machine.specs.Versions.{policy_at, version_count}
-use Rattle.update_machine.specs.Setting.{file_of, plan_at}
-use Rattle.update_machine.specs.Boots.{message_of}
+use Rattle.update_machine.specs.Versions.{policy_at, version_count, file_of, plan_at}
+use Rattle.update_machine.specs.Links.{message_of}
 use Rattle.update_machine.proofs.Examples.{all_to, open_net, plan_p, plan_q, to, versions}
 use Rattle.version_update.specs.Record.{first_record}
 use Rattle.controller.specs.Controller.{KeptPlan, first_controller}

@@ -5,9 +5,9 @@ use Rattle.std.specs.Prelude.{ℕ, ◌≡◌, Some, Ok, List, map}
 use Rattle.controller.specs.Controller.{ControllerValue, KeptPlan}
 use Rattle.controller.specs.Plan.{PlanValue}
 use Rattle.journal.specs.declared.item.Item.{Item}
-use Rattle.update_machine.specs.Setting.{Setting, policy_of_file, plan_at}
+use Rattle.update_machine.specs.Setting.{Setting, policy_of_file}
 use Rattle.update_machine.specs.Settling.{versions_from_current}
-use Rattle.update_machine.specs.Versions.{policy_at}
+use Rattle.update_machine.specs.Versions.{policy_at, plan_at}
 use Rattle.control_ties.specs.Marks.{AreMarksOf}
 
 -- a version with its policy and its plan

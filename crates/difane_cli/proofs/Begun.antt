@@ -13,8 +13,7 @@ use Rattle.policy_rules.specs.declared.policy.Action.TheVariants as action
 use Rattle.policy_rules.specs.declared.policy.Row.{Row}
 use Rattle.steps.specs.Steps.{IsEvent}
 use Rattle.steps.specs.declared.step.Event.{Event}
-use Rattle.update_machine.specs.Sound.{IsSetting, NamesOwnPort}
-use Rattle.update_machine.specs.Setting.{Setting, setting_of}
+use Rattle.update_machine.specs.Setting.{Setting, setting_of, IsSetting, NamesOwnPort}
 use Rattle.replay.proofs.Events.{first_planned}
 use Rattle.world.specs.State.{IsTied, WorldValue, setting_at}
 use Rattle.world_ties.specs.Tied.{AreTied}

@@ -12,12 +12,11 @@ use Rattle.update_machine.specs.Answers.{BeginsAnswer}
 use Rattle.update_machine.specs.Causes.{EndsHaveCauses, HaveCauses}
 use Rattle.update_machine.specs.Full.{IsPlay}
 use Rattle.update_machine.specs.Machine.{IsRun}
-use Rattle.update_machine.specs.Sound.{IsSetting}
 use Rattle.update_machine.proofs.CallerLemmas.{answers_so_far, begins_itself, stop_begins}
 use Rattle.way_laws.specs.StrongCauses.{StrongCause}
 use Rattle.entry_laws.specs.Entries.{AreEntered, rows_played}
 use Rattle.steps.specs.declared.step.Event.{Event}
-use Rattle.update_machine.specs.Setting.{Setting}
+use Rattle.update_machine.specs.Setting.{Setting, IsSetting}
 use Rattle.difane_cli.specs.Tasks.{Inputs, Play, Print, Printing}
 use Rattle.shelf.specs.Sink.{GainedPart, SinkState}
 use Rattle.shelf.specs.declared.output.SinkError.{SinkError}

@@ -10,7 +10,7 @@ use Rattle.meters.specs.Meters.{Seen}
 use Rattle.update_machine.specs.Causes.{EndsHaveCauses, HaveCauses}
 use Rattle.update_machine.specs.Full.{IsPlay}
 use Rattle.update_machine.specs.Machine.{IsRun}
-use Rattle.update_machine.specs.Sound.{IsSetting}
+use Rattle.update_machine.specs.Setting.{IsSetting}
 use Rattle.steps.specs.Steps.{IsEvent}
 use Rattle.way_laws.specs.StrongCauses.{StrongCause}
 use Rattle.entry_laws.specs.Entries.{AreEntered, rows_played}

@@ -9,8 +9,7 @@ ghost use Rattle.difane_cli.specs.Inputs.{StopsContent, first_plan, plan_on, pol
 ghost use Rattle.net_file.specs.Net.{IsNet, port_mask};
 ghost use Rattle.net_file.specs.declared.net.Net.{Net};
 ghost use Rattle.partition.specs.Plan.{plan_of};
-ghost use Rattle.update_machine.specs.Sound.{IsSetting};
-ghost use Rattle.update_machine.specs.Setting.{setting_of};
+ghost use Rattle.update_machine.specs.Setting.{setting_of, IsSetting};
 ghost use Rattle.words.specs.Named.{names_seen};
 ghost use Rattle.world.specs.State.{IsBegun, setting_at};
 

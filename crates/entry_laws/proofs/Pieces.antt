@@ -6,7 +6,7 @@ use Rattle.journal.specs.declared.item.Item.TheVariants as item
 use Rattle.steps.specs.declared.step.Step.{Step}
 use Rattle.steps.specs.declared.step.Step.TheVariants.{Packet}
 use Rattle.update_machine.specs.Answers.{StepOfRow, after_steps}
-use Rattle.update_machine.specs.Boots.{serves}
+use Rattle.update_machine.specs.Links.{serves}
 use Rattle.update_machine.specs.Causes.{HaveCauses}
 use Rattle.update_machine.specs.Moves.{lookup_items, put}
 use Rattle.update_machine.specs.Packets.{next_packet}

@@ -12,17 +12,17 @@ use Rattle.switch_table.specs.declared.search.Found.{Found}
 use Rattle.switch_table.specs.declared.search.Found.TheVariants as found
 use Rattle.journal.specs.declared.item.Item.{Item}
 use Rattle.journal.specs.declared.item.Item.TheVariants as item
-use Rattle.update_machine.specs.Boots.{serves}
+use Rattle.update_machine.specs.Links.{serves}
 use Rattle.update_machine.specs.Caches.{lookup_at}
 use Rattle.update_machine.specs.Causes.{HaveCauses}
-use Rattle.update_machine.specs.Links.{near}
+use Rattle.update_machine.specs.LinkMasks.{near}
 use Rattle.update_machine.specs.Moves.{AuthorityRule, arrive_by, arrive_items, authority_items, authority_rule, first_place, found_items, header_at, leg_items, lookup_items, move_items, put, reroute_items, route_for, stuck_on, takes_route}
-use Rattle.update_machine.specs.Packets.{next_switch, standing}
+use Rattle.update_machine.specs.Packets.{standing}
 use Rattle.update_machine.specs.Pieces.{hop_items}
-use Rattle.update_machine.specs.Sound.{IsSetting}
-use Rattle.update_machine.specs.Setting.{Setting, plan_at}
-use Rattle.update_machine.specs.Versions.{holds_version, policy_at, stamp_of}
+use Rattle.update_machine.specs.Setting.{Setting, IsSetting}
+use Rattle.update_machine.specs.Versions.{holds_version, policy_at, stamp_of, plan_at}
 use Rattle.update_machine.specs.Travels.{leg_of, travels}
+use Rattle.update_machine.specs.Ways.{next_switch}
 use Rattle.boot_laws.specs.ItemCauses.{HasItemCause}
 use Rattle.way_laws.specs.OnWay.{IsOnWay, IsSeeking}
 use Rattle.way_laws.specs.Words.{PacketWords, words_of}

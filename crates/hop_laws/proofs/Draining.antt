@@ -14,8 +14,7 @@ use Rattle.update_machine.specs.Concerns.{concerns_steps}
 use Rattle.update_machine.specs.Folds.{count_of}
 use Rattle.update_machine.specs.Packets.{is_packet, next_packet}
 use Rattle.update_machine.specs.Pieces.{piece, step_items}
-use Rattle.update_machine.specs.Sound.{IsSetting}
-use Rattle.update_machine.specs.Setting.{Setting}
+use Rattle.update_machine.specs.Setting.{Setting, IsSetting}
 use Rattle.update_machine.specs.Causes.{present_step, tells_step}
 use Rattle.update_machine.specs.Travels.{next_travelling, packets_in, travels}
 use Rattle.update_machine.proofs.CallerLemmas.{Nears, last_told_append, loop_ends, step_stays}

@@ -11,8 +11,7 @@ use Rattle.update_machine.specs.Answers.{AreAll, AreFirstSteps, AreFirstStepsOf,
 use Rattle.update_machine.specs.Full.{HasPlay, HaveRoom, IsFull, full_at}
 use Rattle.update_machine.specs.Messages.{next_message}
 use Rattle.update_machine.specs.Pieces.{piece}
-use Rattle.update_machine.specs.Sound.{IsSetting}
-use Rattle.update_machine.specs.Setting.{Setting}
+use Rattle.update_machine.specs.Setting.{Setting, IsSetting}
 use Rattle.update_machine.proofs.CallerLemmas.{IsEventOf, after_append, event_steps_are, rooms_append}
 use Rattle.boot_laws.proofs.Reached.{NamesOwn, has_nexts, own_event}
 use Rattle.hop_laws.specs.Stops.{GoesOrStops}

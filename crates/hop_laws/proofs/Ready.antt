@@ -12,8 +12,7 @@ use Rattle.update_machine.specs.Answers.{AnswersSoFar, BeginsAnswer, IsReached, 
 use Rattle.update_machine.specs.Causes.{HaveCauses}
 use Rattle.update_machine.specs.Travels.{travels}
 use Rattle.update_machine.specs.Pieces.{hop_items, piece, step_items}
-use Rattle.update_machine.specs.Sound.{IsSetting}
-use Rattle.update_machine.specs.Setting.{Setting}
+use Rattle.update_machine.specs.Setting.{Setting, IsSetting}
 use Rattle.update_machine.proofs.CallerLemmas.{AreOf, answers_so_far, first_steps_are, have_append, have_take, packet_keeps}
 use Rattle.boot_laws.specs.Always.{HoldsReached}
 use Rattle.boot_laws.proofs.Facts.{have_both, have_weaker}

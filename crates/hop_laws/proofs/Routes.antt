@@ -9,10 +9,10 @@ use Rattle.journal.specs.declared.item.Item.{Item}
 use Rattle.journal.specs.declared.item.Item.TheVariants as item
 use Rattle.update_machine.specs.Causes.{HaveCauses}
 use Rattle.update_machine.specs.Marks.{current_mark, most_versions, retired_mark}
-use Rattle.update_machine.specs.Packets.{Decision, decision_of, found_down}
-use Rattle.update_machine.specs.Sound.{IsSetting}
-use Rattle.update_machine.specs.Setting.{Setting}
+use Rattle.update_machine.specs.Packets.{Decision, decision_of}
+use Rattle.update_machine.specs.Setting.{Setting, IsSetting}
 use Rattle.update_machine.specs.Travels.{leg_of}
+use Rattle.update_machine.specs.Ways.{found_down}
 use Rattle.boot_laws.specs.ItemCauses.{HasItemCause}
 use Rattle.boot_laws.proofs.Facts.{Behind, Both, fact_on, have_both}
 use Rattle.mark_laws.proofs.Marks.{bounded}

@@ -26,9 +26,10 @@ use Rattle.update_machine.specs.Concerns.{NoneConcern, concerns_policies}
 use Rattle.update_machine.specs.Messages.{next_message}
 use Rattle.update_machine.specs.Moves.{arrive_by, arrive_items, authority_items, authority_rule, header_at, lookup_items}
 use Rattle.update_machine.specs.Moves.{first_place as first_place_in}
-use Rattle.update_machine.specs.Packets.{decision_of, targets_of}
-use Rattle.update_machine.specs.Setting.{Setting, plan_at}
-use Rattle.update_machine.specs.Versions.{holds_version, policy_at, tables_at}
+use Rattle.update_machine.specs.Packets.{decision_of}
+use Rattle.update_machine.specs.Setting.{Setting}
+use Rattle.update_machine.specs.Versions.{holds_version, policy_at, tables_at, plan_at}
+use Rattle.update_machine.specs.Ways.{targets_of}
 use Rattle.update_machine.proofs.CallerLemmas.{policies_keep}
 use Rattle.way_laws.specs.OnWay.{IsOnLeg, IsSeeking}
 use Rattle.way_laws.specs.Words.{PacketWords, words_of}

@@ -14,8 +14,9 @@ use Rattle.switch_core.specs.declared.answers.HopEnd.TheVariants as hop
 use Rattle.switch_ties.specs.SwitchOf.{switch_of}
 use Rattle.switch_ties.proofs.Asked.{asked_ties}
 use Rattle.tunnel.specs.Moves.{here}
-use Rattle.update_machine.specs.Links.{near}
-use Rattle.update_machine.specs.Setting.{Setting, plan_at}
+use Rattle.update_machine.specs.LinkMasks.{near}
+use Rattle.update_machine.specs.Setting.{Setting}
+use Rattle.update_machine.specs.Versions.{plan_at}
 use Rattle.version_laws.specs.Authorities.{EndsAt}
 use Rattle.way_laws.specs.Words.{words_of}
 use Rattle.travelling.specs.declared.travelling.Traveller.{Traveller}

@@ -15,8 +15,9 @@ use Rattle.switch_ties.specs.SwitchOf.{switch_of}
 use Rattle.switch_ties.proofs.Steps.{call_ties}
 use Rattle.update_machine.specs.Concerns.{NoneConcern, concerns_policies}
 use Rattle.update_machine.specs.Folds.{count_of}
-use Rattle.update_machine.specs.Packets.{is_packet, targets_of}
+use Rattle.update_machine.specs.Packets.{is_packet}
 use Rattle.update_machine.specs.Setting.{Setting}
+use Rattle.update_machine.specs.Ways.{targets_of}
 use Rattle.way_laws.specs.OnWay.{IsUnknown}
 use Rattle.way_laws.specs.Words.{words_of}
 use Rattle.travelling.specs.declared.travelling.Traveller.{Traveller}

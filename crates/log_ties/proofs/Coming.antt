@@ -14,10 +14,10 @@ use Rattle.switch_core.specs.State.{SwitchValue, serves as serves_now}
 use Rattle.switch_core.specs.declared.answers.Entered.{Entered}
 use Rattle.switch_core.specs.declared.answers.Entered.TheVariants as entry_is
 use Rattle.switch_core.specs.declared.packet.Packet.{Packet}
-use Rattle.update_machine.specs.Boots.{serves}
+use Rattle.update_machine.specs.Links.{serves}
 use Rattle.update_machine.specs.Messages.{next_message}
 use Rattle.update_machine.specs.Moves.{lookup_items}
-use Rattle.update_machine.specs.Packets.{targets_of}
+use Rattle.update_machine.specs.Ways.{targets_of}
 use Rattle.update_machine.specs.Pieces.{packet_items}
 use Rattle.update_machine.specs.Setting.{Setting}
 use Rattle.update_machine.proofs.CallerLemmas.{have_append, messages_keep, switch_keeps}

@@ -17,7 +17,7 @@ use Rattle.switch_core.specs.declared.packet.Packet.{Packet}
 use Rattle.update_machine.specs.Messages.{is_sending, next_message, sends, sent_from}
 use Rattle.update_machine.specs.Moves.{AuthorityRule, authority_items, cache_items, end_items, header_at, in_turn}
 use Rattle.update_machine.specs.Moves.{cache_rule as rule_message}
-use Rattle.update_machine.specs.Packets.{found_down}
+use Rattle.update_machine.specs.Ways.{found_down}
 use Rattle.update_machine.specs.Setting.{Setting}
 use Rattle.update_machine.specs.Travels.{is_at}
 use Rattle.update_machine.proofs.CallerLemmas.{count_of_append}

@@ -18,8 +18,9 @@ use Rattle.switch_core.specs.declared.answers.Next.TheVariants as next
 use Rattle.switch_core.specs.declared.packet.Packet.{Packet}
 use Rattle.tunnel.specs.Tunnel.{TunnelValue}
 use Rattle.update_machine.specs.Moves.{end_items, leaves as left, leg_items}
-use Rattle.update_machine.specs.Packets.{decision_of, found_down, header_in, no_switch, owner}
+use Rattle.update_machine.specs.Packets.{decision_of, header_in}
 use Rattle.update_machine.specs.Setting.{Setting}
+use Rattle.update_machine.specs.Ways.{found_down, no_switch, owner}
 use Rattle.update_machine.proofs.CallerLemmas.{known_link_laws}
 use Rattle.world_log.specs.Writing.{end_of, leaves}
 use Rattle.travelling.specs.Travelling.{Standing}

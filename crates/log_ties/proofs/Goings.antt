@@ -32,7 +32,7 @@ use Rattle.tunnel.specs.Tunnel.{TunnelValue}
 use Rattle.update_machine.specs.Caches.{lookup_at}
 use Rattle.update_machine.specs.Marks.{retired_mark}
 use Rattle.update_machine.specs.Messages.{sent_from}
-use Rattle.update_machine.specs.Packets.{no_switch, owner, targets_of}
+use Rattle.update_machine.specs.Ways.{no_switch, owner, targets_of}
 use Rattle.update_machine.specs.Setting.{Setting}
 use Rattle.update_machine.specs.Versions.{stamp_of, tables_at}
 use Rattle.way_laws.specs.OnWay.{IsUnknown}

@@ -21,12 +21,13 @@ use Rattle.update_machine.specs.Folds.{count_of}
 use Rattle.update_machine.specs.Handled.{stays_on_way}
 use Rattle.update_machine.specs.Messages.{next_message}
 use Rattle.update_machine.specs.Moves.{move_items}
-use Rattle.update_machine.specs.Packets.{is_packet, targets_of}
+use Rattle.update_machine.specs.Packets.{is_packet}
 use Rattle.update_machine.specs.Packets.{standing as place_of}
 use Rattle.update_machine.specs.Pieces.{nothing, piece}
 use Rattle.update_machine.specs.Pieces.{hop_items as hop_items_of}
 use Rattle.update_machine.specs.Setting.{Setting}
 use Rattle.update_machine.specs.Travels.{is_at, travels, travels_at}
+use Rattle.update_machine.specs.Ways.{targets_of}
 use Rattle.way_laws.specs.Words.{PacketWords, words_of}
 use Rattle.way_laws.proofs.Words.{words_grow}
 use Rattle.world_log.specs.Packets.{arrival_items, ended_items, ended_switch, hop_items, hop_traveller, hopped_traveller, turned_items}

@@ -10,10 +10,9 @@ use Rattle.steps.specs.declared.step.Step.{Step}
 use Rattle.update_machine.specs.Answers.{IsReached, StepOfRow, after_steps}
 use Rattle.update_machine.specs.Causes.{HaveCauses}
 use Rattle.update_machine.specs.Marks.{current_mark}
-use Rattle.update_machine.specs.Packets.{targets_in, targets_of}
+use Rattle.update_machine.specs.Ways.{targets_in, targets_of}
 use Rattle.update_machine.specs.Pieces.{piece}
-use Rattle.update_machine.specs.Sound.{IsSetting}
-use Rattle.update_machine.specs.Setting.{Setting}
+use Rattle.update_machine.specs.Setting.{Setting, IsSetting}
 use Rattle.update_machine.specs.Versions.{is_version}
 use Rattle.update_machine.proofs.CallerLemmas.{plan_kept}
 use Rattle.boot_laws.specs.BootLaws.{ServingIsKnown}

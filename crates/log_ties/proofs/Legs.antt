@@ -18,7 +18,7 @@ use Rattle.tunnel.specs.Moves.{begun}
 use Rattle.tunnel.specs.Tunnel.{TunnelValue}
 use Rattle.update_machine.specs.Adverts.{is_cut_off, route_from}
 use Rattle.update_machine.specs.Moves.{cause_at, leg_items, takes_route}
-use Rattle.update_machine.specs.Packets.{found_down, targets_of}
+use Rattle.update_machine.specs.Ways.{found_down, targets_of}
 use Rattle.update_machine.specs.Setting.{Setting}
 use Rattle.travelling.specs.Travelling.{Standing}
 use Rattle.log_ties.proofs.Seeing.{Sees}

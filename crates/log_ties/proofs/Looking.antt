@@ -26,15 +26,14 @@ use Rattle.switch_table.specs.declared.search.Found.{Found}
 use Rattle.switch_table.specs.declared.search.Found.TheVariants as found
 use Rattle.switch_table.specs.declared.tables.Tables.{Tables}
 use Rattle.tunnel.specs.Tunnel.{TunnelValue}
-use Rattle.update_machine.specs.Boots.{serves}
+use Rattle.update_machine.specs.Links.{serves}
 use Rattle.update_machine.specs.Caches.{lookup_at}
 use Rattle.update_machine.specs.Causes.{HaveCauses}
 use Rattle.update_machine.specs.Messages.{next_message, sent_from}
 use Rattle.update_machine.specs.Moves.{authority_items, authority_rule, found_items, lookup_items}
-use Rattle.update_machine.specs.Packets.{targets_of}
-use Rattle.update_machine.specs.Sound.{IsSetting}
-use Rattle.update_machine.specs.Setting.{Setting, plan_at}
-use Rattle.update_machine.specs.Versions.{policy_at, stamp_of, tables_at}
+use Rattle.update_machine.specs.Ways.{targets_of}
+use Rattle.update_machine.specs.Setting.{Setting, IsSetting}
+use Rattle.update_machine.specs.Versions.{policy_at, stamp_of, tables_at, plan_at}
 use Rattle.boot_laws.specs.ItemCauses.{HasItemCause}
 use Rattle.way_laws.proofs.Lookups.{FindsRule, FindsTargets, IsStamped, authority_told, deciding, redirect_told, rule_there, stamped}
 use Rattle.way_laws.proofs.Plans.{Finds, IsPlanned}

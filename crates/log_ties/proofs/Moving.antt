@@ -26,13 +26,13 @@ use Rattle.switch_table.specs.Tables.{Placed}
 use Rattle.tunnel.specs.Moves.{here, next}
 use Rattle.tunnel.specs.Tunnel.{TunnelValue}
 use Rattle.update_machine.specs.Adverts.{route_from}
-use Rattle.update_machine.specs.Boots.{serves}
+use Rattle.update_machine.specs.Links.{serves}
 use Rattle.update_machine.specs.Causes.{HaveCauses}
 use Rattle.update_machine.specs.Handled.{stays_on_way}
-use Rattle.update_machine.specs.Links.{near}
+use Rattle.update_machine.specs.LinkMasks.{near}
 use Rattle.update_machine.specs.Messages.{next_message}
 use Rattle.update_machine.specs.Moves.{arrive_items, cause_at, go_on, move_items, put, reroute_by, reroute_items, route_for, stuck_on}
-use Rattle.update_machine.specs.Packets.{found_down, next_switch, no_switch, owner, targets_of}
+use Rattle.update_machine.specs.Ways.{found_down, next_switch, no_switch, owner, targets_of}
 use Rattle.update_machine.specs.Setting.{Setting}
 use Rattle.update_machine.specs.Travels.{leg_of}
 use Rattle.update_machine.proofs.CallerLemmas.{have_append, messages_keep, switch_keeps}

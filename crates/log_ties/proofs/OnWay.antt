@@ -7,8 +7,8 @@ use Rattle.five_tuple.specs.declared.header.Header.{Header}
 use Rattle.policy_rules.specs.declared.packet.Leg.{Leg}
 use Rattle.journal.specs.declared.item.Item.{Item}
 use Rattle.tunnel.specs.Tunnel.{TunnelValue}
-use Rattle.update_machine.specs.Boots.{serves}
-use Rattle.update_machine.specs.Packets.{targets_of}
+use Rattle.update_machine.specs.Links.{serves}
+use Rattle.update_machine.specs.Ways.{targets_of}
 use Rattle.update_machine.specs.Setting.{Setting}
 use Rattle.way_laws.specs.OnWay.{IsOnLeg, IsOnWay}
 use Rattle.way_laws.specs.Words.{PacketWords, words_of}

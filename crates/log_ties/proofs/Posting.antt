@@ -15,7 +15,7 @@ use Rattle.update_machine.specs.Concerns.{NoneConcern, concerns_known, concerns_
 use Rattle.update_machine.specs.Folds.{count_of, last_told}
 use Rattle.update_machine.specs.Laws.{MessageKeeps}
 use Rattle.update_machine.specs.Messages.{is_forgotten, is_forgetting, is_delivery, is_sending, next_message, was_delivered}
-use Rattle.update_machine.specs.Boots.{message_of, tells_message}
+use Rattle.update_machine.specs.Links.{message_of, tells_message}
 use Rattle.update_machine.proofs.CallerLemmas.{count_of_append, last_told_append, fewer, message_keeps, messages_keep, start_laws}
 use Rattle.log_ties.specs.Bags.{IsBagOf, post_in}
 

@@ -13,13 +13,14 @@ use Rattle.switch_ties.proofs.Knowing.{know_ties}
 use Rattle.switch_ties.proofs.Words.{stamp_shown, number_shown}
 use Rattle.switch_ties.proofs.Asked.{open_shown}
 use Rattle.update_machine.specs.Adverts.{is_cut_off, route_from}
-use Rattle.update_machine.specs.Boots.{is_up, serves as serves_in}
+use Rattle.update_machine.specs.Boots.{is_up}
 use Rattle.update_machine.specs.Caches.{lookup_at}
 use Rattle.update_machine.specs.Concerns.{concerns_links, concerns_policies, concerns_switch}
 use Rattle.update_machine.specs.Laws.{KnownKeeps, SwitchKeeps}
-use Rattle.update_machine.specs.Links.{near}
-use Rattle.update_machine.specs.Setting.{Setting, plan_at}
-use Rattle.update_machine.specs.Versions.{holds_version as holds_in, stamp_of, tables_at}
+use Rattle.update_machine.specs.LinkMasks.{near}
+use Rattle.update_machine.specs.Setting.{Setting}
+use Rattle.update_machine.specs.Versions.{holds_version as holds_in, stamp_of, tables_at, plan_at}
+use Rattle.update_machine.specs.Links.{serves as serves_in}
 use Rattle.update_machine.proofs.CallerLemmas.{known_keeps, lookup_stays, near_stays, policies_keep, switch_keeps}
 use Rattle.switch_table.specs.Tables.{tables_of}
 use Rattle.log_ties.proofs.Known.{Known}

@@ -11,11 +11,12 @@ use Rattle.switch_core.specs.State.{SwitchValue}
 use Rattle.switch_core.specs.declared.answers.Entered.{Entered}
 use Rattle.switch_ties.specs.SwitchOf.{switch_of}
 use Rattle.tunnel.specs.Moves.{here}
-use Rattle.update_machine.specs.Links.{near}
+use Rattle.update_machine.specs.LinkMasks.{near}
 use Rattle.update_machine.specs.Messages.{next_message}
-use Rattle.update_machine.specs.Packets.{next_packet, targets_of}
+use Rattle.update_machine.specs.Packets.{next_packet}
 use Rattle.update_machine.specs.Pieces.{piece}
 use Rattle.update_machine.specs.Setting.{Setting}
+use Rattle.update_machine.specs.Ways.{targets_of}
 use Rattle.way_laws.specs.OnWay.{IsUnknown}
 use Rattle.way_laws.specs.Words.{words_of}
 use Rattle.world_log.specs.Packets.{coming_in}

@@ -4,7 +4,7 @@ use Rattle.bag.specs.Numbered.{numbered}
 use Rattle.bag.specs.Posts.{Post, framed}
 use Rattle.journal.specs.declared.item.Item.{Item}
 use Rattle.update_machine.specs.Messages.{is_forgotten, next_message, was_delivered}
-use Rattle.update_machine.specs.Boots.{message_of}
+use Rattle.update_machine.specs.Links.{message_of}
 
 -- what the journal says of the message of a number, if it was sent: its frames, and what became of
 -- it

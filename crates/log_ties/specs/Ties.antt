@@ -20,12 +20,11 @@ use Rattle.travelling.specs.declared.travelling.Traveller.{Traveller}
 use Rattle.tunnel.specs.Moves.{here}
 use Rattle.update_machine.specs.Answers.{IsReached}
 use Rattle.update_machine.specs.Concerns.{NoneConcern, concerns_messages}
-use Rattle.update_machine.specs.Links.{near}
+use Rattle.update_machine.specs.LinkMasks.{near}
 use Rattle.update_machine.specs.Messages.{next_message}
 use Rattle.update_machine.specs.Packets.{next_packet}
 use Rattle.update_machine.specs.Pieces.{piece}
-use Rattle.update_machine.specs.Setting.{Setting}
-use Rattle.update_machine.specs.Sound.{IsSetting}
+use Rattle.update_machine.specs.Setting.{Setting, IsSetting}
 use Rattle.world_log.specs.Packets.{coming_in, entry, hop_items, hop_traveller}
 use Rattle.world_log.specs.Writing.{entered_items, entered_traveller}
 use Rattle.log_ties.specs.Bags.{IsBagOf}

@@ -11,12 +11,13 @@ use Rattle.ctrl_msg.specs.declared.message.Receiver.{Receiver}
 use Rattle.ctrl_msg.specs.declared.message.Receiver.TheVariants as receiver
 use Rattle.journal.specs.declared.item.Item.{Item}
 use Rattle.journal.specs.declared.item.Item.TheVariants as item
-use Rattle.update_machine.specs.Boots.{said_to, message_of}
+use Rattle.update_machine.specs.Boots.{said_to}
 use Rattle.update_machine.specs.Deliveries.{to_controller}
 use Rattle.update_machine.specs.Marks.{acked_stamp, members, next_retired, retired_mark, controller_heard, current_mark, first_of, known_boot, open_sent, said_to_controller, stamped_in}
 use Rattle.update_machine.specs.Setting.{Setting}
 use Rattle.update_machine.specs.Settling.{to_switch}
 use Rattle.update_machine.specs.Versions.{stamp_in, stamp_of}
+use Rattle.update_machine.specs.Links.{message_of}
 use Rattle.update_machine.proofs.CallerLemmas.{start_laws}
 use Rattle.boot_laws.specs.ItemCauses.{HasItemCause, IsRightMessage, IsRightOpening}
 use Rattle.boot_laws.proofs.Boots.{by_number, known_rises}

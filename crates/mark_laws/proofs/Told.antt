@@ -9,7 +9,7 @@ use Rattle.journal.specs.declared.item.Item.{Item}
 use Rattle.journal.specs.declared.item.Item.TheVariants as item
 use Rattle.update_machine.specs.Deliveries.{to_controller}
 use Rattle.update_machine.specs.Marks.{controller_heard, said_to_controller}
-use Rattle.update_machine.specs.Boots.{message_of}
+use Rattle.update_machine.specs.Links.{message_of}
 use Rattle.boot_laws.proofs.Boots.{said_sent}
 use Rattle.boot_laws.proofs.Grown.{told_more}
 

@@ -3,7 +3,7 @@ use Rattle.std.specs.Prelude.{ℕ, ◌≡◌, ◌<◌, ◌≤◌, Some, List, le
 use Rattle.ctrl_msg.specs.declared.message.Body.TheVariants.{Collect}
 use Rattle.journal.specs.declared.item.Item.{Item}
 use Rattle.update_machine.specs.Marks.{acked_stamp, current_mark, is_member, retired_mark}
-use Rattle.update_machine.specs.Boots.{message_of}
+use Rattle.update_machine.specs.Links.{message_of}
 use Rattle.update_machine.specs.Setting.{Setting}
 use Rattle.update_machine.specs.Settling.{to_switch}
 use Rattle.update_machine.specs.Versions.{stamp_of, version_count}

@@ -4,12 +4,13 @@ use Rattle.std.specs.List.{list_any}
 use Rattle.ctrl_msg.specs.declared.message.Body.TheVariants.{Install, Installed, Stamped}
 use Rattle.switch_table.specs.declared.tables.Tables.{Tables}
 use Rattle.journal.specs.declared.item.Item.{Item}
-use Rattle.update_machine.specs.Boots.{boot_of, heard, is_up, message_of}
+use Rattle.update_machine.specs.Boots.{boot_of, heard, is_up}
 use Rattle.update_machine.specs.Deliveries.{to_controller}
 use Rattle.update_machine.specs.Marks.{has_acked, known_boot}
 use Rattle.update_machine.specs.Setting.{Setting}
 use Rattle.update_machine.specs.Settling.{to_switch}
 use Rattle.update_machine.specs.Versions.{installs, stamp_of, tables_at, version_count}
+use Rattle.update_machine.specs.Links.{message_of}
 
 -- the switch heard the tables of the version in its boot, or began with them
 abbrev pub HasTables : List Item → ℕ → ℕ → Type 0

@@ -16,10 +16,10 @@ use Rattle.journal.specs.declared.item.Item.TheVariants as item
 use Rattle.steps.specs.declared.step.Step.{Step}
 use Rattle.steps.specs.declared.step.Step.TheVariants.{Packet, Hop, Lose, Deliver, Forget, Expire, Update, LinkDown, LinkUp, Crash, Restart, Confirm, Resend}
 use Rattle.update_machine.specs.Adverts.{held_adverts}
-use Rattle.update_machine.specs.Boots.{is_up, said_to, message_of}
+use Rattle.update_machine.specs.Boots.{is_up, said_to}
 use Rattle.update_machine.specs.Causes.{HaveCauses}
-use Rattle.update_machine.specs.Deliveries.{advert_to, after_hello, controller_items, delivery_items, is_new_boot, link_changes, passed_on, received_items, switch_items, to_controller}
-use Rattle.update_machine.specs.Links.{near, switches_in}
+use Rattle.update_machine.specs.Deliveries.{advert_to, after_hello, controller_items, delivery_items, is_new_boot, link_changes, passed_on, received_items, switch_items, to_controller, switches_in}
+use Rattle.update_machine.specs.LinkMasks.{near}
 use Rattle.update_machine.specs.Marks.{acked_stamp, current_mark, has_acked, hello_boot, is_joining, is_member, is_over, known_boot, members, retired_mark, said_to_controller}
 use Rattle.update_machine.specs.Messages.{next_message, sends, sent_from}
 use Rattle.update_machine.specs.Moves.{in_turn, put}
@@ -28,6 +28,7 @@ use Rattle.update_machine.specs.Pieces.{confirm_items, crash_items, deliver_item
 use Rattle.update_machine.specs.Setting.{Setting, switches_of}
 use Rattle.update_machine.specs.Settling.{collect_for, current_items, install_for, installs_to, installs_to_all, open_for, open_items, opening, resent_by_controller, resent_to_member, retired_items, settling, stamp_for, submitted_items, to_switch, unacked, versions_from_current}
 use Rattle.update_machine.specs.Versions.{is_version, version_count}
+use Rattle.update_machine.specs.Links.{message_of}
 use Rattle.update_machine.proofs.CallerLemmas.{have_first, have_in_turn, have_put}
 use Rattle.boot_laws.proofs.Boots.{known_rises}
 use Rattle.boot_laws.proofs.Facts.{AreKept, fact_on, have_weaker}

@@ -13,7 +13,7 @@ use Rattle.ctrl_msg.specs.declared.message.Receiver.TheVariants as receiver
 use Rattle.net_file.specs.Net.{IsNet}
 use Rattle.journal.specs.declared.item.Item.{Item}
 use Rattle.journal.specs.declared.item.Item.TheVariants as item
-use Rattle.update_machine.specs.Boots.{heard, message_of}
+use Rattle.update_machine.specs.Boots.{heard}
 use Rattle.update_machine.specs.Causes.{HaveCauses}
 use Rattle.update_machine.specs.Deliveries.{to_controller}
 use Rattle.update_machine.specs.Marks.{controller_heard, first_of, hello_boot, known_boot, open_sent, said_to_controller}
@@ -21,6 +21,7 @@ use Rattle.update_machine.specs.Travels.{ingress_of, tells_ingress}
 use Rattle.update_machine.specs.Setting.{Setting}
 use Rattle.update_machine.specs.Settling.{to_switch}
 use Rattle.update_machine.specs.Versions.{version_count}
+use Rattle.update_machine.specs.Links.{message_of}
 use Rattle.update_machine.proofs.CallerLemmas.{last_told_append, start_laws}
 use Rattle.boot_laws.specs.Always.{HoldsReached}
 use Rattle.boot_laws.specs.ItemCauses.{HasItemCause, IsRightMessage, IsRightOpening}

@@ -7,13 +7,14 @@ use Rattle.ctrl_msg.specs.declared.message.Receiver.{Receiver}
 use Rattle.ctrl_msg.specs.declared.message.Receiver.TheVariants as receiver
 use Rattle.journal.specs.declared.item.Item.{Item}
 use Rattle.steps.specs.Steps.{HasSwitch}
-use Rattle.update_machine.specs.Boots.{heard, message_of}
+use Rattle.update_machine.specs.Boots.{heard}
 use Rattle.update_machine.specs.Deliveries.{to_controller}
 use Rattle.update_machine.specs.Marks.{controller_heard}
 use Rattle.update_machine.specs.Quiet.{speaker}
 use Rattle.update_machine.specs.Setting.{Setting}
 use Rattle.update_machine.specs.Settling.{to_switch}
 use Rattle.update_machine.specs.Versions.{version_count}
+use Rattle.update_machine.specs.Links.{message_of}
 
 -- the version of which a body speaks
 abbrev pub version_in : Body → Option ℕ

@@ -15,7 +15,7 @@ use Rattle.update_machine.specs.Quiet.{Sending, boot_at, sendings}
 use Rattle.update_machine.specs.Setting.{Setting}
 use Rattle.update_machine.specs.Settling.{to_switch}
 use Rattle.update_machine.specs.Versions.{tables_at}
-use Rattle.update_machine.specs.Boots.{message_of}
+use Rattle.update_machine.specs.Links.{message_of}
 use Rattle.boot_laws.specs.Always.{HoldsAlways, HoldsReached}
 use Rattle.boot_laws.specs.ItemCauses.{HasItemCause}
 use Rattle.boot_laws.proofs.Facts.{AreKept, Both, fact_on}

@@ -11,7 +11,7 @@ use Rattle.journal.specs.declared.item.Item.{Item}
 use Rattle.journal.specs.declared.item.Item.TheVariants as item
 use Rattle.steps.specs.declared.step.Step.{Step}
 use Rattle.steps.specs.declared.step.Step.TheVariants.{Deliver, Restart}
-use Rattle.update_machine.specs.Boots.{boot_of, heard, is_up, said_to, serves, message_of}
+use Rattle.update_machine.specs.Boots.{boot_of, heard, is_up, said_to}
 use Rattle.update_machine.specs.Deliveries.{delivery_items, link_changes, received_items, switch_items, to_controller}
 use Rattle.update_machine.specs.Messages.{is_deliverable, sends}
 use Rattle.update_machine.specs.Moves.{put}
@@ -19,6 +19,7 @@ use Rattle.update_machine.specs.Pieces.{deliver_items, hello_of, nothing, piece,
 use Rattle.update_machine.specs.Setting.{Setting}
 use Rattle.update_machine.specs.Settling.{to_switch}
 use Rattle.update_machine.specs.Versions.{stamp_of}
+use Rattle.update_machine.specs.Links.{serves, message_of}
 use Rattle.update_machine.proofs.CallerLemmas.{start_laws}
 use Rattle.boot_laws.proofs.Facts.{AreKept, fact_on}
 use Rattle.boot_laws.proofs.Grown.{boot_more, heard_more, serving_more, up_more}

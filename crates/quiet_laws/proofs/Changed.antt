@@ -14,13 +14,14 @@ use Rattle.journal.specs.declared.item.Item.{Item}
 use Rattle.journal.specs.declared.item.Item.TheVariants as item
 use Rattle.steps.specs.Steps.{HasSwitch}
 use Rattle.update_machine.specs.Adverts.{advert_known, adverts_known, held_adverts, own_advert, own_seq}
-use Rattle.update_machine.specs.Boots.{boot_of, heard, is_up, serves}
+use Rattle.update_machine.specs.Boots.{boot_of, heard, is_up}
 use Rattle.update_machine.specs.Causes.{HaveCauses}
 use Rattle.update_machine.specs.Concerns.{concerns_links}
-use Rattle.update_machine.specs.Deliveries.{advert_to, has_changed, link_changes, told_by, told_over}
-use Rattle.update_machine.specs.Links.{near, switches_in, adverts_begun, adverts_heard}
+use Rattle.update_machine.specs.Deliveries.{advert_to, has_changed, link_changes, told_by, told_over, switches_in}
+use Rattle.update_machine.specs.LinkMasks.{near, adverts_begun, adverts_heard}
 use Rattle.update_machine.specs.Messages.{sends}
 use Rattle.update_machine.specs.Setting.{Setting, switches_of}
+use Rattle.update_machine.specs.Links.{serves}
 use Rattle.update_machine.proofs.CallerLemmas.{known_link_laws, near_stays}
 use Rattle.boot_laws.proofs.Facts.{have_weaker}
 use Rattle.boot_laws.proofs.Grown.{boot_more, heard_more, serving_more, up_more}

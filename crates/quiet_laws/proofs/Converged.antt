@@ -15,13 +15,14 @@ use Rattle.journal.specs.declared.item.Item.{Item}
 use Rattle.journal.specs.declared.item.Item.TheVariants as item
 use Rattle.steps.specs.Steps.{HasSwitch}
 use Rattle.update_machine.specs.Adverts.{advert_known, own_advert}
-use Rattle.update_machine.specs.Boots.{boot_of, heard, is_for_boot, is_up, serves}
+use Rattle.update_machine.specs.Boots.{boot_of, heard, is_for_boot, is_up}
 use Rattle.update_machine.specs.Deliveries.{advert_to}
-use Rattle.update_machine.specs.Links.{near, other_advert}
+use Rattle.update_machine.specs.LinkMasks.{near, other_advert}
 use Rattle.update_machine.specs.Messages.{next_message}
 use Rattle.update_machine.specs.Quiet.{IsQuiet, Sending, boot_at, is_later_body, matters, sendings}
 use Rattle.update_machine.specs.Setting.{Setting}
 use Rattle.update_machine.specs.Settling.{to_switch}
+use Rattle.update_machine.specs.Links.{serves}
 use Rattle.boot_laws.proofs.Facts.{AreKept}
 use Rattle.advert_laws.specs.Adverts.{OwnAreNewest}
 use Rattle.advert_laws.proofs.NetLinks.{own_origin, second}

@@ -11,7 +11,7 @@ use Rattle.ctrl_msg.specs.declared.message.Body.TheVariants.{Install, OpenAt, In
 use Rattle.ctrl_msg.specs.declared.message.Message.{Message}
 use Rattle.journal.specs.declared.item.Item.{Item}
 use Rattle.journal.specs.declared.item.Item.TheVariants as item
-use Rattle.update_machine.specs.Boots.{boot_of, heard, is_up, said_to, serves, message_of}
+use Rattle.update_machine.specs.Boots.{boot_of, heard, is_up, said_to}
 use Rattle.update_machine.specs.Causes.{HaveCauses}
 use Rattle.update_machine.specs.Deliveries.{to_controller}
 use Rattle.update_machine.specs.Folds.{all_given, last_told}
@@ -20,6 +20,7 @@ use Rattle.update_machine.specs.Quiet.{Sending, is_waited_for, sendings, tells_w
 use Rattle.update_machine.specs.Setting.{Setting}
 use Rattle.update_machine.specs.Settling.{to_switch}
 use Rattle.update_machine.specs.Versions.{installs}
+use Rattle.update_machine.specs.Links.{serves, message_of}
 use Rattle.update_machine.proofs.CallerLemmas.{last_told_append, start_laws}
 use Rattle.boot_laws.specs.ItemCauses.{HasItemCause, IsRightInstalled, IsRightOpening}
 use Rattle.boot_laws.proofs.Boots.{by_number, known_rises, said_sent}

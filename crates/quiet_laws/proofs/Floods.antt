@@ -21,10 +21,10 @@ use Rattle.steps.specs.declared.step.Step.{Step}
 use Rattle.steps.specs.declared.step.Step.TheVariants.{Packet, Hop, Lose, Deliver, Forget, Expire, Update, LinkDown, LinkUp, Crash, Restart, Confirm, Resend}
 use Rattle.update_machine.specs.Adverts.{advert_known, adverts_known, own_advert}
 use Rattle.update_machine.specs.Answers.{StepOfRow, after_steps}
-use Rattle.update_machine.specs.Boots.{said_to, serves, message_of}
+use Rattle.update_machine.specs.Boots.{said_to}
 use Rattle.update_machine.specs.Causes.{HaveCauses}
-use Rattle.update_machine.specs.Deliveries.{advert_to, delivery_items, is_news_to, link_changes, passed_on, received_items, switch_items, to_controller}
-use Rattle.update_machine.specs.Links.{near, switches_in, adverts_begun, adverts_heard, other_advert}
+use Rattle.update_machine.specs.Deliveries.{advert_to, delivery_items, is_news_to, link_changes, passed_on, received_items, switch_items, to_controller, switches_in}
+use Rattle.update_machine.specs.LinkMasks.{near, adverts_begun, adverts_heard, other_advert}
 use Rattle.update_machine.specs.Messages.{is_deliverable, is_to_controller, sends}
 use Rattle.update_machine.specs.Moves.{put}
 use Rattle.update_machine.specs.Packets.{next_packet}
@@ -32,6 +32,7 @@ use Rattle.update_machine.specs.Pieces.{deliver_items, nothing, piece, step_item
 use Rattle.update_machine.specs.Setting.{Setting, switches_of}
 use Rattle.update_machine.specs.Settling.{to_switch}
 use Rattle.update_machine.specs.Versions.{stamp_of}
+use Rattle.update_machine.specs.Links.{serves, message_of}
 use Rattle.update_machine.proofs.CallerLemmas.{have_append, known_link_laws, links_keep, near_stays, start_laws}
 use Rattle.boot_laws.proofs.Facts.{Has}
 use Rattle.boot_laws.proofs.Grown.{boot_more, heard_more, up_more}

@@ -17,7 +17,7 @@ use Rattle.update_machine.specs.Boots.{boot_of, heard, is_up, said_to}
 use Rattle.update_machine.specs.Causes.{HaveCauses}
 use Rattle.update_machine.specs.Deliveries.{advert_to}
 use Rattle.update_machine.specs.Laws.{LinksKeep}
-use Rattle.update_machine.specs.Links.{near, adverts_begun, adverts_heard, other_advert}
+use Rattle.update_machine.specs.LinkMasks.{near, adverts_begun, adverts_heard, other_advert}
 use Rattle.update_machine.specs.Messages.{next_message, sends, sent_from}
 use Rattle.update_machine.specs.Quiet.{boot_at, sendings}
 use Rattle.update_machine.specs.Setting.{Setting}

@@ -13,7 +13,7 @@ use Rattle.journal.specs.declared.item.Item.{Item}
 use Rattle.journal.specs.declared.item.Item.TheVariants as item
 use Rattle.steps.specs.declared.step.Step.{Step}
 use Rattle.steps.specs.declared.step.Step.TheVariants.{Deliver, Update, Confirm}
-use Rattle.update_machine.specs.Boots.{is_up, message_of}
+use Rattle.update_machine.specs.Boots.{is_up}
 use Rattle.update_machine.specs.Concerns.{is_message_to_controller}
 use Rattle.update_machine.specs.Deliveries.{after_hello, controller_items, delivery_items, is_new_boot, received_items, to_controller}
 use Rattle.update_machine.specs.Laws.{ControllerKeeps}
@@ -24,6 +24,7 @@ use Rattle.update_machine.specs.Pieces.{confirm_items, deliver_items, nothing, p
 use Rattle.update_machine.specs.Setting.{Setting, switches_of}
 use Rattle.update_machine.specs.Settling.{install_for, installs_to, installs_to_all, settling, submitted_items, to_switch, versions_from_current}
 use Rattle.update_machine.specs.Versions.{tables_at, version_count}
+use Rattle.update_machine.specs.Links.{message_of}
 use Rattle.update_machine.proofs.CallerLemmas.{start_laws}
 use Rattle.boot_laws.specs.ItemCauses.{HasItemCause}
 use Rattle.boot_laws.proofs.Boots.{hello_sent}

@@ -18,7 +18,7 @@ use Rattle.net_file.proofs.Places.{links}
 use Rattle.journal.specs.declared.item.Item.{Item}
 use Rattle.steps.specs.Steps.{HasSwitch}
 use Rattle.update_machine.specs.Adverts.{adverts_known, own_advert, route_from}
-use Rattle.update_machine.specs.Links.{near, adverts_of_others, links_known}
+use Rattle.update_machine.specs.LinkMasks.{near, adverts_of_others, links_known}
 use Rattle.update_machine.specs.Setting.{Setting}
 use Rattle.update_machine.proofs.CallerLemmas.{has_known_link, known_places, unreached}
 use Rattle.advert_laws.proofs.NetLinks.{near_linked, second}

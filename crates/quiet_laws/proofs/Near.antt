@@ -8,9 +8,9 @@ use Rattle.net_file.specs.Net.{are_linked, joins, links_of}
 use Rattle.net_file.specs.declared.net.LinkRow.{LinkRow}
 use Rattle.net_file.proofs.Masks.{in_mask_of}
 use Rattle.journal.specs.declared.item.Item.{Item}
-use Rattle.update_machine.specs.Boots.{serves}
-use Rattle.update_machine.specs.Links.{is_link_up, is_usable, near}
+use Rattle.update_machine.specs.Links.{is_link_up, is_usable, serves}
 use Rattle.update_machine.specs.Setting.{Setting}
+use Rattle.update_machine.specs.LinkMasks.{near}
 use Rattle.advert_laws.proofs.NetLinks.{linked_by_mask}
 
 -- ---- both ends serve

@@ -13,18 +13,19 @@ use Rattle.journal.specs.declared.item.Item.{Item}
 use Rattle.journal.specs.declared.item.Item.TheVariants as item
 use Rattle.steps.specs.declared.step.Step.{Step}
 use Rattle.update_machine.specs.Adverts.{own_advert}
-use Rattle.update_machine.specs.Boots.{boot_of, heard, is_up, serves}
+use Rattle.update_machine.specs.Boots.{boot_of, heard, is_up}
 use Rattle.update_machine.specs.Causes.{HaveCauses}
 use Rattle.update_machine.specs.Concerns.{concerns_links}
 use Rattle.update_machine.specs.Deliveries.{after_hello, controller_items, has_changed, link_changes}
 use Rattle.update_machine.specs.Laws.{LinksKeep}
-use Rattle.update_machine.specs.Links.{is_link_up, near, tells_link}
+use Rattle.update_machine.specs.Links.{is_link_up, tells_link, serves}
 use Rattle.update_machine.specs.Messages.{sends}
 use Rattle.update_machine.specs.Moves.{put}
 use Rattle.update_machine.specs.Travels.{packets_at}
 use Rattle.update_machine.specs.Pieces.{confirm_items, crash_items, hello_of, link_items, nothing, resend_items, restart_items, sends_or_nothing, update_items}
 use Rattle.update_machine.specs.Setting.{Setting}
 use Rattle.update_machine.specs.Settling.{installs_to, installs_to_all, settling, submitted_items}
+use Rattle.update_machine.specs.LinkMasks.{near}
 use Rattle.update_machine.proofs.CallerLemmas.{have_in_turn, last_told_append, links_keep, near_stays}
 use Rattle.boot_laws.proofs.Facts.{have_weaker}
 use Rattle.boot_laws.proofs.Grown.{boot_more, heard_more, serving_more, up_more}

@@ -14,7 +14,7 @@ use Rattle.ctrl_msg.specs.declared.message.Receiver.{Receiver}
 use Rattle.ctrl_msg.specs.declared.message.Receiver.TheVariants as receiver
 use Rattle.journal.specs.declared.item.Item.{Item}
 use Rattle.journal.specs.declared.item.Item.TheVariants as item
-use Rattle.update_machine.specs.Boots.{boot_of, heard, is_for_boot, is_up, said_to, message_of}
+use Rattle.update_machine.specs.Boots.{boot_of, heard, is_for_boot, is_up, said_to}
 use Rattle.update_machine.specs.Causes.{HaveCauses}
 use Rattle.update_machine.specs.Deliveries.{to_controller}
 use Rattle.update_machine.specs.Folds.{count_of}
@@ -24,6 +24,7 @@ use Rattle.update_machine.specs.Numbers.{TakesNext}
 use Rattle.update_machine.specs.Quiet.{Sending, boot_at, changes_sendings, sendings}
 use Rattle.update_machine.specs.Setting.{Setting}
 use Rattle.update_machine.specs.Settling.{to_switch}
+use Rattle.update_machine.specs.Links.{message_of}
 use Rattle.update_machine.proofs.CallerLemmas.{PiecesHave, count_of_append, folded_append, piece_next, start_laws}
 use Rattle.boot_laws.specs.ItemCauses.{HasItemCause}
 use Rattle.boot_laws.proofs.Boots.{boot_rises}

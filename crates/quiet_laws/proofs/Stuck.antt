@@ -24,14 +24,16 @@ use Rattle.update_machine.specs.Adverts.{route_from}
 use Rattle.update_machine.specs.Causes.{HaveCauses}
 use Rattle.update_machine.specs.Concerns.{concerns_known, concerns_links, concerns_policies}
 use Rattle.update_machine.specs.Deliveries.{after_hello, controller_items, delivery_items, link_changes, received_items, switch_items}
-use Rattle.update_machine.specs.Links.{near}
+use Rattle.update_machine.specs.LinkMasks.{near}
 use Rattle.update_machine.specs.Messages.{sends}
 use Rattle.update_machine.specs.Moves.{put}
-use Rattle.update_machine.specs.Packets.{changes_found, found_down, next_packet, targets_in, targets_of}
+use Rattle.update_machine.specs.Packets.{next_packet}
 use Rattle.update_machine.specs.Pieces.{confirm_items, crash_items, deliver_items, expire_items, forget_items, link_items, lose_items, piece, resend_items, restart_items, sends_or_nothing, step_items, update_items}
-use Rattle.update_machine.specs.Setting.{Setting, plan_at}
+use Rattle.update_machine.specs.Setting.{Setting}
 use Rattle.update_machine.specs.Settling.{installs_to, installs_to_all, settling, submitted_items}
-use Rattle.update_machine.specs.Boots.{message_of}
+use Rattle.update_machine.specs.Links.{message_of}
+use Rattle.update_machine.specs.Versions.{plan_at}
+use Rattle.update_machine.specs.Ways.{changes_found, found_down, targets_in, targets_of}
 use Rattle.update_machine.proofs.CallerLemmas.{folded_append, have_first, have_in_turn, have_put, known_keeps, links_keep, policies_keep}
 use Rattle.boot_laws.proofs.Facts.{AreKept, fact_on, have_front, have_weaker}
 use Rattle.boot_laws.proofs.SwitchBlocks.{IsOfSettling, settling_settles}

@@ -11,11 +11,12 @@ use Rattle.journal.specs.declared.item.Item.{Item}
 use Rattle.journal.specs.declared.item.Item.TheVariants as item
 use Rattle.update_machine.specs.Adverts.{advert_known, own_advert, own_seq}
 use Rattle.update_machine.specs.Answers.{StepOfRow, after_steps}
-use Rattle.update_machine.specs.Boots.{boot_of, is_up, serves}
+use Rattle.update_machine.specs.Boots.{boot_of, is_up}
 use Rattle.update_machine.specs.Causes.{HaveCauses}
-use Rattle.update_machine.specs.Links.{near}
+use Rattle.update_machine.specs.LinkMasks.{near}
 use Rattle.update_machine.specs.Quiet.{IsQuiet, sendings}
 use Rattle.update_machine.specs.Setting.{Setting}
+use Rattle.update_machine.specs.Links.{serves}
 use Rattle.update_machine.proofs.CallerLemmas.{known_link_laws, start_laws}
 use Rattle.boot_laws.specs.Always.{HoldsAtEnds}
 use Rattle.boot_laws.proofs.Behind.{at_ends}

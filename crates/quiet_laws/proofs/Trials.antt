@@ -7,13 +7,14 @@ use Rattle.failover.specs.Adverts.{first_advert}
 use Rattle.failover.specs.DownSet.{has_link, no_links, with_link}
 use Rattle.masks.specs.Masks.{has, mask_of, mask_where, switches}
 use Rattle.journal.specs.declared.item.Item.TheVariants as item
-use Rattle.update_machine.specs.Boots.{is_up, serves, message_of}
+use Rattle.update_machine.specs.Boots.{is_up}
 use Rattle.update_machine.specs.Deliveries.{to_controller}
-use Rattle.update_machine.specs.Links.{is_link_up, near}
+use Rattle.update_machine.specs.Links.{is_link_up, serves, message_of}
 use Rattle.update_machine.specs.Marks.{current_mark}
 use Rattle.update_machine.specs.Messages.{is_deliverable, is_forgotten, next_waiting, was_delivered}
 use Rattle.update_machine.specs.Quiet.{is_waited_for}
 use Rattle.update_machine.specs.Versions.{stamp_of, version_count}
+use Rattle.update_machine.specs.LinkMasks.{near}
 use Rattle.update_machine.proofs.CallerLemmas.{start_laws}
 use Rattle.update_machine.proofs.Examples.{open_net, ring}
 use Rattle.quiet_laws.specs.Converged.{AreUnusable, LeadsOver, Reaches}

@@ -10,7 +10,7 @@ use Rattle.ctrl_msg.specs.declared.message.Body.TheVariants.{Install, OpenAt, St
 use Rattle.switch_table.specs.declared.tables.Tables.{Tables}
 use Rattle.journal.specs.declared.item.Item.{Item}
 use Rattle.update_machine.specs.Answers.{StepOfRow, after_steps}
-use Rattle.update_machine.specs.Boots.{boot_of, heard, is_up, serves}
+use Rattle.update_machine.specs.Boots.{boot_of, heard, is_up}
 use Rattle.update_machine.specs.Causes.{HaveCauses}
 use Rattle.update_machine.specs.Deliveries.{to_controller}
 use Rattle.update_machine.specs.Marks.{AreSettled, acked_stamp, all_acked, controller_heard, current_mark, has_acked, hello_boot, installed_in, is_joining, is_member, is_over, known_boot, least, members, next_retired, open_version, opened_at, retired_mark, stamped_in}
@@ -19,6 +19,7 @@ use Rattle.update_machine.specs.Quiet.{IsQuiet, is_later_body, is_waited_for}
 use Rattle.update_machine.specs.Setting.{Setting, switches_of}
 use Rattle.update_machine.specs.Settling.{stamp_for}
 use Rattle.update_machine.specs.Versions.{first_stamp, stamp_in, stamp_of, version_count}
+use Rattle.update_machine.specs.Links.{serves}
 use Rattle.update_machine.proofs.CallerLemmas.{have_append}
 use Rattle.boot_laws.specs.Always.{HoldsAtEnds}
 use Rattle.boot_laws.specs.ItemCauses.{HasItemCause}

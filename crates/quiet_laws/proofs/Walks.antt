@@ -14,17 +14,18 @@ use Rattle.switch_table.specs.declared.search.Found.TheVariants as found
 use Rattle.journal.specs.declared.item.Item.{Item}
 use Rattle.journal.specs.declared.item.Item.TheVariants as item
 use Rattle.update_machine.specs.Adverts.{route_from}
-use Rattle.update_machine.specs.Boots.{serves}
+use Rattle.update_machine.specs.Links.{serves}
 use Rattle.update_machine.specs.Caches.{lookup_at}
 use Rattle.update_machine.specs.Causes.{HaveCauses}
-use Rattle.update_machine.specs.Links.{near}
+use Rattle.update_machine.specs.LinkMasks.{near}
 use Rattle.update_machine.specs.Messages.{sends, sent_from}
 use Rattle.update_machine.specs.Moves.{AuthorityRule, arrive_by, arrive_items, authority_items, authority_rule, cache_items, cache_rule, end_items, first_place, found_items, go_on, header_at, in_turn, leaves, leg_items, lookup_items, move_items, put, reroute_by, reroute_items, route_for, stuck_on, takes_route}
-use Rattle.update_machine.specs.Packets.{found_down, next_switch, owner, standing, targets_of}
+use Rattle.update_machine.specs.Packets.{standing}
 use Rattle.update_machine.specs.Pieces.{hop_items, nothing, packet_items}
 use Rattle.update_machine.specs.Setting.{Setting}
 use Rattle.update_machine.specs.Versions.{holds_version, stamp_of}
 use Rattle.update_machine.specs.Travels.{ingress_of, is_at, leg_of, travels}
+use Rattle.update_machine.specs.Ways.{found_down, next_switch, owner, targets_of}
 use Rattle.update_machine.proofs.CallerLemmas.{have_first, have_in_turn}
 
 -- the switch knows no route without the links that the packet found down

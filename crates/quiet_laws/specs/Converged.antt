@@ -9,7 +9,7 @@ use Rattle.journal.specs.declared.item.Item.{Item}
 use Rattle.steps.specs.Steps.{HasSwitch}
 use Rattle.update_machine.specs.Adverts.{advert_known, own_advert, route_from}
 use Rattle.update_machine.specs.Boots.{is_up}
-use Rattle.update_machine.specs.Links.{near, links_known}
+use Rattle.update_machine.specs.LinkMasks.{near, links_known}
 use Rattle.update_machine.specs.Setting.{Setting}
 
 -- from a switch over these, each by a link that can be used, to the target

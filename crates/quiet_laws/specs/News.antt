@@ -9,7 +9,7 @@ use Rattle.journal.specs.declared.item.Item.{Item}
 use Rattle.update_machine.specs.Adverts.{advert_known}
 use Rattle.update_machine.specs.Boots.{boot_of}
 use Rattle.update_machine.specs.Deliveries.{advert_to}
-use Rattle.update_machine.specs.Links.{near}
+use Rattle.update_machine.specs.LinkMasks.{near}
 use Rattle.update_machine.specs.Quiet.{sendings}
 use Rattle.update_machine.specs.Setting.{Setting}
 

@@ -13,8 +13,7 @@ use Rattle.update_machine.specs.Full.{HasRoom}
 use Rattle.update_machine.specs.Messages.{next_waiting}
 use Rattle.update_machine.specs.Packets.{next_packet}
 use Rattle.update_machine.specs.Pieces.{piece}
-use Rattle.update_machine.specs.Sound.{IsSetting}
-use Rattle.update_machine.specs.Setting.{Setting}
+use Rattle.update_machine.specs.Setting.{Setting, IsSetting}
 use Rattle.update_machine.specs.Travels.{next_travelling}
 use Rattle.world.specs.State.{IsTied, WorldValue, comes_in, setting_at}
 use Rattle.replay.specs.Playing.{brought_in, next_step}

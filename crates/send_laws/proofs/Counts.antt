@@ -23,9 +23,9 @@ use Rattle.update_machine.specs.Adverts.{held_adverts}
 use Rattle.update_machine.specs.Boots.{is_up}
 use Rattle.update_machine.specs.Caches.{lookup_at}
 use Rattle.update_machine.specs.Concerns.{NoneConcern, concerns_policies}
-use Rattle.update_machine.specs.Deliveries.{advert_to, after_hello, controller_items, is_new_boot, passed_on}
+use Rattle.update_machine.specs.Deliveries.{advert_to, after_hello, controller_items, is_new_boot, passed_on, switches_in}
 use Rattle.update_machine.specs.Folds.{count_of}
-use Rattle.update_machine.specs.Links.{near, switches_in}
+use Rattle.update_machine.specs.LinkMasks.{near}
 use Rattle.update_machine.specs.Marks.{acked_stamp, current_mark, has_acked, is_member, is_over, members, next_current, next_retired, retired_mark}
 use Rattle.update_machine.specs.Messages.{is_sending, next_message, sends, sent_from}
 use Rattle.update_machine.specs.Moves.{AuthorityRule, arrive_by, arrive_items, authority_items, cache_items, end_items, found_items, go_on, header_at, in_turn, leg_items, lookup_items, move_items, put, reroute_by, reroute_items}

@@ -6,7 +6,7 @@ use Rattle.journal.specs.declared.item.Item.TheVariants as item
 use Rattle.update_machine.specs.Answers.{StepOfRow, after_steps}
 use Rattle.update_machine.specs.Causes.{HaveCauses}
 use Rattle.update_machine.specs.Full.{HasRoom, HaveRoom}
-use Rattle.update_machine.specs.Links.{near}
+use Rattle.update_machine.specs.LinkMasks.{near}
 use Rattle.update_machine.specs.Messages.{next_message}
 use Rattle.update_machine.specs.Pieces.{piece}
 use Rattle.update_machine.specs.Setting.{Setting}

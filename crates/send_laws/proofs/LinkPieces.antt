@@ -8,13 +8,14 @@ use Rattle.net_file.specs.declared.net.LinkRow.{LinkRow}
 use Rattle.journal.specs.declared.item.Item.{Item}
 use Rattle.journal.specs.declared.item.Item.TheVariants as item
 use Rattle.update_machine.specs.Adverts.{own_advert}
-use Rattle.update_machine.specs.Boots.{boot_of, is_up, serves, tells_serving}
+use Rattle.update_machine.specs.Boots.{boot_of, is_up}
 use Rattle.update_machine.specs.Concerns.{NoneConcern, concerns_links}
 use Rattle.update_machine.specs.Deliveries.{link_changes}
 use Rattle.update_machine.specs.Folds.{last_told}
 use Rattle.update_machine.specs.Laws.{LinksKeep}
-use Rattle.update_machine.specs.Links.{is_link_up, is_usable, near, tells_link}
+use Rattle.update_machine.specs.Links.{is_link_up, is_usable, tells_link, serves, tells_serving}
 use Rattle.update_machine.specs.Setting.{Setting}
+use Rattle.update_machine.specs.LinkMasks.{near}
 use Rattle.update_machine.proofs.CallerLemmas.{last_told_append, links_keep, stays}
 use Rattle.boot_laws.proofs.Grown.{boot_more, serving_more, up_more}
 use Rattle.advert_laws.proofs.LinkCauses.{ChangedNoLinks, HasLinkCause}

@@ -24,7 +24,7 @@ use Rattle.update_machine.specs.Causes.{HaveCauses}
 use Rattle.update_machine.specs.Concerns.{NoneConcern, concerns_links}
 use Rattle.update_machine.specs.Deliveries.{advert_to, has_changed, link_changes, told_by, told_over}
 use Rattle.update_machine.specs.Laws.{LinksKeep}
-use Rattle.update_machine.specs.Links.{near, usable_links}
+use Rattle.update_machine.specs.LinkMasks.{near, usable_links}
 use Rattle.update_machine.specs.Messages.{is_sending}
 use Rattle.update_machine.specs.Pieces.{piece}
 use Rattle.update_machine.specs.Setting.{Setting, switches_of}

@@ -12,10 +12,10 @@ use Rattle.journal.specs.declared.item.Item.{Item}
 use Rattle.journal.specs.declared.item.Item.TheVariants as item
 use Rattle.steps.specs.declared.step.Step.{Step}
 use Rattle.steps.specs.declared.step.Step.TheVariants.{Packet, Hop, Lose, Deliver, Forget, Expire, Update, LinkDown, LinkUp, Crash, Restart, Confirm, Resend}
-use Rattle.update_machine.specs.Boots.{boot_of, is_up, said_to, serves, message_of}
+use Rattle.update_machine.specs.Boots.{boot_of, is_up, said_to}
 use Rattle.update_machine.specs.Concerns.{NoneConcern, concerns_links}
 use Rattle.update_machine.specs.Deliveries.{controller_items, delivery_items, is_news_to, link_changes, passed_on, received_items, switch_items}
-use Rattle.update_machine.specs.Links.{is_link_up}
+use Rattle.update_machine.specs.Links.{is_link_up, serves, message_of}
 use Rattle.update_machine.specs.Messages.{is_deliverable, sends}
 use Rattle.update_machine.specs.Moves.{put}
 use Rattle.update_machine.specs.Packets.{next_packet}

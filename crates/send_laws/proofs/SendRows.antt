@@ -6,13 +6,14 @@ use Rattle.journal.specs.declared.item.Item.{Item}
 use Rattle.journal.specs.declared.item.Item.TheVariants as item
 use Rattle.steps.specs.declared.step.Step.TheVariants as step
 use Rattle.update_machine.specs.Adverts.{adverts_known, held_adverts, own_advert, own_seq}
-use Rattle.update_machine.specs.Boots.{boot_of, heard, is_up, serves}
+use Rattle.update_machine.specs.Boots.{boot_of, heard, is_up}
 use Rattle.update_machine.specs.Deliveries.{link_changes}
-use Rattle.update_machine.specs.Links.{is_link_up, near}
+use Rattle.update_machine.specs.Links.{is_link_up, serves}
 use Rattle.update_machine.specs.Messages.{next_message, sent_from}
 use Rattle.update_machine.specs.Pieces.{crash_items, link_items, piece, restart_items}
 use Rattle.update_machine.specs.Steps.{steps_in}
 use Rattle.update_machine.specs.Versions.{version_count}
+use Rattle.update_machine.specs.LinkMasks.{near}
 use Rattle.update_machine.proofs.Examples.{open_net}
 use Rattle.advert_laws.proofs.AdvertRows.{is_net, restart, restarted, solo}
 use Rattle.send_laws.specs.Sends.{NumbersAreFew, NumbersFit, StepsSendAtMost, StepsSendFew, sent_count}

@@ -7,7 +7,7 @@ use Rattle.steps.specs.declared.step.Step.{Step}
 use Rattle.update_machine.specs.Adverts.{own_seq}
 use Rattle.update_machine.specs.Boots.{boot_of}
 use Rattle.update_machine.specs.Folds.{count_of}
-use Rattle.update_machine.specs.Links.{near}
+use Rattle.update_machine.specs.LinkMasks.{near}
 use Rattle.update_machine.specs.Messages.{is_sending, next_message}
 use Rattle.update_machine.specs.Pieces.{piece}
 use Rattle.update_machine.specs.Setting.{Setting}

@@ -12,7 +12,7 @@ use Rattle.journal.specs.declared.item.Item.TheVariants as item
 use Rattle.steps.specs.declared.step.Step.{Step}
 use Rattle.steps.specs.declared.step.Step.TheVariants.{Deliver, Update, Confirm}
 use Rattle.update_machine.specs.Answers.{StepOfRow, after_steps}
-use Rattle.update_machine.specs.Boots.{is_up, message_of}
+use Rattle.update_machine.specs.Boots.{is_up}
 use Rattle.update_machine.specs.Causes.{HaveCauses}
 use Rattle.update_machine.specs.Concerns.{is_message_to_controller}
 use Rattle.update_machine.specs.Deliveries.{after_hello, controller_items, delivery_items, received_items, to_controller}
@@ -23,6 +23,7 @@ use Rattle.update_machine.specs.Pieces.{confirm_items, deliver_items, nothing, p
 use Rattle.update_machine.specs.Setting.{Setting, switches_of}
 use Rattle.update_machine.specs.Settling.{installs_to, installs_to_all, settling, submitted_items, versions_from_current}
 use Rattle.update_machine.specs.Versions.{version_count}
+use Rattle.update_machine.specs.Links.{message_of}
 use Rattle.update_machine.proofs.CallerLemmas.{have_append, start_laws}
 use Rattle.boot_laws.specs.ItemCauses.{HasItemCause}
 use Rattle.boot_laws.specs.Always.{HoldsAtEnds}

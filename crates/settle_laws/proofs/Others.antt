@@ -13,12 +13,12 @@ use Rattle.journal.specs.declared.item.Item.TheVariants as item
 use Rattle.steps.specs.declared.step.Step.{Step}
 use Rattle.steps.specs.declared.step.Step.TheVariants.{Packet, Hop, Lose, Deliver, Forget, Expire, Update, LinkDown, LinkUp, Crash, Restart, Confirm, Resend}
 use Rattle.update_machine.specs.Adverts.{held_adverts}
-use Rattle.update_machine.specs.Boots.{is_up, message_of}
+use Rattle.update_machine.specs.Boots.{is_up}
 use Rattle.update_machine.specs.Causes.{HaveCauses}
 use Rattle.update_machine.specs.Concerns.{is_message_to_controller}
-use Rattle.update_machine.specs.Deliveries.{advert_to, delivery_items, link_changes, received_items, switch_items, passed_on}
+use Rattle.update_machine.specs.Deliveries.{advert_to, delivery_items, link_changes, received_items, switch_items, passed_on, switches_in}
 use Rattle.update_machine.specs.Laws.{ControllerKeeps}
-use Rattle.update_machine.specs.Links.{near, switches_in}
+use Rattle.update_machine.specs.LinkMasks.{near}
 use Rattle.update_machine.specs.Marks.{acked_stamp, current_mark, has_acked, is_member, is_over, retired_mark}
 use Rattle.update_machine.specs.Messages.{next_message, sends, sent_from}
 use Rattle.update_machine.specs.Moves.{put}
@@ -27,6 +27,7 @@ use Rattle.update_machine.specs.Pieces.{crash_items, deliver_items, hello_of, li
 use Rattle.update_machine.specs.Setting.{Setting}
 use Rattle.update_machine.specs.Settling.{collect_for, install_for, resent_by_controller, resent_to_member, stamp_for, unacked, versions_from_current}
 use Rattle.update_machine.specs.Versions.{version_count}
+use Rattle.update_machine.specs.Links.{message_of}
 use Rattle.update_machine.proofs.CallerLemmas.{have_first, have_put}
 use Rattle.boot_laws.proofs.Facts.{have_weaker}
 use Rattle.boot_laws.proofs.Grown.{known_more, message_more}

@@ -13,10 +13,10 @@ use Rattle.frame_laws.specs.Feeding.{HasShortSpelling}
 use Rattle.frame_laws.proofs.Lengths.{alone_short, length_message}
 use Rattle.journal.specs.declared.item.Item.{Item}
 use Rattle.update_machine.specs.Answers.{IsReached}
-use Rattle.update_machine.specs.Boots.{message_of}
-use Rattle.update_machine.specs.Setting.{Setting, plan_at}
+use Rattle.update_machine.specs.Links.{message_of}
+use Rattle.update_machine.specs.Setting.{Setting, IsSetting}
 use Rattle.update_machine.specs.Settling.{to_switch}
-use Rattle.update_machine.specs.Sound.{IsSetting}
+use Rattle.update_machine.specs.Versions.{plan_at}
 use Rattle.advert_laws.specs.Adverts.{AdvertsAreOfSwitches}
 use Rattle.advert_laws.proofs.BothCauses.{behind_both}
 use Rattle.advert_laws.proofs.Origins.{of_switches}

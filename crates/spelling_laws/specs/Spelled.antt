@@ -3,7 +3,7 @@ use Rattle.std.specs.Prelude.{ℕ, ◌≡◌, Some, List}
 use Rattle.ctrl_msg.specs.declared.message.Message.{Message}
 use Rattle.frame_laws.specs.Feeding.{HasShortSpelling}
 use Rattle.journal.specs.declared.item.Item.{Item}
-use Rattle.update_machine.specs.Boots.{message_of}
+use Rattle.update_machine.specs.Links.{message_of}
 
 -- each message that was sent is one
 abbrev pub AreSpelled : List Item → Type 0

@@ -24,10 +24,11 @@ use Rattle.switch_core.specs.State.{held_tables, holds_version, serves}
 use Rattle.switch_core.proofs.SwitchLaws.{heard_keeps}
 use Rattle.switch_table.specs.Tables.{AreSoundTables, Placed, has_target, part_of, tables_of}
 use Rattle.switch_table.specs.declared.tables.Tables.{Tables}
-use Rattle.update_machine.specs.Boots.{is_up, serves as serves_in, message_of}
-use Rattle.update_machine.specs.Setting.{Setting, plan_at}
+use Rattle.update_machine.specs.Boots.{is_up}
+use Rattle.update_machine.specs.Setting.{Setting}
 use Rattle.update_machine.specs.Settling.{to_switch}
-use Rattle.update_machine.specs.Versions.{stamp_of}
+use Rattle.update_machine.specs.Versions.{stamp_of, plan_at}
+use Rattle.update_machine.specs.Links.{serves as serves_in, message_of}
 use Rattle.boot_laws.specs.BootLaws.{ServingIsKnown}
 use Rattle.send_laws.specs.Sends.{NumbersFit}
 use Rattle.version_laws.specs.Authorities.{EndsAt, IsSoughtAt}

@@ -21,16 +21,17 @@ use Rattle.switch_core.specs.Life.{next_advert}
 use Rattle.switch_core.specs.State.{SwitchValue}
 use Rattle.switch_core.proofs.SwitchLaws.{heard_keeps}
 use Rattle.update_machine.specs.Adverts.{own_advert, own_seq}
-use Rattle.update_machine.specs.Boots.{boot_of, heard, is_for_boot, is_up, serves, tells_boot, tells_up, message_of}
+use Rattle.update_machine.specs.Boots.{boot_of, heard, is_for_boot, is_up, tells_boot, tells_up}
 use Rattle.update_machine.specs.Concerns.{is_message_to}
 use Rattle.update_machine.specs.Deliveries.{advert_to, delivery_items, has_changed, is_news_to, link_changes, passed_on, received_items, switch_items, to_controller}
 use Rattle.update_machine.specs.Laws.{LinksKeep}
-use Rattle.update_machine.specs.Links.{near}
+use Rattle.update_machine.specs.LinkMasks.{near}
 use Rattle.update_machine.specs.Messages.{sends, sent_from}
 use Rattle.update_machine.specs.Moves.{put}
 use Rattle.update_machine.specs.Setting.{Setting, switches_of}
 use Rattle.update_machine.specs.Settling.{to_switch}
 use Rattle.update_machine.specs.Versions.{stamp_of}
+use Rattle.update_machine.specs.Links.{serves, message_of}
 use Rattle.update_machine.proofs.CallerLemmas.{last_told_append, links_keep}
 use Rattle.boot_laws.proofs.Grown.{heard_more, message_more}
 use Rattle.mark_laws.proofs.Told.{each_weaker}

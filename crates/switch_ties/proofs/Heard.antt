@@ -14,9 +14,10 @@ use Rattle.switch_core.specs.Hearing.{after_body, collected_to, heard as hears, 
 use Rattle.switch_core.specs.State.{SwitchValue, holds_version}
 use Rattle.switch_table.specs.Cache.{raised}
 use Rattle.switch_table.specs.declared.tables.Tables.{Tables}
-use Rattle.update_machine.specs.Boots.{boot_of, heard, is_for_boot, is_up, said_to, message_of}
+use Rattle.update_machine.specs.Boots.{boot_of, heard, is_for_boot, is_up, said_to}
 use Rattle.update_machine.specs.Setting.{Setting}
 use Rattle.update_machine.specs.Settling.{to_switch}
+use Rattle.update_machine.specs.Links.{message_of}
 use Rattle.switch_ties.specs.SwitchOf.{switch_of}
 use Rattle.switch_ties.proofs.Hearing.{hears_words}
 use Rattle.switch_ties.proofs.Items.{words_delivered}

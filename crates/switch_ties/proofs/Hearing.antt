@@ -16,7 +16,7 @@ use Rattle.switch_core.specs.Hearing.{after_body, collected_to, informed, instal
 use Rattle.switch_core.specs.State.{SwitchValue}
 use Rattle.switch_table.specs.Cache.{raised}
 use Rattle.switch_table.specs.declared.tables.Tables.{Tables}
-use Rattle.update_machine.specs.Links.{other_advert}
+use Rattle.update_machine.specs.LinkMasks.{other_advert}
 use Rattle.update_machine.specs.Caches.{cache_after}
 use Rattle.update_machine.specs.Setting.{Setting}
 use Rattle.update_machine.specs.Versions.{stamp_in}

@@ -8,13 +8,14 @@ use Rattle.journal.specs.declared.item.Item.{Item}
 use Rattle.journal.specs.declared.item.Item.TheVariants as item
 use Rattle.switch_table.specs.Cache.{expired}
 use Rattle.update_machine.specs.Adverts.{own_seq}
-use Rattle.update_machine.specs.Boots.{boot_of, heard, is_up, said_to, serves}
+use Rattle.update_machine.specs.Boots.{boot_of, heard, is_up, said_to}
 use Rattle.update_machine.specs.Caches.{cache_after, cache_of, changes_cache}
 use Rattle.update_machine.specs.Concerns.{NoneConcern, concerns_known, concerns_links, concerns_switch}
 use Rattle.update_machine.specs.Handled.{handled_count}
-use Rattle.update_machine.specs.Links.{near}
+use Rattle.update_machine.specs.LinkMasks.{near}
 use Rattle.update_machine.specs.Setting.{Setting}
 use Rattle.update_machine.specs.Versions.{stamp_of}
+use Rattle.update_machine.specs.Links.{serves}
 use Rattle.update_machine.proofs.CallerLemmas.{calls_stay, fewer, folded_append, links_keep, switch_keeps}
 use Rattle.boot_laws.proofs.Grown.{boot_more, heard_more, serving_more, up_more}
 use Rattle.switch_ties.proofs.Hearing.{heard_words}

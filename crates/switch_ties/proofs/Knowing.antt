@@ -25,10 +25,10 @@ use Rattle.failover.specs.Routes.{route_of}
 use Rattle.switch_table.specs.Lookup.{lookup_of}
 use Rattle.update_machine.specs.Adverts.{is_cut_off, route_from}
 use Rattle.update_machine.specs.Caches.{lookup_at}
-use Rattle.update_machine.specs.Links.{near}
+use Rattle.update_machine.specs.LinkMasks.{near}
 use Rattle.update_machine.specs.Boots.{boot_of, heard, is_up}
-use Rattle.update_machine.specs.Setting.{Setting, placed_in, plan_of_file, policy_of_file, file_of, plan_at}
-use Rattle.update_machine.specs.Versions.{collects, holds_version as holds_in, installs, stamp_of, tables_at, version_count}
+use Rattle.update_machine.specs.Setting.{Setting, plan_of_file, policy_of_file}
+use Rattle.update_machine.specs.Versions.{collects, holds_version as holds_in, installs, stamp_of, tables_at, version_count, placed_in, file_of, plan_at}
 use Rattle.update_machine.proofs.CallerLemmas.{of_its_file}
 use Rattle.boot_laws.proofs.Sends.{each_kept}
 use Rattle.version_laws.specs.Planned.{BringsTables, HasPlan}

@@ -15,9 +15,9 @@ use Rattle.switch_table.specs.declared.tables.Tables.{Tables}
 use Rattle.update_machine.specs.Adverts.{has_change, held_adverts, own_advert, own_if_told, own_seq}
 use Rattle.update_machine.specs.Boots.{boot_of, is_up}
 use Rattle.update_machine.specs.Concerns.{NoneConcern, concerns_calls, concerns_known}
-use Rattle.update_machine.specs.Deliveries.{advert_to, has_changed, told_by}
+use Rattle.update_machine.specs.Deliveries.{advert_to, has_changed, told_by, switches_in}
 use Rattle.update_machine.specs.Handled.{handled_count}
-use Rattle.update_machine.specs.Links.{near, switches_in}
+use Rattle.update_machine.specs.LinkMasks.{near}
 use Rattle.update_machine.specs.Messages.{next_message, sends, sent_from}
 use Rattle.update_machine.specs.Setting.{Setting}
 use Rattle.update_machine.specs.Steps.{StepItems, steps_in}

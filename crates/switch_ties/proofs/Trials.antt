@@ -13,13 +13,13 @@ use Rattle.steps.specs.declared.step.Step.TheVariants as step
 use Rattle.journal.specs.declared.item.Item.{Item}
 use Rattle.journal.specs.declared.item.Item.TheVariants as item
 use Rattle.update_machine.specs.Adverts.{own_seq}
-use Rattle.update_machine.specs.Boots.{boot_of, heard, is_up, serves, message_of}
+use Rattle.update_machine.specs.Boots.{boot_of, heard, is_up}
 use Rattle.update_machine.specs.Caches.{cache_of}
 use Rattle.update_machine.specs.Deliveries.{has_changed}
-use Rattle.update_machine.specs.Links.{is_link_up, near}
+use Rattle.update_machine.specs.Links.{is_link_up, serves, message_of}
 use Rattle.update_machine.specs.Steps.{steps_in}
-use Rattle.update_machine.specs.Versions.{holds_version, stamp_of}
-use Rattle.update_machine.specs.Setting.{file_of, plan_at}
+use Rattle.update_machine.specs.Versions.{holds_version, stamp_of, file_of, plan_at}
+use Rattle.update_machine.specs.LinkMasks.{near}
 use Rattle.update_machine.proofs.Examples.{any_word, one, open_net, plan_p, rule, tables_of, to}
 use Rattle.version_laws.specs.Authorities.{EndsAt}
 use Rattle.switch_ties.specs.Asked.{CanRestart}

@@ -8,9 +8,10 @@ use Rattle.journal.specs.declared.item.Item.{Item}
 use Rattle.switch_core.specs.Answering.{CanLookUp, IsAtAuthority}
 use Rattle.switch_core.specs.Hearing.{IsSoundBody, heard}
 use Rattle.switch_core.specs.State.{SwitchValue, serves}
-use Rattle.update_machine.specs.Boots.{is_up, serves as serves_in, message_of}
+use Rattle.update_machine.specs.Boots.{is_up}
 use Rattle.update_machine.specs.Setting.{Setting}
 use Rattle.update_machine.specs.Settling.{to_switch}
+use Rattle.update_machine.specs.Links.{serves as serves_in, message_of}
 use Rattle.boot_laws.specs.BootLaws.{ServingIsKnown}
 use Rattle.send_laws.specs.Sends.{NumbersFit}
 use Rattle.version_laws.specs.Authorities.{EndsAt}

@@ -10,12 +10,12 @@ use Rattle.switch_core.specs.Life.{next_advert}
 use Rattle.update_machine.specs.Adverts.{own_advert}
 use Rattle.update_machine.specs.Concerns.{is_message_to}
 use Rattle.update_machine.specs.Deliveries.{delivery_items, has_changed, link_changes}
-use Rattle.update_machine.specs.Links.{near}
+use Rattle.update_machine.specs.LinkMasks.{near}
 use Rattle.update_machine.specs.Messages.{sends}
 use Rattle.update_machine.specs.Moves.{put}
 use Rattle.update_machine.specs.Setting.{Setting}
 use Rattle.update_machine.specs.Settling.{to_switch}
-use Rattle.update_machine.specs.Boots.{message_of}
+use Rattle.update_machine.specs.Links.{message_of}
 use Rattle.name_laws.specs.Named.{BodiesNameThere}
 use Rattle.switch_ties.specs.Links.{relinked}
 use Rattle.switch_ties.specs.SwitchOf.{switch_of}

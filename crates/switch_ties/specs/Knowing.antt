@@ -8,9 +8,8 @@ use Rattle.switch_core.specs.State.{held_tables, holds_version, stamp_tables}
 use Rattle.switch_table.specs.Lookup.{lookup_of}
 use Rattle.update_machine.specs.Adverts.{is_cut_off, route_from}
 use Rattle.update_machine.specs.Caches.{lookup_at}
-use Rattle.update_machine.specs.Links.{near}
-use Rattle.update_machine.specs.Sound.{IsSetting}
-use Rattle.update_machine.specs.Setting.{Setting}
+use Rattle.update_machine.specs.LinkMasks.{near}
+use Rattle.update_machine.specs.Setting.{Setting, IsSetting}
 use Rattle.update_machine.specs.Versions.{holds_version as holds_in, stamp_of, tables_at}
 use Rattle.name_laws.specs.Named.{BodiesNameThere}
 use Rattle.version_laws.specs.Planned.{TablesArePlanned, VersionsArePlanned}

@@ -13,8 +13,8 @@ use Rattle.switch_core.specs.Life.{near_changed, next_advert}
 use Rattle.switch_core.specs.State.{SwitchValue}
 use Rattle.update_machine.specs.Adverts.{held_adverts, own_advert}
 use Rattle.update_machine.specs.Concerns.{NoneConcern, concerns_calls, concerns_known, concerns_switch}
-use Rattle.update_machine.specs.Deliveries.{advert_to, has_changed, told_by}
-use Rattle.update_machine.specs.Links.{near, switches_in}
+use Rattle.update_machine.specs.Deliveries.{advert_to, has_changed, told_by, switches_in}
+use Rattle.update_machine.specs.LinkMasks.{near}
 use Rattle.update_machine.specs.Messages.{sends}
 use Rattle.update_machine.specs.Setting.{Setting}
 use Rattle.switch_ties.specs.Calls.{NoRows}

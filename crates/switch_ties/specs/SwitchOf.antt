@@ -7,11 +7,12 @@ use Rattle.journal.specs.declared.item.Item.{Item}
 use Rattle.switch_core.specs.State.{SwitchValue}
 use Rattle.switch_table.specs.declared.tables.Tables.{Tables}
 use Rattle.update_machine.specs.Adverts.{adverts_known, own_seq}
-use Rattle.update_machine.specs.Boots.{boot_of, heard, is_in_first_boot, is_up, serves}
+use Rattle.update_machine.specs.Boots.{boot_of, heard, is_in_first_boot, is_up}
 use Rattle.update_machine.specs.Caches.{cache_of}
 use Rattle.update_machine.specs.Handled.{handled_count}
 use Rattle.update_machine.specs.Setting.{Setting}
 use Rattle.update_machine.specs.Versions.{greatest, holds_version, stamp_of, tables_at}
+use Rattle.update_machine.specs.Links.{serves}
 
 -- the greatest version up to which the switch was told to drop tables in its boot
 abbrev pub collect_in : Body → Option ℕ

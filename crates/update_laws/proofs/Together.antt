@@ -2,8 +2,7 @@
 use Rattle.std.proofs.Common.{ℕ, List, [], sym, subst}
 use Rattle.journal.specs.declared.item.Item.{Item}
 use Rattle.update_machine.specs.Causes.{HaveCauses}
-use Rattle.update_machine.specs.Setting.{Setting}
-use Rattle.update_machine.specs.Sound.{IsSetting}
+use Rattle.update_machine.specs.Setting.{Setting, IsSetting}
 use Rattle.update_machine.proofs.CallerLemmas.{begins_itself}
 use Rattle.boot_laws.specs.Always.{HoldsAlways, HoldsReached}
 use Rattle.boot_laws.specs.BootLaws.{BootsAreKnown, OpensAtOneVersion, ServingIsKnown}

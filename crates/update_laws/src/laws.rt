@@ -1,5 +1,5 @@
 //! The law.
-ghost use Rattle.update_machine.specs.Sound.{IsSetting};
+ghost use Rattle.update_machine.specs.Setting.{IsSetting};
 ghost use Rattle.way_laws.specs.Between.{HoldsBetween};
 ghost use Rattle.update_laws.specs.Whole.{KeepVersionsWhole};
 

@@ -9,10 +9,11 @@ use Rattle.switch_table.specs.declared.search.Found.TheVariants.{Authority, Cach
 use Rattle.ternary.specs.Word.{WordValue, holds}
 use Rattle.journal.specs.declared.item.Item.{Item}
 use Rattle.journal.specs.declared.item.Item.TheVariants as item
-use Rattle.update_machine.specs.Boots.{boot_of, heard, is_up, message_of}
+use Rattle.update_machine.specs.Boots.{boot_of, heard, is_up}
 use Rattle.update_machine.specs.Caches.{cache_of, lookup_at, raised_from}
-use Rattle.update_machine.specs.Setting.{Setting, file_of, plan_at}
-use Rattle.update_machine.specs.Versions.{stamp_of}
+use Rattle.update_machine.specs.Setting.{Setting}
+use Rattle.update_machine.specs.Versions.{stamp_of, file_of, plan_at}
+use Rattle.update_machine.specs.Links.{message_of}
 use Rattle.update_machine.proofs.Examples.{all_dropped, any_word, by_action, denied, on, one, out_or_drop, plan_p, to, two_switches, web}
 
 -- a and b; the plan of the first policy is on b, that of the second on a

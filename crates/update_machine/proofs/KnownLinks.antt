@@ -20,9 +20,9 @@ use Rattle.journal.specs.declared.item.Item.{Item}
 use Rattle.update_machine.specs.Adverts.{advert_known, adverts_known, is_cut_off, own_advert, own_if_told, route_from}
 use Rattle.update_machine.specs.Boots.{is_in_first_boot}
 use Rattle.update_machine.specs.Laws.{KnownLinkLaws}
-use Rattle.update_machine.specs.Links.{near, adverts_begun, adverts_heard, adverts_of_others, links_known}
+use Rattle.update_machine.specs.LinkMasks.{near, adverts_begun, adverts_heard, adverts_of_others, links_known}
 use Rattle.update_machine.specs.Moves.{end_items, leaves, leg_items, stuck_on, takes_route}
-use Rattle.update_machine.specs.Packets.{found_down, no_switch, owner}
+use Rattle.update_machine.specs.Ways.{found_down, no_switch, owner}
 use Rattle.update_machine.specs.Setting.{Setting, switches_of}
 
 begun_by_origin : (setting : Setting) (journal : List Item) (s : ℕ)

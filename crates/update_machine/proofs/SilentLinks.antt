@@ -12,11 +12,11 @@ use Rattle.update_machine.specs.Caches.{cache_of, lookup_at}
 use Rattle.update_machine.specs.Concerns.{NoneConcern, concerns_known, concerns_links, concerns_lookups, concerns_policies, concerns_switch, concerns_waiting}
 use Rattle.update_machine.specs.Laws.{KnownKeeps, LinksKeep, PoliciesKeep, SwitchKeeps}
 use Rattle.update_machine.specs.Folds.{first_told}
-use Rattle.update_machine.specs.Links.{near}
+use Rattle.update_machine.specs.LinkMasks.{near}
 use Rattle.update_machine.specs.Quiet.{is_waited_for, tells_waited_for}
-use Rattle.update_machine.specs.Setting.{Setting, placed_in, policy_of_file, file_of, plan_at, tells_file}
+use Rattle.update_machine.specs.Setting.{Setting, policy_of_file}
 use Rattle.update_machine.specs.Steps.{StepItems, steps_in}
-use Rattle.update_machine.specs.Versions.{is_submission, policy_at, stamp_of, version_count}
+use Rattle.update_machine.specs.Versions.{is_submission, policy_at, stamp_of, version_count, placed_in, file_of, plan_at, tells_file}
 use Rattle.update_machine.proofs.Silent.{count_stays, fewer, first_stays, last_stays, neither_left, neither_right, stays}
 use Rattle.update_machine.proofs.SilentSteps.{weight_stays}
 use Rattle.update_machine.proofs.SilentSwitches.{link_stays, near_stays, switch_keeps}

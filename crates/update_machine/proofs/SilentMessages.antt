@@ -12,7 +12,7 @@ use Rattle.update_machine.specs.Messages.{is_deliverable, is_delivery, is_forget
 use Rattle.update_machine.specs.Packets.{is_packet, next_packet}
 use Rattle.update_machine.specs.Quiet.{Sending, changes_sendings, sendings}
 use Rattle.update_machine.specs.Causes.{present_step, tells_step}
-use Rattle.update_machine.specs.Boots.{message_of, tells_message}
+use Rattle.update_machine.specs.Links.{message_of, tells_message}
 use Rattle.update_machine.specs.Travels.{next_travelling, tells_travelling, travels}
 use Rattle.update_machine.proofs.Silent.{count_stays, fewer, folded_stays, last_stays}
 

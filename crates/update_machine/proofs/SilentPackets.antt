@@ -7,8 +7,9 @@ use Rattle.journal.specs.declared.item.Item.{Item}
 use Rattle.journal.specs.declared.item.Item.TheVariants as item
 use Rattle.update_machine.specs.Concerns.{NoneConcern, concerns_packet}
 use Rattle.update_machine.specs.Laws.{PacketKeeps}
-use Rattle.update_machine.specs.Packets.{changes_found, changes_hops, decision_of, found_down, header_in, next_switch, route_in, route_place, standing, tells_decision, tells_header, tells_place, tells_route}
+use Rattle.update_machine.specs.Packets.{decision_of, header_in, standing, tells_decision, tells_header, tells_place}
 use Rattle.update_machine.specs.Travels.{changes_leg, ingress_of, leg_of, tells_ingress, tells_travelling, travels}
+use Rattle.update_machine.specs.Ways.{changes_found, changes_hops, found_down, next_switch, route_in, route_place, tells_route}
 use Rattle.update_machine.proofs.Silent.{folded_stays, last_stays}
 
 header_silent : (i : ℕ) (before : List Item) (item : Item) → IsFalse (concerns_packet i before item)

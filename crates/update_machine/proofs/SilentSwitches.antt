@@ -7,13 +7,14 @@ use Rattle.net_file.specs.Net.{links_of}
 use Rattle.net_file.specs.declared.net.LinkRow.{LinkRow}
 use Rattle.journal.specs.declared.item.Item.{Item}
 use Rattle.journal.specs.declared.item.Item.TheVariants as item
-use Rattle.update_machine.specs.Boots.{boot_of, changes_heard, heard, is_up, said_to, serves, tells_boot, tells_serving, tells_up}
+use Rattle.update_machine.specs.Boots.{boot_of, changes_heard, heard, is_up, said_to, tells_boot, tells_up}
 use Rattle.update_machine.specs.Caches.{cache_of, changes_cache}
 use Rattle.update_machine.specs.Concerns.{NoneConcern, concerns_links, concerns_switch, is_message_to}
 use Rattle.update_machine.specs.Laws.{SwitchKeeps}
-use Rattle.update_machine.specs.Links.{is_link_up, is_usable, near, tells_link}
+use Rattle.update_machine.specs.Links.{is_link_up, is_usable, tells_link, serves, tells_serving}
 use Rattle.update_machine.specs.Setting.{Setting}
 use Rattle.update_machine.specs.Versions.{holds_version, stamp_of}
+use Rattle.update_machine.specs.LinkMasks.{near}
 use Rattle.update_machine.proofs.Silent.{folded_stays, last_stays}
 
 boot_silent : (s : ℕ) (before : List Item) (item : Item) → IsFalse (concerns_switch s before item)

@@ -11,20 +11,22 @@ use Rattle.net_file.specs.Net.{links_of}
 use Rattle.switch_table.specs.Lookup.{table_lookup}
 use Rattle.net_file.specs.declared.net.LinkRow.{LinkRow}
 use Rattle.update_machine.specs.Adverts.{adverts_known, own_advert, own_seq}
-use Rattle.update_machine.specs.Boots.{boot_of, heard, is_up, serves, message_of}
+use Rattle.update_machine.specs.Boots.{boot_of, heard, is_up}
 use Rattle.update_machine.specs.Caches.{cache_of, lookup_at}
 use Rattle.update_machine.specs.Handled.{handled_count}
 use Rattle.update_machine.specs.Laws.{MessageStarts, PacketStarts, StartLaws}
-use Rattle.update_machine.specs.Links.{is_link_up, is_usable, near}
+use Rattle.update_machine.specs.Links.{is_link_up, is_usable, serves, message_of}
 use Rattle.update_machine.specs.Marks.{acked_stamp, controller_heard, current_mark, has_acked, is_member, is_over, known_boot, opened_at, retired_mark}
 use Rattle.update_machine.specs.Messages.{is_deliverable, is_forgotten, next_message, next_waiting, was_delivered}
-use Rattle.update_machine.specs.Packets.{decision_of, found_down, header_in, next_packet, next_switch, route_in, route_place, standing}
+use Rattle.update_machine.specs.Packets.{decision_of, header_in, next_packet, standing}
 use Rattle.update_machine.specs.Quiet.{sendings}
-use Rattle.update_machine.specs.Setting.{Setting, switches_of, file_of}
+use Rattle.update_machine.specs.Setting.{Setting, switches_of}
 use Rattle.update_machine.specs.Steps.{steps_in}
-use Rattle.update_machine.specs.Versions.{holds_version, stamp_of, tables_at, version_count}
+use Rattle.update_machine.specs.Versions.{holds_version, stamp_of, tables_at, version_count, file_of}
 use Rattle.update_machine.specs.Causes.{present_step}
 use Rattle.update_machine.specs.Travels.{ingress_of, leg_of, next_travelling, travels}
+use Rattle.update_machine.specs.Ways.{found_down, next_switch, route_in, route_place}
+use Rattle.update_machine.specs.LinkMasks.{near}
 
 all_usable : (links : List LinkRow) → filter (is_usable []) links ≡ links
 unfolding is_link_up serves

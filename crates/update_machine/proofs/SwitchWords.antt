@@ -8,12 +8,13 @@ use Rattle.steps.specs.declared.step.Step.TheVariants as step
 use Rattle.journal.specs.declared.item.Item.{Item}
 use Rattle.journal.specs.declared.item.Item.TheVariants as item
 use Rattle.update_machine.specs.Adverts.{advert_known, adverts_known, own_advert, own_seq}
-use Rattle.update_machine.specs.Boots.{boot_of, heard, is_up, serves, message_of}
-use Rattle.update_machine.specs.Links.{is_link_up, near}
+use Rattle.update_machine.specs.Boots.{boot_of, heard, is_up}
+use Rattle.update_machine.specs.Links.{is_link_up, serves, message_of}
 use Rattle.update_machine.specs.Messages.{is_deliverable, is_forgotten, next_waiting, was_delivered}
 use Rattle.update_machine.specs.Travels.{next_travelling, travels}
 use Rattle.update_machine.specs.Steps.{steps_in}
 use Rattle.update_machine.specs.Versions.{holds_version, stamp_of}
+use Rattle.update_machine.specs.LinkMasks.{near}
 use Rattle.update_machine.proofs.Examples.{advert, one, open_net, plan_p, ring, tables_of, to}
 
 -- switch a is told this

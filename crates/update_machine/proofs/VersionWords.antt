@@ -14,9 +14,9 @@ use Rattle.update_machine.specs.Marks.{retired_mark}
 use Rattle.update_machine.specs.Messages.{is_deliverable}
 use Rattle.update_machine.specs.Numbers.{VersionsAreNumbered}
 use Rattle.update_machine.specs.Pieces.{forget_items, piece, update_code}
-use Rattle.update_machine.specs.Setting.{Setting, policy_of_file, file_of, plan_at}
-use Rattle.update_machine.specs.Versions.{is_version, policy_at, version_count}
-use Rattle.update_machine.specs.Boots.{message_of}
+use Rattle.update_machine.specs.Setting.{Setting, policy_of_file}
+use Rattle.update_machine.specs.Versions.{is_version, policy_at, version_count, file_of, plan_at}
+use Rattle.update_machine.specs.Links.{message_of}
 use Rattle.update_machine.proofs.Examples.{all_to, at, by_action, open_net, out_or_drop, plan_p, two_switches, versions}
 
 -- ---- files

@@ -8,7 +8,7 @@ use Rattle.failover.specs.Routes.{route_of}
 use Rattle.failover.specs.declared.advert.Advert.{Advert}
 use Rattle.journal.specs.declared.item.Item.{Item}
 use Rattle.update_machine.specs.Boots.{boot_of, is_up}
-use Rattle.update_machine.specs.Links.{near, adverts_of_others}
+use Rattle.update_machine.specs.LinkMasks.{near, adverts_of_others}
 use Rattle.update_machine.specs.Setting.{Setting}
 use Rattle.update_machine.specs.Steps.{StepItems, steps_in}
 

@@ -1,15 +1,15 @@
--- The life of a switch: its boots, whether it is up and serves, and what it heard in its boot. A
--- switch that restarts has forgotten everything; that is our own, as the papers on DIFANE and on
--- updates in two phases tell of no restart. A message is read where it was sent.
+-- The life of a switch: its boots, whether it is up, and what it heard in its boot. A switch that
+-- restarts has forgotten everything; that is our own, as the papers on DIFANE and on updates in two
+-- phases tell of no restart. A message is read where it was sent.
 use Rattle.std.specs.Prelude.{ℕ, Bool, true, false, ◌&&◌, ◌==◌, if◌then◌else◌, Option, Some, None, unwrap_or, List, [], ◌∷◌, ◌++◌}
 use Rattle.std.specs.Option.{option_map_or}
 use Rattle.ctrl_msg.specs.Bodies.{body_boot}
 use Rattle.ctrl_msg.specs.declared.message.Body.{Body}
-use Rattle.ctrl_msg.specs.declared.message.Message.{Message}
 use Rattle.ctrl_msg.specs.declared.message.Receiver.{Receiver}
 use Rattle.journal.specs.declared.item.Item.{Item}
 use Rattle.journal.specs.declared.item.Item.TheVariants as item
 use Rattle.update_machine.specs.Folds.{folded, last_told}
+use Rattle.update_machine.specs.Links.{message_of}
 use Rattle.ctrl_msg.specs.declared.message.Receiver.TheVariants as receiver
 
 -- ---- boots
@@ -31,29 +31,11 @@ tells_up s _ = None
 unfoldable pub is_up : List Item → ℕ → Bool
 is_up journal s = unwrap_or (last_told (tells_up s) journal) true
 
-abbrev pub tells_serving : ℕ → Item → Option Bool
-tells_serving s (item.Down switch) = if switch == s then Some false else None
-tells_serving s (item.Booted switch boot) = if switch == s then Some false else None
-tells_serving s (item.Opened switch version) = if switch == s then Some true else None
-tells_serving s _ = None
-
--- it serves at first, and once it opened in its boot
-unfoldable pub serves : List Item → ℕ → Bool
-serves journal s = unwrap_or (last_told (tells_serving s) journal) true
-
 -- it is up in the boot in which it began
 abbrev pub is_in_first_boot : List Item → ℕ → Bool
 is_in_first_boot journal s = is_up journal s && boot_of journal s == 1
 
 -- ---- what a switch hears
-
-abbrev pub tells_message : ℕ → Item → Option Message
-tells_message n (item.Sent number message) = if number == n then Some message else None
-tells_message n _ = None
-
--- the message of a number, if it was sent
-unfoldable pub message_of : List Item → ℕ → Option Message
-message_of journal number = last_told (tells_message number) journal
 
 abbrev pub is_to_switch : ℕ → Receiver → Bool
 is_to_switch s (receiver.Switch switch) = switch == s

@@ -1,23 +1,17 @@
 -- The causes of packets' ends: what stood in the journal before each item that ends a packet, or
 -- finds a link of its way down. The notion is our own.
-use Rattle.std.specs.Prelude.{⊤, ℕ, ◌≡◌, ◌⊎◌, Some, List, [], ◌∷◌, ◌++◌, find, option_map, All, IsFalse, Option, None}
-use Rattle.failover.specs.Paths.{IsReachable}
-use Rattle.masks.specs.Masks.{has}
+use Rattle.std.specs.Prelude.{⊤, ℕ, ◌≡◌, ◌⊎◌, Some, List, [], ◌∷◌, ◌++◌, Option, None}
 use Rattle.net_file.specs.Net.{owner_of}
-use Rattle.policy_rules.specs.Partitions.{is_in}
 use Rattle.policy_rules.specs.declared.packet.Leaving.{Leaving}
-use Rattle.policy_rules.specs.declared.packet.Leg.{Leg}
-use Rattle.policy_rules.specs.declared.packet.Leg.TheVariants.{Seek, Exit}
 use Rattle.policy_rules.specs.declared.policy.Action.TheVariants.{Out}
-use Rattle.five_tuple.specs.declared.header.Header.{Header}
 use Rattle.journal.specs.declared.item.Item.{Item}
 use Rattle.journal.specs.declared.item.Item.TheVariants as item
 use Rattle.steps.specs.declared.step.Step.TheVariants.{Crash, Lose}
 use Rattle.steps.specs.declared.step.Step.{Step}
-use Rattle.update_machine.specs.Links.{near, links_known}
-use Rattle.update_machine.specs.Packets.{Decision, decision_of, found_down, header_in, next_switch, standing, targets_of}
-use Rattle.update_machine.specs.Setting.{Setting, plan_at}
+use Rattle.update_machine.specs.Packets.{decision_of, header_in, standing}
+use Rattle.update_machine.specs.Setting.{Setting}
 use Rattle.update_machine.specs.Folds.{last_told}
+use Rattle.update_machine.specs.ExactCauses.{FindsNextDown, FindsNoPath}
 
 abbrev pub tells_step : Item → Option Step
 tells_step (item.Row row step) = Some step
@@ -48,41 +42,14 @@ abbrev pub IsLostRightly : List Item → ℕ → Type 0
 IsLostRightly before packet =
     (present_step before ≡ Some (Lose packet)) ⊎ IsLostWith before packet
 
--- a packet finds the link from where it stands to the next switch of its route, and can't use it
-pub record FindsDown (setting : Setting) (before : List Item) (packet one two : ℕ) : Type 0 where
-  pub stands : standing before packet ≡ Some one
-  pub next : next_switch before packet ≡ Some two
-  pub unusable : IsFalse (has (near setting before one) two)
-
--- the leg is to the partition whose region holds the packet's header, or to the port of its
--- decision
-abbrev pub IsOwnLeg : Setting → List Item → ℕ → Leg → Type 0
-IsOwnLeg setting before packet (Seek version partition) =
-    (header : Header) × (header_in before packet ≡ Some header)
-    × (option_map (λ placed. placed.0.number)
-    (find (λ placed. is_in header placed.0) (plan_at setting before version))
-    ≡ Some partition)
-IsOwnLeg setting before packet (Exit port) =
-    (decision : Decision) × (decision_of before packet ≡ Some decision)
-    × (decision.action ≡ Out port)
-
--- a packet is stuck where it stands: over the links that its switch knows, less those that the
--- packet found down, no path leads to any target of its leg
-pub record IsStuckRightly (setting : Setting) (before : List Item) (packet switch : ℕ) (leg : Leg)
-    : Type 0 where
-  pub stands : standing before packet ≡ Some switch
-  pub own_leg : IsOwnLeg setting before packet leg
-  pub no_path : (let links = links_known setting before switch (found_down before packet) in
-      All (λ target. ¬ IsReachable links switch target) (targets_of setting before leg))
-
 -- an item that ends a packet, or finds a link down, has its cause in the journal before it
 abbrev pub HasCause : Setting → List Item → Item → Type 0
 HasCause setting before (item.Left packet port leaving) =
     LeavesRightly setting before packet port leaving
 HasCause setting before (item.Lost packet) = IsLostRightly before packet
-HasCause setting before (item.FoundDown packet one two) = FindsDown setting before packet one two
+HasCause setting before (item.FoundDown packet one two) = FindsNextDown setting before packet one two
 HasCause setting before (item.Stuck packet switch cause leg down) =
-    IsStuckRightly setting before packet switch leg
+    FindsNoPath setting before packet switch leg
 HasCause setting before _ = ⊤
 
 -- behind this journal, each of the items has its cause in what stands before it: for any table of

@@ -11,7 +11,8 @@ use Rattle.update_machine.specs.Causes.{HaveCauses}
 use Rattle.update_machine.specs.Messages.{is_to_controller}
 use Rattle.update_machine.specs.Travels.{travels_at}
 use Rattle.update_machine.specs.Versions.{is_submission}
-use Rattle.update_machine.specs.Boots.{is_to_switch, message_of}
+use Rattle.update_machine.specs.Boots.{is_to_switch}
+use Rattle.update_machine.specs.Links.{message_of}
 
 -- none of these items, behind this journal, is one that concerns it
 abbrev pub NoneConcern : (List Item → Item → Bool) → List Item → List Item → Type 0

@@ -12,16 +12,21 @@ use Rattle.failover.specs.declared.advert.Advert.{Advert}
 use Rattle.journal.specs.declared.item.Item.{Item}
 use Rattle.journal.specs.declared.item.Item.TheVariants as item
 use Rattle.update_machine.specs.Adverts.{adverts_known, held_adverts, own_advert}
-use Rattle.update_machine.specs.Boots.{is_up, said_to, serves, message_of}
-use Rattle.update_machine.specs.Links.{near, switches_in}
+use Rattle.update_machine.specs.Boots.{is_up, said_to}
+use Rattle.update_machine.specs.LinkMasks.{near}
 use Rattle.update_machine.specs.Marks.{known_boot}
 use Rattle.update_machine.specs.Messages.{sends}
 use Rattle.update_machine.specs.Moves.{in_turn, put}
 use Rattle.update_machine.specs.Setting.{Setting, switches_of}
 use Rattle.update_machine.specs.Settling.{installs_to, settling, to_switch}
 use Rattle.update_machine.specs.Versions.{stamp_of}
+use Rattle.update_machine.specs.Links.{serves, message_of}
 
 -- ---- link changes: `before` is the journal before the step
+
+-- the switches of a mask, ascending
+abbrev pub switches_in : Setting → ℕ → List ℕ
+switches_in setting mask = filter (has mask) (switches_of setting)
 
 abbrev pub advert_to : ℕ → Advert → Message
 advert_to s advert = to_switch s (Advertise advert)

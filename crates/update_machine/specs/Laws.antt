@@ -10,20 +10,22 @@ use Rattle.policy_rules.specs.declared.policy.Action.TheVariants.{Out}
 use Rattle.switch_table.specs.Lookup.{table_lookup}
 use Rattle.journal.specs.declared.item.Item.{Item}
 use Rattle.update_machine.specs.Adverts.{advert_known, adverts_known, held_adverts, is_cut_off, own_advert, own_if_told, own_seq, route_from}
-use Rattle.update_machine.specs.Boots.{boot_of, heard, is_up, serves, message_of}
+use Rattle.update_machine.specs.Boots.{boot_of, heard, is_up}
 use Rattle.update_machine.specs.Caches.{cache_of, lookup_at}
 use Rattle.update_machine.specs.Concerns.{NoneConcern, concerns_calls, concerns_controller, concerns_known, concerns_links, concerns_lookups, concerns_message, concerns_messages, concerns_packet, concerns_packets, concerns_policies, concerns_steps, concerns_switch, concerns_waiting}
 use Rattle.update_machine.specs.Handled.{handled_count}
-use Rattle.update_machine.specs.Links.{is_link_up, near, adverts_begun, adverts_heard, links_known}
+use Rattle.update_machine.specs.Links.{is_link_up, serves, message_of}
 use Rattle.update_machine.specs.Marks.{acked_stamp, controller_heard, current_mark, has_acked, is_member, is_over, known_boot, opened_at, retired_mark}
 use Rattle.update_machine.specs.Messages.{is_deliverable, is_forgotten, next_message, next_waiting, was_delivered}
 use Rattle.update_machine.specs.Moves.{end_items, stuck_on}
-use Rattle.update_machine.specs.Packets.{decision_of, found_down, header_in, next_packet, next_switch, route_in, route_place, standing}
+use Rattle.update_machine.specs.Packets.{decision_of, header_in, next_packet, standing}
 use Rattle.update_machine.specs.Quiet.{is_waited_for, sendings}
-use Rattle.update_machine.specs.Setting.{Setting, switches_of, file_of, plan_at}
+use Rattle.update_machine.specs.Setting.{Setting, switches_of}
 use Rattle.update_machine.specs.Causes.{present_step}
-use Rattle.update_machine.specs.Versions.{holds_version, policy_at, stamp_of, tables_at, version_count}
+use Rattle.update_machine.specs.Versions.{holds_version, policy_at, stamp_of, tables_at, version_count, file_of, plan_at}
 use Rattle.update_machine.specs.Travels.{ingress_of, leg_of, next_travelling, travels}
+use Rattle.update_machine.specs.Ways.{found_down, next_switch, route_in, route_place}
+use Rattle.update_machine.specs.LinkMasks.{near, adverts_begun, adverts_heard, links_known}
 
 -- nothing is said of a packet that didn't come in
 pub record PacketStarts (i : ℕ) : Type 0 where

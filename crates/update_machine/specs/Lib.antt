@@ -5,10 +5,12 @@ pub mod Boots
 pub mod Versions
 pub mod Marks
 pub mod Links
+pub mod LinkMasks
 pub mod Steps
 pub mod Adverts
 pub mod Caches
 pub mod Packets
+pub mod Ways
 pub mod Travels
 pub mod Moves
 pub mod Settling
@@ -19,8 +21,8 @@ pub mod Full
 pub mod Handled
 pub mod Machine
 pub mod Causes
+pub mod ExactCauses
 pub mod Quiet
 pub mod Numbers
 pub mod Concerns
 pub mod Laws
-pub mod Sound

@@ -8,7 +8,7 @@ use Rattle.ctrl_msg.specs.declared.message.Receiver.TheVariants as receiver
 use Rattle.journal.specs.declared.item.Item.{Item}
 use Rattle.journal.specs.declared.item.Item.TheVariants as item
 use Rattle.update_machine.specs.Folds.{count_of}
-use Rattle.update_machine.specs.Boots.{message_of}
+use Rattle.update_machine.specs.Links.{message_of}
 
 abbrev pub is_sending : Item → Bool
 is_sending (item.Sent number message) = true

@@ -27,12 +27,13 @@ use Rattle.journal.specs.declared.item.Item.{Item}
 use Rattle.journal.specs.declared.item.Item.TheVariants as item
 use Rattle.update_machine.specs.Adverts.{is_cut_off, route_from}
 use Rattle.update_machine.specs.Caches.{lookup_at}
-use Rattle.update_machine.specs.Links.{near}
+use Rattle.update_machine.specs.LinkMasks.{near}
 use Rattle.update_machine.specs.Messages.{sends}
-use Rattle.update_machine.specs.Packets.{decision_of, found_down, header_in, next_switch, owner, targets_of}
-use Rattle.update_machine.specs.Setting.{Setting, plan_at}
-use Rattle.update_machine.specs.Versions.{holds_version, stamp_of}
+use Rattle.update_machine.specs.Packets.{decision_of, header_in}
+use Rattle.update_machine.specs.Setting.{Setting}
+use Rattle.update_machine.specs.Versions.{holds_version, stamp_of, plan_at}
 use Rattle.update_machine.specs.Travels.{ingress_of, is_at, leg_of}
+use Rattle.update_machine.specs.Ways.{found_down, next_switch, owner, targets_of}
 
 -- ---- blocks
 

@@ -12,10 +12,10 @@ use Rattle.journal.specs.declared.item.Item.TheVariants as item
 use Rattle.steps.specs.declared.step.Step.{Step}
 use Rattle.steps.specs.declared.step.Step.TheVariants.{Packet, Hop, Lose, Deliver, Forget, Expire, Update, LinkDown, LinkUp, Crash, Restart, Confirm, Resend}
 use Rattle.update_machine.specs.Adverts.{held_adverts}
-use Rattle.update_machine.specs.Boots.{boot_of, is_up, serves}
+use Rattle.update_machine.specs.Boots.{boot_of, is_up}
 use Rattle.update_machine.specs.Caches.{cache_of}
-use Rattle.update_machine.specs.Deliveries.{advert_to, delivery_items, link_changes, to_controller}
-use Rattle.update_machine.specs.Links.{is_link_up, near, switches_in}
+use Rattle.update_machine.specs.Deliveries.{advert_to, delivery_items, link_changes, to_controller, switches_in}
+use Rattle.update_machine.specs.Links.{is_link_up, serves}
 use Rattle.update_machine.specs.Marks.{most_live, most_versions, retired_mark}
 use Rattle.update_machine.specs.Messages.{is_deliverable, sends}
 use Rattle.update_machine.specs.Moves.{lookup_items, move_items, put}
@@ -24,6 +24,7 @@ use Rattle.update_machine.specs.Setting.{Setting, plan_of_file}
 use Rattle.update_machine.specs.Settling.{resent_by_controller, settling, submitted_items}
 use Rattle.update_machine.specs.Versions.{version_count}
 use Rattle.update_machine.specs.Travels.{packets_at, travels}
+use Rattle.update_machine.specs.LinkMasks.{near}
 
 abbrev pub nothing : List Item
 nothing = item.Nothing ∷ []

@@ -1,14 +1,13 @@
--- What a journal is read against: the network, and the policies by file with their plans; and which
--- of these are those of a journal's versions.
-use Rattle.std.specs.Prelude.{ℕ, ◌-◌, ◌==◌, if◌then◌else◌, Option, Some, None, Result, Ok, Err, List, [], length, slice_get, option_and_then}
+-- What a journal is read against: the network, and the policies by file with their plans.
+use Rattle.std.specs.Prelude.{ℕ, ◌-◌, ◌==◌, if◌then◌else◌, Option, Some, None, Result, Err, List, [], length, slice_get, ⊤, ◌≡◌, is_some, IsOk, IsTrue, All}
 use Rattle.std.specs.List.{range_with_len}
-use Rattle.std.specs.Option.{option_map_or}
 use Rattle.net_file.specs.declared.net.Net.{Net}
+use Rattle.net_file.specs.Net.{IsNet, owner_of}
 use Rattle.partition.specs.Plan.{NoPlan, Placed, TooManyLeaves, plan_of}
 use Rattle.policy_rules.specs.declared.policy.Row.{Row}
-use Rattle.journal.specs.declared.item.Item.{Item}
-use Rattle.update_machine.specs.Folds.{first_told}
-use Rattle.journal.specs.declared.item.Item.TheVariants as item
+use Rattle.policy_rules.specs.Policy.{IsPolicy}
+use Rattle.policy_rules.specs.declared.policy.Action.{Action}
+use Rattle.policy_rules.specs.declared.policy.Action.TheVariants as action
 
 -- the network; the policies of the files, in order; and the plan of the rows of a policy on the
 -- network, if it has one
@@ -41,27 +40,16 @@ plan_of_file setting file = elim (policy_of_file setting file) [
   | Some rows ↦ setting.plan rows
 ]
 
--- the partitions of a plan with their targets; none where there is no plan
-abbrev pub placed_in : Result (List Placed) NoPlan → List Placed
-placed_in (Ok plan) = plan
-placed_in (Err why) = []
+-- an action names a port that a switch has, if it names one
+abbrev pub NamesOwnPort : Setting → Action → Type 0
+NamesOwnPort setting action.Drop = ⊤
+NamesOwnPort setting (action.Out port) =
+    IsTrue (is_some (owner_of setting.net.switches port))
 
-abbrev pub tells_file : ℕ → Item → Option ℕ
-tells_file v (item.Submitted file version) = if version == v then Some file else None
-tells_file v _ = None
-
--- the file of a version: the first file is that of version 1, and any other version has the one
--- with which it was submitted
-unfoldable pub file_of : List Item → ℕ → Option ℕ
-file_of journal version =
-    if version == 1 then Some 1 else first_told (tells_file version) journal
-
--- the policy of a version, if it is there and its file too
-abbrev pub policy_in : Setting → List Item → ℕ → Option (List Row)
-policy_in setting journal version =
-    option_and_then (policy_of_file setting) (file_of journal version)
-
--- the partitions of its plan with their targets; none where there is no policy or no plan
-unfoldable pub plan_at : Setting → List Item → ℕ → List Placed
-plan_at setting journal version =
-    option_map_or (λ rows. placed_in (setting.plan rows)) (policy_in setting journal version) []
+-- a network, and policies that name ports of it alone, of which the first one has a plan
+pub record IsSetting (setting : Setting) : Type 0 where
+  pub net : IsNet setting.net
+  pub made : setting ≡ setting_of setting.net setting.policies
+  pub sound : All IsPolicy setting.policies
+  pub ports : All (All (λ row. NamesOwnPort setting row.action)) setting.policies
+  pub planned : IsOk (plan_of_file setting 1)

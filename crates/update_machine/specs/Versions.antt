@@ -1,9 +1,10 @@
--- The versions of a journal, and which of them a switch holds and stamps packets with. Tables that
--- are installed under a version before packets are stamped with it, and are removed once none is,
--- are those of Reitblatt, Foster, Rexford, Schlesinger and Walker, "Abstractions for Network
--- Update".
-use Rattle.std.specs.Prelude.{ℕ, ◌+◌, Bool, true, false, not, ◌&&◌, ◌||◌, ◌==◌, nat_le, max, if◌then◌else◌, Option, Some, None, is_some, unwrap_or, List, [], ◌∷◌, ◌++◌, fold, filter_map}
+-- The versions of a journal, their policies and plans, and which of them a switch holds and stamps
+-- packets with. Tables that are installed under a version before packets are stamped with it, and
+-- are removed once none is, are those of Reitblatt, Foster, Rexford, Schlesinger and Walker,
+-- "Abstractions for Network Update".
+use Rattle.std.specs.Prelude.{ℕ, ◌+◌, Bool, true, false, not, ◌&&◌, ◌||◌, ◌==◌, nat_le, max, if◌then◌else◌, Option, Some, None, is_some, unwrap_or, List, [], ◌∷◌, ◌++◌, fold, filter_map, Result, Ok, Err, option_and_then}
 use Rattle.std.specs.List.{list_any}
+use Rattle.std.specs.Option.{option_map_or}
 use Rattle.ctrl_msg.specs.declared.message.Body.{Body}
 use Rattle.ctrl_msg.specs.declared.message.Body.TheVariants.{Install, OpenAt, Stamp, Collect}
 use Rattle.policy_rules.specs.declared.policy.Row.{Row}
@@ -12,10 +13,36 @@ use Rattle.switch_table.specs.declared.tables.Tables.{Tables}
 use Rattle.journal.specs.declared.item.Item.{Item}
 use Rattle.journal.specs.declared.item.Item.TheVariants as item
 use Rattle.update_machine.specs.Boots.{heard, is_in_first_boot}
-use Rattle.update_machine.specs.Folds.{count_of}
-use Rattle.update_machine.specs.Setting.{Setting, file_of, policy_in, plan_at}
+use Rattle.update_machine.specs.Folds.{count_of, first_told}
+use Rattle.update_machine.specs.Setting.{Setting, policy_of_file}
+use Rattle.partition.specs.Plan.{NoPlan, Placed}
 
 -- ---- policies and plans
+
+-- the partitions of a plan with their targets; none where there is no plan
+abbrev pub placed_in : Result (List Placed) NoPlan → List Placed
+placed_in (Ok plan) = plan
+placed_in (Err why) = []
+
+abbrev pub tells_file : ℕ → Item → Option ℕ
+tells_file v (item.Submitted file version) = if version == v then Some file else None
+tells_file v _ = None
+
+-- the file of a version: the first file is that of version 1, and any other version has the one
+-- with which it was submitted
+unfoldable pub file_of : List Item → ℕ → Option ℕ
+file_of journal version =
+    if version == 1 then Some 1 else first_told (tells_file version) journal
+
+-- the policy of a version, if it is there and its file too
+abbrev pub policy_in : Setting → List Item → ℕ → Option (List Row)
+policy_in setting journal version =
+    option_and_then (policy_of_file setting) (file_of journal version)
+
+-- the partitions of its plan with their targets; none where there is no policy or no plan
+unfoldable pub plan_at : Setting → List Item → ℕ → List Placed
+plan_at setting journal version =
+    option_map_or (λ rows. placed_in (setting.plan rows)) (policy_in setting journal version) []
 
 abbrev pub is_submission : Item → Bool
 is_submission (item.Submitted file version) = true

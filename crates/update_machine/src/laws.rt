@@ -11,9 +11,9 @@ ghost use Rattle.update_machine.specs.Full.{HasPlay, IsFull, IsPlay, StopsFull, 
 ghost use Rattle.update_machine.specs.Laws.{ConcernLaws, KnownLinkLaws, StartLaws};
 ghost use Rattle.update_machine.specs.Messages.{is_sending};
 ghost use Rattle.update_machine.specs.Numbers.{AreNumbered};
-ghost use Rattle.update_machine.specs.Setting.{Setting, placed_in, policy_of_file, file_of, plan_at};
+ghost use Rattle.update_machine.specs.Setting.{Setting, policy_of_file};
 ghost use Rattle.update_machine.specs.Folds.{all_given, count_of, first_told, folded, folded_from, last_told};
-ghost use Rattle.update_machine.specs.Versions.{is_version, policy_at};
+ghost use Rattle.update_machine.specs.Versions.{is_version, policy_at, placed_in, file_of, plan_at};
 ghost use Rattle.update_machine.specs.declared.full.TheConstants.{FULL_AT};
 
 /// What a journal says, once more items stand behind it: a law for each of the five folds, over

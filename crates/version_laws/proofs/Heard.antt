@@ -5,8 +5,9 @@ use Rattle.std.specs.Option.{option_map_or}
 use Rattle.ctrl_msg.specs.declared.message.Body.{Body}
 use Rattle.journal.specs.declared.item.Item.{Item}
 use Rattle.journal.specs.declared.item.Item.TheVariants as item
-use Rattle.update_machine.specs.Boots.{heard, said_to, message_of}
+use Rattle.update_machine.specs.Boots.{heard, said_to}
 use Rattle.update_machine.specs.Settling.{to_switch}
+use Rattle.update_machine.specs.Links.{message_of}
 use Rattle.boot_laws.proofs.Grown.{heard_more}
 use Rattle.boot_laws.proofs.Sends.{each_append}
 use Rattle.boot_laws.proofs.SwitchBlocks.{said_parts}

@@ -12,13 +12,14 @@ use Rattle.switch_table.specs.Tables.{tables_of}
 use Rattle.switch_table.specs.declared.tables.Tables.{Tables}
 use Rattle.journal.specs.declared.item.Item.{Item}
 use Rattle.journal.specs.declared.item.Item.TheVariants as item
-use Rattle.update_machine.specs.Boots.{heard, is_in_first_boot, message_of}
+use Rattle.update_machine.specs.Boots.{heard, is_in_first_boot}
 use Rattle.update_machine.specs.Causes.{HaveCauses}
 use Rattle.update_machine.specs.Marks.{most_live, most_versions, retired_mark}
 use Rattle.update_machine.specs.Numbers.{VersionsAreNumbered}
-use Rattle.update_machine.specs.Setting.{Setting, plan_of_file, file_of}
+use Rattle.update_machine.specs.Setting.{Setting, plan_of_file}
 use Rattle.update_machine.specs.Settling.{to_switch}
-use Rattle.update_machine.specs.Versions.{collects, holds_version, installs, tables_at, version_count}
+use Rattle.update_machine.specs.Versions.{collects, holds_version, installs, tables_at, version_count, file_of}
+use Rattle.update_machine.specs.Links.{message_of}
 use Rattle.update_machine.proofs.CallerLemmas.{file_append, file_kept, plan_kept, start_laws}
 use Rattle.boot_laws.specs.ItemCauses.{HasItemCause}
 use Rattle.boot_laws.proofs.Facts.{AreKept, fact_on}

@@ -8,12 +8,13 @@ use Rattle.std.proofs.lemmas.Bool.Decides.{nat_tests}
 use Rattle.ctrl_msg.specs.declared.message.Body.{Body}
 use Rattle.ctrl_msg.specs.declared.message.Body.TheVariants.{Collect}
 use Rattle.journal.specs.declared.item.Item.{Item}
-use Rattle.update_machine.specs.Boots.{boot_of, heard, is_in_first_boot, is_up, message_of}
+use Rattle.update_machine.specs.Boots.{boot_of, heard, is_in_first_boot, is_up}
 use Rattle.update_machine.specs.Causes.{HaveCauses}
 use Rattle.update_machine.specs.Marks.{acked_stamp, current_mark, retired_mark}
 use Rattle.update_machine.specs.Setting.{Setting}
 use Rattle.update_machine.specs.Settling.{to_switch}
 use Rattle.update_machine.specs.Versions.{collects, holds_version, installs, stamp_of}
+use Rattle.update_machine.specs.Links.{message_of}
 use Rattle.update_machine.proofs.CallerLemmas.{start_laws}
 use Rattle.boot_laws.specs.BootLaws.{ServingIsKnown}
 use Rattle.boot_laws.specs.ItemCauses.{HasItemCause}

@@ -7,12 +7,13 @@ use Rattle.ctrl_msg.specs.declared.message.Body.TheVariants.{Install, OpenAt, St
 use Rattle.switch_table.specs.declared.tables.Tables.{Tables}
 use Rattle.journal.specs.declared.item.Item.{Item}
 use Rattle.journal.specs.declared.item.Item.TheVariants as item
-use Rattle.update_machine.specs.Boots.{boot_of, heard, is_up, serves, message_of}
+use Rattle.update_machine.specs.Boots.{boot_of, heard, is_up}
 use Rattle.update_machine.specs.Causes.{HaveCauses}
 use Rattle.update_machine.specs.Marks.{controller_heard, current_mark, is_over, known_boot, retired_mark}
-use Rattle.update_machine.specs.Setting.{plan_of_file, file_of, plan_at}
+use Rattle.update_machine.specs.Setting.{plan_of_file}
 use Rattle.update_machine.specs.Settling.{to_switch}
-use Rattle.update_machine.specs.Versions.{holds_version, stamp_of, version_count}
+use Rattle.update_machine.specs.Versions.{holds_version, stamp_of, version_count, file_of, plan_at}
+use Rattle.update_machine.specs.Links.{serves, message_of}
 use Rattle.update_machine.proofs.Examples.{open_net, plan_q, tables_of, versions}
 use Rattle.boot_laws.specs.ItemCauses.{HasItemCause}
 use Rattle.version_laws.specs.Planned.{AreTablesOf, BringsTables, HasPlan, TablesArePlanned, VersionsArePlanned}

@@ -4,11 +4,12 @@ use Rattle.ctrl_msg.specs.declared.message.Body.{Body}
 use Rattle.ctrl_msg.specs.declared.message.Body.TheVariants.{Install}
 use Rattle.switch_table.specs.declared.tables.Tables.{Tables}
 use Rattle.journal.specs.declared.item.Item.{Item}
-use Rattle.update_machine.specs.Boots.{heard, message_of}
+use Rattle.update_machine.specs.Boots.{heard}
 use Rattle.update_machine.specs.Marks.{most_live, most_versions, retired_mark}
-use Rattle.update_machine.specs.Setting.{Setting, plan_of_file, file_of}
+use Rattle.update_machine.specs.Setting.{Setting, plan_of_file}
 use Rattle.update_machine.specs.Settling.{to_switch}
-use Rattle.update_machine.specs.Versions.{holds_version, tables_at, version_count}
+use Rattle.update_machine.specs.Versions.{holds_version, tables_at, version_count, file_of}
+use Rattle.update_machine.specs.Links.{message_of}
 
 -- ---- versions
 

@@ -17,13 +17,13 @@ use Rattle.steps.specs.declared.step.Step.TheVariants.{Packet}
 use Rattle.update_machine.specs.Caches.{cache_of}
 use Rattle.update_machine.specs.Causes.{HaveCauses, present_step}
 use Rattle.update_machine.specs.Marks.{retired_mark}
-use Rattle.update_machine.specs.Boots.{message_of}
+use Rattle.update_machine.specs.Links.{message_of}
 use Rattle.update_machine.specs.Moves.{AuthorityRule}
-use Rattle.update_machine.specs.Packets.{decision_of, found_down, header_in, next_packet}
-use Rattle.update_machine.specs.Sound.{IsSetting}
-use Rattle.update_machine.specs.Setting.{Setting, plan_at}
-use Rattle.update_machine.specs.Versions.{policy_at}
+use Rattle.update_machine.specs.Packets.{decision_of, header_in, next_packet}
+use Rattle.update_machine.specs.Setting.{Setting, IsSetting}
+use Rattle.update_machine.specs.Versions.{policy_at, plan_at}
 use Rattle.update_machine.specs.Travels.{leg_of, travels}
+use Rattle.update_machine.specs.Ways.{found_down}
 use Rattle.update_machine.proofs.CallerLemmas.{step_stays}
 use Rattle.boot_laws.proofs.Facts.{AreKept, Behind, fact_on, have_weaker, with_fact}
 use Rattle.boot_laws.proofs.Grown.{message_more}

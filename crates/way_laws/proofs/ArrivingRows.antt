@@ -3,8 +3,9 @@ use Rattle.std.proofs.Common.{◌≡◌, Some, None, List, [], ◌∷◌, refl}
 use Rattle.policy_rules.specs.declared.packet.Leg.TheVariants.{Seek}
 use Rattle.journal.specs.declared.item.Item.{Item}
 use Rattle.journal.specs.declared.item.Item.TheVariants as item
-use Rattle.update_machine.specs.Packets.{header_in, next_switch, route_in, route_place, standing}
+use Rattle.update_machine.specs.Packets.{header_in, standing}
 use Rattle.update_machine.specs.Travels.{leg_of, travels}
+use Rattle.update_machine.specs.Ways.{next_switch, route_in, route_place}
 use Rattle.update_machine.proofs.Examples.{one}
 use Rattle.way_laws.specs.Arriving.{IsAtEnd}
 use Rattle.way_laws.specs.Stages.{stage_of}

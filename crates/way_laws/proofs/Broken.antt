@@ -21,13 +21,16 @@ use Rattle.journal.specs.declared.item.Item.TheVariants as item
 use Rattle.steps.specs.declared.step.Step.TheVariants.{Packet, Hop, LinkDown, Update, Deliver, Crash, Lose}
 use Rattle.ternary.specs.Word.{holds}
 use Rattle.update_machine.specs.Adverts.{own_seq, own_advert, adverts_known, route_from, is_cut_off}
-use Rattle.update_machine.specs.Boots.{boot_of, heard, is_up, serves}
-use Rattle.update_machine.specs.Causes.{HasCause, IsOwnLeg, present_step}
-use Rattle.update_machine.specs.Links.{is_link_up, near, links_known}
+use Rattle.update_machine.specs.Boots.{boot_of, heard, is_up}
+use Rattle.update_machine.specs.Causes.{HasCause, present_step}
+use Rattle.update_machine.specs.Links.{is_link_up, serves}
 use Rattle.update_machine.specs.Marks.{acked_stamp, controller_heard, current_mark, is_member, is_over, known_boot, next_retired, opened_at, retired_mark}
-use Rattle.update_machine.specs.Packets.{Decision, decision_of, found_down, header_in, next_switch, route_in, route_place, standing, targets_of}
+use Rattle.update_machine.specs.Packets.{Decision, decision_of, header_in, standing}
 use Rattle.update_machine.specs.Steps.{steps_in}
-use Rattle.update_machine.specs.Setting.{file_of, plan_at}
+use Rattle.update_machine.specs.Versions.{file_of, plan_at}
+use Rattle.update_machine.specs.Ways.{found_down, next_switch, route_in, route_place, targets_of}
+use Rattle.update_machine.specs.LinkMasks.{near, links_known}
+use Rattle.update_machine.specs.ExactCauses.{SeeksOwn}
 use Rattle.update_machine.proofs.CallerLemmas.{unreached}
 use Rattle.update_machine.proofs.Examples.{one, open_net, other, ring, row_of_three}
 use Rattle.way_laws.specs.Words.{entry_mark}
@@ -76,7 +79,7 @@ no_paths = (
 )
 
 stuck_at : (journal : List Item) (version : ℕ) → HasNoPath journal version
-    → standing journal 1 ≡ Some 0 → IsOwnLeg open_net journal 1 (Seek version 0)
+    → standing journal 1 ≡ Some 0 → SeeksOwn open_net journal 1 (Seek version 0)
     → HasCause open_net journal (seeking version)
 stuck_at journal version none stands own = record {
   stands = stands;

@@ -7,7 +7,7 @@ use Rattle.std.proofs.lemmas.Bool.Decides.{nat_tests}
 use Rattle.ctrl_msg.specs.declared.message.Message.{Message}
 use Rattle.journal.specs.declared.item.Item.{Item}
 use Rattle.journal.specs.declared.item.Item.TheVariants as item
-use Rattle.update_machine.specs.Boots.{is_up, serves}
+use Rattle.update_machine.specs.Boots.{is_up}
 use Rattle.update_machine.specs.Deliveries.{link_changes}
 use Rattle.update_machine.specs.Folds.{count_of}
 use Rattle.update_machine.specs.Messages.{next_message, sent_from}
@@ -16,6 +16,7 @@ use Rattle.update_machine.specs.Packets.{is_packet, next_packet, standing}
 use Rattle.update_machine.specs.Pieces.{crash_items, nothing}
 use Rattle.update_machine.specs.Setting.{Setting}
 use Rattle.update_machine.specs.Travels.{packets_at, travels, travels_at}
+use Rattle.update_machine.specs.Links.{serves}
 use Rattle.boot_laws.proofs.Grown.{serving_more}
 use Rattle.way_laws.specs.Rest.{AreServed, IsServed}
 use Rattle.way_laws.proofs.Served.{AreNumbered, place_more, stays_served, still_serves, travels_more}

@@ -13,15 +13,16 @@ use Rattle.switch_table.specs.declared.search.Found.{Found}
 use Rattle.switch_table.specs.declared.search.Found.TheVariants as found
 use Rattle.journal.specs.declared.item.Item.{Item}
 use Rattle.journal.specs.declared.item.Item.TheVariants as item
-use Rattle.update_machine.specs.Boots.{serves}
+use Rattle.update_machine.specs.Links.{serves}
 use Rattle.update_machine.specs.Caches.{lookup_at}
-use Rattle.update_machine.specs.Links.{near}
+use Rattle.update_machine.specs.LinkMasks.{near}
 use Rattle.update_machine.specs.Moves.{AuthorityRule, arrive_by, arrive_items, authority_items, authority_rule, cache_items, end_items, first_place, found_items, go_on, header_at, in_turn, leaves, leg_items, lookup_items, move_items, put, reroute_by, reroute_items, route_for, stuck_on, takes_route}
-use Rattle.update_machine.specs.Packets.{next_switch, owner, standing}
+use Rattle.update_machine.specs.Packets.{standing}
 use Rattle.update_machine.specs.Pieces.{hop_items, nothing, packet_items}
 use Rattle.update_machine.specs.Setting.{Setting}
 use Rattle.update_machine.specs.Versions.{holds_version, stamp_of}
 use Rattle.update_machine.specs.Travels.{leg_of, tells_travelling, travels}
+use Rattle.update_machine.specs.Ways.{next_switch, owner}
 use Rattle.update_machine.proofs.CallerLemmas.{folded_append, last_told_append}
 use Rattle.way_laws.specs.Rest.{IsMoving}
 use Rattle.way_laws.specs.Stages.{OnWay, tells_stage}

@@ -18,12 +18,15 @@ use Rattle.policy_rules.specs.declared.policy.Action.TheVariants as action
 use Rattle.switch_table.specs.Tables.{Placed}
 use Rattle.journal.specs.declared.item.Item.{Item}
 use Rattle.journal.specs.declared.item.Item.TheVariants as item
-use Rattle.update_machine.specs.Links.{links_known}
+use Rattle.update_machine.specs.LinkMasks.{links_known}
 use Rattle.update_machine.specs.Caches.{lookup_at}
-use Rattle.update_machine.specs.Causes.{FindsDown, HasCause, IsLostRightly, IsOwnLeg, IsStuckRightly, LeavesRightly}
+use Rattle.update_machine.specs.Causes.{HasCause, IsLostRightly, LeavesRightly}
 use Rattle.update_machine.specs.Moves.{header_at}
-use Rattle.update_machine.specs.Packets.{Decision, decision_of, found_down, header_in, owner, standing, targets_of}
-use Rattle.update_machine.specs.Setting.{Setting, plan_at}
+use Rattle.update_machine.specs.Packets.{Decision, decision_of, header_in, standing}
+use Rattle.update_machine.specs.Setting.{Setting}
+use Rattle.update_machine.specs.Versions.{plan_at}
+use Rattle.update_machine.specs.Ways.{found_down, owner, targets_of}
+use Rattle.update_machine.specs.ExactCauses.{FindsNextDown, SeeksOwn, FindsNoPath}
 use Rattle.update_machine.proofs.CallerLemmas.{unreached}
 use Rattle.way_laws.specs.OnWay.{IsExiting, IsOnWay, IsSeeking}
 use Rattle.way_laws.specs.Words.{PacketWords, words_of}
@@ -53,7 +56,7 @@ entered_as setting before i s here =
 
 pub finds_down : (setting : Setting) (before : List Item) (i one two : ℕ)
     → Knows setting before i (stage_of before i) → MeetsDown setting before i one two
-    → FindsDown setting before i one two
+    → FindsNextDown setting before i one two
 finds_down setting before i one two knows meets =
     let here : IsHere setting before i one =
     here_of setting before i one (stage_of before i) knows.is knows.have knows.kept meets.at in
@@ -79,7 +82,7 @@ lost_rightly before i lost = elim lost.how [
 
 own_leg : (setting : Setting) (before : List Item) (i s : ℕ) (leg : Leg)
     → Knows setting before i (stage_of before i) → IsHere setting before i s
-    → TakesLeg setting before i s leg → IsOwnLeg setting before i leg
+    → TakesLeg setting before i s leg → SeeksOwn setting before i leg
 own_leg setting before i s (Seek version partition) knows here takes =
     let told : FindsTargets setting before s here.under.header partition takes.targets =
     redirect_told setting before s here.under.header partition takes.targets here.stamped
@@ -97,7 +100,7 @@ own_leg setting before i s (Exit port) knows here takes =
 
 blocked_leg : (setting : Setting) (before : List Item) (i s : ℕ) (leg : Leg)
     → Knows setting before i (stage_of before i) → IsHere setting before i s
-    → IsBlockedOn before i leg → IsOwnLeg setting before i leg
+    → IsBlockedOn before i leg → SeeksOwn setting before i leg
 blocked_leg setting before i s (Seek version partition) knows here blocked =
     let on : IsSeeking setting before (words_of before i) here.under.header version partition =
     seeking_of setting before (words_of before i) here.under.header version partition
@@ -117,7 +120,7 @@ blocked_leg setting before i s (Exit port) knows here blocked =
 pub stuck_rightly : (setting : Setting) (before : List Item) (i s : ℕ) (cause : Cause) (leg : Leg)
     (down : List ℕ) → Knows setting before i (stage_of before i)
     → FindsNoRoute setting before i s cause leg down
-    → IsStuckRightly setting before i s leg
+    → FindsNoPath setting before i s leg
 stuck_rightly setting before i s cause leg down knows finds =
     let here : IsHere setting before i s =
     here_of setting before i s (stage_of before i) knows.is knows.have knows.kept finds.at in

@@ -2,8 +2,7 @@
 use Rattle.std.proofs.Common.{List, []}
 use Rattle.journal.specs.declared.item.Item.{Item}
 use Rattle.update_machine.specs.Causes.{EndsHaveCauses, HasCause, HaveCauses}
-use Rattle.update_machine.specs.Sound.{IsSetting}
-use Rattle.update_machine.specs.Setting.{Setting}
+use Rattle.update_machine.specs.Setting.{Setting, IsSetting}
 use Rattle.boot_laws.proofs.Facts.{Behind, have_weaker}
 use Rattle.way_laws.specs.Kept.{AllKept}
 use Rattle.way_laws.proofs.AllKept.{kept_before, known_before, knows}

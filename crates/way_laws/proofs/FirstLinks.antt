@@ -9,7 +9,7 @@ use Rattle.failover.specs.Paths.{AreJoined, IsPath, IsRoute}
 use Rattle.masks.proofs.CallerLemmas.{has-zero}
 use Rattle.journal.specs.declared.item.Item.{Item}
 use Rattle.update_machine.specs.Adverts.{adverts_known, route_from}
-use Rattle.update_machine.specs.Links.{near, links_known}
+use Rattle.update_machine.specs.LinkMasks.{near, links_known}
 use Rattle.update_machine.specs.Setting.{Setting}
 use Rattle.update_machine.proofs.CallerLemmas.{has_known_link, known_link_laws}
 use Rattle.advert_laws.proofs.NetLinks.{second}

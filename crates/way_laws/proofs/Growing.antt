@@ -11,9 +11,8 @@ use Rattle.ternary.specs.Word.{WordValue}
 use Rattle.journal.specs.declared.item.Item.{Item}
 use Rattle.update_machine.specs.Causes.{HaveCauses}
 use Rattle.update_machine.specs.Marks.{current_mark, retired_mark}
-use Rattle.update_machine.specs.Sound.{IsSetting}
-use Rattle.update_machine.specs.Setting.{Setting, plan_at}
-use Rattle.update_machine.specs.Versions.{is_version, policy_at}
+use Rattle.update_machine.specs.Setting.{Setting, IsSetting}
+use Rattle.update_machine.specs.Versions.{is_version, policy_at, plan_at}
 use Rattle.update_machine.proofs.CallerLemmas.{plan_kept, policy_kept}
 use Rattle.boot_laws.specs.ItemCauses.{HasItemCause}
 use Rattle.mark_laws.proofs.Marks.{bounded}

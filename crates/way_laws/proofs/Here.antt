@@ -12,11 +12,11 @@ use Rattle.update_machine.specs.Caches.{lookup_at}
 use Rattle.update_machine.specs.Causes.{HaveCauses}
 use Rattle.update_machine.specs.Marks.{current_mark}
 use Rattle.update_machine.specs.Moves.{AuthorityRule, authority_rule, first_place, header_at}
-use Rattle.update_machine.specs.Packets.{Decision, decision_of, found_down, header_in, next_switch, standing}
-use Rattle.update_machine.specs.Sound.{IsSetting}
-use Rattle.update_machine.specs.Setting.{Setting, plan_at}
-use Rattle.update_machine.specs.Versions.{policy_at, stamp_of}
+use Rattle.update_machine.specs.Packets.{Decision, decision_of, header_in, standing}
+use Rattle.update_machine.specs.Setting.{Setting, IsSetting}
+use Rattle.update_machine.specs.Versions.{policy_at, stamp_of, plan_at}
 use Rattle.update_machine.specs.Travels.{leg_of, travels}
+use Rattle.update_machine.specs.Ways.{found_down, next_switch}
 use Rattle.boot_laws.specs.ItemCauses.{HasItemCause}
 use Rattle.way_laws.specs.OnWay.{IsExiting, IsOnLeg, IsOnWay, IsSeeking, IsUnderWay}
 use Rattle.way_laws.specs.Words.{PacketWords, words_of}

@@ -35,10 +35,10 @@ use Rattle.update_machine.specs.Causes.{HaveCauses}
 use Rattle.update_machine.specs.Marks.{current_mark, retired_mark}
 use Rattle.update_machine.specs.Moves.{AuthorityRule}
 use Rattle.update_machine.specs.Adverts.{route_from}
-use Rattle.update_machine.specs.Packets.{Decision, found_down, no_switch, owner, targets_of}
-use Rattle.update_machine.specs.Sound.{IsSetting, NamesOwnPort}
-use Rattle.update_machine.specs.Setting.{Setting, plan_at}
-use Rattle.update_machine.specs.Versions.{policy_at, stamp_of, tables_at}
+use Rattle.update_machine.specs.Packets.{Decision}
+use Rattle.update_machine.specs.Setting.{Setting, IsSetting, NamesOwnPort}
+use Rattle.update_machine.specs.Versions.{policy_at, stamp_of, tables_at, plan_at}
+use Rattle.update_machine.specs.Ways.{found_down, no_switch, owner, targets_of}
 use Rattle.boot_laws.specs.ItemCauses.{HasItemCause}
 use Rattle.advert_laws.specs.Adverts.{LinksAreThere}
 use Rattle.way_laws.specs.Rules.{IsRightEntry}

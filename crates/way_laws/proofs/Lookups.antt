@@ -14,14 +14,13 @@ use Rattle.switch_table.specs.declared.cache.CacheEntry.{CacheEntry}
 use Rattle.switch_table.specs.declared.search.Found.{Found}
 use Rattle.switch_table.specs.declared.search.Found.TheVariants as found
 use Rattle.journal.specs.declared.item.Item.{Item}
-use Rattle.update_machine.specs.Boots.{serves}
+use Rattle.update_machine.specs.Links.{serves}
 use Rattle.update_machine.specs.Caches.{cache_of, lookup_at}
 use Rattle.update_machine.specs.Causes.{HaveCauses}
 use Rattle.update_machine.specs.Marks.{current_mark, retired_mark}
 use Rattle.update_machine.specs.Moves.{AuthorityRule, authority_rule}
-use Rattle.update_machine.specs.Sound.{IsSetting}
-use Rattle.update_machine.specs.Setting.{Setting, plan_at}
-use Rattle.update_machine.specs.Versions.{policy_at, stamp_of, tables_at}
+use Rattle.update_machine.specs.Setting.{Setting, IsSetting}
+use Rattle.update_machine.specs.Versions.{policy_at, stamp_of, tables_at, plan_at}
 use Rattle.boot_laws.specs.ItemCauses.{HasItemCause}
 use Rattle.mark_laws.proofs.Marks.{bounded}
 use Rattle.version_laws.specs.Serving.{HoldsStamp}

@@ -11,8 +11,8 @@ use Rattle.journal.specs.declared.item.Item.TheVariants as item
 use Rattle.update_machine.specs.Adverts.{held_adverts, own_advert}
 use Rattle.update_machine.specs.Boots.{is_up}
 use Rattle.update_machine.specs.Causes.{HaveCauses}
-use Rattle.update_machine.specs.Deliveries.{advert_to, after_hello, controller_items, delivery_items, has_changed, link_changes, passed_on, received_items, switch_items, told_by, told_over}
-use Rattle.update_machine.specs.Links.{near, switches_in}
+use Rattle.update_machine.specs.Deliveries.{advert_to, after_hello, controller_items, delivery_items, has_changed, link_changes, passed_on, received_items, switch_items, told_by, told_over, switches_in}
+use Rattle.update_machine.specs.LinkMasks.{near}
 use Rattle.update_machine.specs.Marks.{acked_stamp, current_mark, retired_mark}
 use Rattle.update_machine.specs.Messages.{next_message, sends, sent_from}
 use Rattle.update_machine.specs.Pieces.{confirm_items, deliver_items, expire_items, forget_items, hello_of, link_items, resend_items, resent_by_switch, restart_items, sends_or_nothing, update_items}

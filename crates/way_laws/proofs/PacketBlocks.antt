@@ -19,17 +19,18 @@ use Rattle.switch_table.specs.declared.cache.CacheEntry.{CacheEntry}
 use Rattle.journal.specs.declared.item.Item.{Item}
 use Rattle.journal.specs.declared.item.Item.TheVariants as item
 use Rattle.steps.specs.declared.step.Step.TheVariants.{Lose}
-use Rattle.update_machine.specs.Boots.{serves, tells_serving}
+use Rattle.update_machine.specs.Links.{serves, tells_serving}
 use Rattle.update_machine.specs.Caches.{lookup_at}
 use Rattle.update_machine.specs.Causes.{HaveCauses, present_step}
-use Rattle.update_machine.specs.Links.{near}
+use Rattle.update_machine.specs.LinkMasks.{near}
 use Rattle.update_machine.specs.Messages.{next_message, sends, sent_from}
 use Rattle.update_machine.specs.Moves.{AuthorityRule, arrive_by, arrive_items, authority_items, authority_rule, cache_items, cache_rule, end_items, first_place, found_items, go_on, header_at, in_turn, leaves, leg_items, lookup_items, move_items, put, reroute_by, reroute_items, route_for, stuck_on, takes_route}
-use Rattle.update_machine.specs.Packets.{Decision, changes_hops, decision_of, found_down, header_in, next_switch, owner, route_in, route_place, standing, targets_of, tells_decision, tells_header, tells_place, tells_route}
+use Rattle.update_machine.specs.Packets.{Decision, decision_of, header_in, standing, tells_decision, tells_header, tells_place}
 use Rattle.update_machine.specs.Pieces.{hop_items, lose_items, nothing, packet_items}
-use Rattle.update_machine.specs.Setting.{Setting, plan_at}
-use Rattle.update_machine.specs.Versions.{holds_version, stamp_of}
+use Rattle.update_machine.specs.Setting.{Setting}
+use Rattle.update_machine.specs.Versions.{holds_version, stamp_of, plan_at}
 use Rattle.update_machine.specs.Travels.{ingress_of, is_at, leg_of, tells_travelling, travels}
+use Rattle.update_machine.specs.Ways.{changes_hops, found_down, next_switch, owner, route_in, route_place, targets_of, tells_route}
 use Rattle.update_machine.proofs.CallerLemmas.{folded_append, have_append, have_first, last_told_append, lookup_stays, near_stays, policies_keep, switch_keeps}
 use Rattle.way_laws.specs.Stages.{Stage, Blocked, CameIn, Judged, OnWay, stage_of, tells_stage}
 use Rattle.way_laws.specs.Rest.{AreResting, IsServed}

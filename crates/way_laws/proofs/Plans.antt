@@ -21,9 +21,8 @@ use Rattle.switch_table.specs.Lookup.{lookup_in, plan_lookup, table_lookup}
 use Rattle.switch_table.specs.Tables.{Placed, part_of, tables_of}
 use Rattle.switch_table.proofs.TableLemmas.{find-there, tables_planned}
 use Rattle.journal.specs.declared.item.Item.{Item}
-use Rattle.update_machine.specs.Sound.{IsSetting, NamesOwnPort}
-use Rattle.update_machine.specs.Setting.{Setting, placed_in, plan_of_file, policy_of_file, plan_at}
-use Rattle.update_machine.specs.Versions.{policy_at}
+use Rattle.update_machine.specs.Setting.{Setting, plan_of_file, policy_of_file, IsSetting, NamesOwnPort}
+use Rattle.update_machine.specs.Versions.{policy_at, placed_in, plan_at}
 use Rattle.update_machine.proofs.CallerLemmas.{of_its_file}
 use Rattle.version_laws.specs.Planned.{HasPlan}
 

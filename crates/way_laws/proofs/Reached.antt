@@ -8,8 +8,7 @@ use Rattle.update_machine.specs.Answers.{AnswersSoFar, BeginsAnswer, IsReached, 
 use Rattle.update_machine.specs.Causes.{HaveCauses}
 use Rattle.update_machine.specs.Travels.{travels}
 use Rattle.update_machine.specs.Pieces.{piece}
-use Rattle.update_machine.specs.Sound.{IsSetting}
-use Rattle.update_machine.specs.Setting.{Setting}
+use Rattle.update_machine.specs.Setting.{Setting, IsSetting}
 use Rattle.update_machine.proofs.CallerLemmas.{AreOf, answers_so_far, first_steps_are, have_take}
 use Rattle.boot_laws.specs.Always.{HoldsReached}
 use Rattle.boot_laws.proofs.Reached.{NamesOwn, begin_has, has_nexts, own_event, own_steps}

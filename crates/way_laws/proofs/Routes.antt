@@ -13,7 +13,7 @@ use Rattle.net_file.specs.Net.{are_linked, links_of}
 use Rattle.net_file.proofs.Masks.{in_mask_of}
 use Rattle.journal.specs.declared.item.Item.{Item}
 use Rattle.update_machine.specs.Adverts.{adverts_known, route_from}
-use Rattle.update_machine.specs.Links.{near, links_known}
+use Rattle.update_machine.specs.LinkMasks.{near, links_known}
 use Rattle.update_machine.specs.Setting.{Setting}
 use Rattle.update_machine.proofs.CallerLemmas.{has_known_link, known_link_laws}
 use Rattle.advert_laws.specs.Adverts.{LinksAreThere}

@@ -19,10 +19,9 @@ use Rattle.update_machine.specs.Machine.{Dropped, End, Ends, IsRun, LeftBy, Lost
 use Rattle.update_machine.specs.Marks.{retired_mark, tells_retired}
 use Rattle.update_machine.specs.Numbers.{VersionsAreNumbered}
 use Rattle.update_machine.specs.Packets.{Decision, header_in, next_packet}
-use Rattle.update_machine.specs.Sound.{IsSetting}
-use Rattle.update_machine.specs.Setting.{Setting, plan_of_file, policy_of_file, file_of}
+use Rattle.update_machine.specs.Setting.{Setting, plan_of_file, policy_of_file, IsSetting}
 use Rattle.update_machine.specs.Laws.{PoliciesKeep}
-use Rattle.update_machine.specs.Versions.{is_submission, is_version, policy_at, version_count}
+use Rattle.update_machine.specs.Versions.{is_submission, is_version, policy_at, version_count, file_of}
 use Rattle.update_machine.specs.Travels.{travels}
 use Rattle.update_machine.proofs.CallerLemmas.{file_append, have_append, of_its_file, policies_keep, policy_kept, start_laws}
 use Rattle.boot_laws.specs.ItemCauses.{HasItemCause, RetiresRightly, SubmitsRightly}

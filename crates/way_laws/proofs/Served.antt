@@ -14,12 +14,13 @@ use Rattle.policy_rules.specs.declared.packet.Leg.{Leg}
 use Rattle.policy_rules.specs.declared.packet.Leg.TheVariants.{Seek, Exit}
 use Rattle.journal.specs.declared.item.Item.{Item}
 use Rattle.journal.specs.declared.item.Item.TheVariants as item
-use Rattle.update_machine.specs.Boots.{is_up, serves, tells_serving}
+use Rattle.update_machine.specs.Boots.{is_up}
 use Rattle.update_machine.specs.Folds.{count_of, last_told}
-use Rattle.update_machine.specs.Links.{is_usable, near}
+use Rattle.update_machine.specs.Links.{is_usable, serves, tells_serving}
 use Rattle.update_machine.specs.Packets.{is_packet, next_packet, standing, tells_place}
 use Rattle.update_machine.specs.Setting.{Setting}
 use Rattle.update_machine.specs.Travels.{changes_leg, exit_port, leg_of, tells_travelling, travels}
+use Rattle.update_machine.specs.LinkMasks.{near}
 use Rattle.update_machine.proofs.CallerLemmas.{count_of_append, folded_append, last_told_append}
 use Rattle.boot_laws.specs.BootLaws.{ServingIsKnown}
 use Rattle.boot_laws.specs.ItemCauses.{HasItemCause}

@@ -4,10 +4,11 @@ use Rattle.std.proofs.Common.{◌≡◌, ◌⊎◌, false, true, Some, None, Lis
 use Rattle.journal.specs.declared.item.Item.{Item}
 use Rattle.journal.specs.declared.item.Item.TheVariants as item
 use Rattle.steps.specs.declared.step.Step.TheVariants.{Packet, Lose, Crash}
-use Rattle.update_machine.specs.Boots.{is_up, serves}
+use Rattle.update_machine.specs.Boots.{is_up}
 use Rattle.update_machine.specs.Packets.{next_packet, standing}
 use Rattle.update_machine.specs.Causes.{present_step}
 use Rattle.update_machine.specs.Travels.{travels}
+use Rattle.update_machine.specs.Links.{serves}
 use Rattle.update_machine.proofs.Examples.{one, open_net}
 use Rattle.way_laws.specs.WayCauses.{IsLostInCrash, WayCause, ends_with_row, fallen}
 

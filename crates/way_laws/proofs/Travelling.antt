@@ -3,9 +3,8 @@ use Rattle.std.proofs.Common.{ℕ, Some, List, [], inl}
 use Rattle.std.specs.Prelude.{IsTrue}
 use Rattle.policy_rules.specs.declared.packet.Leg.TheVariants.{Seek}
 use Rattle.journal.specs.declared.item.Item.{Item}
-use Rattle.update_machine.specs.Packets.{found_down, route_in}
-use Rattle.update_machine.specs.Sound.{IsSetting}
-use Rattle.update_machine.specs.Setting.{Setting}
+use Rattle.update_machine.specs.Ways.{found_down, route_in}
+use Rattle.update_machine.specs.Setting.{Setting, IsSetting}
 use Rattle.version_laws.proofs.Serving.{serving_hold}
 use Rattle.way_laws.specs.OnWay.{IsOnWay}
 use Rattle.way_laws.specs.Words.{words_of}

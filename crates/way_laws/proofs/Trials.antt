@@ -10,10 +10,12 @@ use Rattle.policy_rules.specs.declared.policy.Action.TheVariants.{Drop, Out}
 use Rattle.journal.specs.declared.item.Item.{Item}
 use Rattle.journal.specs.declared.item.Item.TheVariants as item
 use Rattle.steps.specs.declared.step.Step.TheVariants.{Packet, Crash}
-use Rattle.update_machine.specs.Boots.{boot_of, heard, is_up, serves}
-use Rattle.update_machine.specs.Packets.{found_down, next_packet, standing}
+use Rattle.update_machine.specs.Boots.{boot_of, heard, is_up}
+use Rattle.update_machine.specs.Packets.{next_packet, standing}
 use Rattle.update_machine.specs.Versions.{stamp_of}
 use Rattle.update_machine.specs.Travels.{leg_of, travels}
+use Rattle.update_machine.specs.Ways.{found_down}
+use Rattle.update_machine.specs.Links.{serves}
 use Rattle.update_machine.proofs.Examples.{one, open_net}
 use Rattle.way_laws.specs.Rest.{AreResting}
 use Rattle.way_laws.specs.Stages.{stage_of}

@@ -8,8 +8,9 @@ use Rattle.journal.specs.declared.item.Item.{Item}
 use Rattle.journal.specs.declared.item.Item.TheVariants as item
 use Rattle.update_machine.specs.Folds.{last_told}
 use Rattle.update_machine.specs.Marks.{retired_mark}
-use Rattle.update_machine.specs.Packets.{changes_found, changes_hops, decision_of, found_down, header_in, route_in, route_place, standing, tells_decision, tells_header, tells_place, tells_route}
+use Rattle.update_machine.specs.Packets.{decision_of, header_in, standing, tells_decision, tells_header, tells_place}
 use Rattle.update_machine.specs.Travels.{changes_leg, ingress_of, leg_of, tells_ingress, tells_travelling, travels}
+use Rattle.update_machine.specs.Ways.{changes_found, changes_hops, found_down, route_in, route_place, tells_route}
 use Rattle.update_machine.proofs.CallerLemmas.{folded_append, last_told_append}
 use Rattle.way_laws.specs.Words.{changes_mark, entry_mark, names, told_by, words_of}
 

@@ -11,10 +11,9 @@ use Rattle.switch_table.specs.Tables.{Placed}
 use Rattle.journal.specs.declared.item.Item.{Item}
 use Rattle.update_machine.specs.Caches.{cache_of}
 use Rattle.update_machine.specs.Marks.{current_mark}
-use Rattle.update_machine.specs.Boots.{message_of}
+use Rattle.update_machine.specs.Links.{message_of}
 use Rattle.update_machine.specs.Packets.{Decision, next_packet}
-use Rattle.update_machine.specs.Sound.{NamesOwnPort}
-use Rattle.update_machine.specs.Setting.{Setting}
+use Rattle.update_machine.specs.Setting.{Setting, NamesOwnPort}
 use Rattle.update_machine.specs.Versions.{policy_at}
 use Rattle.way_laws.specs.Rules.{IsRightEntry, IsRightRule}
 use Rattle.way_laws.specs.OnWay.{IsOnWay, IsPartitionOf, IsUnderWay, IsUnknown}

@@ -15,7 +15,8 @@ use Rattle.switch_table.specs.Tables.{Placed, part_of}
 use Rattle.journal.specs.declared.item.Item.{Item}
 use Rattle.update_machine.specs.Marks.{current_mark, retired_mark}
 use Rattle.update_machine.specs.Packets.{Decision}
-use Rattle.update_machine.specs.Setting.{Setting, plan_at}
+use Rattle.update_machine.specs.Setting.{Setting}
+use Rattle.update_machine.specs.Versions.{plan_at}
 use Rattle.way_laws.specs.Words.{PacketWords}
 
 -- ---- routes

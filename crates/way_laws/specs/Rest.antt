@@ -1,7 +1,7 @@
 -- A network between steps: each travelling packet is on its way, at a switch that serves.
 use Rattle.std.specs.Prelude.{ℕ, ◌≡◌, Some, List, IsTrue}
 use Rattle.journal.specs.declared.item.Item.{Item}
-use Rattle.update_machine.specs.Boots.{serves}
+use Rattle.update_machine.specs.Links.{serves}
 use Rattle.update_machine.specs.Packets.{standing}
 use Rattle.update_machine.specs.Travels.{travels}
 use Rattle.way_laws.specs.Stages.{OnWay, stage_of}

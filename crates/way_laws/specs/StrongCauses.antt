@@ -12,13 +12,15 @@ use Rattle.journal.specs.declared.item.Item.{Item}
 use Rattle.journal.specs.declared.item.Item.TheVariants as item
 use Rattle.steps.specs.Steps.{HasLink}
 use Rattle.update_machine.specs.Adverts.{route_from}
-use Rattle.update_machine.specs.Boots.{serves}
-use Rattle.update_machine.specs.Causes.{FindsDown, IsStuckRightly, LeavesRightly}
+use Rattle.update_machine.specs.Links.{serves}
+use Rattle.update_machine.specs.Causes.{LeavesRightly}
 use Rattle.update_machine.specs.Marks.{current_mark}
 use Rattle.update_machine.specs.Moves.{cause_at}
-use Rattle.update_machine.specs.Packets.{decision_of, found_down, targets_of}
+use Rattle.update_machine.specs.Packets.{decision_of}
 use Rattle.update_machine.specs.Setting.{Setting}
 use Rattle.update_machine.specs.Travels.{leg_of}
+use Rattle.update_machine.specs.Ways.{found_down, targets_of}
+use Rattle.update_machine.specs.ExactCauses.{FindsNextDown, FindsNoPath}
 use Rattle.boot_laws.specs.ItemCauses.{RetiresRightly, SubmitsRightly}
 use Rattle.way_laws.specs.Words.{entry_mark}
 use Rattle.way_laws.specs.Kept.{Avoids}
@@ -28,7 +30,7 @@ use Rattle.way_laws.specs.WayCauses.{IsDecided, IsDroppedHere, IsLostHere, IsOfR
 -- switch can't use
 pub record FindsLinkDown (setting : Setting) (before : List Item) (packet one two : ℕ) : Type 0
   where
-    pub finds : FindsDown setting before packet one two
+    pub finds : FindsNextDown setting before packet one two
     pub linked : HasLink setting.net one two
 
 -- on its way to an authority the packet is undecided, and its version wasn't retired as it came in
@@ -46,7 +48,7 @@ IsOnRightLeg before packet (Exit port) = ⊤
 -- route
 pub record IsStuckOnLeg (setting : Setting) (before : List Item) (packet switch : ℕ)
     (cause : Cause) (leg : Leg) (down : List ℕ) : Type 0 where
-  pub stuck : IsStuckRightly setting before packet switch leg
+  pub stuck : FindsNoPath setting before packet switch leg
   pub found : down ≡ found_down before packet
   pub no_route : route_from setting before switch (targets_of setting before leg) down ≡ None
   pub why : cause ≡ cause_at setting before switch down leg

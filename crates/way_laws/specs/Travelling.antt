@@ -3,12 +3,12 @@ use Rattle.std.specs.Prelude.{ℕ, ◌≡◌, ◌<◌, ◌⊎◌, Some, List, Al
 use Rattle.ctrl_msg.specs.declared.message.Message.{Message}
 use Rattle.policy_rules.specs.declared.packet.Leg.TheVariants.{Seek}
 use Rattle.journal.specs.declared.item.Item.{Item}
-use Rattle.update_machine.specs.Boots.{serves, message_of}
 use Rattle.update_machine.specs.Caches.{cache_of}
-use Rattle.update_machine.specs.Packets.{found_down, route_in}
+use Rattle.update_machine.specs.Ways.{found_down, route_in}
 use Rattle.update_machine.specs.Setting.{Setting}
 use Rattle.update_machine.specs.Versions.{holds_version, stamp_of}
 use Rattle.update_machine.specs.Travels.{leg_of, travels}
+use Rattle.update_machine.specs.Links.{serves, message_of}
 use Rattle.way_laws.specs.Rules.{IsRightEntry}
 use Rattle.way_laws.specs.OnWay.{IsOnWay}
 use Rattle.way_laws.specs.Words.{words_of}

@@ -20,16 +20,18 @@ use Rattle.switch_table.specs.declared.search.Found.TheVariants as found
 use Rattle.journal.specs.declared.item.Item.{Item}
 use Rattle.journal.specs.declared.item.Item.TheVariants as item
 use Rattle.steps.specs.declared.step.Step.TheVariants.{Packet, Lose, Crash}
-use Rattle.update_machine.specs.Boots.{is_up, serves}
+use Rattle.update_machine.specs.Boots.{is_up}
 use Rattle.update_machine.specs.Caches.{lookup_at}
 use Rattle.update_machine.specs.Folds.{last_told}
-use Rattle.update_machine.specs.Links.{near}
+use Rattle.update_machine.specs.LinkMasks.{near}
 use Rattle.update_machine.specs.Moves.{AuthorityRule, authority_rule, cache_rule, cause_at, first_place, header_at, leaves, route_for}
-use Rattle.update_machine.specs.Packets.{Decision, decision_of, found_down, next_packet, next_switch, owner, standing}
+use Rattle.update_machine.specs.Packets.{Decision, decision_of, next_packet, standing}
 use Rattle.update_machine.specs.Setting.{Setting}
 use Rattle.update_machine.specs.Causes.{present_step}
 use Rattle.update_machine.specs.Versions.{holds_version, stamp_of}
 use Rattle.update_machine.specs.Travels.{ingress_of, is_at, leg_of, travels}
+use Rattle.update_machine.specs.Ways.{found_down, next_switch, owner}
+use Rattle.update_machine.specs.Links.{serves}
 use Rattle.way_laws.specs.Stages.{Blocked, CameIn, Judged, OnWay, stage_of}
 
 -- ---- where it is

@@ -8,8 +8,9 @@ use Rattle.journal.specs.declared.item.Item.{Item}
 use Rattle.journal.specs.declared.item.Item.TheVariants as item
 use Rattle.update_machine.specs.Folds.{folded}
 use Rattle.update_machine.specs.Marks.{retired_mark}
-use Rattle.update_machine.specs.Packets.{Decision, decision_of, found_down, header_in, route_in, route_place, standing}
+use Rattle.update_machine.specs.Packets.{Decision, decision_of, header_in, standing}
 use Rattle.update_machine.specs.Travels.{ingress_of, leg_of, port_in, travels}
+use Rattle.update_machine.specs.Ways.{found_down, route_in, route_place}
 
 -- ---- one more word of a packet
 

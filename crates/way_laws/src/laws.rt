@@ -2,7 +2,7 @@
 ghost use Rattle.std.specs.Prelude.{[]};
 ghost use Rattle.update_machine.specs.Causes.{EndsHaveCauses, HaveCauses};
 ghost use Rattle.update_machine.specs.Machine.{IsRun};
-ghost use Rattle.update_machine.specs.Sound.{IsSetting};
+ghost use Rattle.update_machine.specs.Setting.{IsSetting};
 ghost use Rattle.boot_laws.specs.Always.{HoldsReached};
 ghost use Rattle.way_laws.specs.Arriving.{PacketsArrive};
 ghost use Rattle.way_laws.specs.Between.{HoldsBetween};

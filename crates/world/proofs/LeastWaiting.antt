@@ -12,7 +12,7 @@ use Rattle.ctrl_msg.specs.declared.message.Message.{Message}
 use Rattle.journal.specs.declared.item.Item.{Item}
 use Rattle.update_machine.specs.Folds.{count_of}
 use Rattle.update_machine.specs.Messages.{is_deliverable, is_forgotten, is_sending, is_waiting, next_message, next_waiting, was_delivered}
-use Rattle.update_machine.specs.Boots.{message_of}
+use Rattle.update_machine.specs.Links.{message_of}
 use Rattle.world.specs.State.{IsTied, WorldValue}
 use Rattle.world_ties.specs.Tied.{AreTied}
 use Rattle.log_ties.specs.Bags.{IsBagOf, post_in}

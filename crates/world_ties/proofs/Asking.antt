@@ -8,7 +8,7 @@ use Rattle.switch_core.specs.Answering.{CanLookUp}
 use Rattle.switch_core.specs.State.{SwitchValue}
 use Rattle.switch_ties.specs.SwitchOf.{switch_of}
 use Rattle.tunnel.specs.Moves.{here}
-use Rattle.update_machine.specs.Links.{near}
+use Rattle.update_machine.specs.LinkMasks.{near}
 use Rattle.update_machine.specs.Setting.{Setting}
 use Rattle.log_ties.proofs.CanAsk.{CanAsk, can_be_asked, looks_up_as, sees_as, stands_at}
 use Rattle.log_ties.proofs.Known.{Known, reached_known}

@@ -25,17 +25,18 @@ use Rattle.switch_ties.specs.SwitchOf.{switch_of}
 use Rattle.switch_ties.proofs.Asked.{asked_ties}
 use Rattle.switch_ties.proofs.Life.{life_ties}
 use Rattle.switch_ties.proofs.Links.{kept_is, link_ties}
-use Rattle.update_machine.specs.Boots.{boot_of, is_up, serves, tells_boot, tells_serving}
+use Rattle.update_machine.specs.Boots.{boot_of, is_up, tells_boot}
 use Rattle.boot_laws.specs.ItemCauses.{HasItemCause}
 use Rattle.update_machine.specs.Causes.{HaveCauses}
 use Rattle.update_machine.specs.Deliveries.{has_changed, to_controller}
 use Rattle.update_machine.specs.Full.{HasRoom}
-use Rattle.update_machine.specs.Links.{is_link_up, is_usable, near}
+use Rattle.update_machine.specs.Links.{is_link_up, is_usable, serves, tells_serving}
 use Rattle.update_machine.specs.Messages.{next_message, sends, sent_from}
 use Rattle.update_machine.specs.Moves.{put}
 use Rattle.update_machine.specs.Pieces.{hello_of, nothing, piece, restart_items}
 use Rattle.steps.specs.Steps.{IsStep}
 use Rattle.update_machine.specs.Setting.{Setting}
+use Rattle.update_machine.specs.LinkMasks.{near}
 use Rattle.update_machine.proofs.CallerLemmas.{last_told_append, messages_keep, switch_keeps}
 use Rattle.world_log.specs.Sending.{act_items, act_posts}
 use Rattle.world_ties.specs.Tied.{AreTied, Control, is_up_link}

@@ -23,13 +23,15 @@ use Rattle.update_machine.specs.Boots.{is_up}
 use Rattle.update_machine.specs.Concerns.{concerns_calls, concerns_known, concerns_links, concerns_messages, concerns_policies, concerns_switch}
 use Rattle.update_machine.specs.Deliveries.{has_changed, link_changes}
 use Rattle.update_machine.specs.Folds.{count_of}
-use Rattle.update_machine.specs.Links.{is_link_up, near}
+use Rattle.update_machine.specs.Links.{is_link_up}
 use Rattle.update_machine.specs.Messages.{sent_from}
 use Rattle.update_machine.specs.Moves.{put}
-use Rattle.update_machine.specs.Packets.{is_packet, targets_of}
+use Rattle.update_machine.specs.Packets.{is_packet}
 use Rattle.update_machine.specs.Pieces.{crash_items, nothing, piece}
 use Rattle.update_machine.specs.Setting.{Setting}
 use Rattle.update_machine.specs.Travels.{packets_at}
+use Rattle.update_machine.specs.Ways.{targets_of}
+use Rattle.update_machine.specs.LinkMasks.{near}
 use Rattle.update_machine.proofs.CallerLemmas.{have_append, last_told_append, links_keep}
 use Rattle.usable_links.specs.Linking.{AreRelinked, all_told, near_all}
 use Rattle.steps.specs.Steps.{IsStep}

@@ -15,7 +15,7 @@ use Rattle.update_machine.specs.Messages.{is_deliverable, is_forgotten, was_deli
 use Rattle.update_machine.specs.Pieces.{forget_items, nothing, piece}
 use Rattle.steps.specs.Steps.{IsStep}
 use Rattle.update_machine.specs.Setting.{Setting}
-use Rattle.update_machine.specs.Boots.{message_of}
+use Rattle.update_machine.specs.Links.{message_of}
 use Rattle.update_machine.proofs.CallerLemmas.{message_keeps}
 use Rattle.world_ties.specs.Tied.{AreTied, Control}
 use Rattle.log_ties.specs.Bags.{IsBagOf, post_in}

@@ -11,8 +11,8 @@ use Rattle.switch_core.specs.Hearing.{IsSoundBody}
 use Rattle.switch_core.specs.State.{SwitchValue}
 use Rattle.switch_ties.specs.Knowing.{TablesAreKnown}
 use Rattle.switch_ties.proofs.Asked.{asked_ties}
-use Rattle.update_machine.specs.Links.{near}
-use Rattle.update_machine.specs.Boots.{message_of}
+use Rattle.update_machine.specs.LinkMasks.{near}
+use Rattle.update_machine.specs.Links.{message_of}
 use Rattle.update_machine.specs.Setting.{Setting}
 use Rattle.update_machine.specs.Settling.{to_switch}
 use Rattle.world_ties.specs.Tied.{AreTied, Control}

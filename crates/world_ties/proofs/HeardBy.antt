@@ -25,13 +25,14 @@ use Rattle.switch_ties.proofs.Delivered.{hear_ties}
 use Rattle.switch_ties.proofs.Links.{kept_is}
 use Rattle.update_machine.specs.Concerns.{is_message_to, is_message_to_controller}
 use Rattle.update_machine.specs.Deliveries.{delivery_items, to_controller}
-use Rattle.update_machine.specs.Links.{near}
+use Rattle.update_machine.specs.LinkMasks.{near}
 use Rattle.update_machine.specs.Messages.{is_deliverable, is_to_controller, next_message, sent_from}
 use Rattle.update_machine.specs.Pieces.{deliver_items, nothing, piece}
 use Rattle.steps.specs.Steps.{IsStep}
 use Rattle.update_machine.specs.Setting.{Setting}
 use Rattle.update_machine.specs.Settling.{to_switch}
-use Rattle.update_machine.specs.Boots.{is_to_switch, message_of}
+use Rattle.update_machine.specs.Boots.{is_to_switch}
+use Rattle.update_machine.specs.Links.{message_of}
 use Rattle.update_machine.proofs.CallerLemmas.{message_keeps}
 use Rattle.world_log.specs.Sending.{MayNote, MaySend, act_items, act_posts}
 use Rattle.world_ties.specs.Tied.{AreTied, Control}

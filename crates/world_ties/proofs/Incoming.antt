@@ -15,10 +15,11 @@ use Rattle.switch_core.specs.declared.answers.Entered.{Entered}
 use Rattle.switch_ties.specs.SwitchOf.{switch_of}
 use Rattle.update_machine.specs.Folds.{count_of}
 use Rattle.update_machine.specs.Messages.{next_message}
-use Rattle.update_machine.specs.Packets.{is_packet, next_packet, targets_of}
+use Rattle.update_machine.specs.Packets.{is_packet, next_packet}
 use Rattle.update_machine.specs.Pieces.{packet_items, piece}
 use Rattle.steps.specs.Steps.{IsStep}
 use Rattle.update_machine.specs.Setting.{Setting}
+use Rattle.update_machine.specs.Ways.{targets_of}
 use Rattle.way_laws.specs.OnWay.{IsUnknown}
 use Rattle.way_laws.specs.Words.{words_of}
 use Rattle.world_log.specs.Packets.{coming_in, entry}

@@ -26,12 +26,13 @@ use Rattle.switch_ties.specs.Links.{LeavesSwitch, relinked}
 use Rattle.switch_ties.proofs.Links.{link_ties}
 use Rattle.update_machine.specs.Concerns.{concerns_calls}
 use Rattle.update_machine.specs.Deliveries.{link_changes}
-use Rattle.update_machine.specs.Links.{is_link_up, near, tells_link}
+use Rattle.update_machine.specs.Links.{is_link_up, tells_link}
 use Rattle.update_machine.specs.Folds.{last_told}
 use Rattle.update_machine.specs.Messages.{sent_from}
 use Rattle.update_machine.specs.Moves.{put}
 use Rattle.update_machine.specs.Pieces.{link_items, nothing, piece}
 use Rattle.update_machine.specs.Setting.{Setting}
+use Rattle.update_machine.specs.LinkMasks.{near}
 use Rattle.update_machine.proofs.CallerLemmas.{last_told_append}
 use Rattle.usable_links.specs.Linking.{AreRelinked, SetsLink, all_told, link_step, near_all}
 use Rattle.world_ties.specs.Tied.{AreTied, Control, is_up_link, up_links}

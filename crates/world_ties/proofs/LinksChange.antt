@@ -39,7 +39,7 @@ use Rattle.update_machine.specs.Causes.{HaveCauses}
 use Rattle.update_machine.specs.Deliveries.{has_changed, link_changes, told_by}
 use Rattle.update_machine.specs.Folds.{count_of}
 use Rattle.update_machine.specs.Full.{HasRoom}
-use Rattle.update_machine.specs.Links.{near}
+use Rattle.update_machine.specs.LinkMasks.{near}
 use Rattle.update_machine.specs.Messages.{sent_from}
 use Rattle.update_machine.specs.Packets.{is_packet}
 use Rattle.update_machine.specs.Pieces.{piece}

@@ -20,12 +20,13 @@ use Rattle.switch_ties.specs.Links.{LeavesSwitch, relinked}
 use Rattle.switch_ties.specs.SwitchOf.{switch_of}
 use Rattle.switch_ties.proofs.Delivered.{hear_ties}
 use Rattle.update_machine.specs.Deliveries.{link_changes}
-use Rattle.update_machine.specs.Links.{is_link_up, near}
+use Rattle.update_machine.specs.Links.{is_link_up}
 use Rattle.update_machine.specs.Messages.{is_to_controller, sent_from}
 use Rattle.update_machine.specs.Pieces.{piece}
 use Rattle.steps.specs.Steps.{IsStep}
 use Rattle.update_machine.specs.Setting.{Setting}
 use Rattle.update_machine.specs.Boots.{is_to_switch}
+use Rattle.update_machine.specs.LinkMasks.{near}
 use Rattle.update_machine.proofs.CallerLemmas.{last_told_append}
 use Rattle.usable_links.specs.Linking.{AreRelinked, all_told, near_all}
 use Rattle.world_ties.specs.Tied.{AreTied, Control, is_up_link, up_links}

@@ -21,10 +21,11 @@ use Rattle.switch_ties.specs.Links.{relinked, tells}
 use Rattle.switch_ties.specs.SwitchOf.{switch_of}
 use Rattle.switch_ties.proofs.Links.{link_ties}
 use Rattle.update_machine.specs.Adverts.{own_advert}
-use Rattle.update_machine.specs.Boots.{is_up, serves as serves_in}
+use Rattle.update_machine.specs.Boots.{is_up}
 use Rattle.update_machine.specs.Deliveries.{has_changed, told_by}
-use Rattle.update_machine.specs.Links.{is_usable, near, usable_links}
+use Rattle.update_machine.specs.Links.{is_usable, serves as serves_in}
 use Rattle.update_machine.specs.Setting.{Setting, switches_of}
+use Rattle.update_machine.specs.LinkMasks.{near, usable_links}
 use Rattle.world_ties.specs.Tied.{is_up_link, up_links}
 use Rattle.usable_links.specs.Linking.{AreRelinked, all_told, changes, near_all, near_by, serves_at, told_as, told_at, told_to}
 use Rattle.usable_links.proofs.Relinking.{told_nothing}

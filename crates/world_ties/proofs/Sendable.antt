@@ -21,7 +21,7 @@ use Rattle.switch_core.specs.State.{SwitchValue}
 use Rattle.travelling.specs.Travelling.{Travellers}
 use Rattle.update_machine.specs.Deliveries.{to_controller}
 use Rattle.update_machine.specs.Folds.{last_told}
-use Rattle.update_machine.specs.Boots.{message_of, tells_message}
+use Rattle.update_machine.specs.Links.{message_of, tells_message}
 use Rattle.update_machine.specs.Pieces.{piece}
 use Rattle.update_machine.specs.Setting.{Setting}
 use Rattle.update_machine.proofs.CallerLemmas.{last_told_append}

@@ -21,8 +21,8 @@ use Rattle.switch_ties.specs.SwitchOf.{switch_of}
 use Rattle.switch_ties.proofs.Links.{kept_is, link_ties}
 use Rattle.update_machine.specs.Adverts.{held_adverts}
 use Rattle.update_machine.specs.Boots.{boot_of, is_up}
-use Rattle.update_machine.specs.Deliveries.{advert_to, to_controller}
-use Rattle.update_machine.specs.Links.{near, switches_in}
+use Rattle.update_machine.specs.Deliveries.{advert_to, to_controller, switches_in}
+use Rattle.update_machine.specs.LinkMasks.{near}
 use Rattle.update_machine.specs.Pieces.{nothing, piece, resent_by_switch}
 use Rattle.update_machine.specs.Setting.{Setting}
 use Rattle.update_machine.proofs.CallerLemmas.{near_stays}

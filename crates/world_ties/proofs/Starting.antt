@@ -18,9 +18,9 @@ use Rattle.steps.specs.Steps.{IsStep}
 use Rattle.switch_core.specs.State.{SwitchValue}
 use Rattle.switch_ties.specs.SwitchOf.{switch_of}
 use Rattle.update_machine.specs.Packets.{next_packet}
-use Rattle.update_machine.specs.Sound.{IsSetting, NamesOwnPort}
-use Rattle.update_machine.specs.Setting.{Setting, placed_in, plan_of_file, setting_of, plan_at}
+use Rattle.update_machine.specs.Setting.{Setting, plan_of_file, setting_of, IsSetting, NamesOwnPort}
 use Rattle.update_machine.specs.Travels.{travels}
+use Rattle.update_machine.specs.Versions.{placed_in, plan_at}
 use Rattle.update_machine.proofs.CallerLemmas.{of_its_file, start_laws}
 use Rattle.usable_links.specs.Linking.{AreNear}
 use Rattle.world_ties.specs.Begun.{switch_begun}

@@ -11,10 +11,10 @@ use Rattle.net_file.specs.declared.net.LinkRow.{LinkRow}
 use Rattle.switch_core.specs.State.{SwitchValue}
 use Rattle.switch_ties.specs.SwitchOf.{switch_of}
 use Rattle.update_machine.specs.Answers.{IsReached}
-use Rattle.update_machine.specs.Links.{is_link_up, near as near_of}
+use Rattle.update_machine.specs.Links.{is_link_up}
 use Rattle.update_machine.specs.Packets.{next_packet}
-use Rattle.update_machine.specs.Sound.{IsSetting}
-use Rattle.update_machine.specs.Setting.{Setting}
+use Rattle.update_machine.specs.Setting.{Setting, IsSetting}
+use Rattle.update_machine.specs.LinkMasks.{near as near_of}
 use Rattle.travelling.specs.Travelling.{Travellers, traveller}
 
 -- what is known in the control plane: the controller, the messages that were sent, and the

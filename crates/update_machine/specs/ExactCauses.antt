@@ -1,0 +1,42 @@
+-- The causes of what packets find, as the functions say that give their routes.
+use Rattle.std.specs.Prelude.{ℕ, ◌≡◌, Some, List, find, option_map, All, IsFalse}
+use Rattle.failover.specs.Paths.{IsReachable}
+use Rattle.masks.specs.Masks.{has}
+use Rattle.policy_rules.specs.Partitions.{is_in}
+use Rattle.policy_rules.specs.declared.packet.Leg.{Leg}
+use Rattle.policy_rules.specs.declared.packet.Leg.TheVariants.{Seek, Exit}
+use Rattle.policy_rules.specs.declared.policy.Action.TheVariants.{Out}
+use Rattle.five_tuple.specs.declared.header.Header.{Header}
+use Rattle.journal.specs.declared.item.Item.{Item}
+use Rattle.update_machine.specs.LinkMasks.{near, links_known}
+use Rattle.update_machine.specs.Packets.{Decision, decision_of, header_in, standing}
+use Rattle.update_machine.specs.Setting.{Setting}
+use Rattle.update_machine.specs.Versions.{plan_at}
+use Rattle.update_machine.specs.Ways.{found_down, next_switch, targets_of}
+
+-- a packet finds the link from where it stands to the next switch of its route, and can't use it
+pub record FindsNextDown (setting : Setting) (before : List Item) (packet one two : ℕ) : Type 0 where
+  pub stands : standing before packet ≡ Some one
+  pub next : next_switch before packet ≡ Some two
+  pub unusable : IsFalse (has (near setting before one) two)
+
+-- the leg is to the partition whose region holds the packet's header, or to the port of its
+-- decision
+abbrev pub SeeksOwn : Setting → List Item → ℕ → Leg → Type 0
+SeeksOwn setting before packet (Seek version partition) =
+    (header : Header) × (header_in before packet ≡ Some header)
+    × (option_map (λ placed. placed.0.number)
+    (find (λ placed. is_in header placed.0) (plan_at setting before version))
+    ≡ Some partition)
+SeeksOwn setting before packet (Exit port) =
+    (decision : Decision) × (decision_of before packet ≡ Some decision)
+    × (decision.action ≡ Out port)
+
+-- a packet is stuck where it stands: over the links that its switch knows, less those that the
+-- packet found down, no path leads to any target of its leg
+pub record FindsNoPath (setting : Setting) (before : List Item) (packet switch : ℕ) (leg : Leg)
+    : Type 0 where
+  pub stands : standing before packet ≡ Some switch
+  pub own_leg : SeeksOwn setting before packet leg
+  pub no_path : (let links = links_known setting before switch (found_down before packet) in
+      All (λ target. ¬ IsReachable links switch target) (targets_of setting before leg))

@@ -1,0 +1,48 @@
+-- Which links a switch knows, as masks: its own that it can use, and of others those that both ends
+-- tell of by the newest advert that it heard (RFC 2328, sections 13.1 and 16.1).
+use Rattle.std.specs.Prelude.{ℕ, ◌==◌, if◌then◌else◌, Option, Some, None, List, filter, length, map, filter_map}
+use Rattle.net_file.specs.Net.{links_of}
+use Rattle.net_file.specs.declared.net.LinkRow.{LinkRow}
+use Rattle.journal.specs.declared.item.Item.{Item}
+use Rattle.update_machine.specs.Boots.{heard, is_in_first_boot}
+use Rattle.update_machine.specs.Setting.{Setting, switches_of}
+use Rattle.update_machine.specs.Links.{is_usable}
+use Rattle.ctrl_msg.specs.declared.message.Body.{Body}
+use Rattle.ctrl_msg.specs.declared.message.Body.TheVariants.{Advertise}
+use Rattle.failover.specs.Adverts.{after_hearing_all, first_adverts, no_adverts}
+use Rattle.failover.specs.Links.{known_links}
+use Rattle.failover.specs.declared.advert.Advert.{Advert}
+
+abbrev pub usable_links : Setting → List Item → List LinkRow
+usable_links setting journal = filter (is_usable journal) setting.net.links
+
+-- the switches to which a switch has a usable link, as a mask
+unfoldable pub near : Setting → List Item → ℕ → ℕ
+near setting journal s = links_of (usable_links setting journal) s
+
+-- an advert that tells of another switch
+abbrev pub other_advert : ℕ → Body → Option Advert
+other_advert s (Advertise advert) = if advert.origin == s then None else Some advert
+other_advert s _ = None
+
+-- the adverts of other switches that the switch heard in its boot
+abbrev pub adverts_heard : List Item → ℕ → List Advert
+adverts_heard journal s = filter_map (other_advert s) (heard journal s)
+
+-- in boot 1 a switch begins with the first advert of each switch, otherwise with none
+abbrev pub adverts_begun : Setting → List Item → ℕ → List (Option Advert)
+adverts_begun setting journal s = if is_in_first_boot journal s
+    then first_adverts (map (links_of setting.net.links) (switches_of setting))
+    (length setting.net.switches)
+    else no_adverts
+
+-- for each origin the newest of these adverts
+abbrev pub adverts_of_others : Setting → List Item → ℕ → List (Option Advert)
+adverts_of_others setting journal s =
+    after_hearing_all (adverts_begun setting journal s) (adverts_heard journal s)
+
+-- the links that the switch knows by what it heard and by what it sees itself, less those that are
+-- down: for each switch those to which it has one
+abbrev pub links_known : Setting → List Item → ℕ → List ℕ → List ℕ
+links_known setting journal s down =
+    known_links (adverts_of_others setting journal s) s (near setting journal s) down

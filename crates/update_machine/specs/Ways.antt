@@ -1,0 +1,69 @@
+-- The ways of packets: their routes, the links that they found down, and the targets of their legs.
+-- They come in at an ingress switch, seek an authority switch and exit by a switch of their port, as
+-- in Yu, Rexford, Freedman and Wang, "Scalable Flow-Based Networking with DIFANE", SIGCOMM 2010.
+use Rattle.std.specs.Prelude.{ℕ, ◌+◌, ◌==◌, if◌then◌else◌, Option, Some, None, option_map, unwrap_or, List, [], ◌∷◌, slice_get}
+use Rattle.failover.specs.DownSet.{no_links, with_link}
+use Rattle.net_file.specs.Net.{owner_of}
+use Rattle.policy_rules.specs.declared.packet.Leg.{Leg}
+use Rattle.policy_rules.specs.declared.packet.Leg.TheVariants.{Seek, Exit}
+use Rattle.switch_table.specs.Tables.{Placed}
+use Rattle.journal.specs.declared.item.Item.{Item}
+use Rattle.update_machine.specs.Folds.{folded, last_told}
+use Rattle.update_machine.specs.Setting.{Setting}
+use Rattle.update_machine.specs.Versions.{plan_at}
+use Rattle.journal.specs.declared.item.Item.TheVariants as item
+
+abbrev pub tells_route : ℕ → Item → Option (List ℕ)
+tells_route i (item.Seeking packet version partition route) =
+    if packet == i then Some route else None
+tells_route i (item.Exiting packet route) = if packet == i then Some route else None
+tells_route i (item.Rerouted packet route) = if packet == i then Some route else None
+tells_route i _ = None
+
+-- the route of its last `Seeking`, `Exiting` or `Rerouted`
+unfoldable pub route_in : List Item → ℕ → List ℕ
+route_in journal i = unwrap_or (last_told (tells_route i) journal) []
+
+abbrev pub changes_hops : ℕ → List Item → ℕ → Item → ℕ
+changes_hops i before hops (item.Seeking packet version partition route) =
+    if packet == i then 0 else hops
+changes_hops i before hops (item.Exiting packet route) = if packet == i then 0 else hops
+changes_hops i before hops (item.Rerouted packet route) = if packet == i then 0 else hops
+changes_hops i before hops (item.Hopped packet switch) = if packet == i then hops + 1 else hops
+changes_hops i before hops _ = hops
+
+-- its place on that route, from 0: the number of its `Hopped` since
+unfoldable pub route_place : List Item → ℕ → ℕ
+route_place journal i = folded (changes_hops i) 0 journal
+
+-- the switch after that place, if the route goes on
+unfoldable pub next_switch : List Item → ℕ → Option ℕ
+next_switch journal i = slice_get (route_in journal i) (route_place journal i + 1)
+
+abbrev pub changes_found : ℕ → List Item → List ℕ → Item → List ℕ
+changes_found i before links (item.FoundDown packet one two) =
+    if packet == i then with_link links one two else links
+changes_found i before links _ = links
+
+-- the links that it found down on any leg, as a set
+unfoldable pub found_down : List Item → ℕ → List ℕ
+found_down journal i = folded (changes_found i) no_links journal
+
+-- the targets of the partition at a place of a plan
+abbrev pub targets_in : List Placed → ℕ → List ℕ
+targets_in plan partition =
+    unwrap_or (option_map (λ placed. placed.1) (slice_get plan partition)) []
+
+-- a number that no switch has: they are below 64
+abbrev pub no_switch : ℕ
+no_switch = 64
+
+-- the switch that has the port; where none has, no switch, to which no route leads
+abbrev pub owner : Setting → ℕ → ℕ
+owner setting port = unwrap_or (owner_of setting.net.switches port) no_switch
+
+-- those of the partition, or the one switch of the port
+abbrev pub targets_of : Setting → List Item → Leg → List ℕ
+targets_of setting journal (Seek version partition) =
+    targets_in (plan_at setting journal version) partition
+targets_of setting journal (Exit port) = owner setting port ∷ []
