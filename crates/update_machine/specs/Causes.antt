@@ -1,6 +1,6 @@
 -- The causes of packets' ends: what stood in the journal before each item that ends a packet, or
 -- finds a link of its way down. The notion is our own.
-use Rattle.std.specs.Prelude.{⊤, ℕ, ◌≡◌, ◌⊎◌, Some, List, [], ◌∷◌, ◌++◌, Option, None}
+use Rattle.std.specs.Prelude.{⊤, ℕ, ◌≡◌, ◌⊎◌, Bool, false, ◌&&◌, ◌||◌, ◌==◌, Some, List, [], ◌∷◌, ◌++◌, Option, None}
 use Rattle.net_file.specs.Net.{owner_of}
 use Rattle.policy_rules.specs.declared.packet.Leaving.{Leaving}
 use Rattle.policy_rules.specs.declared.policy.Action.TheVariants.{Out}
@@ -41,6 +41,12 @@ pub record IsLostWith (before : List Item) (packet : ℕ) : Type 0 where
 abbrev pub IsLostRightly : List Item → ℕ → Type 0
 IsLostRightly before packet =
     (present_step before ≡ Some (Lose packet)) ⊎ IsLostWith before packet
+
+-- the item says that this packet found the link of these switches down
+abbrev pub finds_down : ℕ → ℕ → ℕ → Item → Bool
+finds_down i one two (item.FoundDown packet from to) =
+    packet == i && ((from == one && to == two) || (from == two && to == one))
+finds_down i one two _ = false
 
 -- an item that ends a packet, or finds a link down, has its cause in the journal before it
 abbrev pub HasCause : Setting → List Item → Item → Type 0

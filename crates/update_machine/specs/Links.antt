@@ -1,11 +1,22 @@
--- Which links of the network can be used: those that are up, between switches that serve, as
--- neighbours in OSPF are those that answer (RFC 2328, section 10); and the messages that were sent.
-use Rattle.std.specs.Prelude.{ℕ, Bool, true, ◌&&◌, ◌==◌, min, max, if◌then◌else◌, Option, Some, None, unwrap_or, List, false}
+-- Which links of the network switches can use: those that are up, between switches that serve, as
+-- neighbours in OSPF are those that answer (RFC 2328, section 10). And which links a switch knows:
+-- its own that it can use, and of others those that both ends claim by the newest advert that it
+-- heard (sections 13.1 and 16.1, with a boot number in the place of the ages of adverts).
+use Rattle.std.specs.Prelude.{ℕ, Bool, true, false, not, ◌&&◌, ◌||◌, ◌==◌, nat_lt, min, max, if◌then◌else◌, Option, Some, None, option_and_then, unwrap_or, List}
+use Rattle.std.specs.Int.{bit_at}
+use Rattle.std.specs.List.{list_any}
+use Rattle.std.specs.Option.{option_map_or}
+use Rattle.ctrl_msg.specs.declared.message.Body.{Body}
+use Rattle.ctrl_msg.specs.declared.message.Body.TheVariants.{Advertise}
+use Rattle.ctrl_msg.specs.declared.message.Message.{Message}
+use Rattle.ctrl_msg.specs.declared.message.Receiver.{Receiver}
+use Rattle.ctrl_msg.specs.declared.message.Receiver.TheVariants as receiver
+use Rattle.net_file.specs.Net.{are_linked, joins}
 use Rattle.net_file.specs.declared.net.LinkRow.{LinkRow}
 use Rattle.journal.specs.declared.item.Item.{Item}
 use Rattle.journal.specs.declared.item.Item.TheVariants as item
-use Rattle.update_machine.specs.Folds.{last_told}
-use Rattle.ctrl_msg.specs.declared.message.Message.{Message}
+use Rattle.update_machine.specs.Folds.{folded, last_told}
+use Rattle.update_machine.specs.Setting.{Setting}
 
 abbrev pub tells_serving : ℕ → Item → Option Bool
 tells_serving s (item.Down switch) = if switch == s then Some false else None
@@ -13,7 +24,7 @@ tells_serving s (item.Booted switch boot) = if switch == s then Some false else 
 tells_serving s (item.Opened switch version) = if switch == s then Some true else None
 tells_serving s _ = None
 
--- it serves at first, and once it opened in its boot
+-- a switch serves at first, and once it opened in its boot
 unfoldable pub serves : List Item → ℕ → Bool
 serves journal s = unwrap_or (last_told (tells_serving s) journal) true
 
@@ -32,6 +43,13 @@ abbrev pub is_usable : List Item → LinkRow → Bool
 is_usable journal link =
     is_link_up journal link.one link.two && serves journal link.one && serves journal link.two
 
+-- a link that can be used joins these switches
+abbrev pub can_use : Setting → List Item → ℕ → ℕ → Bool
+can_use setting journal one two =
+    list_any (λ link. joins one two link && is_usable journal link) setting.net.links
+
+-- ---- the links that a switch knows
+
 abbrev pub tells_message : ℕ → Item → Option Message
 tells_message n (item.Sent number message) = if number == n then Some message else None
 tells_message n _ = None
@@ -39,3 +57,58 @@ tells_message n _ = None
 -- the message of a number, if it was sent
 unfoldable pub message_of : List Item → ℕ → Option Message
 message_of journal number = last_told (tells_message number) journal
+
+-- what an advert claims of its origin: its boot, the number of the advert in it, and to which
+-- switches it has links
+pub record Claim : Type 0 where
+  pub boot : ℕ
+  pub seq : ℕ
+  pub links : ℕ → Bool
+
+-- what a message claims to switch s of switch one
+abbrev pub claim_by : ℕ → ℕ → Receiver → Body → Option Claim
+claim_by s one (receiver.Switch switch) (Advertise advert) =
+    if switch == s && advert.origin == one then Some (record {
+      boot = advert.boot;
+      seq = advert.seq;
+      links = λ other. bit_at advert.up other == 1;
+    }) else None
+claim_by s one _ _ = None
+
+abbrev pub claim_in : ℕ → ℕ → Message → Option Claim
+claim_in s one message = claim_by s one message.to message.body
+
+-- the newer of two claims, and of equally new ones the first
+abbrev pub newer_of : Option Claim → Option Claim → Option Claim
+newer_of held None = held
+newer_of None heard = heard
+newer_of (Some held) (Some heard) = if nat_lt held.boot heard.boot
+    || (held.boot == heard.boot && nat_lt held.seq heard.seq)
+    then Some heard else Some held
+
+abbrev pub changes_claim : ℕ → ℕ → List Item → Option Claim → Item → Option Claim
+changes_claim s one before claim (item.Down switch) = if switch == s then None else claim
+changes_claim s one before claim (item.Booted switch boot) = if switch == s then None else claim
+changes_claim s one before claim (item.Delivered number) =
+    newer_of claim (option_and_then (claim_in s one) (message_of before number))
+changes_claim s one before claim _ = claim
+
+-- as it all begins each switch knows each one's links in the network
+abbrev pub first_claim : Setting → ℕ → Claim
+first_claim setting one =
+    record { boot = 1; seq = 1; links = are_linked setting.net.links one }
+
+-- the newest claim of switch one that switch s, which is up, heard in its boot, or began with
+unfoldable pub claim_of : Setting → List Item → ℕ → ℕ → Option Claim
+claim_of setting journal s one =
+    folded (changes_claim s one) (Some (first_claim setting one)) journal
+
+-- to switch s, switch one has a link to two: of itself it sees this, of others it goes by the claim
+abbrev pub is_end : Setting → List Item → ℕ → ℕ → ℕ → Bool
+is_end setting journal s one two = if one == s then can_use setting journal s two
+    else option_map_or (λ claim. claim.links two) (claim_of setting journal s one) false
+
+-- switch s knows the link of two switches: each of them has one to the other
+abbrev pub knows_link : Setting → List Item → ℕ → ℕ → ℕ → Bool
+knows_link setting journal s one two = not (one == two)
+    && is_end setting journal s one two && is_end setting journal s two one

@@ -1,5 +1,5 @@
 -- What a journal is read against: the network, and the policies by file with their plans.
-use Rattle.std.specs.Prelude.{ℕ, ◌-◌, ◌==◌, if◌then◌else◌, Option, Some, None, Result, Err, List, [], length, slice_get, ⊤, ◌≡◌, is_some, IsOk, IsTrue, All}
+use Rattle.std.specs.Prelude.{ℕ, ◌-◌, ◌==◌, if◌then◌else◌, Option, Some, None, Result, Ok, Err, List, [], length, slice_get, ⊤, ◌≡◌, ◌⊎◌, Contains, is_some, IsOk, IsTrue, All}
 use Rattle.std.specs.List.{range_with_len}
 use Rattle.net_file.specs.declared.net.Net.{Net}
 use Rattle.net_file.specs.Net.{IsNet, owner_of}
@@ -8,6 +8,8 @@ use Rattle.policy_rules.specs.declared.policy.Row.{Row}
 use Rattle.policy_rules.specs.Policy.{IsPolicy}
 use Rattle.policy_rules.specs.declared.policy.Action.{Action}
 use Rattle.policy_rules.specs.declared.policy.Action.TheVariants as action
+use Rattle.journal.specs.declared.item.Item.{Item}
+use Rattle.journal.specs.declared.item.Item.TheVariants as item
 
 -- the network; the policies of the files, in order; and the plan of the rows of a policy on the
 -- network, if it has one
@@ -39,6 +41,16 @@ plan_of_file setting file = elim (policy_of_file setting file) [
   | None ↦ Err TooManyLeaves
   | Some rows ↦ setting.plan rows
 ]
+
+-- the file of a version: the first file for version 1, or the one that it was submitted with
+abbrev pub IsFileOf : List Item → ℕ → ℕ → Type 0
+IsFileOf journal version file =
+    ((version ≡ 1) × (file ≡ 1)) ⊎ Contains journal (item.Submitted file version)
+
+-- the plan of a version is that of its file's policy
+abbrev pub IsPlanOf : Setting → List Item → ℕ → List Placed → Type 0
+IsPlanOf setting journal version plan = (file : ℕ) × IsFileOf journal version file
+    × (plan_of_file setting file ≡ Ok plan)
 
 -- an action names a port that a switch has, if it names one
 abbrev pub NamesOwnPort : Setting → Action → Type 0
