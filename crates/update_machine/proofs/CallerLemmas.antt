@@ -21,3 +21,4 @@ pub use Rattle.update_machine.proofs.WholeAnswers.{answers_so_far, begins_itself
 pub use Rattle.update_machine.proofs.EventSteps.{AreOf, HasNexts, IsEventOf, are_both, event_steps_are, first_steps_are}
 pub use Rattle.update_machine.proofs.OnePlay.{full_by_count, one_play, rooms_append}
 pub use Rattle.update_machine.proofs.SomePlay.{first_front, play_exists, stop_begins, stop_so_far}
+pub use Rattle.update_machine.proofs.Claims.{link_found, link_not_found, near_usable, plan_is, usable_linked}

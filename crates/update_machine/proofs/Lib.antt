@@ -39,4 +39,5 @@ mod WholeAnswers
 mod EventSteps
 mod OnePlay
 mod SomePlay
+mod Claims
 pub mod CallerLemmas

@@ -1,5 +1,5 @@
 -- What a journal is read against: the network, and the policies by file with their plans.
-use Rattle.std.specs.Prelude.{ℕ, ◌-◌, ◌==◌, if◌then◌else◌, Option, Some, None, Result, Ok, Err, List, [], length, slice_get, ⊤, ◌≡◌, ◌⊎◌, Contains, is_some, IsOk, IsTrue, All}
+use Rattle.std.specs.Prelude.{ℕ, ◌-◌, ◌==◌, if◌then◌else◌, Option, Some, None, Result, Ok, Err, List, length, slice_get, ⊤, ◌≡◌, ◌⊎◌, Contains, is_some, IsOk, IsTrue, All}
 use Rattle.std.specs.List.{range_with_len}
 use Rattle.net_file.specs.declared.net.Net.{Net}
 use Rattle.net_file.specs.Net.{IsNet, owner_of}
