@@ -51,7 +51,7 @@ pub record IsAdvertFact (setting : Setting) (P : List Item → Advert → Type 0
       IsTrue (has (near setting journal s) neighbour) → P journal (own_advert setting journal s)
   pub first : (origin : ℕ) → HasSwitch setting.net origin → P [] (begun_with setting origin)
 
-abbrev IfAdvert : (Advert → Type 0) → Body → Type 0
+abbrev pub IfAdvert : (Advert → Type 0) → Body → Type 0
 IfAdvert P (Advertise advert) = P advert
 IfAdvert P _ = ⊤
 
@@ -95,7 +95,7 @@ first_such setting P such origin small =
         (subst (λ up. P (first_advert origin up)) (sym links) (such origin there), tt)
     by_test false e = tt
 
-none_held : (origin : ℕ) → origin < 64 → held no_adverts origin ≡ None
+pub none_held : (origin : ℕ) → origin < 64 → held no_adverts origin ≡ None
 none_held origin small = get_or-replicate 64 origin None None small
 
 begun_such : (setting : Setting) (P : Advert → Type 0) (journal : List Item) (s origin : ℕ)
@@ -248,7 +248,7 @@ heard_such Q before next s old sent =
 
 -- ---- all of them
 
-such_kept : (setting : Setting) (P : List Item → Advert → Type 0) → IsAdvertFact setting P
+pub such_kept : (setting : Setting) (P : List Item → Advert → Type 0) → IsAdvertFact setting P
     → AreKept (HasBothCauses setting) (AreSuch setting P)
 such_kept setting P fact before next both such = record {
   sent = λ n message is. sent_on setting P fact before next both such n message is;
@@ -261,7 +261,7 @@ such_kept setting P fact before next both such = record {
       (such.first origin there);
 }
 
-such_at_first : (setting : Setting) (P : List Item → Advert → Type 0) → IsAdvertFact setting P
+pub such_at_first : (setting : Setting) (P : List Item → Advert → Type 0) → IsAdvertFact setting P
     → AreSuch setting P []
 such_at_first setting P fact = record {
   sent = λ n message is.

@@ -9,4 +9,5 @@ pub mod AllAdverts
 pub mod Newest
 pub mod NetLinks
 pub mod Origins
+pub mod Claims
 pub mod AdvertRows

@@ -42,7 +42,7 @@ all_by_origin adverts [] sound = sound
 all_by_origin adverts (advert ∷ heard) sound = all_by_origin (after_hearing adverts advert) heard
     (by_origin-hearing adverts advert sound)
 
-heard_by_origin : (setting : Setting) (journal : List Item) (s : ℕ)
+pub heard_by_origin : (setting : Setting) (journal : List Item) (s : ℕ)
     → AreByOrigin (adverts_of_others setting journal s)
 heard_by_origin setting journal s = all_by_origin (adverts_begun setting journal s)
     (adverts_heard journal s) (begun_by_origin setting journal s)
