@@ -128,9 +128,10 @@ own_heard adverts advert claim by small same =
             rw newer (is_heard (news_if adverts advert (Some found) true small e f))
         by_test false f =
             let newer : test ≡ false = sym (newer_same advert found old so) ∙ f in
+            let stays : after_hearing adverts advert ≡ adverts =
+            after_no_news adverts advert (news_if adverts advert (Some found) false small e f) in
             rw newer (subst (λ o. AreSame o (Some old))
-            (sym (ap (λ (all : List (Option Advert)). held all advert.origin)
-            (after_no_news adverts advert (news_if adverts advert (Some found) false small e f)) ∙ e)) so)
+            (sym (ap (λ (all : List (Option Advert)). held all advert.origin) stays ∙ e)) so)
 
 advert_heard : (adverts : List (Option Advert)) (advert : Advert) (one : ℕ)
     (claim : Option Claim) → AreByOrigin adverts → one < 64 → AreSame (held adverts one) claim
@@ -320,7 +321,8 @@ same_on setting one before (item.Delivered number) small cause kept s apart up =
         (newer_of (claim_of setting before s one) (claim_by s one to body))
     by_receiver (receiver.Switch t) body =
         body_heard (adverts_begun setting before s) (heard before s) s one t (boot_of before s)
-        (is_up before s) body (claim_of setting before s one) was (heard_by_origin setting before s) apart small same
+        (is_up before s) body (claim_of setting before s one) was
+        (heard_by_origin setting before s) apart small same
     by_receiver receiver.Controller body = rw (newer_none (claim_of setting before s one)) same
 
     by_message : (message : Option Message)

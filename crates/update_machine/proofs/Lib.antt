@@ -4,6 +4,7 @@ mod BootRows
 mod OverRows
 mod UpdateRows
 mod LinkRows
+mod KnownRows
 mod OtherRows
 mod CampusRows
 mod AnswerRows
