@@ -15,6 +15,7 @@ pub use Rattle.update_machine.proofs.OneAnswer.{one_answer, one_list_of_steps}
 pub use Rattle.update_machine.proofs.Existence.{HasEnd, Nears, after_append, answer_exists, answer_goes_on, answered_where, loop_ends, none_answered}
 pub use Rattle.update_machine.proofs.NumberPieces.{piece_next}
 pub use Rattle.update_machine.proofs.Numbering.{begun_is_numbered}
+pub use Rattle.update_machine.proofs.Enclosed.{ends_within}
 pub use Rattle.update_machine.proofs.KnownLinks.{has_known_link, heard_by_origin, known_link_laws, known_places, unreached}
 pub use Rattle.update_machine.proofs.Beginnings.{one_by_steps}
 pub use Rattle.update_machine.proofs.WholeAnswers.{answers_so_far, begins_itself}

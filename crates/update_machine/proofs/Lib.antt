@@ -10,6 +10,7 @@ mod CampusRows
 mod AnswerRows
 mod QuietRows
 mod HandledRows
+pub mod Enclosed
 mod CauseRows
 mod MachineRows
 mod MarkRows

@@ -1,17 +1,22 @@
 -- The causes of packets' ends: what stood in the journal before each item that ends a packet, or
 -- finds a link of its way down. The notion is our own.
-use Rattle.std.specs.Prelude.{⊤, ℕ, ◌≡◌, ◌⊎◌, Bool, false, ◌&&◌, ◌||◌, ◌==◌, Some, List, [], ◌∷◌, ◌++◌, Option, None}
+use Rattle.std.specs.Prelude.{⊤, ℕ, ◌≡◌, ◌⊎◌, Bool, false, not, ◌&&◌, ◌||◌, ◌==◌, Option, Some, None, option_to_list, List, [], ◌∷◌, ◌++◌, All, Contains, IsTrue, IsFalse}
+use Rattle.std.specs.List.{list_any}
+use Rattle.five_tuple.specs.declared.header.Header.{Header}
 use Rattle.net_file.specs.Net.{owner_of}
+use Rattle.policy_rules.specs.Partitions.{Placed, is_in}
 use Rattle.policy_rules.specs.declared.packet.Leaving.{Leaving}
+use Rattle.policy_rules.specs.declared.packet.Leg.{Leg}
+use Rattle.policy_rules.specs.declared.packet.Leg.TheVariants.{Seek, Exit}
 use Rattle.policy_rules.specs.declared.policy.Action.TheVariants.{Out}
 use Rattle.journal.specs.declared.item.Item.{Item}
 use Rattle.journal.specs.declared.item.Item.TheVariants as item
 use Rattle.steps.specs.declared.step.Step.TheVariants.{Crash, Lose}
 use Rattle.steps.specs.declared.step.Step.{Step}
-use Rattle.update_machine.specs.Packets.{decision_of, header_in, standing}
-use Rattle.update_machine.specs.Setting.{Setting}
 use Rattle.update_machine.specs.Folds.{last_told}
-use Rattle.update_machine.specs.ExactCauses.{FindsNextDown, FindsNoPath}
+use Rattle.update_machine.specs.Links.{can_use, knows_link, serves}
+use Rattle.update_machine.specs.Packets.{Decision, decision_of, header_in, standing}
+use Rattle.update_machine.specs.Setting.{Setting, IsPlanOf}
 
 abbrev pub tells_step : Item → Option Step
 tells_step (item.Row row step) = Some step
@@ -42,20 +47,64 @@ abbrev pub IsLostRightly : List Item → ℕ → Type 0
 IsLostRightly before packet =
     (present_step before ≡ Some (Lose packet)) ⊎ IsLostWith before packet
 
+-- ---- links found down, and packets that are stuck
+
+-- a packet finds a link from where it stands down: that switch can't use it
+pub record FindsDown (setting : Setting) (before : List Item) (packet one two : ℕ) : Type 0 where
+  pub stands : standing before packet ≡ Some one
+  pub unusable : IsFalse (can_use setting before one two)
+
 -- the item says that this packet found the link of these switches down
 abbrev pub finds_down : ℕ → ℕ → ℕ → Item → Bool
 finds_down i one two (item.FoundDown packet from to) =
     packet == i && ((from == one && to == two) || (from == two && to == one))
 finds_down i one two _ = false
 
+-- a switch knows the link, and the packet didn't find it down
+abbrev pub is_open : Setting → List Item → ℕ → ℕ → ℕ → ℕ → Bool
+is_open setting before packet s one two =
+    knows_link setting before s one two && not (list_any (finds_down packet one two) before)
+
+-- the switches behind the first one are each joined to the one before it, and end at the target
+abbrev pub Leads : (ℕ → ℕ → Bool) → ℕ → List ℕ → ℕ → Type 0
+Leads joined at [] target = at ≡ target
+Leads joined at (next ∷ rest) target = IsTrue (joined at next) × Leads joined next rest target
+
+-- the leg is the packet's own, and these are its targets: to an authority those of the partition
+-- that has its header, in the plan of the leg's version; to the port of its decision the switch of
+-- the port
+abbrev pub AreTargets : Setting → List Item → ℕ → Leg → List ℕ → Type 0
+AreTargets setting before packet (Seek version partition) targets =
+    (header : Header) × (header_in before packet ≡ Some header)
+    × (plan : List Placed) × IsPlanOf setting before version plan
+    × (placed : Placed) × Contains plan placed × IsTrue (is_in header placed.0)
+    × (placed.0.number ≡ partition) × (placed.1 ≡ targets)
+AreTargets setting before packet (Exit port) targets =
+    (decision : Decision) × (decision_of before packet ≡ Some decision)
+    × (decision.action ≡ Out port)
+    × (option_to_list (owner_of setting.net.switches port) ≡ targets)
+
+-- a packet is stuck where it stands, at a switch that serves: over the links that this one knows,
+-- less those that the packet found down, no path leads to any target of its leg
+pub record IsStuckRightly (setting : Setting) (before : List Item) (packet switch : ℕ) (leg : Leg)
+    : Type 0 where
+  pub stands : standing before packet ≡ Some switch
+  pub serving : IsTrue (serves before switch)
+  pub targets : List ℕ
+  pub own_leg : AreTargets setting before packet leg targets
+  pub no_path : All (λ target. (path : List ℕ)
+      → ¬ Leads (is_open setting before packet switch) switch path target) targets
+
+-- ---- all ends
+
 -- an item that ends a packet, or finds a link down, has its cause in the journal before it
 abbrev pub HasCause : Setting → List Item → Item → Type 0
 HasCause setting before (item.Left packet port leaving) =
     LeavesRightly setting before packet port leaving
 HasCause setting before (item.Lost packet) = IsLostRightly before packet
-HasCause setting before (item.FoundDown packet one two) = FindsNextDown setting before packet one two
+HasCause setting before (item.FoundDown packet one two) = FindsDown setting before packet one two
 HasCause setting before (item.Stuck packet switch cause leg down) =
-    FindsNoPath setting before packet switch leg
+    IsStuckRightly setting before packet switch leg
 HasCause setting before _ = ⊤
 
 -- behind this journal, each of the items has its cause in what stands before it: for any table of

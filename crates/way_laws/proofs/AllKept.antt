@@ -29,7 +29,6 @@ use Rattle.boot_laws.proofs.Facts.{AreKept, Behind, fact_on, have_weaker, with_f
 use Rattle.boot_laws.proofs.Grown.{message_more}
 use Rattle.boot_laws.proofs.Reached.{NamesOwn}
 use Rattle.boot_laws.proofs.SwitchBlocks.{said_parts}
-use Rattle.advert_laws.specs.Adverts.{LinksAreThere}
 use Rattle.advert_laws.proofs.BothCauses.{HasBothCauses}
 use Rattle.advert_laws.proofs.NetLinks.{links_there}
 use Rattle.way_laws.specs.Rules.{IsRightEntry, IsRightRule}
@@ -79,19 +78,19 @@ pub record Before (setting : Setting) (before : List Item) : Type 0 where
   pub have : HaveCauses (IsWayItem setting) [] before
   pub kept : AllKept setting before
 
-links_of_all : (setting : Setting) (before : List Item)
-    → HaveCauses (IsWayItem setting) [] before → LinksAreThere setting before
-links_of_all setting before have =
-    links_there setting before
-    (have_weaker (IsWayItem setting) (HasBothCauses setting)
-    (λ js next is. record { first = is.switches; second = is.links }) [] before have)
+both_of_all : (setting : Setting) (before : List Item)
+    → HaveCauses (IsWayItem setting) [] before → HaveCauses (HasBothCauses setting) [] before
+both_of_all setting before have =
+    have_weaker (IsWayItem setting) (HasBothCauses setting)
+    (λ js next is. record { first = is.switches; second = is.links }) [] before have
 
 pub knows : (setting : Setting) (before : List Item) (i : ℕ) → Before setting before
     → Knows setting before i (stage_of before i)
 knows setting before i known = record {
   is = known.is;
   have = switches_of_all setting [] before known.have;
-  links = links_of_all setting before known.have;
+  both = both_of_all setting before known.have;
+  links = links_there setting before (both_of_all setting before known.have);
   kept = known.kept.packets i;
 }
 

@@ -1,38 +1,34 @@
 -- Journals that break the promise of one whole version: the last item of each is one that no network
 -- writes. Its strong cause is refuted by the field that it breaks; where the item has a cause of the
 -- plainer sort too, that one holds.
-use Rattle.std.proofs.Common.{ℕ, ◌≡◌, false, true, Option, Some, List, [], ◌∷◌, refl, ap, sym, subst, arith, inl, inr}
-use Rattle.std.specs.Prelude.{IsTrue, IsFalse, ◌⊎◌}
-use Rattle.std.specs.List.{AllByRecursion}
+use Rattle.std.proofs.Common.{ℕ, zero, suc, ◌≡◌, ◌<◌, false, true, Option, Some, None, List, [], ◌∷◌, get_or, refl, ap, sym, subst, ◌∙◌, arith, inl, inr}
+use Rattle.std.specs.Prelude.{All, Contains, IsTrue, IsFalse, Ok, Result, ◌⊎◌, ◌==◌}
+use Rattle.std.proofs.lemmas.Bool.{eqb-true}
+use Rattle.std.proofs.lemmas.Bool.Decides.{nat_tests}
 use Rattle.std.proofs.lemmas.List.Elements.{All-from_recursion}
-use Rattle.failover.specs.Adverts.{is_news, after_hearing, first_adverts}
-use Rattle.failover.specs.DownSet.{has_link, no_links}
-use Rattle.failover.specs.Paths.{IsReachable}
-use Rattle.failover.specs.Links.{names, told_links, is_link, known_links, is_isolated}
-use Rattle.failover.specs.Routes.{wider, ball, nearer, onward, links_away, route_to, first_route, route_of}
+use Rattle.failover.specs.DownSet.{no_links}
 use Rattle.five_tuple.specs.Header.{number_of}
-use Rattle.masks.specs.Masks.{has, mask_where, mask_of, switches, least_in}
+use Rattle.masks.specs.Masks.{has, mask_where, mask_of, switches}
+use Rattle.partition.specs.Plan.{NoPlan, Placed}
 use Rattle.policy_rules.specs.declared.packet.Cause.TheVariants.{NoAuthority, NoRoute}
 use Rattle.policy_rules.specs.declared.packet.How.TheVariants.{Authority}
 use Rattle.policy_rules.specs.declared.packet.Leg.TheVariants.{Seek, Exit}
 use Rattle.policy_rules.specs.declared.policy.Action.TheVariants.{Drop, Out}
+use Rattle.policy_rules.specs.declared.rules.Rule.{Rule}
+use Rattle.ternary.specs.Word.{holds}
 use Rattle.journal.specs.declared.item.Item.{Item}
 use Rattle.journal.specs.declared.item.Item.TheVariants as item
 use Rattle.steps.specs.declared.step.Step.TheVariants.{Packet, Hop, LinkDown, Update, Deliver, Crash, Lose}
-use Rattle.ternary.specs.Word.{holds}
-use Rattle.update_machine.specs.Adverts.{own_seq, own_advert, adverts_known, route_from, is_cut_off}
-use Rattle.update_machine.specs.Boots.{boot_of, heard, is_up}
-use Rattle.update_machine.specs.Causes.{HasCause, present_step}
-use Rattle.update_machine.specs.Links.{is_link_up, serves}
+use Rattle.update_machine.specs.Boots.{is_up}
+use Rattle.update_machine.specs.Causes.{AreTargets, HasCause, Leads, is_open, present_step}
+use Rattle.update_machine.specs.Links.{claim_of, is_link_up, message_of, serves}
 use Rattle.update_machine.specs.Marks.{acked_stamp, controller_heard, current_mark, is_member, is_over, known_boot, next_retired, opened_at, retired_mark}
 use Rattle.update_machine.specs.Packets.{Decision, decision_of, header_in, standing}
-use Rattle.update_machine.specs.Steps.{steps_in}
-use Rattle.update_machine.specs.Versions.{file_of, plan_at}
-use Rattle.update_machine.specs.Ways.{found_down, next_switch, route_in, route_place, targets_of}
-use Rattle.update_machine.specs.LinkMasks.{near, links_known}
-use Rattle.update_machine.specs.ExactCauses.{SeeksOwn}
-use Rattle.update_machine.proofs.CallerLemmas.{unreached}
-use Rattle.update_machine.proofs.Examples.{one, open_net, other, ring, row_of_three}
+use Rattle.update_machine.specs.Setting.{IsFileOf, plan_of_file}
+use Rattle.update_machine.specs.Ways.{next_switch, route_in, route_place}
+use Rattle.update_machine.specs.LinkMasks.{near}
+use Rattle.update_machine.proofs.CallerLemmas.{ends_within}
+use Rattle.update_machine.proofs.Examples.{all_dropped, any_word, on, one, open_net, other, plan_p, ring, row_of_three, rule}
 use Rattle.way_laws.specs.Words.{entry_mark}
 use Rattle.way_laws.specs.StrongCauses.{StrongCause}
 use Rattle.way_laws.specs.WayCauses.{IsLostInCrash}
@@ -59,41 +55,69 @@ decided = cut (item.Row 2 (Packet 0 one) ∷ item.Entered 1 0 one
 abbrev seeking : ℕ → Item
 seeking version = item.Stuck 1 0 NoAuthority (Seek version 0) no_links
 
--- no path leads to any target
-abbrev HasNoPath : List Item → ℕ → Type 0
-HasNoPath journal version =
-    AllByRecursion
-    (λ target. ¬ IsReachable (links_known open_net journal 0 (found_down journal 1)) 0 target)
-    (targets_of open_net journal (Seek version 0))
+-- no link that it knows leads away
+none_left : (journal : List Item) (two : ℕ) → IsFalse (is_link_up journal 0 1)
+    → IsTrue (is_open open_net journal 1 0 0 two) → ⊥
+none_left journal two down is = grind (arith, nat_tests)
 
-no_paths : HasNoPath retired 1 × HasNoPath to_come 2 × HasNoPath decided 1
-unfolding standing found_down header_in plan_at file_of route_from is_cut_off adverts_known
-    own_advert own_seq near is_link_up serves is_up boot_of heard steps_in first_adverts
-    after_hearing is_news mask_of mask_where switches names told_links is_link known_links
-    is_isolated wider ball nearer onward links_away route_to first_route route_of has has_link
-    least_in holds lib.Count.count_trailing_zeros
-no_paths = (
-  unreached open_net retired 0 (targets_of open_net retired (Seek 1 0)) no_links refl,
-  unreached open_net to_come 0 (targets_of open_net to_come (Seek 2 0)) no_links refl,
-  unreached open_net decided 0 (targets_of open_net decided (Seek 1 0)) no_links refl,
+stays_there : (journal : List Item) → IsFalse (is_link_up journal 0 1) → (one two : ℕ)
+    → IsTrue (one == 0) → IsTrue (is_open open_net journal 1 0 one two) → IsTrue (two == 0)
+stays_there journal down one two at is =
+    absurd (none_left journal two down
+    (subst (λ x. IsTrue (is_open open_net journal 1 0 x two)) (eqb-true one 0 at) is))
+
+abbrev no_way_to : List Item → ℕ → Type 0
+no_way_to journal target = (path : List ℕ) → ¬ Leads (is_open open_net journal 1 0) 0 path target
+
+no_way : (journal : List Item) → IsFalse (is_link_up journal 0 1) → no_way_to journal 1
+no_way journal down path leads =
+    let there : false ≡ true = ends_within (is_open open_net journal 1 0) (λ s. s == 0)
+    (stays_there journal down) 0 path 1 refl leads in
+    absurd cc
+
+-- the plan of the file has one partition, on b
+own_targets : (journal : List Item) (version file : ℕ) (rules : List Rule)
+    → header_in journal 1 ≡ Some one → IsFileOf journal version file
+    → plan_of_file open_net file ≡ Ok (on (1 ∷ []) rules)
+    → AreTargets open_net journal 1 (Seek version 0) (1 ∷ [])
+unfolding holds
+own_targets journal version file rules entered of_file planned = (
+  one,
+  entered,
+  on (1 ∷ []) rules,
+  (file, of_file, planned),
+  (record { number = 0; region = any_word; rules = rules }, 1 ∷ []),
+  (0, omega arith, refl),
+  refl,
+  refl,
+  refl,
 )
 
-stuck_at : (journal : List Item) (version : ℕ) → HasNoPath journal version
-    → standing journal 1 ≡ Some 0 → SeeksOwn open_net journal 1 (Seek version 0)
+stuck_at : (journal : List Item) (version : ℕ) → standing journal 1 ≡ Some 0
+    → IsTrue (serves journal 0) → IsFalse (is_link_up journal 0 1)
+    → AreTargets open_net journal 1 (Seek version 0) (1 ∷ [])
     → HasCause open_net journal (seeking version)
-stuck_at journal version none stands own = record {
+stuck_at journal version stands serving down own = record {
   stands = stands;
+  serving = serving;
+  targets = 1 ∷ [];
   own_leg = own;
-  no_path = All-from_recursion _ _ none;
+  no_path = All-from_recursion (no_way_to journal) (1 ∷ []) (no_way journal down, tt);
 }
+
+abbrev lets_out : List Rule
+lets_out = rule any_word 0 (Some 100) (Out 2) ∷ rule any_word 1 None Drop ∷ []
 
 stuck_have_causes : HasCause open_net retired (seeking 1)
     × HasCause open_net to_come (seeking 2) × HasCause open_net decided (seeking 1)
-unfolding standing header_in plan_at file_of holds
+unfolding standing serves is_link_up header_in
 stuck_have_causes = (
-  stuck_at retired 1 no_paths.0 refl (one, refl, refl),
-  stuck_at to_come 2 no_paths.1 refl (one, refl, refl),
-  stuck_at decided 1 no_paths.2 refl (one, refl, refl),
+  stuck_at retired 1 refl refl refl
+      (own_targets retired 1 1 lets_out refl (inl (refl, refl)) refl),
+  stuck_at to_come 2 refl refl refl
+      (own_targets to_come 2 2 all_dropped refl (inr (3, omega arith, refl)) refl),
+  stuck_at decided 1 refl refl refl
+      (own_targets decided 1 1 lets_out refl (inl (refl, refl)) refl),
 )
 
 not_stuck_by_a_retired_version : StrongCause open_net retired (seeking 1) → ⊥
@@ -125,6 +149,41 @@ not_stuck_on_another_leg cause =
     let by : Out 2 ≡ decision.action = ap (λ (d : Decision). d.action) same in
     let out : decision.action ≡ Out 1 = cause.stuck.own_leg.2 in
     absurd cc
+
+-- ---- packets that are stuck, though their switch knows a way: no cause of either sort
+
+abbrev entered : List Item
+entered = item.Row 1 (Packet 0 one) ∷ item.Entered 1 0 one ∷ []
+
+-- no version was submitted
+first_file : (k file : ℕ) → k < 2
+    → get_or entered k (item.Submitted file 1) ≡ item.Submitted file 1 → ⊥
+first_file zero file within e = absurd cc
+first_file (suc zero) file within e = absurd cc
+first_file (suc (suc k)) file within e = absurd (omega (arith, within))
+
+its_plan : (file : ℕ) (plan : List Placed) → IsFileOf entered 1 file
+    → plan_of_file open_net file ≡ Ok plan → plan ≡ plan_p
+its_plan file plan (inl first) planned =
+    let own : ◌≡◌ {A = Result (List Placed) NoPlan} (Ok plan_p) (Ok plan) =
+    subst (λ f. plan_of_file open_net f ≡ Ok plan) first.1 planned in
+    cc
+its_plan file plan (inr sent) planned = absurd (first_file sent.0 file sent.1 sent.2)
+
+its_part : (k : ℕ) (placed : Placed) → k < 1 → get_or plan_p k placed ≡ placed
+    → placed.1 ≡ 1 ∷ []
+its_part zero placed within e = ap (λ (p : Placed). p.1) (sym e)
+its_part (suc k) placed within e = absurd (omega (arith, within))
+
+not_stuck_where_a_way_is_known : HasCause open_net entered (seeking 1) → ⊥
+unfolding is_link_up serves claim_of message_of
+not_stuck_where_a_way_is_known cause =
+    let own = cause.own_leg in
+    let plan : own.2 ≡ plan_p = its_plan own.3.0 own.2 own.3.1 own.3.2 in
+    let there : Contains plan_p own.4 = subst (λ all. Contains all own.4) plan own.5 in
+    let targets : cause.targets ≡ 1 ∷ [] =
+    sym own.8 ∙ its_part there.0 own.4 there.1 there.2 in
+    subst (All (no_way_to entered)) targets cause.no_path 0 0 (omega arith) (1 ∷ []) (refl, refl)
 
 -- ---- packets that come in
 
@@ -178,9 +237,8 @@ not_hopped_where_no_link_leads cause =
     subst (λ s. IsTrue (has (near row_of_three leap s) 2)) (sym at) cause.usable in absurd cc
 
 leap_has_cause : HasCause row_of_three leap (item.FoundDown 1 0 2)
-unfolding near standing has mask_of mask_where switches is_link_up serves next_switch route_in
-    route_place
-leap_has_cause = record { stands = refl; next = refl; unusable = refl }
+unfolding standing is_link_up serves
+leap_has_cause = record { stands = refl; unusable = refl }
 
 not_found_down_where_no_link_is : StrongCause row_of_three leap (item.FoundDown 1 0 2) → ⊥
 not_found_down_where_no_link_is cause =

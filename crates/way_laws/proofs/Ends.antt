@@ -1,14 +1,15 @@
 -- Items that end a packet, or find a link of its way down, have their causes.
-use Rattle.std.proofs.Common.{ℕ, ◌≡◌, ◌+◌, ◌-◌, ◌<◌, ◌≤◌, Option, Some, None, List, [], ◌∷◌, length, refl, ap, sym, subst, ◌∙◌, arith, inl, inr, ◌⊎◌, get_or}
-use Rattle.std.specs.Prelude.{IsTrue, find, nat_eq, option_map, slice_get, unwrap_or}
+use Rattle.std.proofs.Common.{ℕ, ◌≡◌, Bool, true, false, ◌+◌, ◌-◌, ◌<◌, ◌≤◌, Option, Some, None, List, [], ◌∷◌, length, refl, ap, sym, subst, ◌∙◌, arith, inl, inr, ◌⊎◌, get_or}
+use Rattle.std.specs.Prelude.{All, Contains, IsFalse, IsTrue, nat_eq, option_map, option_to_list, slice_get, unwrap_or}
 use Rattle.std.specs.List.{list_any}
-use Rattle.std.proofs.lemmas.Bool.{cases_lt, eqb-true}
+use Rattle.std.proofs.lemmas.Bool.{cases_lt, eq-eqb, eqb-true}
 use Rattle.std.proofs.lemmas.Bool.Decides.{nat_tests}
-use Rattle.std.proofs.lemmas.List.Elements.{All-from_recursion}
-use Rattle.std.proofs.lemmas.Option.{slice_get_within, slice_get-get_or}
+use Rattle.std.proofs.lemmas.List.Elements.{All-from_recursion, All-nil, All-weaker}
+use Rattle.std.proofs.lemmas.Option.{get_or_from_slice_get, slice_get_within, slice_get-get_or}
 use Rattle.failover.specs.Paths.{IsReachable}
+use Rattle.failover.proofs.Searching.{length-known_links}
+use Rattle.masks.specs.Masks.{has}
 use Rattle.net_file.specs.Net.{owner_of}
-use Rattle.policy_rules.specs.Partitions.{is_in}
 use Rattle.policy_rules.specs.declared.packet.Cause.{Cause}
 use Rattle.policy_rules.specs.declared.packet.Leaving.{Leaving}
 use Rattle.policy_rules.specs.declared.packet.Leg.{Leg}
@@ -18,24 +19,25 @@ use Rattle.policy_rules.specs.declared.policy.Action.TheVariants as action
 use Rattle.switch_table.specs.Tables.{Placed}
 use Rattle.journal.specs.declared.item.Item.{Item}
 use Rattle.journal.specs.declared.item.Item.TheVariants as item
-use Rattle.update_machine.specs.LinkMasks.{links_known}
-use Rattle.update_machine.specs.Caches.{lookup_at}
-use Rattle.update_machine.specs.Causes.{HasCause, IsLostRightly, LeavesRightly}
+use Rattle.update_machine.specs.LinkMasks.{adverts_of_others, links_known, near}
+use Rattle.update_machine.specs.Causes.{AreTargets, FindsDown, HasCause, IsLostRightly, IsStuckRightly, Leads, LeavesRightly, is_open}
+use Rattle.update_machine.specs.Links.{can_use, is_end}
 use Rattle.update_machine.specs.Moves.{header_at}
 use Rattle.update_machine.specs.Packets.{Decision, decision_of, header_in, standing}
 use Rattle.update_machine.specs.Setting.{Setting}
 use Rattle.update_machine.specs.Versions.{plan_at}
-use Rattle.update_machine.specs.Ways.{found_down, owner, targets_of}
+use Rattle.update_machine.specs.Ways.{found_down, no_switch, owner, targets_of}
 use Rattle.update_machine.specs.ExactCauses.{FindsNextDown, SeeksOwn, FindsNoPath}
-use Rattle.update_machine.proofs.CallerLemmas.{unreached}
-use Rattle.way_laws.specs.OnWay.{IsExiting, IsOnWay, IsSeeking}
+use Rattle.update_machine.proofs.CallerLemmas.{plan_is, unreached}
+use Rattle.advert_laws.proofs.Claims.{own_end}
+use Rattle.way_laws.specs.OnWay.{IsExiting, IsOnWay, IsPartitionOf, IsSeeking}
 use Rattle.way_laws.specs.Words.{PacketWords, words_of}
 use Rattle.way_laws.specs.Kept.{IsJudged}
 use Rattle.way_laws.specs.Stages.{stage_of}
 use Rattle.way_laws.specs.WayCauses.{FindsNoRoute, IsAtPort, IsBlockedOn, IsLostHere, LeavesHere, MeetsDown, TakesLeg, WayCause}
 use Rattle.way_laws.proofs.Here.{IsHere, decision_in, exiting_of, header_in_words, here_of, leg_in, next_in, place_in, seeking_of, some_same}
-use Rattle.way_laws.proofs.Kept.{Knows, port_named}
-use Rattle.way_laws.proofs.Lookups.{FindsTargets, redirect_told}
+use Rattle.way_laws.proofs.Kept.{Knows, port_named, redirected_to}
+use Rattle.way_laws.proofs.OpenWays.{Sees, none_leads, open_joined}
 
 pub decision_out : (journal : List Item) (i : ℕ) (decision : Option Decision)
     → (words_of journal i).decision ≡ decision → decision_of journal i ≡ decision
@@ -54,10 +56,10 @@ entered_as setting before i s here =
 
 -- ---- links found down
 
-pub finds_down : (setting : Setting) (before : List Item) (i one two : ℕ)
+pub finds_next_down : (setting : Setting) (before : List Item) (i one two : ℕ)
     → Knows setting before i (stage_of before i) → MeetsDown setting before i one two
     → FindsNextDown setting before i one two
-finds_down setting before i one two knows meets =
+finds_next_down setting before i one two knows meets =
     let here : IsHere setting before i one =
     here_of setting before i one (stage_of before i) knows.is knows.have knows.kept meets.at in
     record {
@@ -80,42 +82,48 @@ lost_rightly before i lost = elim lost.how [
 
 -- ---- packets that are stuck
 
-own_leg : (setting : Setting) (before : List Item) (i s : ℕ) (leg : Leg)
-    → Knows setting before i (stage_of before i) → IsHere setting before i s
-    → TakesLeg setting before i s leg → SeeksOwn setting before i leg
-own_leg setting before i s (Seek version partition) knows here takes =
-    let told : FindsTargets setting before s here.under.header partition takes.targets =
-    redirect_told setting before s here.under.header partition takes.targets here.stamped
-    here.under.sound (ap (lookup_at setting before s) (sym here.header) ∙ takes.told) in (
-      here.under.header,
-      entered_as setting before i s here,
-      subst (λ v. option_map (λ (p : Placed). p.0.number)
-          (find (λ (p : Placed). is_in here.under.header p.0) (plan_at setting before v))
-          ≡ Some partition) (sym takes.stamp)
-          (ap (option_map (λ (p : Placed). p.0.number)) told.part.finds.first
-          ∙ ap Some told.part.number),
-    )
-own_leg setting before i s (Exit port) knows here takes =
-    (takes.decision, takes.decided, takes.action)
-
-blocked_leg : (setting : Setting) (before : List Item) (i s : ℕ) (leg : Leg)
-    → Knows setting before i (stage_of before i) → IsHere setting before i s
-    → IsBlockedOn before i leg → SeeksOwn setting before i leg
-blocked_leg setting before i s (Seek version partition) knows here blocked =
+-- the partition that it seeks, which has its header
+seeks_part : (setting : Setting) (before : List Item) (i s version partition : ℕ)
+    → Knows setting before i (stage_of before i) → (here : IsHere setting before i s)
+    → TakesLeg setting before i s (Seek version partition)
+    ⊎ IsBlockedOn before i (Seek version partition)
+    → (placed : Placed)
+    × IsPartitionOf setting before here.under.header version partition placed
+seeks_part setting before i s version partition knows here (inl takes) =
+    redirected_to setting before i s version partition here takes
+seeks_part setting before i s version partition knows here (inr blocked) =
     let on : IsSeeking setting before (words_of before i) here.under.header version partition =
     seeking_of setting before (words_of before i) here.under.header version partition
     (knows.kept.on_way here.travelling (inr blocked.blocked)) here.under.entered
-    (leg_in before i (Some (Seek version partition)) blocked.takes) in (
-      here.under.header,
-      entered_as setting before i s here,
-      ap (option_map (λ (p : Placed). p.0.number)) on.own.first ∙ ap Some on.own.number,
-    )
-blocked_leg setting before i s (Exit port) knows here blocked =
+    (leg_in before i (Some (Seek version partition)) blocked.takes) in
+    (on.placed, on.own)
+
+-- its decision, by the port to which it exits
+exits_by : (setting : Setting) (before : List Item) (i s port : ℕ)
+    → Knows setting before i (stage_of before i) → IsHere setting before i s
+    → TakesLeg setting before i s (Exit port) ⊎ IsBlockedOn before i (Exit port)
+    → (decision : Decision) × (decision_of before i ≡ Some decision)
+    × (decision.action ≡ action.Out port)
+exits_by setting before i s port knows here (inl takes) =
+    (takes.decision, takes.decided, takes.action)
+exits_by setting before i s port knows here (inr blocked) =
     let on : IsExiting setting (words_of before i) port =
     exiting_of setting before (words_of before i) port
     (knows.kept.on_way here.travelling (inr blocked.blocked))
     (leg_in before i (Some (Exit port)) blocked.takes) in
     (on.decision, decision_out before i (Some on.decision) on.decided, on.action)
+
+own_leg : (setting : Setting) (before : List Item) (i s : ℕ) (leg : Leg)
+    → Knows setting before i (stage_of before i) → IsHere setting before i s
+    → TakesLeg setting before i s leg ⊎ IsBlockedOn before i leg → SeeksOwn setting before i leg
+own_leg setting before i s (Seek version partition) knows here on =
+    let part = seeks_part setting before i s version partition knows here on in (
+      here.under.header,
+      entered_as setting before i s here,
+      ap (option_map (λ (p : Placed). p.0.number)) part.1.first ∙ ap Some part.1.number,
+    )
+own_leg setting before i s (Exit port) knows here on =
+    exits_by setting before i s port knows here on
 
 pub stuck_rightly : (setting : Setting) (before : List Item) (i s : ℕ) (cause : Cause) (leg : Leg)
     (down : List ℕ) → Knows setting before i (stage_of before i)
@@ -126,16 +134,125 @@ stuck_rightly setting before i s cause leg down knows finds =
     here_of setting before i s (stage_of before i) knows.is knows.have knows.kept finds.at in
     record {
       stands = stands_at setting before i s here;
-      own_leg = elim finds.on [
-        | inl takes ↦ own_leg setting before i s leg knows here takes
-        | inr blocked ↦ blocked_leg setting before i s leg knows here blocked
-      ];
+      own_leg = own_leg setting before i s leg knows here finds.on;
       no_path =
           let down : List ℕ = found_down before i in
           All-from_recursion
           (λ target. ¬ IsReachable (links_known setting before s down) s target)
           (targets_of setting before leg)
           (unreached setting before s (targets_of setting before leg) down finds.none);
+    }
+
+-- ---- by what the switch knows of links, as relations
+
+pub finds_down : (setting : Setting) (before : List Item) (i one two : ℕ)
+    → Knows setting before i (stage_of before i) → MeetsDown setting before i one two
+    → FindsDown setting before i one two
+finds_down setting before i one two knows meets =
+    let here : IsHere setting before i one =
+    here_of setting before i one (stage_of before i) knows.is knows.have knows.kept meets.at in
+    record {
+      stands = stands_at setting before i one here;
+      unusable = unusable (can_use setting before one two) refl;
+    }
+  where
+    unusable : (b : Bool) → can_use setting before one two ≡ b → IsFalse b
+    unusable false e = refl
+    unusable true e =
+        let own : IsTrue (is_end setting before one one two) = rw (eq-eqb one one refl) e in
+        let usable : has (near setting before one) two ≡ true =
+        (own_end setting before knows.is.net one two own).named in
+        let unused : has (near setting before one) two ≡ false = meets.unusable in
+        absurd cc
+
+-- a partition of a plan stands in it
+part_in : (plan : List Placed) (k : ℕ) (placed : Placed) → slice_get plan k ≡ Some placed
+    → Contains plan placed
+part_in plan k placed there = (
+  k,
+  slice_get_within plan k placed there,
+  get_or_from_slice_get plan k placed placed there,
+)
+
+-- no way leads to any of these targets
+abbrev AreCutOff : Setting → List Item → ℕ → ℕ → List ℕ → Type 0
+AreCutOff setting before i s targets =
+    All (λ target. (path : List ℕ) → ¬ Leads (is_open setting before i s) s path target) targets
+
+home_cut_off : (setting : Setting) (before : List Item) (i s : ℕ) (home : Option ℕ)
+    → AreCutOff setting before i s (unwrap_or home no_switch ∷ [])
+    → AreCutOff setting before i s (option_to_list home)
+home_cut_off setting before i s None cut = All-nil _
+home_cut_off setting before i s (Some home) cut = cut
+
+-- the targets of its leg, all cut off
+record HasTargets (setting : Setting) (before : List Item) (i s : ℕ) (leg : Leg) : Type 0 where
+  targets : List ℕ
+  own_leg : AreTargets setting before i leg targets
+  cut_off : AreCutOff setting before i s targets
+
+targets_cut_off : (setting : Setting) (before : List Item) (i s : ℕ) (leg : Leg)
+    → Knows setting before i (stage_of before i) → IsHere setting before i s
+    → TakesLeg setting before i s leg ⊎ IsBlockedOn before i leg
+    → AreCutOff setting before i s (targets_of setting before leg)
+    → HasTargets setting before i s leg
+targets_cut_off setting before i s (Seek version partition) knows here on cut =
+    let part = seeks_part setting before i s version partition knows here on in
+    let placed : Placed = part.0 in
+    let plan : List Placed = plan_at setting before version in
+    record {
+      targets = placed.1;
+      own_leg = (
+        here.under.header,
+        entered_as setting before i s here,
+        plan,
+        plan_is setting before version placed (part_in plan partition placed part.1.found),
+        placed,
+        part_in plan partition placed part.1.found,
+        part.1.holds,
+        part.1.number,
+        refl,
+      );
+      cut_off = subst (AreCutOff setting before i s)
+          (ap (λ o. unwrap_or (option_map (λ (p : Placed). p.1) o) []) part.1.found) cut;
+    }
+targets_cut_off setting before i s (Exit port) knows here on cut =
+    let by = exits_by setting before i s port knows here on in
+    record {
+      targets = option_to_list (owner_of setting.net.switches port);
+      own_leg = (by.0, by.1, by.2, refl);
+      cut_off = home_cut_off setting before i s (owner_of setting.net.switches port) cut;
+    }
+
+pub stuck_by_claims : (setting : Setting) (before : List Item) (i s : ℕ) (cause : Cause)
+    (leg : Leg) (down : List ℕ) → Knows setting before i (stage_of before i)
+    → FindsNoRoute setting before i s cause leg down → IsStuckRightly setting before i s leg
+stuck_by_claims setting before i s cause leg down knows finds =
+    let here : IsHere setting before i s =
+    here_of setting before i s (stage_of before i) knows.is knows.have knows.kept finds.at in
+    let exact : FindsNoPath setting before i s leg =
+    stuck_rightly setting before i s cause leg down knows finds in
+    let links : List ℕ = links_known setting before s (found_down before i) in
+    let sees : Sees setting before s =
+    record { net = knows.is.net; have = knows.both; serving = finds.at.serving } in
+    let small : s < 64 = omega (arith, here.at, here.under.now, knows.is.net.few_switches) in
+    let cut : AreCutOff setting before i s (targets_of setting before leg) =
+    All-weaker (λ target. ¬ IsReachable links s target)
+    (λ target. (path : List ℕ) → ¬ Leads (is_open setting before i s) s path target)
+    (λ target unreached.
+    none_leads (is_open setting before i s) links s target
+    (length-known_links (adverts_of_others setting before s) s (near setting before s)
+    (found_down before i))
+    (open_joined setting before i s sees) small unreached) (targets_of setting before leg)
+    exact.no_path in
+    let own : HasTargets setting before i s leg =
+    targets_cut_off setting before i s leg knows here finds.on cut in
+    record {
+      stands = exact.stands;
+      serving = finds.at.serving;
+      targets = own.targets;
+      own_leg = own.own_leg;
+      no_path = own.cut_off;
     }
 
 -- ---- packets that leave
@@ -271,5 +388,5 @@ end_caused setting before (item.Lost packet) knows way = lost_rightly before pac
 end_caused setting before (item.FoundDown packet one two) knows way =
     finds_down setting before packet one two (knows packet) way
 end_caused setting before (item.Stuck packet switch cause leg down) knows way =
-    stuck_rightly setting before packet switch cause leg down (knows packet) way
+    stuck_by_claims setting before packet switch cause leg down (knows packet) way
 end_caused setting before next knows way = tt

@@ -41,12 +41,13 @@ use Rattle.update_machine.specs.Versions.{policy_at, stamp_of, tables_at, plan_a
 use Rattle.update_machine.specs.Ways.{found_down, no_switch, owner, targets_of}
 use Rattle.boot_laws.specs.ItemCauses.{HasItemCause}
 use Rattle.advert_laws.specs.Adverts.{LinksAreThere}
+use Rattle.advert_laws.proofs.BothCauses.{HasBothCauses}
 use Rattle.way_laws.specs.Rules.{IsRightEntry}
 use Rattle.way_laws.specs.OnWay.{IsExiting, IsOnLeg, IsOnWay, IsPartitionOf, IsSeeking, IsUnderWay, LeadsTo}
 use Rattle.way_laws.specs.Words.{PacketWords, port_of, told_by, words_of}
 use Rattle.way_laws.specs.Kept.{IsJudged, IsKept, IsSought}
 use Rattle.way_laws.specs.Stages.{Blocked, CameIn, Judged, OnWay, Stage, stage_of}
-use Rattle.way_laws.specs.WayCauses.{AuthorityDecides, CacheDecides, DecidesBy, IsDecided, MeetsDown, MovesOver, TakesDetour, TakesExit, TakesRoute}
+use Rattle.way_laws.specs.WayCauses.{AuthorityDecides, CacheDecides, DecidesBy, IsDecided, IsRedirected, MeetsDown, MovesOver, TakesDetour, TakesExit, TakesRoute}
 use Rattle.way_laws.proofs.Here.{IsHere, Rules, found_in, here_of, leg_in, next_in, decision_in, rules_of, seeking_of, some_same}
 use Rattle.way_laws.proofs.Lookups.{FindsTargets, redirect_told}
 use Rattle.way_laws.proofs.PacketBlocks.{WhenDecided}
@@ -58,6 +59,7 @@ pub record Knows (setting : Setting) (before : List Item) (i : ℕ) (stage : Opt
   where
     pub is : IsSetting setting
     pub have : HaveCauses (HasItemCause setting) [] before
+    pub both : HaveCauses (HasBothCauses setting) [] before
     pub links : LinksAreThere setting before
     pub kept : IsKept setting before (words_of before i) stage
 
@@ -169,6 +171,27 @@ stage_alone (inr x) = inr x.0
 
 -- ---- what each item makes of its packet
 
+-- the partition to which a lookup sends it
+pub redirected_to : (setting : Setting) (before : List Item) (i s version partition : ℕ)
+    → (here : IsHere setting before i s) → IsRedirected setting before i s version partition
+    → (placed : Placed)
+    × IsPartitionOf setting before here.under.header version partition placed
+redirected_to setting before i s version partition here takes =
+    let told : FindsTargets setting before s here.under.header partition takes.targets =
+    redirect_told setting before s here.under.header partition takes.targets here.stamped
+    here.under.sound (ap (lookup_at setting before s) (sym here.header) ∙ takes.told) in
+    let placed : Placed = told.part.placed in (
+      placed,
+      subst (λ v. IsPartitionOf setting before here.under.header v partition placed)
+          (sym takes.stamp) (record {
+            found = ap (slice_get (plan_at setting before (stamp_of before s)))
+                (sym told.part.number) ∙ told.part.finds.at;
+            number = told.part.number;
+            first = told.part.finds.first;
+            holds = told.part.finds.holds;
+          }),
+    )
+
 pub seeking_after : (setting : Setting) (before : List Item) (i mark version partition : ℕ)
     (route : List ℕ) → Knows setting before i (stage_of before i)
     → TakesRoute setting before i (Seek version partition) route
@@ -182,23 +205,11 @@ seeking_after setting before i mark version partition route knows takes =
     here_of setting before i s (stage_of before i) knows.is knows.have knows.kept takes.at in
     let under : IsUnderWay setting before after =
     under_as setting before words after refl refl refl refl here.under in
-    let told : FindsTargets setting before s here.under.header partition takes.takes.targets =
-    redirect_told setting before s here.under.header partition takes.takes.targets here.stamped
-    here.under.sound (ap (lookup_at setting before s) (sym here.header) ∙ takes.takes.told) in
-    let placed : Placed = told.part.placed in
-    let own : IsPartitionOf setting before here.under.header (stamp_of before s) partition placed =
-    record {
-      found = ap (slice_get (plan_at setting before (stamp_of before s))) (sym told.part.number)
-          ∙ told.part.finds.at;
-      number = told.part.number;
-      first = told.part.finds.first;
-      holds = told.part.finds.holds;
-    } in
-    let own_version : IsPartitionOf setting before here.under.header version partition placed =
-    subst (λ v. IsPartitionOf setting before here.under.header v partition placed)
-    (sym takes.takes.stamp) own in
+    let part = redirected_to setting before i s version partition here takes.takes in
+    let placed : Placed = part.0 in
+    let own : IsPartitionOf setting before here.under.header version partition placed = part.1 in
     let targets : targets_of setting before (Seek version partition) ≡ placed.1 =
-    ap (λ o. unwrap_or (option_map (λ (p : Placed). p.1) o) []) own_version.found in
+    ap (λ o. unwrap_or (option_map (λ (p : Placed). p.1) o) []) own.found in
     let way : IsWay setting s placed.1 words.found route =
     route_way setting before s placed.1 words.found route knows.links
     (subst (λ down. route_from setting before s placed.1 down ≡ Some route) (found_in before i)
@@ -218,7 +229,7 @@ seeking_after setting before i mark version partition route knows takes =
           not_retired = omega (arith, here.under.mark, here.stamped.retired, takes.takes.stamp);
           current = omega (arith, here.stamped.current, takes.takes.stamp);
           placed = placed;
-          own = own_version;
+          own = own;
           leads = way.leads;
         };
         stands = way.begins ∙ ap Some here.at;

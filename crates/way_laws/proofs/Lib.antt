@@ -19,6 +19,7 @@ pub mod Here
 pub mod Kept
 pub mod AllKept
 pub mod Travelling
+pub mod OpenWays
 pub mod Ends
 pub mod EndsCaused
 pub mod Arriving

@@ -24,7 +24,7 @@ use Rattle.way_laws.specs.Stages.{stage_of}
 use Rattle.way_laws.specs.StrongCauses.{AvoidsFound, FindsLinkDown, IsDecidedRightly, IsOnRightLeg, IsStuckOnLeg, RaisesVersion, SeeksRightly, StrongCause}
 use Rattle.way_laws.specs.WayCauses.{FindsNoRoute, IsBlockedOn, IsDecided, IsLookedUp, MeetsDown, TakesLeg, TakesRoute, WayCause}
 use Rattle.way_laws.proofs.AllKept.{Before, kept_before, known_before, knows}
-use Rattle.way_laws.proofs.Ends.{decision_out, finds_down, leaves_rightly, stuck_rightly}
+use Rattle.way_laws.proofs.Ends.{decision_out, finds_next_down, leaves_rightly, stuck_rightly}
 use Rattle.way_laws.proofs.Here.{IsHere, here_of, leg_in, next_in, seeking_of, some_same}
 use Rattle.way_laws.proofs.Kept.{IsDecidedNow, Knows, decided_now, stage_when, undecided_of}
 use Rattle.way_laws.proofs.Rests.{IsWayItem, Past}
@@ -58,7 +58,7 @@ finds_link setting before i one two knows_it meets =
     some_same words.place way.under_way.place here.under.place way.under_way.stands
     here.under.stands ∙ sym here.at in
     record {
-      finds = finds_down setting before i one two knows_it meets;
+      finds = finds_next_down setting before i one two knows_it meets;
       linked = linked_by_mask setting.net.links one two
           (follows setting before words way words.hops one two (way.stands ∙ ap Some place)
           (sym (next_in before i) ∙ meets.goes_on));
