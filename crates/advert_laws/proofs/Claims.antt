@@ -14,14 +14,18 @@ use Rattle.ctrl_msg.specs.declared.message.Body.TheVariants.{Advertise}
 use Rattle.ctrl_msg.specs.declared.message.Message.{Message}
 use Rattle.ctrl_msg.specs.declared.message.Receiver.{Receiver}
 use Rattle.ctrl_msg.specs.declared.message.Receiver.TheVariants as receiver
-use Rattle.failover.specs.Adverts.{AreByOrigin, after_hearing, after_hearing_all, first_advert, first_adverts, held, is_newer, is_news, no_adverts}
-use Rattle.failover.specs.Links.{names, neighbours_told}
+use Rattle.failover.specs.Adverts.{after_hearing, after_hearing_all, first_advert, first_adverts, held, is_newer, is_news, no_adverts}
+use Rattle.failover.specs.Links.{neighbours_told}
 use Rattle.failover.specs.declared.advert.Advert.{Advert}
+use Rattle.failover.specs.Newest.{AreByOrigin}
+use Rattle.failover.specs.Isolated.{names}
 use Rattle.failover.proofs.Adverts.{after_no_news, held-first, held_heard, held_others}
 use Rattle.masks.specs.Masks.{has}
 use Rattle.masks.proofs.CallerLemmas.{has_mask}
-use Rattle.net_file.specs.Net.{IsNet, are_linked, links_of}
+use Rattle.net_file.specs.Net.{IsNet}
 use Rattle.net_file.specs.declared.net.Net.{Net}
+use Rattle.net_file.specs.Joins.{are_linked}
+use Rattle.net_file.specs.Owners.{links_of}
 use Rattle.net_file.proofs.Places.{links}
 use Rattle.steps.specs.Steps.{HasLink, HasSwitch}
 use Rattle.journal.specs.declared.item.Item.{Item}

@@ -4,15 +4,17 @@ use Rattle.std.specs.Prelude.{IsTrue, filter, option_to_list}
 use Rattle.std.specs.List.{list_any}
 use Rattle.std.proofs.lemmas.Bool.{cases_eq, cases_lt}
 use Rattle.std.proofs.lemmas.List.{get_or-map, get_or_past, length-map}
-use Rattle.failover.specs.Adverts.{IsNewest, held}
-use Rattle.failover.specs.Links.{is_link, neighbours_told, told_links}
+use Rattle.failover.specs.Adverts.{held}
+use Rattle.failover.specs.Links.{is_link, neighbours_told, told_links, AreJoined, IsPath, Leads}
 use Rattle.masks.specs.Masks.{has}
-use Rattle.failover.specs.Paths.{AreJoined, IsPath, IsRoute, Leads}
+use Rattle.failover.specs.Paths.{IsRoute}
 use Rattle.failover.specs.declared.advert.Advert.{Advert}
+use Rattle.failover.specs.Newest.{IsNewest}
 use Rattle.masks.proofs.CallerLemmas.{has-zero}
-use Rattle.net_file.specs.Net.{are_linked, joins, links_of}
+use Rattle.net_file.specs.Joins.{are_linked, joins}
 use Rattle.net_file.specs.declared.net.LinkRow.{LinkRow}
 use Rattle.net_file.specs.declared.net.Net.{Net}
+use Rattle.net_file.specs.Owners.{links_of}
 use Rattle.net_file.proofs.Masks.{in_mask, in_mask_of, in_mask_past, mask_of_small}
 use Rattle.steps.specs.Steps.{HasLink}
 use Rattle.journal.specs.declared.item.Item.{Item}

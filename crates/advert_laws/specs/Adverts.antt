@@ -4,7 +4,7 @@
 use Rattle.std.specs.Prelude.{⊤, ℕ, ◌≡◌, ◌<◌, ◌≤◌, ◌⊎◌, Some, List, [], ◌∷◌, All, IsTrue}
 use Rattle.failover.specs.Adverts.{is_newer}
 use Rattle.masks.specs.Masks.{has}
-use Rattle.failover.specs.Paths.{AreJoined}
+use Rattle.failover.specs.Links.{AreJoined}
 use Rattle.failover.specs.declared.advert.Advert.{Advert}
 use Rattle.net_file.specs.declared.net.Net.{Net}
 use Rattle.steps.specs.Steps.{HasLink, HasSwitch}

@@ -3,8 +3,9 @@ use Rattle.std.proofs.Common.{sym, subst, ℕ, ◌≡◌, ◌+◌, ◌==◌, Boo
 use Rattle.std.specs.Prelude.{Result, Ok, Err}
 use Rattle.std.proofs.lemmas.Bool.{eq-eqb}
 use Rattle.std.proofs.lemmas.Bool.Decides.{nat_tests}
-use Rattle.partition.specs.Plan.{NoPlan, Placed, TooManyLeaves}
+use Rattle.partition.specs.Plan.{Placed}
 use Rattle.policy_rules.specs.declared.policy.Row.{Row}
+use Rattle.policy_rules.specs.Placed.{NoPlan, TooManyLeaves}
 use Rattle.journal.specs.declared.item.Item.{Item}
 use Rattle.journal.specs.declared.item.Item.TheVariants as item
 use Rattle.steps.specs.declared.step.Step.{Step}

@@ -7,8 +7,9 @@ use Rattle.std.proofs.lemmas.Option.{slice_get_within, slice_get-get_or, get_or_
 use Rattle.std.proofs.lemmas.List.{get_or-take, length-take}
 use Rattle.std.proofs.lemmas.List.Quantifiers.{position-Some}
 use Rattle.std.proofs.lemmas.List.Sums.{AllPass-from_list_all, list_all-from_AllPass, position_or_len_is}
-use Rattle.ternary.specs.Word.{WordValue, IsWord, exact_word, holds, covers_of, meet_of}
+use Rattle.ternary.specs.Word.{WordValue, IsWord, holds}
 use Rattle.ternary.specs.Laws.{CoversLaws, MeetLaws}
+use Rattle.ternary.specs.Meets.{exact_word, covers_of, meet_of}
 use Rattle.policy_rules.specs.declared.rules.Rule.{Rule}
 use Rattle.policy_rules.specs.Rules.{is_held}
 use Rattle.cache_maker.specs.Independent.{IsIndependent, is_apart, is_independent}

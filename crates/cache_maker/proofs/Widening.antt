@@ -3,8 +3,9 @@ use Rattle.std.proofs.Common.{ℕ, suc, zero, ◌≡◌, ◌<◌, ◌≤◌, ◌
 use Rattle.std.specs.Prelude.{IsTrue}
 use Rattle.std.specs.Int.{bit_at}
 use Rattle.std.proofs.lemmas.Bool.{cases_lt, eq-eqb, eqb-true}
-use Rattle.ternary.specs.Word.{WordValue, IsWord, holds, covers_of, exact_word, is_fixed_of, free_of}
+use Rattle.ternary.specs.Word.{WordValue, IsWord, holds}
 use Rattle.ternary.specs.Laws.{CoversLaws, MeetLaws, ExactLaws, FreeLaws}
+use Rattle.ternary.specs.Meets.{covers_of, exact_word, is_fixed_of, free_of}
 use Rattle.policy_rules.specs.declared.rules.Rule.{Rule}
 use Rattle.cache_maker.specs.Independent.{IsIndependent, is_independent, freed, widened}
 use Rattle.cache_maker.proofs.Independence.{test_true, test_of, smaller}

@@ -4,7 +4,8 @@
 use Rattle.std.specs.Prelude.{ℕ, zero, suc, Bool, false, ◌&&◌, if◌then◌else◌, List, All, take, slice_get, is_none, IsNone, IsTrue, IsSomeAnd}
 use Rattle.std.specs.List.{list_all}
 use Rattle.std.specs.Option.{option_map_or}
-use Rattle.ternary.specs.Word.{WordValue, exact_word, covers_of, meet_of, free_of}
+use Rattle.ternary.specs.Word.{WordValue}
+use Rattle.ternary.specs.Meets.{exact_word, covers_of, meet_of, free_of}
 use Rattle.policy_rules.specs.declared.rules.Rule.{Rule}
 
 -- the region and the rule at this place cover the word, and it meets no earlier rule's

@@ -5,8 +5,9 @@ use Rattle.std.specs.Option.{option_or}
 use Rattle.std.proofs.lemmas.Bool.{eq-eqb, ne_eqb}
 use Rattle.journal.specs.declared.item.Item.{Item}
 use Rattle.journal.specs.declared.item.Item.TheVariants as item
-use Rattle.partition.specs.Plan.{Placed, TooManyLeaves}
+use Rattle.partition.specs.Plan.{Placed}
 use Rattle.policy_rules.specs.declared.policy.Row.{Row}
+use Rattle.policy_rules.specs.Placed.{TooManyLeaves}
 use Rattle.steps.specs.declared.step.Step.TheVariants.{Update}
 use Rattle.update_machine.specs.Marks as machine
 use Rattle.update_machine.specs.Marks.{current_mark, known_boot, most_live, most_versions, retired_mark}

@@ -18,7 +18,7 @@ use Rattle.policy_rules.specs.declared.rule_list.RulesError.{RulesError}
 use Rattle.policy_rules.specs.declared.rule_list.RulesError.TheVariants as rules
 use Rattle.partition.specs.Parts.{parts_of}
 use Rattle.partition.specs.Plan.{IsPlan, Placed, plan_of, rooms_of, sizes_of}
-use Rattle.partition.specs.Plan as no_plan
+use Rattle.policy_rules.specs.Placed as no_plan
 use Rattle.partition.proofs.CallerLemmas.{no_leaves, no_room, no_words, planned}
 use Rattle.controller.specs.Causes.{of_placement, of_rules, of_tree}
 use Rattle.policy_rules.specs.declared.policy.Row.{Row}

@@ -2,7 +2,7 @@
 use Rattle.std.specs.Prelude.{⊤, ◌≡◌, ◌^◌, ◌<◌, Err, List, length, map, All}
 use Rattle.net_file.specs.declared.net.Net.{Net}
 use Rattle.partition.specs.Plan.{Placed, plan_of}
-use Rattle.partition.specs.Plan as no_plan
+use Rattle.policy_rules.specs.Placed as no_plan
 use Rattle.policy_rules.specs.Partitions.{AreSoundPartitions, LastCovers}
 use Rattle.policy_rules.specs.declared.policy.Row.{Row}
 use Rattle.switch_table.specs.Tables.{part_of}

@@ -1,6 +1,6 @@
 ghost use Rattle.std.specs.Prelude.{◌≡◌, ◌≢◌, ◌+◌, ◌-◌, ◌<◌, ◌≤◌, ◌↔◌, ◌++◌, [], ◌∷◌, map, filter, length, not, nat_le, Err, Some, IsTrue, IsFalse, IfOk, IfErr, OnOk, OnErr};
 ghost use Rattle.net_file.specs.Net.{IsNet};
-ghost use Rattle.ctrl_msg.specs.Bodies.{is_for_controller};
+ghost use Rattle.ctrl_msg.specs.Kinds.{is_for_controller};
 ghost use Rattle.ctrl_msg.specs.declared.message.Body.TheVariants.{Hello};
 ghost use Rattle.switch_table.specs.Tables.{AreSoundTables};
 ghost use Rattle.version_update.specs.Marks.{AreSettled, StaySettled, at_switch, record_of, with_version};

@@ -1,7 +1,7 @@
 -- What the messages of a controller and its switches carry.
-use Rattle.std.specs.Prelude.{ℕ, Bool, true, false, Option, Some, None}
+use Rattle.std.specs.Prelude.{ℕ, Option, Some, None}
 use Rattle.ctrl_msg.specs.declared.message.Body.{Body}
-use Rattle.ctrl_msg.specs.declared.message.Body.TheVariants.{Install, OpenAt, Stamp, Collect, CacheRule, Hello, Installed, Stamped}
+use Rattle.ctrl_msg.specs.declared.message.Body.TheVariants.{Install, OpenAt, Stamp, Collect, Hello, Installed, Stamped}
 
 -- the boot that a body carries: an advertisement's is its origin's, and a cache rule has none
 abbrev pub body_boot : Body → Option ℕ
@@ -13,21 +13,3 @@ body_boot (Hello switch boot) = Some boot
 body_boot (Installed switch boot version) = Some boot
 body_boot (Stamped switch boot version) = Some boot
 body_boot _ = None
-
--- the version that a body speaks of
-abbrev pub body_version : Body → Option ℕ
-body_version (Install boot tables) = Some tables.version
-body_version (OpenAt boot version) = Some version
-body_version (Stamp boot version) = Some version
-body_version (Collect boot version) = Some version
-body_version (CacheRule version word rule action) = Some version
-body_version (Installed switch boot version) = Some version
-body_version (Stamped switch boot version) = Some version
-body_version _ = None
-
--- a hello and an acknowledgement are for the controller, all else for a switch
-abbrev pub is_for_controller : Body → Bool
-is_for_controller (Hello switch boot) = true
-is_for_controller (Installed switch boot version) = true
-is_for_controller (Stamped switch boot version) = true
-is_for_controller _ = false

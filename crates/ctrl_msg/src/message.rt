@@ -1,5 +1,6 @@
 ghost use Rattle.std.specs.Prelude.{◌≡◌};
-ghost use Rattle.ctrl_msg.specs.Bodies.{body_boot, body_version, is_for_controller};
+ghost use Rattle.ctrl_msg.specs.Bodies.{body_boot};
+ghost use Rattle.ctrl_msg.specs.Kinds.{body_version, is_for_controller};
 
 use crate::shared::SharedTables;
 use failover::Advert;

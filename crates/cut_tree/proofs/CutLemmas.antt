@@ -2,7 +2,8 @@
 use Rattle.std.proofs.Common.{◌≡◌, ℕ, zero, suc, ◌<◌, true, false, Option, Some, None, List, refl, sym, ◌∙◌, ap, subst, inl, inr, arith}
 use Rattle.std.specs.Bool.{IsFalse}
 use Rattle.std.proofs.lemmas.Bool.{cases_Bool, cases_eq, both_ways, cond-true, cond-false}
-use Rattle.ternary.specs.Word.{WordValue, is_fixed_of}
+use Rattle.ternary.specs.Word.{WordValue}
+use Rattle.ternary.specs.Meets.{is_fixed_of}
 use Rattle.policy_rules.specs.declared.rules.Rule.{Rule}
 use Rattle.cut_tree.specs.Cuts.{IsLeastCut, IsAtMost, cheaper, is_cheaper, cost_of, least_below}
 use Rattle.cut_tree.specs.declared.choice.Cost.{Cost}

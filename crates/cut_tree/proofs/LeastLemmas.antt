@@ -5,7 +5,8 @@ use Rattle.std.specs.Int.{w128, bit_at, trailing_zeros}
 use Rattle.std.proofs.lemmas.Bool.{both_ways, cases_Bool, cases_eq, cases_lt, cond-true, cond-false, eq-eqb, ne_eqb}
 use Rattle.std.proofs.lemmas.Nat.{and_le_l, xor_lt}
 use Rattle.std.proofs.lemmas.Nat.Bits.{bit_at-lt, bit_at-zero, bit_at_and, bit_at_not, bit_at_ones, bit_at_ones_above, bit_at_or, bit_at_xor, bit_at-trailing_zeros}
-use Rattle.ternary.specs.Word.{WordValue, is_fixed_of}
+use Rattle.ternary.specs.Word.{WordValue}
+use Rattle.ternary.specs.Meets.{is_fixed_of}
 use Rattle.policy_rules.specs.declared.rules.Rule.{Rule}
 use Rattle.cut_tree.specs.Counts.{HasCounted, IsHeight, IsLeastOf, count_at, count_by, counted_cost}
 use Rattle.cut_tree.specs.Cuts.{IsAtMost, IsFreeBit, cost_from, cost_of, least_below, side_of}

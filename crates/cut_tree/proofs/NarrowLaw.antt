@@ -3,7 +3,8 @@ use Rattle.std.proofs.Common.{◌≡◌, ℕ, Bool, true, false, ◌&&◌, Optio
 use Rattle.std.specs.Bool.{IsTrue}
 use Rattle.std.specs.Option.{option_and_then, is_some}
 use Rattle.std.proofs.lemmas.Bool.{cases_Bool, both_ways, false_from_ne_true}
-use Rattle.ternary.specs.Word.{WordValue, holds, meets, joined, meet_of, covers_of}
+use Rattle.ternary.specs.Word.{WordValue, holds}
+use Rattle.ternary.specs.Meets.{meets, joined, meet_of, covers_of}
 use Rattle.ternary.proofs.CallerLemmas.{covers_held, covers_transitive, is_some-meet_of, meet_both, meet_disjoint, meet_greatest, meet_narrowed, meets_comm, meets_cover}
 use Rattle.policy_rules.specs.Rules.{is_held}
 use Rattle.policy_rules.specs.declared.rules.Rule.{Rule}

@@ -1,7 +1,8 @@
 -- The tree as a function of the rules, and as a test.
 use Rattle.std.proofs.Common.{length-append, ◌≡◌, ℕ, zero, suc, ◌+◌, ◌<◌, ◌≤◌, Bool, true, false, Option, Some, None, List, length, get_or, refl, sym, ◌∙◌, ap, subst, inl, inr, arith}
 use Rattle.std.proofs.lemmas.Bool.{both_ways, cases_lt, le-leb, lt-leb}
-use Rattle.ternary.specs.Word.{WordValue, any_word, fix_of}
+use Rattle.ternary.specs.Word.{WordValue}
+use Rattle.ternary.specs.Meets.{any_word, fix_of}
 use Rattle.ternary.proofs.CallerLemmas.{any_covers, any_unfixed, fix_word, free_bits_shorter}
 use Rattle.policy_rules.specs.declared.rules.Rule.{Rule}
 use Rattle.cut_tree.specs.Cuts.{IsLeastCut, least_below, side_of}

@@ -1,6 +1,7 @@
 -- The tree that a list of rules has: a test of a given tree, and the tree as a function.
 use Rattle.std.specs.Prelude.{⊤, ℕ, zero, suc, ◌≡◌, ◌<◌, ◌≤◌, nat_le, true, false, Option, Some, None, List, length}
-use Rattle.ternary.specs.Word.{WordValue, any_word, fix_of, free_bits}
+use Rattle.ternary.specs.Word.{WordValue}
+use Rattle.ternary.specs.Meets.{any_word, fix_of, free_bits}
 use Rattle.policy_rules.specs.declared.rules.Rule.{Rule}
 use Rattle.cut_tree.specs.Cuts.{IsLeastCut, least_below, side_of}
 use Rattle.cut_tree.specs.Shape.{Shape, End, Node, leaf_count}

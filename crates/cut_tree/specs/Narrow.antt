@@ -1,7 +1,8 @@
 -- Narrowing a list of rules to a part of the header space, as Yu, Rexford, Freedman and Wang,
 -- "Scalable Flow-Based Networking with DIFANE", SIGCOMM 2010, cut the rules for their switches.
 use Rattle.std.specs.Prelude.{if◌then◌else◌, Bool, List, [], ◌∷◌, map, filter}
-use Rattle.ternary.specs.Word.{WordValue, joined, meets, covers_of}
+use Rattle.ternary.specs.Word.{WordValue}
+use Rattle.ternary.specs.Meets.{joined, meets, covers_of}
 use Rattle.policy_rules.specs.declared.rules.Rule.{Rule}
 
 -- the list up to and including the first that passes

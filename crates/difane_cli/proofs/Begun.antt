@@ -4,13 +4,15 @@ use Rattle.std.specs.Prelude.{IsOk, IsTrue, slice_index_or}
 use Rattle.std.specs.Option.{ForSome}
 use Rattle.load_case.specs.Case.{IsPlayable, LoadCase, NamesPort}
 use Rattle.net_file.specs.Laws.{PortLaws}
-use Rattle.net_file.specs.Net.{IsNet, port_mask}
+use Rattle.net_file.specs.Net.{IsNet}
 use Rattle.net_file.specs.declared.net.Net.{Net}
-use Rattle.partition.specs.Plan.{Placed, NoPlan, plan_of}
+use Rattle.net_file.specs.Owners.{port_mask}
+use Rattle.partition.specs.Plan.{Placed, plan_of}
 use Rattle.policy_file.specs.Ports.{has_port}
 use Rattle.policy_rules.specs.declared.policy.Action.{Action}
 use Rattle.policy_rules.specs.declared.policy.Action.TheVariants as action
 use Rattle.policy_rules.specs.declared.policy.Row.{Row}
+use Rattle.policy_rules.specs.Placed.{NoPlan}
 use Rattle.steps.specs.Steps.{IsEvent}
 use Rattle.steps.specs.declared.step.Event.{Event}
 use Rattle.update_machine.specs.Setting.{Setting, setting_of, IsSetting, NamesOwnPort}
@@ -20,10 +22,10 @@ use Rattle.world_ties.specs.Tied.{AreTied}
 use Rattle.shelf.specs.Shelf.{Files}
 use Rattle.difane_cli.specs.Inputs.{and_then, first_plan, inputs_of, plan_from, read_net, read_policies, read_schedule}
 use Rattle.difane_cli.specs.Run.{IsReplayOf}
-use Rattle.words.specs.Words.{ReplayCommand}
+use Rattle.words.specs.Commands.{ReplayCommand}
 use Rattle.difane_cli.specs.declared.report.Report.TheVariants as report
 use Rattle.difane_cli.specs.declared.status.Refusal.{Refusal}
-use Rattle.difane_cli.specs.Writes.{IsNetOf}
+use Rattle.difane_cli.specs.Tasks.{IsNetOf}
 
 -- ---- ports
 

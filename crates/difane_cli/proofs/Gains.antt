@@ -4,7 +4,8 @@ use Rattle.std.specs.List.{flat_map}
 use Rattle.std.proofs.Math.Seq.{take-add, take-append-add}
 use Rattle.std.proofs.lemmas.Grind.{flat_map-append}
 use Rattle.std.proofs.lemmas.List.{take-append-drop, take-append-le}
-use Rattle.shelf.specs.Sink.{gained, gained-gained, GainedPart, SinkState}
+use Rattle.shelf.specs.Sink.{gained, GainedPart, SinkState}
+use Rattle.shelf.specs.SinkWrites.{gained-gained}
 use Rattle.difane_cli.specs.Writes.{WrotePart}
 
 -- a part of the next bytes, behind what was written, is a part of the whole

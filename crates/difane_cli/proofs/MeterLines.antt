@@ -4,12 +4,13 @@ use Rattle.std.proofs.Common.{ℕ, ◌≡◌, ◌≢◌, Option, Some, None, Res
 use Rattle.std.specs.List.{flat_map}
 use Rattle.journal.specs.declared.item.Item.{Item}
 use Rattle.journal_text.specs.Lines.{journal_text}
-use Rattle.meters.specs.Meters.{Seen}
+use Rattle.meters.specs.Seen.{Seen}
 use Rattle.net_file.specs.declared.net.Net.{Net}
 use Rattle.policy_rules.specs.declared.packet.Leaving.{Leaving}
-use Rattle.shelf.specs.Sink.{gained, gained-gained, GainedPart, IsAfterWrite, SinkState}
+use Rattle.shelf.specs.Sink.{gained, GainedPart, SinkState}
 use Rattle.shelf.specs.declared.output.SinkError.{SinkError}
-use Rattle.difane_cli.specs.Meters.{last_lines, line_by, meter_line, meter_lines, notes_line, replay_text}
+use Rattle.shelf.specs.SinkWrites.{gained-gained, IsAfterWrite}
+use Rattle.difane_cli.specs.Texts.{last_lines, line_by, meter_line, meter_lines, notes_line, replay_text}
 use Rattle.difane_cli.proofs.Gains.{GainedPart-behind}
 
 -- ---- one line

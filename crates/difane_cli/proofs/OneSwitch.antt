@@ -14,7 +14,7 @@ use Rattle.policy_rules.specs.Policy.{IsPolicy}
 use Rattle.policy_rules.specs.RuleList.{rules_of, word_total}
 use Rattle.policy_rules.specs.declared.policy.Row.{Row}
 use Rattle.policy_rules.specs.Laws.{RuleListLaws}
-use Rattle.ternary.specs.Word.{any_word}
+use Rattle.ternary.specs.Meets.{any_word}
 
 and_false : (b : Bool) → (b && false) ≡ false
 and_false true = refl

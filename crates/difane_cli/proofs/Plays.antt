@@ -4,7 +4,7 @@ use Rattle.std.proofs.Common.{ℕ, ◌≡◌, ◌⊎◌, IsTrue, inl, inr, refl,
 use Rattle.std.specs.Option.{ForSome}
 use Rattle.boot_laws.specs.Always.{HoldsReached}
 use Rattle.journal.specs.declared.item.Item.{Item}
-use Rattle.meters.specs.Meters.{Seen}
+use Rattle.meters.specs.Seen.{Seen}
 use Rattle.net_file.specs.Net.{IsNet}
 use Rattle.net_file.specs.declared.net.Net.{Net}
 use Rattle.quiet_journals.specs.Plain.{IsPlain}
@@ -17,18 +17,19 @@ use Rattle.way_laws.specs.StrongCauses.{StrongCause}
 use Rattle.entry_laws.specs.Entries.{AreEntered, rows_played}
 use Rattle.steps.specs.declared.step.Event.{Event}
 use Rattle.update_machine.specs.Setting.{Setting, IsSetting}
-use Rattle.difane_cli.specs.Tasks.{Inputs, Play, Print, Printing}
+use Rattle.difane_cli.specs.Tasks.{Inputs, Play, Print, Printing, Known}
 use Rattle.shelf.specs.Sink.{GainedPart, SinkState}
 use Rattle.shelf.specs.declared.output.SinkError.{SinkError}
 use Rattle.shelf.specs.declared.output.SinkError.TheVariants as sink
-use Rattle.difane_cli.specs.Meters.{is_made, kept_by, play_text}
+use Rattle.difane_cli.specs.Texts.{play_text}
 use Rattle.difane_cli.specs.Verdict.{Decides, IsVerdict, asks_quiet, is_asked}
 use Rattle.difane_cli.proofs.Verdicts.{QuietLaws, verdict}
-use Rattle.difane_cli.specs.Run.{IsAfterText, IsAnswer, IsPlayOf, MayBePlayed, PlayOutcome, Unfinished, WantsMemory}
+use Rattle.difane_cli.specs.Run.{IsAnswer, IsPlayOf, MayBePlayed, PlayOutcome, Unfinished, WantsMemory, is_made}
 use Rattle.difane_cli.specs.Ending.{status_after}
-use Rattle.difane_cli.specs.Writes.{Known, Wrote}
-use Rattle.difane_cli.specs.Prints.{IsPrintingOf, PrintOutcome, printing_text}
-use Rattle.words.specs.Words.{Command, PrintCommand}
+use Rattle.difane_cli.specs.Writes.{Wrote}
+use Rattle.difane_cli.specs.Prints.{IsPrintingOf, PrintOutcome, printing_text, IsAfterText}
+use Rattle.words.specs.Commands.{Command, PrintCommand}
+use Rattle.replay.specs.Leavings.{kept_by}
 
 -- what follows behind steps of the network
 pub record AnswerLaws : Type 0 where

@@ -1,13 +1,14 @@
 -- Reads of a shelf, one after another.
 use Rattle.std.proofs.Common.{ℕ, zero, suc, ◌≡◌, ◌+◌, ◌≤◌, Bool, true, false, Option, Some, None, Ok, List, ◌∷◌, length, refl, ap, ◌∙◌, subst, arith}
 use Rattle.std.specs.Option.{ForSome}
-use Rattle.net_file.specs.Net.{port_mask}
+use Rattle.net_file.specs.Owners.{port_mask}
 use Rattle.net_file.specs.declared.net.Net.{Net}
 use Rattle.steps.specs.declared.step.Event.{Event}
-use Rattle.shelf.specs.Faults.{counted, counted_up}
+use Rattle.shelf.specs.Sink.{counted}
 use Rattle.shelf.specs.Shelf.{Files, ShelfState, IsAfterReads}
+use Rattle.shelf.specs.Scripts.{counted_up}
 use Rattle.difane_cli.specs.Inputs.{most_reads, net_reads, policy_reads, read_net, read_schedule, switch_on, up_to_refusal}
-use Rattle.words.specs.Words.{Print, PrintCommand, Replay, ReplayCommand}
+use Rattle.words.specs.Commands.{Print, PrintCommand, Replay, ReplayCommand}
 
 counted_up-counted_up : (n m x : ℕ) → counted_up n (counted_up m x) ≡ counted_up (n + m) x
 counted_up-counted_up zero m x = ap (λ k. counted_up k x) (omega arith)

@@ -6,14 +6,13 @@ use Rattle.shelf.specs.Sink.{SinkState}
 use Rattle.shelf.specs.declared.output.SinkError.{SinkError}
 use Rattle.shelf.specs.declared.output.SinkError.TheVariants as sink
 use Rattle.difane_cli.specs.Ending.{IsAfterWork, status_after}
-use Rattle.difane_cli.specs.Meters.{is_made}
-use Rattle.difane_cli.specs.Run.{IsPlayOf, MayWantMemory, RanOut}
+use Rattle.difane_cli.specs.Run.{IsPlayOf, MayWantMemory, RanOut, is_made}
 use Rattle.difane_cli.specs.Tasks.{Inputs}
 use Rattle.difane_cli.specs.Verdict.{asks_quiet, is_asked}
 use Rattle.difane_cli.specs.declared.report.Report.{Report}
 use Rattle.difane_cli.specs.declared.status.Status.TheVariants as status
-use Rattle.words.specs.Words.{Command}
-use Rattle.words.specs.Words as words
+use Rattle.words.specs.Commands.{Command}
+use Rattle.words.specs.Commands as words
 
 pub after_work : (written : Result (⊤) SinkError) (full : Option ℕ)
     → IsAfterWork (status_after written full)

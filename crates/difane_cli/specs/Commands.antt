@@ -5,7 +5,7 @@ use Rattle.steps.specs.Steps.{max_events}
 use Rattle.world.specs.State.{IsBegun, setting_at}
 use Rattle.difane_cli.specs.Run.{IsPlayOf, MayBePlayed}
 use Rattle.difane_cli.specs.Tasks.{Inputs, Printing, Task, Play, Print}
-use Rattle.words.specs.Words as grammar
+use Rattle.words.specs.Commands as grammar
 use Rattle.difane_cli.specs.declared.inputs.PlayInputs.{PlayInputs}
 use Rattle.difane_cli.specs.declared.printing.PrintInputs.{PrintInputs}
 use Rattle.difane_cli.specs.Prints.{IsPrintingOf}

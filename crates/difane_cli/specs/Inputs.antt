@@ -3,13 +3,15 @@
 use Rattle.std.specs.Prelude.{⊤, ℕ, ◌≡◌, ◌+◌, ◌<◌, Bool, true, false, nat_le, if◌then◌else◌, Option, Some, None, option_map, Result, Ok, Err, is_ok, List, [], ◌∷◌, length, map, slice_index_or, codes, IsOk}
 use Rattle.std.specs.Option.{option_map_or}
 use Rattle.load_case.specs.Case.{LoadCase, load_case}
-use Rattle.net_file.specs.Net.{port_mask, solo_net, switch_number}
+use Rattle.net_file.specs.Net.{solo_net}
 use Rattle.net_file.specs.Reading.{net_of}
 use Rattle.net_file.specs.Refusals as net_text
 use Rattle.net_file.specs.declared.net.Net.{Net}
-use Rattle.partition.specs.Plan.{NoPlan, Placed, plan_of}
-use Rattle.partition.specs.Plan as no_plan
+use Rattle.net_file.specs.Owners.{port_mask, switch_number}
+use Rattle.partition.specs.Plan.{Placed, plan_of}
+use Rattle.policy_rules.specs.Placed as no_plan
 use Rattle.policy_rules.specs.declared.policy.Row.{Row}
+use Rattle.policy_rules.specs.Placed.{NoPlan}
 use Rattle.policy_file.specs.Ports.{first_without_port}
 use Rattle.policy_file.specs.Reading as policy_text
 use Rattle.policy_file.specs.declared.ports.NoPort.{NoPort}
@@ -18,8 +20,8 @@ use Rattle.schedule.specs.Refusals as refused_by
 use Rattle.steps.specs.declared.step.Event.{Event}
 use Rattle.shelf.specs.Shelf.{Files, file_named}
 use Rattle.update_machine.specs.Setting.{setting_of}
-use Rattle.words.specs.Words.{Command, PrintCommand, ReplayCommand}
-use Rattle.words.specs.Words as asked
+use Rattle.words.specs.Commands.{Command, PrintCommand, ReplayCommand}
+use Rattle.words.specs.Commands as asked
 use Rattle.difane_cli.specs.Codes.{missing, most_bytes, no_port, no_room, no_switch, too_long, too_many_leaves, too_many_words}
 use Rattle.difane_cli.specs.declared.report.Report.TheVariants as report
 use Rattle.difane_cli.specs.declared.status.Refusal.{Refusal}

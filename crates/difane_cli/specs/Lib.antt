@@ -1,11 +1,10 @@
 pub mod Codes
 pub mod Inputs
 pub mod Tasks
-pub mod Meters
+pub mod Texts
 pub mod Run
 pub mod Prints
 pub mod Writes
-pub mod Status
 pub mod Ending
 pub mod Verdict
 pub mod Commands

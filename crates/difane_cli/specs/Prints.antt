@@ -1,18 +1,21 @@
--- What became of a command that prints a plan or tables, by its status.
-use Rattle.std.specs.Prelude.{ℕ, ◌≡◌, ◌⊎◌, Option, Some, None, is_some, IsTrue, Ok, List, []}
+-- What became of a command that prints a plan or tables, by its status; and what writing a text
+-- leaves of the output.
+use Rattle.std.specs.Prelude.{ℕ, ◌≡◌, ◌⊎◌, Option, Some, None, is_some, IsTrue, Ok, List, [], ⊤, ◌≢◌, Bool, Result, Err, IsErrOf, OnErr, OnOk, ◌≤◌}
 use Rattle.std.specs.Option.{ForSome}
-use Rattle.net_file.specs.Net.{switch_number}
+use Rattle.net_file.specs.Owners.{switch_number}
 use Rattle.net_file.specs.declared.net.Net.{Net}
 use Rattle.partition.specs.Plan.{plan_of}
 use Rattle.policy_rules.specs.Policy.{IsPolicy}
 use Rattle.show_text.specs.Text.{compile_text, table_text}
 use Rattle.switch_table.specs.Tables.{tables_of}
-use Rattle.shelf.specs.Sink.{GainedPart, SinkState}
+use Rattle.shelf.specs.Sink.{GainedPart, SinkState, gained, Rose}
+use Rattle.shelf.specs.declared.output.SinkError.{SinkError}
+use Rattle.shelf.specs.declared.output.SinkError.TheVariants.{Failed, NoMemory}
 use Rattle.journal.specs.declared.item.Item.{Item}
-use Rattle.difane_cli.specs.Tasks.{Print, Printing}
+use Rattle.difane_cli.specs.Tasks.{Print, Printing, Known, IsNetOf}
 use Rattle.difane_cli.specs.declared.status.Status.{Status}
-use Rattle.difane_cli.specs.Writes.{Known, Wrote, Unplayed, IsNetOf}
-use Rattle.words.specs.Words.{PrintCommand}
+use Rattle.difane_cli.specs.Writes.{Wrote, Unplayed, WrotePart}
+use Rattle.words.specs.Commands.{PrintCommand}
 use Rattle.difane_cli.specs.declared.status.Status.TheVariants as status
 
 -- the switch has the name that was asked for
@@ -58,3 +61,18 @@ PrintOutcome command known status.NoMemory journal before now =
     ⊎ Printed command known (λ text. GainedPart before.bytes text now.bytes) journal
 PrintOutcome command known (status.Full row) journal before now = ⊥
 PrintOutcome command known _ journal before now = Unplayed journal before now
+
+-- what writing a text leaves of the output: all of it where it succeeds, and else a part of it, or
+-- the output wasn't touched. No fault is counted unless it failed. Memory ran out only in the
+-- output's own writes, if they take any; or before them, where the text is made in memory
+pub record IsAfterText (text : List ℕ) (in_memory takes_memory : Bool) (before now : SinkState)
+    (result : Result (⊤) SinkError) : Type 0 where
+  pub whole : OnOk result (now.bytes ≡ gained before.bytes text)
+  pub part : IsErrOf result Failed → GainedPart before.bytes text now.bytes
+  pub some : OnErr result (WrotePart text before now)
+  pub untouched : text ≡ [] → now ≡ before
+  pub calm : result ≢ Err Failed → now.faults ≡ before.faults
+  pub failed : IsErrOf result Failed → Rose before.faults now.faults
+  pub no_memory : IsErrOf result NoMemory
+      → IsTrue takes_memory ⊎ (IsTrue in_memory × (now ≡ before))
+  pub faults : before.faults ≤ now.faults

@@ -1,12 +1,9 @@
 -- What became of a call of the program, by its status: a replay's, or a load case's.
-use Rattle.std.specs.Prelude.{⊤, ℕ, ◌≡◌, ◌≢◌, ◌⊎◌, Bool, Option, Some, None, Result, Ok, Err, IsErrOf, IsTrue, OnErr, OnOk, ◌≤◌, List, [], length, All}
+use Rattle.std.specs.Prelude.{⊤, ℕ, ◌≡◌, ◌⊎◌, Bool, Option, Some, None, Ok, IsTrue, List, [], length, All, true, false}
 use Rattle.std.specs.Option.{ForSome}
-use Rattle.shelf.specs.Faults.{Rose}
-use Rattle.shelf.specs.Sink.{gained, GainedPart, SinkState}
-use Rattle.shelf.specs.declared.output.SinkError.{SinkError}
-use Rattle.shelf.specs.declared.output.SinkError.TheVariants.{Failed, NoMemory}
+use Rattle.shelf.specs.Sink.{GainedPart, SinkState}
 use Rattle.journal.specs.declared.item.Item.{Item}
-use Rattle.meters.specs.Meters.{Seen}
+use Rattle.meters.specs.Seen.{Seen}
 use Rattle.update_machine.specs.Causes.{EndsHaveCauses, HaveCauses}
 use Rattle.update_machine.specs.Full.{IsPlay}
 use Rattle.update_machine.specs.Machine.{IsRun}
@@ -16,32 +13,18 @@ use Rattle.way_laws.specs.StrongCauses.{StrongCause}
 use Rattle.entry_laws.specs.Entries.{AreEntered, rows_played}
 use Rattle.load_case.specs.Case.{load_case}
 use Rattle.difane_cli.specs.Inputs.{case_inputs}
-use Rattle.difane_cli.specs.Meters.{is_made, kept_by, play_text}
+use Rattle.difane_cli.specs.Texts.{play_text}
 use Rattle.difane_cli.specs.Verdict.{IsVerdict, asks_quiet, is_asked}
-use Rattle.words.specs.Words.{Command, ReplayCommand}
-use Rattle.words.specs.Words as asked
+use Rattle.words.specs.Commands.{Command, ReplayCommand}
+use Rattle.words.specs.Commands as asked
 use Rattle.difane_cli.specs.declared.report.Report.{Report}
 use Rattle.difane_cli.specs.declared.report.Report.TheVariants as report
 use Rattle.difane_cli.specs.declared.status.Status.{Status}
-use Rattle.difane_cli.specs.Writes.{Known, Wrote, WrotePart, Unplayed, IsNetOf}
+use Rattle.difane_cli.specs.Writes.{Wrote, WrotePart, Unplayed}
 use Rattle.difane_cli.specs.Prints.{PrintOutcome}
-use Rattle.difane_cli.specs.Tasks.{Inputs, Play}
+use Rattle.difane_cli.specs.Tasks.{Inputs, Play, Known, IsNetOf}
+use Rattle.replay.specs.Leavings.{kept_by}
 use Rattle.difane_cli.specs.declared.status.Status.TheVariants as status
-
--- what writing a text leaves of the output: all of it where it succeeds, and else a part of it, or
--- the output wasn't touched. No fault is counted unless it failed. Memory ran out only in the
--- output's own writes, if they take any; or before them, where the text is made in memory
-pub record IsAfterText (text : List ℕ) (in_memory takes_memory : Bool) (before now : SinkState)
-    (result : Result (⊤) SinkError) : Type 0 where
-  pub whole : OnOk result (now.bytes ≡ gained before.bytes text)
-  pub part : IsErrOf result Failed → GainedPart before.bytes text now.bytes
-  pub some : OnErr result (WrotePart text before now)
-  pub untouched : text ≡ [] → now ≡ before
-  pub calm : result ≢ Err Failed → now.faults ≡ before.faults
-  pub failed : IsErrOf result Failed → Rose before.faults now.faults
-  pub no_memory : IsErrOf result NoMemory
-      → IsTrue takes_memory ⊎ (IsTrue in_memory × (now ≡ before))
-  pub faults : before.faults ≤ now.faults
 
 -- ---- plays
 
@@ -106,6 +89,13 @@ pub record CutShort (command : Command) (known : Known) (journal : List Item)
   pub verdict : IsVerdict (asks_quiet inputs.report) inputs.setting journal full answer
   pub written : GainedPart before.bytes
       (play_text inputs.report inputs.setting.net journal full given answer) now.bytes
+
+-- the summary, which a play that stopped full has none of, is made in memory before it is written;
+-- lines aren't
+abbrev pub is_made : Report → Option ℕ → Bool
+is_made (report.Lines quiet) full = false
+is_made report.Summary None = true
+is_made report.Summary (Some row) = false
 
 -- a play that didn't stop full wants memory behind it: to see whether the network is quiet, where
 -- this is asked for, and for the summary
@@ -173,3 +163,10 @@ abbrev pub RanOut : Option Command → (takes_memory : Bool) → List Item → (
     → Type 0
 RanOut command takes_memory journal before now =
     IsTrue takes_memory ⊎ ((now ≡ before) × ((journal ≡ []) ⊎ MayWantMemory command))
+
+-- words off the grammar, and a command that plays nothing
+abbrev pub PlaysNothing : Option Command → Type 0
+PlaysNothing None = ⊤
+PlaysNothing (Some (asked.Print words)) = ⊤
+PlaysNothing (Some (asked.Replay words)) = ⊥
+PlaysNothing (Some (asked.Load n)) = ⊥

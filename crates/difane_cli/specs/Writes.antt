@@ -1,15 +1,7 @@
--- What a command left of its journal and of the output, whatever it did.
-use Rattle.std.specs.Prelude.{ℕ, ◌≡◌, ◌⊎◌, Option, Some, None, Result, List, []}
-use Rattle.net_file.specs.Net.{IsNet, solo_net}
-use Rattle.net_file.specs.declared.net.Net.{Net}
-use Rattle.shelf.specs.Sink.{gained, GainedPart, SinkState}
+-- What a command left of its journal and of its outputs, whatever it did.
+use Rattle.std.specs.Prelude.{ℕ, ◌≡◌, ◌⊎◌, List, [], ◌≤◌, Bool, IsTrue}
+use Rattle.shelf.specs.Sink.{gained, GainedPart, SinkState, Rose}
 use Rattle.journal.specs.declared.item.Item.{Item}
-use Rattle.difane_cli.specs.Tasks.{Task}
-use Rattle.difane_cli.specs.declared.status.Refusal.{Refusal}
-
--- what is known of the task
-abbrev pub Known : Type 0
-Known = Option (Result Task Refusal)
 
 -- the output gained this text; where it is empty, it wasn't touched: no write was made, not even of
 -- nothing
@@ -26,7 +18,10 @@ pub record Unplayed (journal : List Item) (before now : SinkState) : Type 0 wher
   pub nothing_played : journal ≡ []
   pub untouched : now ≡ before
 
--- the network is that of a file, or of one switch
-abbrev pub IsNetOf : Option (List ℕ) → Net → Type 0
-IsNetOf None net = net ≡ solo_net
-IsNetOf (Some name) net = IsNet net
+-- a sink gained the line, and counted no fault; or it gained a proper part of it, where it failed or
+-- where its writes take memory
+pub record TellsLine (whole : List ℕ) (takes_memory : Bool) (old new : SinkState) : Type 0 where
+  pub faults : old.faults ≤ new.faults
+  pub line : ((new.bytes ≡ gained old.bytes whole) × (new.faults ≡ old.faults))
+      ⊎ (GainedPart old.bytes whole new.bytes
+      × (Rose old.faults new.faults ⊎ IsTrue takes_memory))

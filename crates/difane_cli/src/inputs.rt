@@ -5,14 +5,14 @@ ghost use Rattle.net_file.specs.Net.{IsNet};
 ghost use Rattle.policy_file.specs.Ports.{has_port};
 ghost use Rattle.policy_rules.specs.Policy.{IsPolicy};
 ghost use Rattle.schedule.specs.Reading.{AreSound};
-ghost use Rattle.shelf.specs.Faults.{Rose};
+ghost use Rattle.shelf.specs.Sink.{Rose};
 ghost use Rattle.shelf.specs.Shelf.{IsAfterReads};
 ghost use Rattle.difane_cli.specs.Inputs.{Refuses, Stops, StopsContent, content_of, inputs_of, most_reads, policy_reads, read_policies, read_policy, read_schedule, schedule_in};
 ghost use Rattle.difane_cli.specs.Run.{IsReplayOf};
 ghost use Rattle.difane_cli.specs.Ending.{NeedsReadFault, status_of};
 ghost use Rattle.difane_cli.specs.Commands.{IsReady, inputs_stated};
 ghost use Rattle.words.specs.Named.{HasPolicies, names_seen, replay_named};
-ghost use Rattle.words.specs.Words.{Replay};
+ghost use Rattle.words.specs.Commands.{Replay};
 
 use crate::networks::take_network;
 use crate::policies::{begin_world, check_policy};

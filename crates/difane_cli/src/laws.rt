@@ -5,7 +5,7 @@ ghost use Rattle.partition.specs.Plan.{plan_of};
 ghost use Rattle.policy_rules.specs.Policy.{IsPolicy};
 ghost use Rattle.policy_rules.specs.RuleList.{rules_of, word_total};
 ghost use Rattle.policy_rules.specs.declared.policy.Row.{Row};
-ghost use Rattle.ternary.specs.Word.{any_word};
+ghost use Rattle.ternary.specs.Meets.{any_word};
 
 use cut_tree::tree_laws;
 use policy_rules::rule_list_laws;

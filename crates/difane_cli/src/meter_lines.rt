@@ -1,7 +1,7 @@
 //! The lines of meters.
 ghost use Rattle.std.specs.Prelude.{◌≡◌, [], map};
-ghost use Rattle.shelf.specs.Sink.{IsAfterWrite};
-ghost use Rattle.difane_cli.specs.Meters.{meter_line, meter_lines, notes_line};
+ghost use Rattle.shelf.specs.SinkWrites.{IsAfterWrite};
+ghost use Rattle.difane_cli.specs.Texts.{meter_line, meter_lines, notes_line};
 
 use crate::status::write_pieces;
 use itoa::Buffer;

@@ -2,13 +2,13 @@
 ghost use Rattle.std.specs.Prelude.{◌≡◌, IfOk, IfErr, Ok};
 ghost use Rattle.std.specs.Option.{ForSome};
 ghost use Rattle.net_file.specs.Net.{IsNet};
-ghost use Rattle.shelf.specs.Faults.{Rose};
+ghost use Rattle.shelf.specs.Sink.{Rose};
 ghost use Rattle.shelf.specs.Shelf.{IsAfterReads};
 ghost use Rattle.words.specs.Named.{net_named};
 ghost use Rattle.difane_cli.specs.Inputs.{Stops, StopsContent, StopsSwitch, net_in, net_reads, read_net, switch_on};
 ghost use Rattle.difane_cli.specs.Prints.{IsSwitchOf};
 ghost use Rattle.difane_cli.specs.Ending.{NeedsReadFault, status_of};
-ghost use Rattle.difane_cli.specs.Writes.{IsNetOf};
+ghost use Rattle.difane_cli.specs.Tasks.{IsNetOf};
 
 use crate::inputs::{read_bytes, refused};
 use crate::policies::NO_SWITCH;

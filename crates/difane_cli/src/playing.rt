@@ -2,16 +2,17 @@
 ghost use Rattle.std.specs.Prelude.{◌≡◌, ◌≢◌, ◌≤◌, [], Ok, Some, map, true};
 ghost use Rattle.std.specs.Option.{ForSome};
 ghost use Rattle.net_file.specs.Net.{IsNet};
-ghost use Rattle.shelf.specs.Faults.{Rose};
-ghost use Rattle.shelf.specs.Sink.{IsAfterWrite};
+ghost use Rattle.shelf.specs.Sink.{Rose};
+ghost use Rattle.shelf.specs.SinkWrites.{IsAfterWrite};
 ghost use Rattle.difane_cli.specs.Commands.{IsReady, inputs_stated};
-ghost use Rattle.difane_cli.specs.Meters.{counts_text, is_made, last_lines, play_text, replay_text};
-ghost use Rattle.difane_cli.specs.Run.{IsAfterText, IsPlayOf, PlayOutcome, RanOut};
-ghost use Rattle.difane_cli.specs.Tasks.{Play};
+ghost use Rattle.difane_cli.specs.Texts.{last_lines, play_text, replay_text};
+ghost use Rattle.difane_cli.specs.Run.{IsPlayOf, PlayOutcome, RanOut, is_made};
+ghost use Rattle.difane_cli.specs.Tasks.{Play, Known};
 ghost use Rattle.difane_cli.specs.Ending.{IsAfterWork};
-ghost use Rattle.difane_cli.specs.Writes.{Known};
-ghost use Rattle.words.specs.Words.{Command};
+ghost use Rattle.words.specs.Commands.{Command};
 ghost use Rattle.difane_cli.specs.declared.report.Report.TheVariants.{Summary};
+ghost use Rattle.difane_cli.specs.Prints.{IsAfterText};
+ghost use Rattle.load_text.specs.Summary.{counts_text};
 ghost use Rattle.difane_cli.specs.declared.status.Status.TheVariants as status;
 
 use crate::inputs::PlayInputs;

@@ -2,17 +2,16 @@
 ghost use Rattle.std.specs.Prelude.{◌≡◌, ◌≢◌, ◌≤◌, [], Ok, None, Some, IfOk, IfErr, IsErrOf, IsTrue, ◌⊎◌};
 ghost use Rattle.std.specs.Option.{ForSome};
 ghost use Rattle.net_file.specs.Net.{IsNet};
-ghost use Rattle.shelf.specs.Faults.{Rose};
+ghost use Rattle.shelf.specs.Sink.{Rose};
 ghost use Rattle.shelf.specs.Shelf.{IsAfterReads};
 ghost use Rattle.difane_cli.specs.Commands.{printing_stated};
 ghost use Rattle.difane_cli.specs.Inputs.{Stops, most_reads, printing_of};
 ghost use Rattle.difane_cli.specs.Prints.{IsPrintingOf, PrintOutcome, printing_text};
 ghost use Rattle.difane_cli.specs.Ending.{NeedsReadFault, status_after, status_of};
-ghost use Rattle.difane_cli.specs.Writes.{Known};
-ghost use Rattle.difane_cli.specs.Tasks.{Print};
+ghost use Rattle.difane_cli.specs.Tasks.{Print, Known};
 ghost use Rattle.words.specs.Named.{print_named};
-ghost use Rattle.words.specs.Words as grammar;
-ghost use Rattle.words.specs.Words.{PrintCommand};
+ghost use Rattle.words.specs.Commands as grammar;
+ghost use Rattle.words.specs.Commands.{PrintCommand};
 
 use crate::inputs::read_policy;
 use crate::networks::{find_switch, take_network};

@@ -1,11 +1,12 @@
 //! How a command ended, and the line that tells it.
 ghost use Rattle.std.specs.Prelude.{◌≡◌, IfOk};
 ghost use Rattle.std.specs.List.{flat_map};
-ghost use Rattle.shelf.specs.Sink.{IsAfterWrite};
+ghost use Rattle.shelf.specs.SinkWrites.{IsAfterWrite};
 ghost use Rattle.difane_cli.specs.declared.status.Status.TheVariants.{Ok as DoneStatus};
 ghost use Rattle.difane_cli.specs.declared.status.Stop.TheVariants.{NoMemory};
-ghost use Rattle.difane_cli.specs.Status.{TellsLine, full_line, input_line, status_line};
+ghost use Rattle.difane_cli.specs.Writes.{TellsLine};
 ghost use Rattle.difane_cli.specs.Ending.{status_after, status_number, status_of};
+ghost use Rattle.difane_cli.specs.Texts.{full_line, input_line, status_line};
 
 use itoa::Buffer;
 use journal::Journal;

@@ -1,18 +1,16 @@
 //! What a command is to do, once its files are read, and the doing of it.
 ghost use Rattle.std.specs.Prelude.{◌≡◌, ◌≢◌, ◌≤◌, Ok, Some, IfOk, IfErr, Result, [], map};
 ghost use Rattle.std.specs.Option.{ForSome};
-ghost use Rattle.shelf.specs.Faults.{Rose};
+ghost use Rattle.shelf.specs.Sink.{Rose};
 ghost use Rattle.shelf.specs.Shelf.{IsAfterReads};
 ghost use Rattle.difane_cli.specs.Commands.{IsReadyTask, IsTaskOf, task_stated};
 ghost use Rattle.difane_cli.specs.Inputs.{known_task, most_reads, Accounts};
-ghost use Rattle.difane_cli.specs.Tasks.{Task as Stated};
+ghost use Rattle.difane_cli.specs.Tasks.{Task as Stated, Known};
 ghost use Rattle.difane_cli.specs.declared.status.Refusal.{Refusal};
-ghost use Rattle.difane_cli.specs.Meters.{PlaysNothing};
-ghost use Rattle.difane_cli.specs.Run.{Outcome, RanOut};
+ghost use Rattle.difane_cli.specs.Run.{Outcome, RanOut, PlaysNothing};
 ghost use Rattle.difane_cli.specs.Ending.{IsAfterWork, NeedsReadFault, status_of};
-ghost use Rattle.difane_cli.specs.Writes.{Known};
 ghost use Rattle.words.specs.Named.{NamesPolicies, command_named};
-ghost use Rattle.words.specs.Words as grammar;
+ghost use Rattle.words.specs.Commands as grammar;
 ghost use Rattle.difane_cli.specs.declared.status.Status.TheVariants as status;
 
 use crate::inputs::{PlayInputs, read_inputs};

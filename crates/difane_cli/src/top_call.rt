@@ -1,16 +1,17 @@
 //! The top call.
 ghost use Rattle.std.specs.Prelude.{◌≡◌, ◌≢◌, ◌≤◌, ◌⊎◌, ◌↔◌, ℕ, None, map};
 ghost use Rattle.std.specs.Option.{ForSome};
-ghost use Rattle.shelf.specs.Faults.{Rose};
+ghost use Rattle.shelf.specs.Sink.{Rose};
 ghost use Rattle.shelf.specs.Shelf.{IsAfterReads};
 ghost use Rattle.difane_cli.specs.Inputs.{IsAccepted, known_task, most_reads, Accounts};
-ghost use Rattle.difane_cli.specs.Meters.{PlaysNothing};
-ghost use Rattle.difane_cli.specs.Run.{Outcome, RanOut};
-ghost use Rattle.difane_cli.specs.Status.{TellsLine, status_line};
+ghost use Rattle.difane_cli.specs.Run.{Outcome, RanOut, PlaysNothing};
+ghost use Rattle.difane_cli.specs.Writes.{TellsLine};
 ghost use Rattle.difane_cli.specs.Ending.{NeedsReadFault};
-ghost use Rattle.words.specs.Words.{command_of, texts};
+ghost use Rattle.words.specs.Words.{command_of};
+ghost use Rattle.words.specs.Commands.{texts};
 ghost use Rattle.difane_cli.specs.declared.status.Status.TheVariants as status;
 ghost use Rattle.difane_cli.specs.declared.status.Status.TheVariants.{Ok as DoneStatus};
+ghost use Rattle.difane_cli.specs.Texts.{status_line};
 
 use crate::status::{Ended, Finished, Status, tell};
 use crate::task::{read_task, unplayed, work};

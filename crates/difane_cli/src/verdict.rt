@@ -2,9 +2,9 @@
 ghost use Rattle.std.specs.Prelude.{◌≡◌, [], IfOk, IfErr, IsTrue, is_some};
 ghost use Rattle.net_file.specs.Net.{IsNet};
 ghost use Rattle.quiet_journals.specs.Plain.{IsPlain};
-ghost use Rattle.shelf.specs.Sink.{IsAfterWrite};
+ghost use Rattle.shelf.specs.SinkWrites.{IsAfterWrite};
 ghost use Rattle.update_machine.specs.Setting.{Setting};
-ghost use Rattle.difane_cli.specs.Meters.{quiet_line};
+ghost use Rattle.difane_cli.specs.Texts.{quiet_line};
 ghost use Rattle.difane_cli.specs.Verdict.{Decides, is_asked};
 
 use meters::Meter;

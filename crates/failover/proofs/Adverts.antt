@@ -6,7 +6,8 @@ use Rattle.std.proofs.lemmas.List.{get_or-replicate, length-replicate, get_or_pa
 use Rattle.std.proofs.lemmas.List.FromFn.{get_or-map-range_with_len, length-map-range_with_len}
 use Rattle.failover.specs.declared.advert.Advert.{Advert}
 use Rattle.masks.specs.Masks.{switches}
-use Rattle.failover.specs.Adverts.{held, is_news, after_hearing, no_adverts, first_of, first_adverts, AreByOrigin}
+use Rattle.failover.specs.Adverts.{held, is_news, after_hearing, no_adverts, first_of, first_adverts}
+use Rattle.failover.specs.Newest.{AreByOrigin}
 
 -- an advert at the place of its origin
 set_by_origin : (adverts : List (Option Advert)) (advert : Advert) → AreByOrigin adverts →

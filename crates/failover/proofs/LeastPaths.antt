@@ -3,9 +3,10 @@ use Rattle.std.proofs.Common.{◌≡◌, ℕ, zero, suc, ◌<◌, ◌≤◌, tru
 use Rattle.std.specs.List.{IsDistinct, AllByRecursion}
 use Rattle.std.proofs.lemmas.Bool.{cases_lt}
 use Rattle.masks.specs.Masks.{has}
-use Rattle.failover.specs.Paths.{Leads, IsAtMost}
+use Rattle.failover.specs.Paths.{IsAtMost}
 use Rattle.failover.specs.Routes.{ball, onward}
 use Rattle.failover.specs.Search.{IsAway}
+use Rattle.failover.specs.Links.{Leads}
 use Rattle.failover.proofs.Balls.{false_of, apart_tests, ball_grows, ball_gains, at_target, has_target, next_step, same_number}
 
 -- ---- the route leads to the target

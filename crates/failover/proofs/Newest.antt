@@ -5,7 +5,8 @@ use Rattle.std.proofs.lemmas.Bool.{cases_eq}
 use Rattle.std.proofs.lemmas.Bool.Decides.{nat_tests}
 use Rattle.std.proofs.lemmas.List.Elements.{All-cons, All-nil, All-append, All-push, All-weaker, All-same}
 use Rattle.failover.specs.declared.advert.Advert.{Advert}
-use Rattle.failover.specs.Adverts.{held, is_newer, is_news, after_hearing, after_hearing_all, AreByOrigin, IsNewest}
+use Rattle.failover.specs.Adverts.{held, is_newer, is_news, after_hearing, after_hearing_all}
+use Rattle.failover.specs.Newest.{AreByOrigin, IsNewest}
 use Rattle.failover.proofs.Balls.{apart_tests}
 use Rattle.failover.proofs.Adverts.{hearing, held_heard, held_others, by_origin-hearing}
 

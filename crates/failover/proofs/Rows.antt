@@ -5,9 +5,9 @@ use Rattle.std.proofs.lemmas.Bool.{cases_lt}
 use Rattle.std.proofs.lemmas.List.{get_or_past, get_or-map, length-map}
 use Rattle.failover.specs.declared.advert.Advert.{Advert}
 use Rattle.masks.specs.Masks.{has, mask_where, switches, mask_of}
-use Rattle.failover.specs.DownSet.{has_link}
-use Rattle.failover.specs.Links.{IsDatabase, told_links, is_link, link_row, link_rows, known_links, is_isolated, names, neighbours_told}
+use Rattle.failover.specs.Links.{told_links, is_link, link_row, known_links, neighbours_told, has_link}
 use Rattle.failover.specs.Paths.{IsIsolated}
+use Rattle.failover.specs.Isolated.{is_isolated, names, IsDatabase, link_rows}
 use Rattle.masks.proofs.CallerLemmas.{has-zero, same_sets, length-switches, get_or-switches, has_mask, has_mask_past}
 use Rattle.failover.proofs.Balls.{and_both, and_left, and_right, apart_tests, false_of, same_number, number_test}
 use Rattle.failover.proofs.LinkSets.{has_link-turned}

@@ -7,8 +7,8 @@ use Rattle.std.proofs.lemmas.List.Elements.{All-cons, All-nil}
 use Rattle.std.proofs.lemmas.Map.Steps.{length-le_from_distinct_below}
 use Rattle.failover.specs.declared.advert.Advert.{Advert}
 use Rattle.masks.specs.Masks.{has, switches}
-use Rattle.failover.specs.Links.{known_links}
-use Rattle.failover.specs.Paths.{Leads, IsPath, IsReachable, IsAtMost, IsLeastPath, IsRoute}
+use Rattle.failover.specs.Links.{known_links, Leads, IsPath, IsReachable}
+use Rattle.failover.specs.Paths.{IsAtMost, IsLeastPath, IsRoute}
 use Rattle.failover.specs.Routes.{wider, ball, onward, links_away, route_to, first_route, route_of}
 use Rattle.failover.specs.RouteList.{IsRouteList}
 use Rattle.failover.specs.Search.{IsAway, IsOutOfReach}

@@ -1,6 +1,6 @@
 -- Link-state adverts, and the newest of each origin (OSPF, RFC 2328, section 13.1, with a boot
 -- number in the place of its ages).
-use Rattle.std.specs.Prelude.{ℕ, ◌≡◌, ◌≢◌, Bool, true, ◌&&◌, ◌||◌, ◌==◌, nat_lt, if◌then◌else◌, Option, Some, None, List, ◌∷◌, ◌++◌, map, fold, length, replicate, slice_index, slice_index_or, slice_set, All, IsTrue, IsFalse}
+use Rattle.std.specs.Prelude.{ℕ, Bool, true, ◌&&◌, ◌||◌, ◌==◌, nat_lt, if◌then◌else◌, Option, Some, None, List, map, fold, replicate, slice_index, slice_index_or, slice_set}
 use Rattle.std.specs.Option.{option_map_or}
 use Rattle.failover.specs.declared.advert.Advert.{Advert}
 use Rattle.masks.specs.Masks.{switches}
@@ -43,19 +43,3 @@ first_of near count origin = if nat_lt origin count then Some
 -- the first adverts of the switches below a number
 unfoldable pub first_adverts : List ℕ → ℕ → List (Option Advert)
 first_adverts near count = map (first_of near count) switches
-
--- each advert stands at the place of its origin, of 64
-pub record AreByOrigin (adverts : List (Option Advert)) : Type 0 where
-  pub places : length adverts ≡ 64
-  pub origins : (origin : ℕ) (advert : Advert) → held adverts origin ≡ Some advert →
-      advert.origin ≡ origin
-
--- of these adverts the newest of an origin, and of equally new ones the first; none where none is
--- of that origin
-abbrev pub IsNewest : ℕ → List Advert → Option Advert → Type 0
-IsNewest origin adverts None = All (λ advert. advert.origin ≢ origin) adverts
-IsNewest origin adverts (Some best) =
-    (before : List Advert) × (after : List Advert) × (adverts ≡ before ++ best ∷ after)
-    × (best.origin ≡ origin)
-    × All (λ advert. advert.origin ≡ origin → IsTrue (is_newer best advert)) before
-    × All (λ advert. advert.origin ≡ origin → IsFalse (is_newer advert best)) after

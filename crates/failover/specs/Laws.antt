@@ -3,12 +3,14 @@
 use Rattle.std.specs.Prelude.{ℕ, ◌≡◌, ◌≢◌, ◌<◌, ◌↔◌, not, ◌&&◌, ◌||◌, false, Option, Some, List, ◌++◌, length, option_to_list, slice_index, IsTrue}
 use Rattle.failover.specs.declared.advert.Advert.{Advert}
 use Rattle.masks.specs.Masks.{has}
-use Rattle.failover.specs.Adverts.{held, is_news, after_hearing, after_hearing_all, no_adverts, first_of, first_adverts, AreByOrigin, IsNewest}
-use Rattle.failover.specs.DownSet.{has_link, no_links, with_link, is_link_of, IsLinkSet}
-use Rattle.failover.specs.Links.{names, told_links, is_link, known_links, is_isolated}
-use Rattle.failover.specs.Paths.{Leads, IsPath, IsReachable, IsIsolated, IsRoute}
+use Rattle.failover.specs.Adverts.{held, is_news, after_hearing, after_hearing_all, no_adverts, first_of, first_adverts}
+use Rattle.failover.specs.DownSet.{is_link_of, IsLinkSet}
+use Rattle.failover.specs.Links.{told_links, is_link, known_links, has_link, no_links, with_link, Leads, IsPath, IsReachable}
+use Rattle.failover.specs.Paths.{IsIsolated, IsRoute}
 use Rattle.failover.specs.RouteList.{IsRouteList}
 use Rattle.failover.specs.Routes.{route_of}
+use Rattle.failover.specs.Newest.{AreByOrigin, IsNewest}
+use Rattle.failover.specs.Isolated.{names, is_isolated}
 
 pub record AdvertLaws : Type 0 where
   pub none : AreByOrigin no_adverts

@@ -1,6 +1,8 @@
 pub mod Adverts
+pub mod Newest
 pub mod DownSet
 pub mod Links
+pub mod Isolated
 pub mod Paths
 pub mod Routes
 pub mod RouteList

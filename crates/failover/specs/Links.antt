@@ -1,24 +1,25 @@
 -- The links that a switch knows: those that both ends name (RFC 2328, section 16.1), where it names
 -- its own neighbours by what it sees itself.
-use Rattle.std.specs.Prelude.{ℕ, ◌≡◌, Bool, not, ◌&&◌, ◌==◌, Option, Some, None, List, map, slice_index, slice_set}
+use Rattle.std.specs.Prelude.{ℕ, ◌≡◌, Bool, not, ◌&&◌, ◌==◌, Option, Some, None, List, map, slice_index, slice_set, ◌^◌, min, max, bit_or, replicate, ◌<◌, nat_eq, [], ◌∷◌, IsTrue}
+use Rattle.std.specs.List.{IsDistinct}
 use Rattle.failover.specs.declared.advert.Advert.{Advert}
 use Rattle.masks.specs.Masks.{has, mask_of, switches}
-use Rattle.failover.specs.Adverts.{held, AreByOrigin}
-use Rattle.failover.specs.DownSet.{has_link}
+
+-- the link of two switches, in either order, is in the set
+unfoldable pub has_link : List ℕ → ℕ → ℕ → Bool
+has_link links one other = has (slice_index links (min one other)) (max one other)
+
+abbrev pub no_links : List ℕ
+no_links = replicate 64 0
+
+-- the set with the link of two switches added
+unfoldable pub with_link : List ℕ → ℕ → ℕ → List ℕ
+with_link links one other = let low =
+    min one other in slice_set links low (bit_or (slice_index links low) (2 ^ max one other))
 
 abbrev pub neighbours_told : Option Advert → ℕ
 neighbours_told None = 0
 neighbours_told (Some advert) = advert.up
-
--- what a database holds: each advert at the place of its origin, and beside it the neighbours that
--- it names
-pub record IsDatabase (adverts : List (Option Advert)) (told : List ℕ) : Type 0 where
-  pub by_origin : AreByOrigin adverts
-  pub neighbours : told ≡ map neighbours_told adverts
-
--- the origin is held to name this neighbour
-unfoldable pub names : List (Option Advert) → ℕ → ℕ → Bool
-names adverts origin other = has (neighbours_told (held adverts origin)) other
 
 -- the neighbours that each switch names: `at` those that it sees, every other those of its advert
 unfoldable pub told_links : List (Option Advert) → ℕ → ℕ → List ℕ
@@ -34,16 +35,27 @@ is_link neighbours down one other =
 abbrev pub link_row : List ℕ → List ℕ → ℕ → ℕ
 link_row neighbours down one = mask_of (is_link neighbours down one)
 
--- for each switch those to which it has a link
-unfoldable pub link_rows : List ℕ → List ℕ → List ℕ
-link_rows neighbours down = map (link_row neighbours down) switches
-
 -- the links that `at` knows: for each switch those to which it has a link
 unfoldable pub known_links : List (Option Advert) → ℕ → ℕ → List ℕ → List ℕ
 known_links adverts at near down = let neighbours =
     told_links adverts at near in map (link_row neighbours down) switches
 
--- no link that `at` knows ends at another switch
-unfoldable pub is_isolated : List (Option Advert) → ℕ → ℕ → ℕ → List ℕ → Bool
-is_isolated adverts at target near down =
-    not (target == at) && (link_row (told_links adverts at near) down target == 0)
+-- row `one` of the links has the other switch
+abbrev pub AreJoined : List ℕ → ℕ → ℕ → Type 0
+AreJoined links one other = IsTrue (has (slice_index links one) other)
+
+-- from a switch over these, each joined to the one before it, to the target
+abbrev pub Leads : List ℕ → ℕ → ℕ → List ℕ → Type 0
+Leads links target at [] = at ≡ target
+Leads links target at (next ∷ rest) =
+    (next < 64) × AreJoined links at next × Leads links target next rest
+
+-- distinct switches, whose neighbours are joined by links, from one to the other
+unfoldable pub IsPath : List ℕ → ℕ → ℕ → List ℕ → Type 0
+IsPath links from target [] = ⊥
+IsPath links from target (first ∷ rest) =
+    (first ≡ from) × (first < 64) × Leads links target first rest × IsDistinct nat_eq (first ∷ rest)
+
+-- some path leads to the target
+unfoldable pub IsReachable : List ℕ → ℕ → ℕ → Type 0
+IsReachable links from target = (path : List ℕ) × IsPath links from target path

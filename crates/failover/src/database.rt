@@ -1,10 +1,11 @@
 ghost use Rattle.std.specs.Prelude.{◌≡◌, ◌<◌, ℕ, map, ◌↔◌, slice_set, IfSome, IsTrue};
 ghost use Rattle.std.specs.Bool.{OnTrue};
 ghost use Rattle.failover.specs.Adverts.{held, is_news, after_hearing, no_adverts, first_of, first_adverts};
-ghost use Rattle.failover.specs.Links.{neighbours_told, is_isolated, known_links};
+ghost use Rattle.failover.specs.Links.{neighbours_told, known_links};
 ghost use Rattle.failover.specs.Paths.{IsIsolated, IsRoute};
 ghost use Rattle.failover.specs.RouteList.{IsRouteList};
 ghost use Rattle.failover.specs.Routes.{route_of};
+ghost use Rattle.failover.specs.Isolated.{is_isolated};
 
 use crate::SWITCHES;
 use crate::advert::Advert;
@@ -125,7 +126,7 @@ impl Database {
     }
 
     /// Whether the target is another switch, and no known link ends at it.
-    #[tactic(auto, unfolding(crate::specs::Links::is_isolated))]
+    #[tactic(auto, unfolding(crate::specs::Isolated::is_isolated))]
     pub fn isolated(&self, at: u32, target: u32, near: u64, down: &DownSet) -> bool
         ensures value { result ≡ is_isolated self.now at target near down.now }
         ensures isolated { IsTrue result ↔

@@ -1,5 +1,5 @@
 ghost use Rattle.std.specs.Prelude.{◌≡◌, ◌<◌, ◌∷◌, IfSome, IfNone};
-ghost use Rattle.failover.specs.Links.{link_rows};
+ghost use Rattle.failover.specs.Isolated.{link_rows};
 ghost use Rattle.failover.specs.Routes.{wider, first_route, route_to};
 ghost use Rattle.failover.specs.RouteList.{IsRouteList};
 ghost use Rattle.failover.specs.Search.{IsAway, IsOutOfReach, AreBalls, IsEdge, along};

@@ -5,7 +5,8 @@ use Rattle.std.proofs.lemmas.Nat.{or_shifted, xor_shr, and_le_l, and_le_r}
 use Rattle.std.proofs.lemmas.Bool.{eqb-true, eq-eqb}
 use Rattle.std.proofs.lemmas.Bool.Decides.{same_from_decides, Decides-eqb}
 use Rattle.five_tuple.specs.declared.header.Header.{Header}
-use Rattle.five_tuple.specs.Header.{header_numbered, number_of}
+use Rattle.five_tuple.specs.Header.{number_of}
+use Rattle.five_tuple.specs.HeaderNumbers.{header_numbered}
 use Rattle.std.specs.Int.Bits.{bit_xor, xor_self, xor_add_and}
 
 -- a field is joined below a number that has only zeros there

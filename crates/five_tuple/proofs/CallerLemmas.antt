@@ -5,7 +5,7 @@ pub use Rattle.five_tuple.proofs.Parts.{parts_at, parts_none}
 use Rattle.std.proofs.Common.{ℕ, ◌≡◌, ◌∙◌, ◌+◌, ◌*◌, ◌^◌, ◌<◌, ◌&&◌, eqb, bit_and, ap, sym, arith}
 use Rattle.std.proofs.lemmas.Bool.Decides.{Decides-eqb, Decides-like, Decides-and, same_from_decides}
 use Rattle.std.proofs.lemmas.Nat.{and_le_l, and_block}
-use Rattle.five_tuple.specs.Header.{packed}
+use Rattle.five_tuple.specs.HeaderNumbers.{packed}
 
 -- the fields below the first have their bits
 pub record HasBits (d p q r : ℕ) : Type 0 where

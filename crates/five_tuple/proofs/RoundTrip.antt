@@ -17,9 +17,10 @@ use Rattle.std.proofs.lemmas.Slice.Eq.{bytes_eq-Decides}
 use Rattle.std.proofs.lemmas.Str.Parse.{IsNumeralModel, numerals_by_value}
 use Rattle.five_tuple.specs.declared.matching.Proto.{Proto}
 use Rattle.five_tuple.specs.declared.matching.Proto.TheVariants.{Any, Is}
-use Rattle.five_tuple.specs.Matching.{AddressBlock, block_round, IsAddressBlock, PortRangeValue, IsPortRange, IsProtocol}
-use Rattle.five_tuple.specs.Printing.{address_text, prefix_text, range_text, proto_number_text, proto_text}
-use Rattle.five_tuple.specs.Texts.{has_leading_zero, number_up_to, address_of, prefix_of, range_of, proto_number_of, proto_of, parts_round}
+use Rattle.five_tuple.specs.Header.{AddressBlock, IsAddressBlock, PortRangeValue, IsPortRange, IsProtocol}
+use Rattle.five_tuple.specs.Printing.{address_text, proto_number_text}
+use Rattle.five_tuple.specs.Texts.{has_leading_zero, number_up_to, address_of, prefix_of, range_of, proto_number_of, proto_of, parts_round, block_round}
+use Rattle.five_tuple.specs.RowPrinting.{prefix_text, range_text, proto_text}
 use Rattle.five_tuple.proofs.Numbers.{accepted}
 use Rattle.five_tuple.proofs.Parts.{digits_lack, digits_are_one_part}
 use Rattle.five_tuple.proofs.Readings.{address_reads, block_reads, range_reads}

@@ -1,14 +1,13 @@
--- A header and its number: addresses and protocol of RFC 791, ports of RFC 768 and RFC 793; the
--- packing is our own.
-use Rattle.std.specs.Prelude.{ℕ, ◌+◌, ◌*◌, ◌/◌, ◌%◌, ◌^◌, ◌<◌, Bool, ◌&&◌, ◌==◌}
+-- A header, its number, and when the fields of a policy's row match it: addresses and protocol of
+-- RFC 791, ports of RFC 768 and RFC 793, blocks of RFC 4632; the packing is our own.
+use Rattle.std.specs.Prelude.{ℕ, ◌+◌, ◌*◌, ◌^◌, ◌<◌, ⊤, ◌≡◌, ◌-◌, ◌/◌, ◌%◌, ◌≤◌, Bool, true, ◌&&◌, ◌==◌, nat_le}
 use Rattle.five_tuple.specs.declared.header.Fields.{Fields}
 use Rattle.five_tuple.specs.declared.header.Header.{Header}
+use Rattle.five_tuple.specs.declared.matching.Proto.{Proto}
+use Rattle.five_tuple.specs.declared.matching.Proto.TheVariants.{Any, Is}
 
 abbrev pub fields_of : Header → Fields
 fields_of header = header.fields
-
-abbrev pub header_of : Fields → Header
-header_of fields = record { fields = fields }
 
 -- each field has the bits that it has in a packet
 pub record IsHeader (header : Header) : Type 0 where
@@ -24,32 +23,41 @@ number_of header =
     let f = fields_of header in
     f.src * 2 ^ 72 + f.dst * 2 ^ 40 + f.sport * 2 ^ 24 + f.dport * 2 ^ 8 + f.proto
 
--- the header that this number packs
-abbrev pub header_numbered : ℕ → Header
-header_numbered n = header_of (record {
-  src = n / 2 ^ 72;
-  dst = n / 2 ^ 40 % 2 ^ 32;
-  sport = n / 2 ^ 24 % 2 ^ 16;
-  dport = n / 2 ^ 8 % 2 ^ 16;
-  proto = n % 2 ^ 8;
-})
+-- a block of addresses (RFC 4632, section 3.1): an address, and how many of its first bits count
+pub record AddressBlock : Type 0 where
+  pub address : ℕ
+  pub len : ℕ
 
--- five numbers at the places that the fields have in a header's number
-abbrev pub packed : ℕ → ℕ → ℕ → ℕ → ℕ → ℕ
-packed src dst sport dport proto =
-    number_of (header_of (record {
-      src = src;
-      dst = dst;
-      sport = sport;
-      dport = dport;
-      proto = proto;
-    }))
+-- the bits past the first len are 0
+pub record IsAddressBlock (p : AddressBlock) : Type 0 where
+  pub address : p.address < 2 ^ 32
+  pub len : p.len ≤ 32
+  pub cleared : p.address % 2 ^ (32 - p.len) ≡ 0
 
--- the same fields: what `==` and the keys of maps compare
-abbrev pub fields_eq : Fields → Fields → Bool
-fields_eq a b =
-    (a.src == b.src) && (a.dst == b.dst) && (a.sport == b.sport) && (a.dport == b.dport)
-    && (a.proto == b.proto)
+-- the address agrees with the block's in the first len of 32 bits
+abbrev pub prefix_matches : AddressBlock → ℕ → Bool
+prefix_matches p address = address / 2 ^ (32 - p.len) == p.address / 2 ^ (32 - p.len)
 
-abbrev pub header_eq : Header → Header → Bool
-header_eq a b = fields_eq (fields_of a) (fields_of b)
+-- a range of ports, both ends among them
+pub record PortRangeValue : Type 0 where
+  pub low : ℕ
+  pub high : ℕ
+
+-- the low end is at most the high end, and both are ports
+pub record IsPortRange (r : PortRangeValue) : Type 0 where
+  pub ordered : r.low ≤ r.high
+  pub bound : r.high < 2 ^ 16
+
+-- the port is from the low to the high end
+abbrev pub range_matches : PortRangeValue → ℕ → Bool
+range_matches r port = nat_le r.low port && nat_le port r.high
+
+-- a number of a protocol has eight bits (RFC 791, section 3.1)
+abbrev pub IsProtocol : Proto → Type 0
+IsProtocol Any = ⊤
+IsProtocol (Is number) = number < 2 ^ 8
+
+-- any protocol, or the very number
+abbrev pub proto_matches : Proto → ℕ → Bool
+proto_matches Any number = true
+proto_matches (Is this) number = this == number

@@ -5,9 +5,10 @@ use Rattle.std.specs.List.{AllPass, list_any}
 use Rattle.five_tuple.specs.declared.header.Header.{Header}
 use Rattle.five_tuple.specs.declared.matching.Proto.{Proto}
 use Rattle.five_tuple.specs.Cover.{Block, IsPortBlock, block_holds, AreDisjoint, cover_of, IsCover}
-use Rattle.five_tuple.specs.Header.{IsHeader, number_of, header_numbered, header_eq}
-use Rattle.five_tuple.specs.Matching.{AddressBlock, IsAddressBlock, PortRangeValue, IsPortRange, range_matches, IsProtocol}
-use Rattle.five_tuple.specs.Printing.{is_plain_char, address_text, prefix_text, range_text, proto_number_text, proto_text}
+use Rattle.five_tuple.specs.Header.{IsHeader, number_of, AddressBlock, IsAddressBlock, PortRangeValue, IsPortRange, range_matches, IsProtocol}
+use Rattle.five_tuple.specs.Printing.{address_text, proto_number_text}
+use Rattle.five_tuple.specs.HeaderNumbers.{header_numbered, header_eq}
+use Rattle.five_tuple.specs.RowPrinting.{is_plain_char, prefix_text, range_text, proto_text}
 
 -- each number below 2 ^ 104 is that of exactly one header
 pub record HeaderLaws : Type 0 where

@@ -2,14 +2,14 @@
 -- (RFC 1123, section
 -- 2.1), and a block has a slash and its length after it (RFC 4632, section 3.1). That a number has
 -- neither sign nor leading zero, and the words and the dash, are this project's own.
-use Rattle.std.specs.Prelude.{ℕ, ◌≡◌, ◌*◌, ◌+◌, ◌^◌, Bool, not, ◌&&◌, ◌==◌, nat_lt, nat_le, if◌then◌else◌, List, [], ◌∷◌, length, slice_index, Option, Some, None, option_map, codes, bytes_eq}
+use Rattle.std.specs.Prelude.{ℕ, ◌≡◌, ◌*◌, ◌+◌, ◌^◌, Bool, not, ◌&&◌, ◌==◌, nat_lt, nat_le, if◌then◌else◌, List, [], ◌∷◌, length, slice_index, Option, Some, None, option_map, codes, bytes_eq, ◌-◌, ◌/◌}
 use Rattle.std.specs.List.{list_all, slice_split}
 use Rattle.std.specs.Char.{is_ascii_digit}
 use Rattle.std.specs.Str.Parse.{digits_value}
 use Rattle.five_tuple.specs.declared.header.Fields.{Fields}
 use Rattle.five_tuple.specs.declared.matching.Proto.{Proto}
 use Rattle.five_tuple.specs.declared.matching.Proto.TheVariants.{Any, Is}
-use Rattle.five_tuple.specs.Matching.{AddressBlock, block_round, PortRangeValue}
+use Rattle.five_tuple.specs.Header.{AddressBlock, PortRangeValue}
 
 -- the first digit is 0 and does not stand alone
 abbrev pub has_leading_zero : List ℕ → Bool
@@ -55,6 +55,10 @@ address_of_parts _ = None
 -- four numbers from 0 to 255 joined by dots, the highest byte first
 unfoldable pub address_of : List ℕ → Option ℕ
 address_of text = address_of_parts (parts_round 46 text)
+
+-- the block of this length that the address lies in: the bits past the length are cleared
+abbrev pub block_round : ℕ → ℕ → AddressBlock
+block_round address len = record { address = address / 2 ^ (32 - len) * 2 ^ (32 - len); len = len }
 
 -- a block, where both its address and its length can be read
 abbrev pub block_from : Option ℕ → Option ℕ → Option AddressBlock

@@ -1,5 +1,6 @@
 ghost use Rattle.std.specs.Prelude.{◌≡◌, ◌≤◌};
-ghost use Rattle.five_tuple.specs.Matching.{IsAddressBlock, block_round, prefix_matches, range_matches, proto_matches};
+ghost use Rattle.five_tuple.specs.Header.{IsAddressBlock, prefix_matches, range_matches, proto_matches};
+ghost use Rattle.five_tuple.specs.Texts.{block_round};
 
 use std::marker::Model;
 

@@ -1,7 +1,7 @@
 ghost use Rattle.std.specs.Prelude.{◌≡◌, ◌+◌, ◌≤◌, ◌<◌, ◌^◌, IfOk, length};
 ghost use Rattle.five_tuple.specs.Cover.{IsLargestBlock, cover_of};
 ghost use Rattle.five_tuple.specs.Laws.{CoverLaws, IsCoverOf};
-ghost use Rattle.five_tuple.specs.Matching.{IsPortRange};
+ghost use Rattle.five_tuple.specs.Header.{IsPortRange};
 
 use crate::matching::PortRange;
 use std::alloc::{AllocError, Global};

@@ -1,5 +1,5 @@
 ghost use Rattle.std.specs.Prelude.{◌≡◌, ◌≤◌, ◌<◌, ◌^◌, ◌∷◌, [], ◌==◌, ◌&&◌, nat_lt, not, length, IfSome, MatchOption, position};
-ghost use Rattle.five_tuple.specs.Matching.{IsAddressBlock, IsPortRange, IsProtocol};
+ghost use Rattle.five_tuple.specs.Header.{IsAddressBlock, IsPortRange, IsProtocol};
 ghost use Rattle.five_tuple.specs.Texts.{IsByteBefore, LacksByte, fields_from, packet_fields_of, range_from, has_leading_zero, number_up_to, address_of, prefix_of, range_of, proto_number_of, proto_of, parts_round};
 
 use crate::header::Fields;

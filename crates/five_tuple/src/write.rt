@@ -1,9 +1,10 @@
 ghost use Rattle.std.specs.Prelude.{ℕ, ◌≡◌, ◌≤◌, ◌<◌, ◌^◌, Some, decimal, IfOk};
 ghost use Rattle.five_tuple.specs.declared.matching.Proto.{Proto};
 ghost use Rattle.five_tuple.specs.Laws.{PlainTextLaws};
-ghost use Rattle.five_tuple.specs.Matching.{AddressBlock, IsAddressBlock, PortRangeValue, IsPortRange, IsProtocol};
-ghost use Rattle.five_tuple.specs.Printing.{address_text, fields_text, prefix_text, range_text, proto_number_text, proto_text};
+ghost use Rattle.five_tuple.specs.Header.{AddressBlock, IsAddressBlock, PortRangeValue, IsPortRange, IsProtocol};
+ghost use Rattle.five_tuple.specs.Printing.{address_text, fields_text, proto_number_text};
 ghost use Rattle.five_tuple.specs.Texts.{number_up_to, address_of, prefix_of, range_of, proto_number_of, proto_of};
+ghost use Rattle.five_tuple.specs.RowPrinting.{prefix_text, range_text, proto_text};
 
 use crate::header::Fields;
 use crate::matching::{PortRange, Prefix, Proto};
@@ -43,7 +44,7 @@ impl fmt::Display for Protocol {
 }
 
 /// Printed as `any` where it is every address, else as the address, a slash and the length.
-#[tactic(auto, unfolding(crate::specs::Printing::prefix_text))]
+#[tactic(auto, unfolding(crate::specs::RowPrinting::prefix_text))]
 impl fmt::Display for Prefix {
     ghost output = { λ p. Some (prefix_text p) };
 
@@ -60,7 +61,7 @@ impl fmt::Display for Prefix {
 
 /// Printed as `any` where it is every port, as one number where it is one port, else as both ends
 /// joined by a dash.
-#[tactic(auto, unfolding(crate::specs::Printing::range_text))]
+#[tactic(auto, unfolding(crate::specs::RowPrinting::range_text))]
 impl fmt::Display for PortRange {
     ghost output = { λ r. Some (range_text r) };
 
@@ -77,7 +78,7 @@ impl fmt::Display for PortRange {
 }
 
 /// Printed as `any`, or as the protocol's name or number.
-#[tactic(auto, unfolding(crate::specs::Printing::proto_text))]
+#[tactic(auto, unfolding(crate::specs::RowPrinting::proto_text))]
 impl fmt::Display for Proto {
     ghost output = { λ p. Some (proto_text p) };
 
@@ -147,7 +148,7 @@ pub fn write_range(alloc: Global, range: &PortRange) -> Result<Vec<u8>, AllocErr
 }
 
 /// `any`, the name of ICMP, TCP or UDP, or another protocol's number.
-#[tactic(auto, using(crate::proofs::RoundTrip::proto_back), unfolding(crate::specs::Printing::proto_text))]
+#[tactic(auto, using(crate::proofs::RoundTrip::proto_back), unfolding(crate::specs::RowPrinting::proto_text))]
 pub fn write_proto(alloc: Global, proto: &Proto) -> Result<Vec<u8>, AllocError>
     ensures text { IfOk result (λ t. t.items ≡ proto_text proto.now) }
     ensures read_back { IfOk result (λ t. proto_of t.items ≡ Some proto.now) }

@@ -6,11 +6,13 @@ use Rattle.std.proofs.lemmas.Bool.{eqb-true}
 use Rattle.std.proofs.lemmas.Bool.Decides.{nat_tests}
 use Rattle.std.proofs.lemmas.List.Folds.{Any-from_list_any}
 use Rattle.std.proofs.lemmas.List.Sums.{count_by-le-length, sum_by-cons}
-use Rattle.failover.specs.DownSet.{IsLinkSet, has_link, is_link_of, with_link}
+use Rattle.failover.specs.DownSet.{IsLinkSet, is_link_of}
+use Rattle.failover.specs.Links.{has_link, with_link}
 use Rattle.failover.proofs.LinkSets.{has_link-turned, has_link-with_link, with_link_is_link_set}
-use Rattle.net_file.specs.Net.{IsLink, IsNet, are_linked, joins}
+use Rattle.net_file.specs.Net.{IsLink, IsNet}
 use Rattle.net_file.specs.declared.net.LinkRow.{LinkRow}
 use Rattle.net_file.specs.declared.net.Net.{Net}
+use Rattle.net_file.specs.Joins.{are_linked, joins}
 
 -- the link isn't in the set
 abbrev pub is_unfound : List ℕ → LinkRow → Bool

@@ -2,7 +2,8 @@
 use Rattle.std.proofs.Common.{ℕ, ◌≡◌, ◌+◌, ◌<◌, ◌≤◌, Bool, true, false, if◌then◌else◌, Option, Some, None, List, [], ◌∷◌, ◌++◌, length, refl, ap, sym, subst, ◌∙◌, arith, inl, inr}
 use Rattle.std.specs.Option.{option_or}
 use Rattle.std.proofs.lemmas.Bool.{eqb-true}
-use Rattle.failover.specs.DownSet.{IsLinkSet, no_links}
+use Rattle.failover.specs.DownSet.{IsLinkSet}
+use Rattle.failover.specs.Links.{no_links}
 use Rattle.failover.proofs.LinkSets.{none_is_link_set}
 use Rattle.policy_rules.specs.declared.packet.Leg.TheVariants.{Seek}
 use Rattle.journal.specs.declared.item.Item.{Item}

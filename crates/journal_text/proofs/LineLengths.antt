@@ -10,8 +10,7 @@ use Rattle.ctrl_msg.specs.declared.message.Receiver.TheVariants as receiver
 use Rattle.masks.specs.Masks.{has, switches}
 use Rattle.failover.specs.declared.advert.Advert.{Advert}
 use Rattle.net_file.specs.Laws.{NameLaws}
-use Rattle.net_file.specs.Names.{names_text}
-use Rattle.net_file.specs.Net.{IsNet}
+use Rattle.net_file.specs.Net.{IsNet, names_text}
 use Rattle.net_file.specs.declared.net.Net.{Net}
 use Rattle.policy_rules.specs.declared.packet.Cause.{Cause}
 use Rattle.policy_rules.specs.declared.packet.Cause.TheVariants.{NoAuthority, NoRoute}

@@ -10,7 +10,7 @@ use Rattle.std.proofs.lemmas.Nat.Bits.{bit_at_above}
 use Rattle.masks.specs.Masks.{has, least_in, switches}
 use Rattle.masks.proofs.CallerLemmas.{least_below}
 use Rattle.policy_rules.proofs.CallerLemmas.{filter_more}
-use Rattle.net_file.specs.Names.{name_of, names_text}
+use Rattle.net_file.specs.Net.{name_of, names_text}
 use Rattle.net_file.specs.declared.net.Net.{Net}
 
 pub names_more : (net : Net) (mask s : ℕ)

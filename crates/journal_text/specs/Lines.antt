@@ -8,9 +8,9 @@ use Rattle.ctrl_msg.specs.declared.message.Receiver.TheVariants as receiver
 use Rattle.masks.specs.Masks.{has, switches}
 use Rattle.failover.specs.declared.advert.Advert.{Advert}
 use Rattle.five_tuple.specs.Printing.{fields_text}
-use Rattle.net_file.specs.Names.{name_of, names_text}
+use Rattle.net_file.specs.Net.{name_of, names_text}
 use Rattle.net_file.specs.declared.net.Net.{Net}
-use Rattle.policy_rules.specs.Print.{action_text, rule_text}
+use Rattle.policy_rules.specs.Policy.{action_text, rule_text}
 use Rattle.policy_rules.specs.declared.packet.Cause.{Cause}
 use Rattle.policy_rules.specs.declared.packet.Cause.TheVariants.{NoAuthority, NoRoute}
 use Rattle.policy_rules.specs.declared.packet.How.{How}

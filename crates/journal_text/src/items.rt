@@ -1,6 +1,5 @@
 ghost use Rattle.std.specs.Prelude.{◌≡◌, ◌++◌, ◌∷◌, [], IfOk, codes, decimal};
-ghost use Rattle.net_file.specs.Names.{names_text};
-ghost use Rattle.net_file.specs.Net.{IsNet};
+ghost use Rattle.net_file.specs.Net.{IsNet, names_text};
 ghost use Rattle.journal.specs.declared.item.Item.TheVariants as item;
 ghost use Rattle.journal_text.specs.Lines.{cause_text, decided_text, how_text, item_line, journal_text, numbered, packet_at, submitted_text, tunnel_text};
 ghost use Rattle.journal_text.specs.Sizes.{IsBodyOfType, IsItemOfType, IsShortRoute};

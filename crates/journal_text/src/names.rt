@@ -1,6 +1,6 @@
 ghost use Rattle.std.specs.Prelude.{◌≡◌, ◌<◌, ◌++◌, [], if◌then◌else◌, filter, codes};
 ghost use Rattle.masks.specs.Masks.{has, switches};
-ghost use Rattle.net_file.specs.Names.{name_of, names_text};
+ghost use Rattle.net_file.specs.Net.{name_of, names_text};
 ghost use Rattle.journal_text.specs.Lines.{mask_text};
 ghost use Rattle.text_line.specs.Pushes.{pushed};
 

@@ -1,7 +1,7 @@
 ghost use Rattle.std.specs.Prelude.{◌≡◌, []};
 ghost use Rattle.net_file.specs.Net.{IsNet};
 ghost use Rattle.journal_text.specs.Lines.{journal_text};
-ghost use Rattle.shelf.specs.Sink.{IsAfterWrite};
+ghost use Rattle.shelf.specs.SinkWrites.{IsAfterWrite};
 
 use crate::items::set_line;
 use journal::Journal;

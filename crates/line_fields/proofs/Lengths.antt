@@ -10,11 +10,10 @@ use Rattle.five_tuple.specs.Header.{IsHeader}
 use Rattle.five_tuple.specs.Printing.{address_text, fields_text, proto_number_text}
 use Rattle.five_tuple.specs.declared.header.Header.{Header}
 use Rattle.net_file.specs.Laws.{NameLaws}
-use Rattle.net_file.specs.Names.{name_of, names_text}
-use Rattle.net_file.specs.Net.{IsNet, IsSwitch}
+use Rattle.net_file.specs.Net.{IsNet, IsSwitch, name_of, names_text}
 use Rattle.net_file.specs.declared.net.Net.{Net}
 use Rattle.net_file.specs.declared.net.SwitchRow.{SwitchRow}
-use Rattle.policy_rules.specs.Print.{action_text, rule_text}
+use Rattle.policy_rules.specs.Policy.{action_text, rule_text}
 use Rattle.policy_rules.specs.declared.policy.Action.{Action}
 use Rattle.policy_rules.specs.declared.policy.Action.TheVariants.{Drop, Out}
 use Rattle.ternary.specs.Word.{WordValue, hex_digits, word_text}

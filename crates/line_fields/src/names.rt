@@ -1,5 +1,5 @@
 ghost use Rattle.std.specs.Prelude.{◌≡◌};
-ghost use Rattle.net_file.specs.Names.{name_of, names_text};
+ghost use Rattle.net_file.specs.Net.{name_of, names_text};
 ghost use Rattle.text_line.specs.Pushes.{pushed};
 
 use net_file::Net;

@@ -1,5 +1,5 @@
 ghost use Rattle.std.specs.Prelude.{◌≡◌};
-ghost use Rattle.policy_rules.specs.Print.{action_text, rule_text};
+ghost use Rattle.policy_rules.specs.Policy.{action_text, rule_text};
 ghost use Rattle.ternary.specs.Word.{hex_digits, word_text};
 ghost use Rattle.line_fields.specs.Sizes.{IsAction, IsRule};
 ghost use Rattle.text_line.specs.Pushes.{pushed};

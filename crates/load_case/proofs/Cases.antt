@@ -8,7 +8,7 @@ use Rattle.std.proofs.Math.Seq.{get_or-append_seam}
 use Rattle.std.proofs.lemmas.List.Elements.{All-append, All-cons, All-nil}
 use Rattle.std.proofs.lemmas.List.Folds.{list_any-append}
 use Rattle.five_tuple.specs.Header.{IsHeader}
-use Rattle.policy_rules.specs.Policy.{IsFirstRepeat, has_priority}
+use Rattle.policy_rules.specs.Repeats.{IsFirstRepeat, has_priority}
 use Rattle.policy_rules.specs.declared.policy.Action.TheVariants.{Drop, Out}
 use Rattle.steps.specs.Steps.{IsEvent}
 use Rattle.load_case.specs.Case.{IsPlayable, NamesPort, action_at, address_at, behind, below, changes, drops, group_at, groups_from, header_at, packet_at, load_case, load_net, next, row_at, row_ends, rows_from}

@@ -8,7 +8,8 @@ use Rattle.std.proofs.lemmas.Slice.Eq.{bytes_eq-Decides}
 use Rattle.std.proofs.lemmas.List.FromFn.{map-range_with_len_more}
 use Rattle.std.proofs.lemmas.List.Elements.{All-cons, All-nil}
 use Rattle.std.proofs.lemmas.List.Kept.{AllPairs-cons}
-use Rattle.net_file.specs.Net.{AreApart, AreOther, IsLink, IsNet, IsSwitch, has_port, is_name, joins, owner_of}
+use Rattle.net_file.specs.Net.{AreApart, AreOther, IsLink, IsNet, IsSwitch, is_name}
+use Rattle.net_file.specs.Joins.{has_port, joins, owner_of}
 use Rattle.load_case.specs.Case.{load_links, load_net, room_of, switch_of}
 
 -- ---- lists by a test that computes

@@ -3,15 +3,16 @@
 -- are drawn from a linear congruential generator, whose state starts at the number.
 use Rattle.std.specs.Prelude.{⊤, ℕ, IsTrue, is_some, zero, suc, ◌≤◌, ◌+◌, ◌*◌, ◌/◌, ◌%◌, ◌^◌, ◌||◌, ◌==◌, if◌then◌else◌, List, [], ◌∷◌, ◌++◌, length, map, All}
 use Rattle.std.specs.List.{range_with_len}
-use Rattle.five_tuple.specs.Header.{header_of}
-use Rattle.five_tuple.specs.Matching.{block_round}
+use Rattle.five_tuple.specs.HeaderNumbers.{header_of}
+use Rattle.five_tuple.specs.Texts.{block_round}
 use Rattle.five_tuple.specs.declared.header.Header.{Header}
 use Rattle.five_tuple.specs.declared.matching.Proto.TheVariants.{Is}
 use Rattle.load_case.specs.declared.case.Case.{Case}
-use Rattle.net_file.specs.Net.{IsNet, owner_of}
+use Rattle.net_file.specs.Net.{IsNet}
 use Rattle.net_file.specs.declared.net.LinkRow.{LinkRow}
 use Rattle.net_file.specs.declared.net.Net.{Net}
 use Rattle.net_file.specs.declared.net.SwitchRow.{SwitchRow}
+use Rattle.net_file.specs.Joins.{owner_of}
 use Rattle.policy_rules.specs.declared.policy.Action.{Action}
 use Rattle.policy_rules.specs.declared.policy.Action.TheVariants.{Drop, Out}
 use Rattle.policy_rules.specs.declared.policy.Row.{Row}

@@ -1,5 +1,5 @@
 -- What became of the packets of a play, what was sent in it, and which versions it ended with.
-use Rattle.std.specs.Prelude.{ℕ, ◌<◌, ◌+◌, ◌-◌, ◌^◌, Bool, true, false, ◌||◌, if◌then◌else◌, unwrap_or, List, [], ◌∷◌, ◌++◌, codes, decimal}
+use Rattle.std.specs.Prelude.{ℕ, ◌<◌, ◌+◌, ◌-◌, ◌^◌, Bool, true, false, ◌||◌, if◌then◌else◌, unwrap_or, List, [], ◌∷◌, ◌++◌, codes, decimal, Option, Some, None}
 use Rattle.journal.specs.declared.item.Item.{Item}
 use Rattle.journal.specs.declared.item.Item.TheVariants as item
 use Rattle.policy_rules.specs.declared.packet.How.{How}
@@ -140,3 +140,8 @@ summary_text s =
     ++ count_line (codes "messages") s.messages
     ++ count_line (codes "current") s.current
     ++ count_line (codes "retired") s.retired
+
+-- the eleven counts of the journal; a play that stopped full has none
+abbrev pub counts_text : List Item → Option ℕ → List ℕ
+counts_text journal None = summary_text (summary_of journal)
+counts_text journal (Some row) = []

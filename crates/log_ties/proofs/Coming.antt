@@ -1,6 +1,6 @@
 -- A packet that comes in: what its step writes.
 use Rattle.std.proofs.Common.{ℕ, ◌≡◌, ◌<◌, ◌==◌, Bool, true, false, if◌then◌else◌, List, [], ◌∷◌, ◌++◌, refl, ap, sym, subst, ◌∙◌, length, eq-eqb}
-use Rattle.failover.specs.DownSet.{no_links}
+use Rattle.failover.specs.Links.{no_links}
 use Rattle.five_tuple.specs.Header.{IsHeader}
 use Rattle.five_tuple.specs.declared.header.Header.{Header}
 use Rattle.net_file.specs.Owners.{AreOwners}

@@ -3,7 +3,7 @@ use Rattle.std.proofs.Common.{ℕ, ◌≡◌, ◌<◌, ◌==◌, Bool, true, fal
 use Rattle.std.specs.Prelude.{slice_get, unwrap_or}
 use Rattle.std.proofs.lemmas.Option.{get_or_from_slice_get}
 use Rattle.ctrl_msg.specs.declared.message.Message.{Message}
-use Rattle.five_tuple.specs.Header.{header_of}
+use Rattle.five_tuple.specs.HeaderNumbers.{header_of}
 use Rattle.five_tuple.specs.declared.header.Header.{Header}
 use Rattle.net_file.specs.Owners.{AreOwners}
 use Rattle.net_file.specs.declared.ports.Ports.{Ports}

@@ -1,7 +1,7 @@
 -- A decided packet ends at a switch, or sets out for its port, as the journal's definitions say.
 use Rattle.std.proofs.Common.{ℕ, ◌≡◌, ◌<◌, ◌==◌, Bool, true, false, if◌then◌else◌, Option, Some, None, List, [], ◌∷◌, refl, ap, sym, ◌∙◌}
 use Rattle.std.specs.Prelude.{Result, Ok, Err, unwrap_or}
-use Rattle.net_file.specs.Net.{owner_of}
+use Rattle.net_file.specs.Joins.{owner_of}
 use Rattle.net_file.specs.Owners.{AreOwners, port_owner}
 use Rattle.net_file.specs.declared.ports.Ports.{Ports}
 use Rattle.policy_rules.specs.declared.packet.Cause.{Cause}

@@ -3,7 +3,7 @@ use Rattle.std.proofs.Common.{ℕ, ◌≡◌, ◌==◌, Bool, true, false, if◌
 use Rattle.std.specs.Prelude.{⊤, option_map, unwrap_or}
 use Rattle.std.specs.Option.{ok_or}
 use Rattle.failover.specs.Routes.{route_of}
-use Rattle.net_file.specs.Net.{owner_of}
+use Rattle.net_file.specs.Joins.{owner_of}
 use Rattle.net_file.specs.Owners.{AreOwners, port_owner}
 use Rattle.net_file.specs.declared.ports.Ports.{Ports}
 use Rattle.policy_rules.specs.declared.packet.Cause.{Cause}

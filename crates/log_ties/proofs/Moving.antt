@@ -2,7 +2,7 @@
 use Rattle.std.proofs.Common.{ℕ, ◌≡◌, ◌+◌, ◌==◌, Bool, true, false, Option, Some, None, List, [], ◌∷◌, ◌++◌, refl, ap, sym, subst, ◌∙◌, eq-eqb}
 use Rattle.std.specs.Prelude.{IsTrue, nat_eq, option_map, slice_get, unwrap_or}
 use Rattle.std.specs.List.{list_any}
-use Rattle.failover.specs.DownSet.{with_link}
+use Rattle.failover.specs.Links.{with_link}
 use Rattle.failover.specs.Routes.{route_of}
 use Rattle.five_tuple.specs.declared.header.Header.{Header}
 use Rattle.masks.specs.Masks.{has}

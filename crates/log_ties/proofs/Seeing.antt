@@ -1,7 +1,7 @@
 -- What a switch has and knows is what the journal says, also within a step.
 use Rattle.std.proofs.Common.{ℕ, ◌≡◌, ◌<◌, Bool, true, false, ◌||◌, ◌&&◌, if◌then◌else◌, Some, None, List, [], ◌∷◌, ◌++◌, refl, ap, sym, ◌∙◌, length}
 use Rattle.std.specs.Prelude.{IsFalse, IsTrue, unwrap_or}
-use Rattle.failover.specs.Links.{is_isolated}
+use Rattle.failover.specs.Isolated.{is_isolated}
 use Rattle.failover.specs.Routes.{route_of}
 use Rattle.five_tuple.specs.declared.header.Header.{Header}
 use Rattle.journal.specs.declared.item.Item.{Item}

@@ -3,7 +3,7 @@ use Rattle.std.proofs.Common.{ℕ, ◌≡◌, if◌then◌else◌, Option, Some,
 use Rattle.std.specs.Prelude.{unwrap_or, option_map}
 use Rattle.policy_rules.specs.declared.packet.Leg.{Leg}
 use Rattle.policy_rules.specs.declared.packet.Leg.TheVariants.{Seek, Exit}
-use Rattle.five_tuple.specs.Header.{header_of}
+use Rattle.five_tuple.specs.HeaderNumbers.{header_of}
 use Rattle.journal.specs.declared.item.Item.{Item}
 use Rattle.update_machine.specs.Concerns.{NoneConcern, concerns_policies}
 use Rattle.update_machine.specs.Marks.{retired_mark}

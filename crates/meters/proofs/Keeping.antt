@@ -8,7 +8,8 @@ use Rattle.std.proofs.lemmas.List.{append-nil, append_assoc, length-take-le, map
 use Rattle.std.proofs.lemmas.Bool.Decides.{nat_tests}
 use Rattle.std.proofs.lemmas.List.Elements.{filter-append}
 use Rattle.policy_rules.specs.declared.packet.Leaving.{Leaving}
-use Rattle.meters.specs.Meters.{Seen, PortLeavings, holding, is_over, is_over_within, leavings_of, kept, IsNoted}
+use Rattle.meters.specs.Meters.{PortLeavings, holding, is_over, is_over_within, leavings_of, kept, IsNoted}
+use Rattle.meters.specs.Seen.{Seen}
 use Rattle.meters.specs.declared.meter.Stay.TheVariants as stay
 
 -- ---- the moments of one meter

@@ -4,14 +4,8 @@ use Rattle.std.specs.List.{list_any, range_with_len}
 use Rattle.masks.specs.Masks.{has}
 use Rattle.policy_rules.specs.declared.packet.Leaving.{Leaving}
 use Rattle.meters.specs.declared.meter.Stay.{Stay}
+use Rattle.meters.specs.Seen.{Seen}
 use Rattle.meters.specs.declared.meter.Stay.TheVariants as stay
-
--- A meter as contracts know it: its port, the leavings that it holds, and what its kind says of
--- every list of leavings: whether a meter that holds it is to leave.
-pub record Seen : Type 0 where
-  pub port : ℕ
-  pub held : List Leaving
-  pub is_ended : List Leaving → Bool
 
 -- a port, and leavings that were noted there
 pub record Recorded : Type 0 where

@@ -1,6 +1,7 @@
 //! What each kind of meter promises.
 ghost use Rattle.std.specs.Prelude.{◌≡◌, length};
-ghost use Rattle.meters.specs.Meters.{Seen, IsNoted};
+ghost use Rattle.meters.specs.Meters.{IsNoted};
+ghost use Rattle.meters.specs.Seen.{Seen};
 
 use policy_rules::Leaving;
 

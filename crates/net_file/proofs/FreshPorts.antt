@@ -7,10 +7,12 @@ use Rattle.toml.specs.Data.{Data, as_integer}
 use Rattle.toml.specs.View.{view}
 use Rattle.toml.specs.declared.value.Value.{Value}
 use Rattle.std.proofs.lemmas.Bool.Decides.{nat_tests}
-use Rattle.net_file.specs.Net.{IsMask, has_port, have_port}
+use Rattle.net_file.specs.Joins.{has_port}
 use Rattle.net_file.specs.Reading.{are_distinct, are_new, array_in, port_of, ports_in}
 use Rattle.net_file.specs.Refusals.{require}
 use Rattle.net_file.specs.declared.net.SwitchRow.{SwitchRow}
+use Rattle.net_file.specs.Owners.{have_port}
+use Rattle.net_file.specs.Laws.{IsMask}
 use Rattle.net_file.specs.declared.error.NetRefusal.TheVariants as refusal
 use Rattle.net_file.proofs.Masks.{in_mask, in_mask_with}
 

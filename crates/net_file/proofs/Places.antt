@@ -14,7 +14,9 @@ use Rattle.net_file.specs.declared.net.SwitchRow.{SwitchRow}
 use Rattle.net_file.specs.declared.net.LinkRow.{LinkRow}
 use Rattle.net_file.specs.declared.net.Net.{Net}
 use Rattle.net_file.specs.Laws.{IsPlainByte, LinkLaws, NameLaws, PortLaws}
-use Rattle.net_file.specs.Net.{AreApart, IsLink, IsNet, IsSwitch, are_linked, are_name_bytes, has_port, have_port, is_label, is_name, is_name_byte, joins, owner_of, port_mask}
+use Rattle.net_file.specs.Net.{AreApart, IsLink, IsNet, IsSwitch, are_name_bytes, is_label, is_name, is_name_byte}
+use Rattle.net_file.specs.Owners.{have_port, port_mask}
+use Rattle.net_file.specs.Joins.{are_linked, has_port, joins, owner_of}
 use Rattle.net_file.proofs.Masks.{in_mask, in_mask_of, in_mask_past, mask_of_small}
 
 -- ---- places

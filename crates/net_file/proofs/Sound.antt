@@ -16,9 +16,11 @@ use Rattle.net_file.specs.declared.net.LinkRow.{LinkRow}
 use Rattle.net_file.specs.declared.net.Net.{Net}
 use Rattle.net_file.specs.Keys.{at_key, number_within, of_type, within}
 use Rattle.masks.specs.Masks.{mask_of}
-use Rattle.net_file.specs.Net.{AreApart, AreOther, IsLink, IsNet, IsSwitch, are_linked, has_port, have_name, have_port, is_name, joins, switch_number}
+use Rattle.net_file.specs.Net.{AreApart, AreOther, IsLink, IsNet, IsSwitch, is_name}
 use Rattle.net_file.specs.Reading.{are_distinct, are_new, array_in, document_of, end_of, ends_in, link_array, link_of, link_with, name_in, net_in, net_of, number_in, ports_in, rows_from, setting_of, switch_array, switch_of, switch_with}
 use Rattle.net_file.specs.Refusals.{in_row, require, with_value}
+use Rattle.net_file.specs.Owners.{have_name, have_port, switch_number}
+use Rattle.net_file.specs.Joins.{are_linked, has_port, joins}
 use Rattle.net_file.proofs.Masks.{in_mask, in_mask_of, in_mask_past, mask_of_small}
 
 -- ---- what led to a value

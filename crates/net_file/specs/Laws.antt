@@ -1,10 +1,12 @@
 -- The laws of networks: `x_laws` of the crate ensures the record of each.
-use Rattle.std.specs.Prelude.{ℕ, ◌≡◌, ◌≢◌, ◌<◌, ◌≤◌, ◌==◌, true, false, Some, is_some, List, All, length, slice_get, codes}
+use Rattle.std.specs.Prelude.{ℕ, ◌≡◌, ◌≢◌, ◌<◌, ◌≤◌, ◌==◌, true, false, Some, is_some, List, All, length, slice_get, codes, Bool}
 use Rattle.std.specs.Int.{bit_at}
 use Rattle.net_file.specs.declared.net.SwitchRow.{SwitchRow}
 use Rattle.net_file.specs.declared.net.LinkRow.{LinkRow}
 use Rattle.net_file.specs.declared.net.Net.{Net}
-use Rattle.net_file.specs.Net.{IsMask, IsNet, are_linked, has_port, have_name, is_name, links_of, owner_of, port_mask, switch_number}
+use Rattle.net_file.specs.Net.{IsNet, is_name}
+use Rattle.net_file.specs.Owners.{have_name, port_mask, switch_number, links_of}
+use Rattle.net_file.specs.Joins.{are_linked, has_port, owner_of}
 
 -- the byte ends no field of a record, no word and no line
 pub record IsPlainByte (byte : ℕ) : Type 0 where
@@ -39,6 +41,10 @@ pub record PortLaws : Type 0 where
   pub small : (net : Net) (port s : ℕ) → IsNet net → owner_of net.switches port ≡ Some s → port < 64
   pub mask : (net : Net) (port : ℕ) → IsNet net
       → (bit_at (port_mask net.switches) port == 1) ≡ is_some (owner_of net.switches port)
+
+-- the mask has exactly the bits for which the test holds
+abbrev pub IsMask : ℕ → (ℕ → Bool) → Type 0
+IsMask mask test = (k : ℕ) → (bit_at mask k == 1) ≡ test k
 
 pub record LinkLaws : Type 0 where
   pub both_ways : (links : List LinkRow) (s x : ℕ) → are_linked links s x ≡ are_linked links x s

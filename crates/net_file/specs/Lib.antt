@@ -1,7 +1,7 @@
 pub mod Refusals
 pub mod Keys
 pub mod Net
-pub mod Names
+pub mod Joins
 pub mod Reading
 pub mod Owners
 pub mod Laws

@@ -1,18 +1,12 @@
--- Networks: switches with ports, and the links that join them.
-use Rattle.std.specs.Prelude.{ℕ, ◌≡◌, ◌≢◌, ◌-◌, ◌^◌, ◌<◌, ◌≤◌, ◌==◌, Bool, false, ◌&&◌, ◌||◌, not, nat_le, Option, List, [], ◌∷◌, length, position, All, AllPairs, IsTrue, IsFalse, codes, bytes_eq}
-use Rattle.std.specs.Int.{bit_at}
-use Rattle.std.specs.List.{list_all, list_any}
+-- Networks that a text can state, the one of a single switch, and the names of switches.
+use Rattle.std.specs.Prelude.{ℕ, ◌≢◌, ◌-◌, ◌^◌, ◌<◌, ◌≤◌, ◌==◌, Bool, false, ◌&&◌, ◌||◌, not, nat_le, List, [], ◌∷◌, length, All, AllPairs, IsTrue, IsFalse, codes, bytes_eq, ◌++◌, slice_get}
+use Rattle.std.specs.List.{list_all, flat_map}
 use Rattle.std.specs.Char.{is_ascii_alphabetic, is_ascii_alphanumeric}
-use Rattle.masks.specs.Masks.{mask_of}
+use Rattle.std.specs.Option.{option_map_or}
 use Rattle.net_file.specs.declared.net.SwitchRow.{SwitchRow}
 use Rattle.net_file.specs.declared.net.LinkRow.{LinkRow}
 use Rattle.net_file.specs.declared.net.Net.{Net}
-
--- ---- masks
-
--- the mask has exactly the bits for which the test holds
-abbrev pub IsMask : ℕ → (ℕ → Bool) → Type 0
-IsMask mask test = (k : ℕ) → (bit_at mask k == 1) ≡ test k
+use Rattle.net_file.specs.Joins.{has_port, joins}
 
 -- ---- switches
 
@@ -31,42 +25,6 @@ is_label (first ∷ more) = is_ascii_alphabetic first && are_name_bytes more
 -- a label, but not the controller's name
 abbrev pub is_name : List ℕ → Bool
 is_name name = is_label name && not (bytes_eq name (codes "controller"))
-
--- the number of the switch with this name: its place, from 0
-abbrev pub switch_number : List SwitchRow → List ℕ → Option ℕ
-switch_number switches name = position (λ row. bytes_eq row.name name) switches
-
-abbrev pub has_port : ℕ → SwitchRow → Bool
-has_port port row = bit_at row.ports port == 1
-
--- the number of the switch that has the port
-abbrev pub owner_of : List SwitchRow → ℕ → Option ℕ
-owner_of switches port = position (has_port port) switches
-
--- one of the switches has the name; one has the port
-abbrev pub have_name : List SwitchRow → List ℕ → Bool
-have_name switches name = list_any (λ row. bytes_eq row.name name) switches
-
-abbrev pub have_port : List SwitchRow → ℕ → Bool
-have_port switches port = list_any (has_port port) switches
-
--- all ports of the network
-abbrev pub port_mask : List SwitchRow → ℕ
-port_mask switches = mask_of (have_port switches)
-
--- ---- links
-
--- the link joins these two switches, in either order
-abbrev pub joins : ℕ → ℕ → LinkRow → Bool
-joins s x link = (link.one == s && link.two == x) || (link.one == x && link.two == s)
-
--- some link joins them
-abbrev pub are_linked : List LinkRow → ℕ → ℕ → Bool
-are_linked links s x = list_any (joins s x) links
-
--- the switches that a link joins to s
-abbrev pub links_of : List LinkRow → ℕ → ℕ
-links_of links s = mask_of (are_linked links s)
 
 -- ---- networks
 
@@ -114,3 +72,11 @@ solo_net = record {
   backups = 0;
   cache = 256;
 }
+
+-- the name of the switch of this number; one that the network lacks has none
+abbrev pub name_of : Net → ℕ → List ℕ
+name_of net s = option_map_or (λ row. row.name) (slice_get net.switches s) []
+
+-- the names of switches, each behind a blank
+abbrev pub names_text : Net → List ℕ → List ℕ
+names_text net list = flat_map (λ s. codes " " ++ name_of net s) list

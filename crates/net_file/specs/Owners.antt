@@ -1,8 +1,11 @@
--- Which switch has a port, as a table.
-use Rattle.std.specs.Prelude.{ℕ, ◌≡◌, List, Option, None, slice_index_or}
+-- Which switch has a name or a port: its number, a test, a mask, and a table.
+use Rattle.std.specs.Prelude.{ℕ, ◌≡◌, List, Option, None, slice_index_or, Bool, position, bytes_eq}
+use Rattle.std.specs.List.{list_any}
 use Rattle.net_file.specs.declared.net.SwitchRow.{SwitchRow}
 use Rattle.net_file.specs.declared.ports.Ports.{Ports}
-use Rattle.net_file.specs.Net.{owner_of}
+use Rattle.net_file.specs.Joins.{owner_of, has_port, are_linked}
+use Rattle.net_file.specs.declared.net.LinkRow.{LinkRow}
+use Rattle.masks.specs.Masks.{mask_of}
 
 -- what the table says of a port
 abbrev pub port_owner : Ports → ℕ → Option ℕ
@@ -11,3 +14,22 @@ port_owner ports port = slice_index_or ports.owners port None
 -- the table says which of the switches has each port
 abbrev pub AreOwners : List SwitchRow → Ports → Type 0
 AreOwners switches ports = (port : ℕ) → port_owner ports port ≡ owner_of switches port
+
+-- the number of the switch with this name: its place, from 0
+abbrev pub switch_number : List SwitchRow → List ℕ → Option ℕ
+switch_number switches name = position (λ row. bytes_eq row.name name) switches
+
+-- one of the switches has the name; one has the port
+abbrev pub have_name : List SwitchRow → List ℕ → Bool
+have_name switches name = list_any (λ row. bytes_eq row.name name) switches
+
+abbrev pub have_port : List SwitchRow → ℕ → Bool
+have_port switches port = list_any (has_port port) switches
+
+-- all ports of the network
+abbrev pub port_mask : List SwitchRow → ℕ
+port_mask switches = mask_of (have_port switches)
+
+-- the switches that a link joins to s
+abbrev pub links_of : List LinkRow → ℕ → ℕ
+links_of links s = mask_of (are_linked links s)

@@ -6,13 +6,15 @@ use Rattle.toml.specs.Data.{Data, Members, as_integer, as_str, as_array, as_tabl
 use Rattle.toml.specs.Parse.{parse_document}
 use Rattle.net_file.specs.Keys.{at_key, items_list, number_within, of_type, within}
 use Rattle.masks.specs.Masks.{mask_of}
-use Rattle.net_file.specs.Net.{are_linked, have_name, have_port, is_name, switch_number}
+use Rattle.net_file.specs.Net.{is_name}
 use Rattle.net_file.specs.Refusals.{Refusal, in_row, require, with_value}
 use Rattle.net_file.specs.declared.error.NetRefusal.{NetRefusal}
 use Rattle.net_file.specs.declared.error.NetRefusal.TheVariants as refusal
 use Rattle.net_file.specs.declared.net.SwitchRow.{SwitchRow}
 use Rattle.net_file.specs.declared.net.LinkRow.{LinkRow}
 use Rattle.net_file.specs.declared.net.Net.{Net}
+use Rattle.net_file.specs.Owners.{have_name, have_port, switch_number}
+use Rattle.net_file.specs.Joins.{are_linked}
 
 -- ---- kinds of values
 

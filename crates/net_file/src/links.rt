@@ -1,6 +1,6 @@
 ghost use Rattle.std.specs.Prelude.{◌≡◌, ◌≤◌, ◌<◌, ◌^◌, Ok, Err, [], IfOk, IfErr, length, map};
 ghost use Rattle.toml.specs.View.{table_view, view};
-ghost use Rattle.net_file.specs.Net.{are_linked, joins};
+ghost use Rattle.net_file.specs.Joins.{are_linked, joins};
 ghost use Rattle.net_file.specs.Reading.{end_of, ends_in, link_array, link_of, link_with, links_in};
 ghost use Rattle.net_file.specs.Refusals.{IsRefusal};
 

@@ -1,7 +1,6 @@
 ghost use Rattle.std.specs.Prelude.{◌≡◌, ◌++◌, OnOk, IsTrue};
 ghost use Rattle.std.specs.String.{string_bytes};
-ghost use Rattle.net_file.specs.Net.{IsNet, is_name};
-ghost use Rattle.net_file.specs.Names.{name_of, names_text};
+ghost use Rattle.net_file.specs.Net.{IsNet, is_name, name_of, names_text};
 
 use crate::net::Net;
 use std::alloc::AllocError;

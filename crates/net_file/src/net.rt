@@ -1,6 +1,7 @@
 ghost use Rattle.std.specs.Prelude.{◌≡◌, ◌≤◌, ◌<◌, ◌==◌, ℕ, false, IfOk, IfNone, IfSome, length};
-ghost use Rattle.net_file.specs.Net.{IsLink, IsNet, joins, links_of, owner_of, port_mask, solo_net, switch_number};
-ghost use Rattle.net_file.specs.Owners.{AreOwners};
+ghost use Rattle.net_file.specs.Net.{IsLink, IsNet, solo_net};
+ghost use Rattle.net_file.specs.Owners.{AreOwners, port_mask, switch_number, links_of};
+ghost use Rattle.net_file.specs.Joins.{joins, owner_of};
 
 use crate::ports::{Ports, owners};
 use masks::{has, with};

@@ -1,5 +1,5 @@
 ghost use Rattle.std.specs.Prelude.{◌≡◌, ◌<◌, ◌≤◌, ℕ, None, length};
-ghost use Rattle.net_file.specs.Net.{owner_of};
+ghost use Rattle.net_file.specs.Joins.{owner_of};
 ghost use Rattle.net_file.specs.Owners.{port_owner};
 
 use crate::net::{SwitchRow, owner_in};

@@ -2,10 +2,12 @@ ghost use Rattle.std.specs.Prelude.{◌≡◌, ◌≤◌, ◌<◌, Ok, Err, [], 
 ghost use Rattle.std.specs.List.{list_all};
 ghost use Rattle.toml.specs.Data.{as_integer};
 ghost use Rattle.toml.specs.View.{table_view, view};
-ghost use Rattle.net_file.specs.Net.{IsMask, are_name_bytes, have_name, have_port, is_label, is_name, is_name_byte};
+ghost use Rattle.net_file.specs.Net.{are_name_bytes, is_label, is_name, is_name_byte};
 ghost use Rattle.net_file.specs.Reading.{are_new, name_at, port_bits, port_of, ports_at, ports_of, switch_array, switch_of, switch_with, switches_in};
 ghost use Rattle.net_file.specs.Refusals.{IsRefusal, in_row};
 ghost use Rattle.net_file.specs.Stated.{row_of};
+ghost use Rattle.net_file.specs.Owners.{have_name, have_port};
+ghost use Rattle.net_file.specs.Laws.{IsMask};
 
 use crate::error::{NetError, NetRefusal};
 use crate::keys::{array_in, setting_of, table_in, text_in, value_at, within};

@@ -5,7 +5,8 @@ use Rattle.std.specs.Bool.{IsTrue}
 use Rattle.std.specs.List.{All}
 use Rattle.std.proofs.lemmas.Bool.{cases_Bool, and_from}
 use Rattle.std.proofs.lemmas.List.Elements.{All-nil, All-cons, All-append}
-use Rattle.ternary.specs.Word.{WordValue, any_word, covers_of, fix_of, meets}
+use Rattle.ternary.specs.Word.{WordValue}
+use Rattle.ternary.specs.Meets.{any_word, covers_of, fix_of, meets}
 use Rattle.ternary.proofs.CallerLemmas.{covers_reflexive, covers_transitive, fix_within, meet_greatest, meets_comm, meets_cover}
 use Rattle.policy_rules.specs.Partitions.{EndInCover, LastCovers}
 use Rattle.policy_rules.specs.Policy.{IsPolicy}

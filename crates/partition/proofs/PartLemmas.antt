@@ -11,9 +11,10 @@ use Rattle.std.proofs.lemmas.List.Sums.{sum_by-append, sum_by-cons}
 use Rattle.std.proofs.lemmas.Nat.Bits.{bit_at-lt}
 use Rattle.five_tuple.specs.Header.{number_of}
 use Rattle.five_tuple.specs.declared.header.Header.{Header}
-use Rattle.ternary.specs.Word.{WordValue, holds, covers_of, any_word, is_fixed_of, fix_of}
+use Rattle.ternary.specs.Word.{WordValue, holds}
+use Rattle.ternary.specs.Meets.{covers_of, any_word, is_fixed_of, fix_of}
 use Rattle.ternary.proofs.CallerLemmas.{any_holds, covers_held, covers_reflexive, covers_transitive, fix_holds, fix_within}
-use Rattle.policy_rules.specs.Policy.{IsPolicy, scan}
+use Rattle.policy_rules.specs.Policy.{IsPolicy}
 use Rattle.policy_rules.specs.RuleList.{hit_of_rule, rules_of}
 use Rattle.policy_rules.specs.Rules.{first_rule, is_held}
 use Rattle.policy_rules.specs.declared.policy.Row.{Row}
@@ -27,7 +28,9 @@ use Rattle.cut_tree.specs.Narrow.{narrow, narrowed}
 use Rattle.cut_tree.specs.Nodes.{AreWords}
 use Rattle.cut_tree.specs.Shape.{Shape, End, Node, leaf_count, leaves_of}
 use Rattle.cut_tree.proofs.CallerLemmas.{narrow_few, narrow_first, tree_defined}
-use Rattle.policy_rules.specs.Partitions.{AreNumbered, AreSoundPartitions, is_in}
+use Rattle.policy_rules.specs.Partitions.{AreNumbered, AreSoundPartitions}
+use Rattle.policy_rules.specs.Scan.{scan}
+use Rattle.policy_rules.specs.Placed.{is_in}
 use Rattle.partition.specs.Parts.{DecideAs, DecidesAs, numbered, numbered_from, parts_of, partitions_of}
 
 -- what becomes of a header by the first rule that holds it

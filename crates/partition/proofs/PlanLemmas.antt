@@ -14,15 +14,17 @@ use Rattle.net_file.specs.Net.{IsNet}
 use Rattle.net_file.specs.declared.net.Net.{Net}
 use Rattle.placement.specs.Placement.{IsPlacement, MeetsPlacement, load_before, placement_of}
 use Rattle.placement.proofs.CallerLemmas.{first_there, placement_meets}
-use Rattle.ternary.specs.Word.{WordValue, any_word, fix_of}
+use Rattle.ternary.specs.Word.{WordValue}
+use Rattle.ternary.specs.Meets.{any_word, fix_of}
 use Rattle.policy_rules.specs.Policy.{IsPolicy}
 use Rattle.policy_rules.specs.RuleList.{rules_of, word_total}
 use Rattle.policy_rules.specs.declared.policy.Row.{Row}
 use Rattle.policy_rules.specs.declared.rules.Partition.{Partition}
 use Rattle.policy_rules.specs.declared.rules.Rule.{Rule}
+use Rattle.policy_rules.specs.Placed.{TooManyWords, TooManyLeaves, NoRoom}
 use Rattle.policy_rules.proofs.CallerLemmas.{IsRuleList-rules_of}
 use Rattle.partition.specs.Parts.{numbered_from, parts_of}
-use Rattle.partition.specs.Plan.{IsPlan, TooManyWords, TooManyLeaves, NoRoom, Placed, placed_on, plan_of, plan_of_tree, rooms_of, sizes_of}
+use Rattle.partition.specs.Plan.{IsPlan, Placed, placed_on, plan_of, plan_of_tree, rooms_of, sizes_of}
 use Rattle.partition.proofs.EndLemmas.{parts_ended}
 use Rattle.partition.proofs.PartLemmas.{numbered_length, numbered_more, numbered_none, parts_sound}
 

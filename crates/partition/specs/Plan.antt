@@ -9,22 +9,14 @@ use Rattle.cut_tree.specs.Shape.{Shape, leaf_count}
 use Rattle.net_file.specs.Net.{IsNet}
 use Rattle.net_file.specs.declared.net.Net.{Net}
 use Rattle.placement.specs.Placement.{IsPlacement, placement_of}
-pub use Rattle.policy_rules.specs.Partitions.{Placed}
+pub use Rattle.policy_rules.specs.Placed.{Placed}
 use Rattle.policy_rules.specs.Partitions.{AreSoundPartitions, LastCovers}
 use Rattle.policy_rules.specs.Policy.{IsPolicy}
 use Rattle.policy_rules.specs.RuleList.{rules_of, word_total}
 use Rattle.policy_rules.specs.declared.policy.Row.{Row}
 use Rattle.policy_rules.specs.declared.rules.Partition.{Partition}
+use Rattle.policy_rules.specs.Placed.{NoPlan, TooManyWords, TooManyLeaves, NoRoom}
 use Rattle.partition.specs.Parts.{parts_of}
-
--- why a policy has no plan on a network
-pub data NoPlan : Type 0 where
-  -- its rows have this many words, which are more than 4,096
-  TooManyWords : ℕ → NoPlan
-  -- its tree has more than 512 leaves
-  TooManyLeaves : NoPlan
-  -- too few switches have room for the partition of this number
-  NoRoom : ℕ → NoPlan
 
 -- how many rules each partition has, and for how many each switch has room
 abbrev pub sizes_of : List Partition → List ℕ

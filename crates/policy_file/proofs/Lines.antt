@@ -9,10 +9,9 @@ use Rattle.csv.specs.Reading.{default_config, records, records_from, records_nex
 use Rattle.csv.specs.Writing.{default_writer, field_text, fields_text, is_blank, row_text}
 use Rattle.csv.specs.declared.parser.State.TheVariants as st
 use Rattle.csv.proofs.RoundTrip.{read-write-many}
-use Rattle.five_tuple.specs.Printing.{prefix_text, range_text, proto_text}
+use Rattle.five_tuple.specs.RowPrinting.{prefix_text, range_text, proto_text}
 use Rattle.five_tuple.specs.Texts.{number_up_to, prefix_of, range_of, proto_of}
-use Rattle.policy_rules.specs.Policy.{HaveDistinctPriorities}
-use Rattle.policy_rules.specs.Print.{action_text}
+use Rattle.policy_rules.specs.Policy.{HaveDistinctPriorities, action_text}
 use Rattle.policy_rules.specs.Read.{action_of}
 use Rattle.policy_rules.specs.declared.policy.Row.{Row}
 use Rattle.policy_file.specs.Printing.{line, policy_text, row_fields, rows_text}

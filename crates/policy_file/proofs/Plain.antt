@@ -6,9 +6,8 @@ use Rattle.std.proofs.lemmas.Bool.Decides.{nat_tests}
 use Rattle.std.proofs.lemmas.List.Folds.{list_any-append, list_any_none}
 use Rattle.csv.specs.Writing.{default_writer, needs_byte}
 use Rattle.five_tuple.specs.Laws.{PlainTextLaws}
-use Rattle.five_tuple.specs.Printing.{is_plain_char}
-use Rattle.policy_rules.specs.Policy.{IsSoundRow}
-use Rattle.policy_rules.specs.Print.{action_text}
+use Rattle.five_tuple.specs.RowPrinting.{is_plain_char}
+use Rattle.policy_rules.specs.Policy.{IsSoundRow, action_text}
 use Rattle.policy_rules.specs.Read.{HasSmallPort}
 use Rattle.policy_rules.specs.declared.policy.Action.{Action}
 use Rattle.policy_rules.specs.declared.policy.Action.TheVariants.{Drop, Out}

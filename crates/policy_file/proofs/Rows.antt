@@ -8,8 +8,9 @@ use Rattle.std.proofs.lemmas.Bool.{cases_lt, eq-eqb, ne_eqb}
 use Rattle.std.proofs.lemmas.List.{drop_all, drop_more, get_or-map, get_or-take, get_or_default, length-map, length-take, map-append, take-map, take-take, take_all, take_more}
 use Rattle.std.proofs.lemmas.List.Folds.{list_any_none}
 use Rattle.csv_records.specs.Texts.{TakesNext}
-use Rattle.policy_rules.specs.Policy.{HaveDistinctPriorities, IsFirstRepeat, has_priority}
+use Rattle.policy_rules.specs.Policy.{HaveDistinctPriorities}
 use Rattle.policy_rules.specs.declared.policy.Row.{Row}
+use Rattle.policy_rules.specs.Repeats.{IsFirstRepeat, has_priority}
 use Rattle.policy_file.specs.declared.error.PolicyRefusal.{PolicyRefusal}
 use Rattle.policy_file.specs.declared.error.PolicyRefusal.TheVariants as why
 use Rattle.policy_file.specs.Reading.{IsReadUpTo, Refusal, State, first_some, is_heading, refusal_after, refusal_at, row_of, rows_of, rows_under_heading, states_priority}

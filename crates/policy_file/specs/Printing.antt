@@ -1,8 +1,8 @@
 -- The text of a policy, as it is printed.
 use Rattle.std.specs.Prelude.{ℕ, List, [], ◌∷◌, ◌++◌, decimal, flat_map}
 use Rattle.std.specs.List.{join_with_byte}
-use Rattle.five_tuple.specs.Printing.{prefix_text, range_text, proto_text}
-use Rattle.policy_rules.specs.Print.{action_text}
+use Rattle.five_tuple.specs.RowPrinting.{prefix_text, range_text, proto_text}
+use Rattle.policy_rules.specs.Policy.{action_text}
 use Rattle.policy_rules.specs.declared.policy.Row.{Row}
 use Rattle.policy_file.specs.Reading.{heading_fields}
 

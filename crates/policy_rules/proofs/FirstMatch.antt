@@ -12,7 +12,8 @@ use Rattle.five_tuple.specs.declared.header.Header.{Header}
 use Rattle.policy_rules.specs.declared.policy.Action.{Action}
 use Rattle.policy_rules.specs.declared.policy.Hit.{Hit}
 use Rattle.policy_rules.specs.declared.policy.Row.{Row}
-use Rattle.policy_rules.specs.Policy.{HaveDistinctPriorities, IsFirstMatch, IsHighestIn, highest, hit_of, is_highest, row_matches, scan}
+use Rattle.policy_rules.specs.Policy.{HaveDistinctPriorities, IsFirstMatch, IsHighestIn, row_matches}
+use Rattle.policy_rules.specs.Scan.{highest, hit_of, is_highest, scan}
 
 -- ---- the first that passes
 

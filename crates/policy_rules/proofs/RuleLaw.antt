@@ -7,18 +7,19 @@ use Rattle.std.specs.List.{All, list_any, flat_map}
 use Rattle.std.proofs.lemmas.List.Elements.{All-tail}
 use Rattle.std.proofs.lemmas.List.Folds.{find-append, list_any-append}
 use Rattle.std.proofs.lemmas.List.Sorted.{All-permutation}
-use Rattle.five_tuple.specs.Header.{IsHeader, fields_of, number_of}
-use Rattle.five_tuple.specs.Matching.{prefix_matches, proto_matches}
+use Rattle.five_tuple.specs.Header.{IsHeader, fields_of, number_of, prefix_matches, proto_matches}
 use Rattle.five_tuple.specs.Cover.{Block, IsPortBlock, block_holds, cover_of}
 use Rattle.five_tuple.proofs.CallerLemmas.{is_cover_of}
 use Rattle.five_tuple.specs.declared.header.Header.{Header}
-use Rattle.ternary.specs.Word.{WordValue, any_word, holds}
+use Rattle.ternary.specs.Word.{WordValue, holds}
+use Rattle.ternary.specs.Meets.{any_word}
 use Rattle.policy_rules.specs.declared.policy.Row.{Row}
 use Rattle.policy_rules.specs.declared.policy.Hit.{Hit}
-use Rattle.policy_rules.specs.Policy.{IsPolicy, IsSoundRow, row_matches, hit_of, scan}
+use Rattle.policy_rules.specs.Policy.{IsPolicy, IsSoundRow, row_matches}
 use Rattle.policy_rules.specs.Rules.{is_held, first_rule}
 use Rattle.policy_rules.specs.Words.{word_of_row, words_of_row}
 use Rattle.policy_rules.specs.RuleList.{entries_of, with_hit, ranked, ranked_from, with_default, by_falling_priority, rules_of, hit_of_rule}
+use Rattle.policy_rules.specs.Scan.{hit_of, scan}
 use Rattle.policy_rules.proofs.RowWords.{holds-word_of_row}
 use Rattle.policy_rules.proofs.Sorting.{IsPermutation-by_falling_priority, find-by_falling_priority}
 

@@ -8,13 +8,15 @@ use Rattle.std.proofs.lemmas.List.FromFn.{get_or-enumerate_from, length-enumerat
 use Rattle.std.proofs.lemmas.List.Sorted.{All-permutation, sum_by-IsPermutation}
 use Rattle.five_tuple.specs.Cover.{Block, IsPortBlock, cover_of}
 use Rattle.five_tuple.proofs.CallerLemmas.{is_cover_of}
-use Rattle.ternary.specs.Word.{WordValue, IsWord, any_word}
+use Rattle.ternary.specs.Word.{WordValue, IsWord}
+use Rattle.ternary.specs.Meets.{any_word}
 use Rattle.policy_rules.specs.declared.policy.Row.{Row}
 use Rattle.policy_rules.specs.declared.policy.Hit.{Hit}
 use Rattle.policy_rules.specs.declared.rules.Rule.{Rule}
-use Rattle.policy_rules.specs.Policy.{IsPolicy, IsSoundRow, hit_of}
+use Rattle.policy_rules.specs.Policy.{IsPolicy, IsSoundRow}
 use Rattle.policy_rules.specs.Words.{word_of_row, words_of_row}
 use Rattle.policy_rules.specs.RuleList.{entries_of, ranked, ranked_from, with_default, by_falling_priority, rules_of, word_count, word_total, default_rule, IsRuleList}
+use Rattle.policy_rules.specs.Scan.{hit_of}
 use Rattle.policy_rules.proofs.RowWords.{IsWord-word_of_row}
 use Rattle.policy_rules.proofs.Ranks.{length-ranked_from, ranked_from-append, length-entries}
 use Rattle.policy_rules.proofs.Sorting.{IsPermutation-by_falling_priority}

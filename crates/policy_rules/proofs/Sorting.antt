@@ -11,8 +11,10 @@ use Rattle.std.proofs.lemmas.List.Sorted.{All-permutation, Contains-permutation,
 use Rattle.std.proofs.lemmas.List.Sums.{sum_by-cons}
 use Rattle.std.proofs.lemmas.Map.Keys.{ge_from_not_lt}
 use Rattle.policy_rules.specs.declared.policy.Row.{Row}
-use Rattle.policy_rules.specs.Policy.{HaveDistinctPriorities, IsFalling, IsHighestIn, IsSoundRow, highest}
+use Rattle.policy_rules.specs.Policy.{HaveDistinctPriorities, IsHighestIn, IsSoundRow}
 use Rattle.policy_rules.specs.RuleList.{by_falling_priority, falling_below}
+use Rattle.policy_rules.specs.Scan.{highest}
+use Rattle.policy_rules.specs.Repeats.{IsFalling}
 use Rattle.policy_rules.proofs.FirstMatch.{highest_is, one_of_priority}
 
 -- ---- the rows below a priority are a permutation of them

@@ -5,12 +5,14 @@ use Rattle.std.specs.List.Sorted.{IsPermutation}
 use Rattle.five_tuple.specs.Header.{IsHeader, fields_of, number_of}
 use Rattle.five_tuple.specs.declared.header.Header.{Header}
 use Rattle.ternary.specs.Word.{IsWord, holds}
-use Rattle.policy_rules.specs.Policy.{IsFalling, IsFirstMatch, IsPolicy, IsSoundRow, row_matches, scan}
+use Rattle.policy_rules.specs.Policy.{IsFirstMatch, IsPolicy, IsSoundRow, row_matches}
 use Rattle.policy_rules.specs.Rules.{first_rule}
 use Rattle.policy_rules.specs.RuleList.{IsRuleList, by_falling_priority, hit_of_rule, rules_of, word_count, word_total}
 use Rattle.policy_rules.specs.Words.{words_of_row}
 use Rattle.policy_rules.specs.declared.policy.Hit.{Hit}
 use Rattle.policy_rules.specs.declared.policy.Row.{Row}
+use Rattle.policy_rules.specs.Scan.{scan}
+use Rattle.policy_rules.specs.Repeats.{IsFalling}
 
 pub record PolicyLaws : Type 0 where
   -- a policy has one first match of a header

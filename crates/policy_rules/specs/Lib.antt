@@ -1,5 +1,6 @@
 pub mod Policy
-pub mod Print
+pub mod Repeats
+pub mod Scan
 pub mod Read
 pub mod Targets
 pub mod Rules
@@ -7,3 +8,4 @@ pub mod Words
 pub mod RuleList
 pub mod Laws
 pub mod Partitions
+pub mod Placed

@@ -1,23 +1,17 @@
 -- Partitions of a policy: parts of the header space, each with the rules that decide its headers,
 -- as in Yu, Rexford, Freedman and Wang, "Scalable Flow-Based Networking with DIFANE", SIGCOMM 2010.
-use Rattle.std.specs.Prelude.{ℕ, ◌≡◌, ◌<◌, Bool, IsTrue, Some, List, [], ◌∷◌, ◌++◌, length, All, count_by, option_map, slice_index_or}
-use Rattle.five_tuple.specs.Header.{IsHeader, number_of}
+use Rattle.std.specs.Prelude.{ℕ, ◌≡◌, ◌<◌, IsTrue, Some, List, [], ◌∷◌, ◌++◌, length, All, count_by, option_map, slice_index_or}
+use Rattle.five_tuple.specs.Header.{IsHeader}
 use Rattle.five_tuple.specs.declared.header.Header.{Header}
-use Rattle.ternary.specs.Word.{WordValue, covers_of, holds}
-use Rattle.policy_rules.specs.Policy.{scan}
+use Rattle.ternary.specs.Word.{WordValue}
+use Rattle.ternary.specs.Meets.{covers_of}
+use Rattle.policy_rules.specs.Scan.{scan}
 use Rattle.policy_rules.specs.RuleList.{hit_of_rule}
 use Rattle.policy_rules.specs.Rules.{first_rule}
 use Rattle.policy_rules.specs.declared.policy.Row.{Row}
 use Rattle.policy_rules.specs.declared.rules.Partition.{Partition}
 use Rattle.policy_rules.specs.declared.rules.Rule.{Rule}
-
--- the region of the partition holds this header
-abbrev pub is_in : Header → Partition → Bool
-is_in header part = holds part.region (number_of header)
-
--- a partition with its targets: the switches that decide its headers
-abbrev pub Placed : Type 0
-Placed = Partition × List ℕ
+use Rattle.policy_rules.specs.Placed.{is_in}
 
 -- partitions that are numbered from 0
 abbrev pub AreNumbered : List Partition → Type 0

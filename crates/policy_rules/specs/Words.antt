@@ -1,8 +1,8 @@
 -- The words of a row.
 use Rattle.std.specs.Prelude.{ℕ, ◌-◌, ◌^◌, List, map}
 use Rattle.std.specs.List.{flat_map}
-use Rattle.five_tuple.specs.Header.{packed}
-use Rattle.five_tuple.specs.Matching.{AddressBlock}
+use Rattle.five_tuple.specs.HeaderNumbers.{packed}
+use Rattle.five_tuple.specs.Header.{AddressBlock}
 use Rattle.five_tuple.specs.Cover.{Block, cover_of}
 use Rattle.five_tuple.specs.declared.matching.Proto.{Proto}
 use Rattle.five_tuple.specs.declared.matching.Proto.TheVariants.{Any, Is}

@@ -1,8 +1,10 @@
 ghost use Rattle.std.specs.Prelude.{◌≡◌, ◌<◌, ◌^◌, nat_lt, true, IfOk, IfErr, OnOk, vec_len, length, Some};
 ghost use Rattle.std.specs.Option.{option_map_or};
-ghost use Rattle.five_tuple.specs.Matching.{IsPortRange, IsProtocol};
-ghost use Rattle.policy_rules.specs.Policy.{row_matches, hit_of, scan, IsFirstMatch, IsHighestMatch, IsPolicy, IsSoundRow, Refuses};
+ghost use Rattle.five_tuple.specs.Header.{IsPortRange, IsProtocol};
+ghost use Rattle.policy_rules.specs.Policy.{row_matches, IsFirstMatch, IsPolicy, IsSoundRow};
 ghost use Rattle.policy_rules.specs.declared.policy.NewPolicyError.TheVariants.{NoMemory};
+ghost use Rattle.policy_rules.specs.Scan.{hit_of, scan, IsHighestMatch};
+ghost use Rattle.policy_rules.specs.Repeats.{Refuses};
 
 use five_tuple::{Fields, Header, PortRange, Prefix, Proto};
 use std::alloc::{AllocError, AllocFailed, Global};

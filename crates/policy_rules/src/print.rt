@@ -1,5 +1,5 @@
 ghost use Rattle.std.specs.Prelude.{Some};
-ghost use Rattle.policy_rules.specs.Print.{action_text, rule_text};
+ghost use Rattle.policy_rules.specs.Policy.{action_text, rule_text};
 
 use crate::policy::Action;
 use std::fmt;

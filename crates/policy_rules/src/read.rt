@@ -1,6 +1,6 @@
 ghost use Rattle.std.specs.Prelude.{◌≡◌, Some, IfSome};
 ghost use Rattle.policy_rules.specs.declared.policy.Action.{Action};
-ghost use Rattle.policy_rules.specs.Print.{action_text};
+ghost use Rattle.policy_rules.specs.Policy.{action_text};
 ghost use Rattle.policy_rules.specs.Read.{action_of, HasSmallPort};
 
 use crate::policy::Action;

@@ -2,11 +2,12 @@ ghost use Rattle.std.specs.Prelude.{◌≡◌, ◌+◌, ◌<◌, ◌≤◌, ◌^
 ghost use Rattle.five_tuple.specs.Cover.{IsPortBlock, cover_of};
 ghost use Rattle.five_tuple.specs.Header.{IsHeader};
 ghost use Rattle.five_tuple.specs.declared.header.Header.{Header};
-ghost use Rattle.policy_rules.specs.Policy.{scan, IsPolicy, IsSoundRow};
+ghost use Rattle.policy_rules.specs.Policy.{IsPolicy, IsSoundRow};
 ghost use Rattle.policy_rules.specs.Rules.{first_rule};
 ghost use Rattle.policy_rules.specs.Words.{word_of_row};
 ghost use Rattle.policy_rules.specs.RuleList.{Appends, by_falling_priority, entries_of, ranked_from, with_default, with_hit, rules_of, word_total, RefusesRules, hit_of_rule, IsRuleList};
 ghost use Rattle.policy_rules.specs.declared.rule_list.RulesError.TheVariants.{NoMemory};
+ghost use Rattle.policy_rules.specs.Scan.{scan};
 
 use crate::laws::rule_list_laws;
 use crate::policy::{Hit, Policy, Row};

@@ -1,6 +1,6 @@
 ghost use Rattle.std.specs.Prelude.{◌≡◌};
 ghost use Rattle.five_tuple.specs.Cover.{IsPortBlock};
-ghost use Rattle.five_tuple.specs.Header.{packed};
+ghost use Rattle.five_tuple.specs.HeaderNumbers.{packed};
 ghost use Rattle.policy_rules.specs.Policy.{IsSoundRow};
 ghost use Rattle.policy_rules.specs.Words.{prefix_mask, proto_value, proto_mask, word_of_row};
 

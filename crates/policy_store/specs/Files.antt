@@ -2,8 +2,9 @@
 use Rattle.std.specs.Prelude.{ℕ, ◌≡◌, Err, Ok, Some, None, Option, List, [], length, slice_index_or}
 use Rattle.net_file.specs.Net.{IsNet}
 use Rattle.net_file.specs.declared.net.Net.{Net}
-use Rattle.partition.specs.Plan.{NoPlan, plan_of}
+use Rattle.partition.specs.Plan.{plan_of}
 use Rattle.policy_rules.specs.declared.policy.Row.{Row}
+use Rattle.policy_rules.specs.Placed.{NoPlan}
 use Rattle.update_machine.specs.Pieces.{plan_code}
 use Rattle.policy_store.specs.declared.files.Compiled.{Compiled}
 use Rattle.policy_store.specs.declared.files.Compiled.TheVariants.{Planned, Refused}

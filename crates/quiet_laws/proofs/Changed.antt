@@ -5,8 +5,9 @@ use Rattle.std.specs.List.{flat_map}
 use Rattle.std.proofs.lemmas.Bool.{eq-eqb, eqb-true}
 use Rattle.std.proofs.lemmas.Bool.Decides.{nat_tests}
 use Rattle.ctrl_msg.specs.declared.message.Message.{Message}
-use Rattle.failover.specs.Adverts.{IsNewest, held, is_newer}
+use Rattle.failover.specs.Adverts.{held, is_newer}
 use Rattle.failover.specs.declared.advert.Advert.{Advert}
+use Rattle.failover.specs.Newest.{IsNewest}
 use Rattle.masks.specs.Masks.{has, switches}
 use Rattle.net_file.specs.Net.{IsNet}
 use Rattle.net_file.proofs.Places.{links}

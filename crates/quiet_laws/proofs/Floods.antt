@@ -10,11 +10,13 @@ use Rattle.ctrl_msg.specs.declared.message.Body.TheVariants.{Install, OpenAt, St
 use Rattle.ctrl_msg.specs.declared.message.Message.{Message}
 use Rattle.ctrl_msg.specs.declared.message.Receiver.{Receiver}
 use Rattle.ctrl_msg.specs.declared.message.Receiver.TheVariants as receiver
-use Rattle.failover.specs.Adverts.{IsNewest, first_advert, first_adverts, held, is_news, is_newer}
+use Rattle.failover.specs.Adverts.{first_advert, first_adverts, held, is_news, is_newer}
 use Rattle.failover.specs.declared.advert.Advert.{Advert}
+use Rattle.failover.specs.Newest.{IsNewest}
 use Rattle.failover.proofs.Adverts.{held-first}
 use Rattle.masks.specs.Masks.{has}
-use Rattle.net_file.specs.Net.{IsNet, links_of}
+use Rattle.net_file.specs.Net.{IsNet}
+use Rattle.net_file.specs.Owners.{links_of}
 use Rattle.journal.specs.declared.item.Item.{Item}
 use Rattle.journal.specs.declared.item.Item.TheVariants as item
 use Rattle.steps.specs.declared.step.Step.{Step}

@@ -7,13 +7,11 @@ use Rattle.std.proofs.lemmas.Bool.Decides.{nat_tests}
 use Rattle.std.proofs.lemmas.List.{get_or-map, get_or_past, length-map}
 use Rattle.std.proofs.lemmas.List.Elements.{All-from_recursion}
 use Rattle.failover.specs.Adverts.{held}
-use Rattle.failover.specs.DownSet.{has_link}
-use Rattle.failover.specs.Links.{is_link, neighbours_told, told_links}
-use Rattle.failover.specs.Paths.{AreJoined, IsReachable, Leads}
+use Rattle.failover.specs.Links.{is_link, neighbours_told, told_links, has_link, AreJoined, IsReachable, Leads}
 use Rattle.failover.specs.declared.advert.Advert.{Advert}
 use Rattle.failover.proofs.Searching.{length-known_links, straight_path}
 use Rattle.masks.specs.Masks.{has}
-use Rattle.net_file.specs.Net.{are_linked}
+use Rattle.net_file.specs.Joins.{are_linked}
 use Rattle.net_file.proofs.Places.{links}
 use Rattle.journal.specs.declared.item.Item.{Item}
 use Rattle.steps.specs.Steps.{HasSwitch}

@@ -4,8 +4,9 @@ use Rattle.std.specs.Prelude.{IsTrue, filter}
 use Rattle.std.specs.List.{list_any}
 use Rattle.std.proofs.lemmas.Bool.Decides.{nat_tests}
 use Rattle.masks.specs.Masks.{has}
-use Rattle.net_file.specs.Net.{are_linked, joins, links_of}
+use Rattle.net_file.specs.Joins.{are_linked, joins}
 use Rattle.net_file.specs.declared.net.LinkRow.{LinkRow}
+use Rattle.net_file.specs.Owners.{links_of}
 use Rattle.net_file.proofs.Masks.{in_mask_of}
 use Rattle.journal.specs.declared.item.Item.{Item}
 use Rattle.update_machine.specs.Links.{is_link_up, is_usable, serves}

@@ -8,7 +8,7 @@ use Rattle.ctrl_msg.specs.declared.message.Body.TheVariants.{Install, OpenAt, St
 use Rattle.ctrl_msg.specs.declared.message.Message.{Message}
 use Rattle.ctrl_msg.specs.declared.message.Receiver.{Receiver}
 use Rattle.ctrl_msg.specs.declared.message.Receiver.TheVariants as receiver
-use Rattle.failover.specs.DownSet.{has_link, no_links, with_link}
+use Rattle.failover.specs.Links.{has_link, no_links, with_link}
 use Rattle.failover.proofs.LinkSets.{has_link-none}
 use Rattle.masks.specs.Masks.{has}
 use Rattle.masks.proofs.CallerLemmas.{has-or, has-pow_other, has-zero}

@@ -4,7 +4,7 @@ use Rattle.std.specs.Prelude.{IsTrue}
 use Rattle.std.proofs.lemmas.List.Elements.{All-from_recursion}
 use Rattle.ctrl_msg.specs.declared.message.Body.TheVariants.{Hello}
 use Rattle.failover.specs.Adverts.{first_advert}
-use Rattle.failover.specs.DownSet.{has_link, no_links, with_link}
+use Rattle.failover.specs.Links.{has_link, no_links, with_link}
 use Rattle.masks.specs.Masks.{has, mask_of, mask_where, switches}
 use Rattle.journal.specs.declared.item.Item.TheVariants as item
 use Rattle.update_machine.specs.Boots.{is_up}

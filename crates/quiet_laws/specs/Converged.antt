@@ -2,8 +2,7 @@
 -- reach. Link-state databases that agree are those of OSPF (RFC 2328, section 13); a link counts
 -- where both its ends name it (section 16.1).
 use Rattle.std.specs.Prelude.{ℕ, ◌≡◌, ◌≢◌, ◌<◌, ◌↔◌, Some, None, List, [], ◌∷◌, All, IsTrue, IsFalse}
-use Rattle.failover.specs.DownSet.{has_link}
-use Rattle.failover.specs.Paths.{AreJoined}
+use Rattle.failover.specs.Links.{has_link, AreJoined}
 use Rattle.masks.specs.Masks.{has}
 use Rattle.journal.specs.declared.item.Item.{Item}
 use Rattle.steps.specs.Steps.{HasSwitch}

@@ -3,7 +3,8 @@ use Rattle.std.proofs.Common.{◌≡◌, ◌∙◌, ◌-◌, List, [], ◌∷◌
 use Rattle.std.proofs.lemmas.Grind.{flat_map-append}
 use Rattle.std.proofs.lemmas.List.{take_all}
 use Rattle.journal.specs.declared.item.Item.{Item}
-use Rattle.meters.specs.Meters.{PortLeavings, Seen, kept_meters}
+use Rattle.meters.specs.Meters.{PortLeavings, kept_meters}
+use Rattle.meters.specs.Seen.{Seen}
 use Rattle.replay.specs.Leavings.{KeepUp, StayOn, left_by, left_in}
 
 drop_front : {X : Type 0} (xs ys : List X) → drop (length xs) (xs ++ ys) ≡ ys

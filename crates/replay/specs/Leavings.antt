@@ -3,7 +3,10 @@ use Rattle.std.specs.Prelude.{◌≡◌, ℕ, List, [], ◌∷◌, ◌++◌}
 use Rattle.std.specs.List.{flat_map}
 use Rattle.journal.specs.declared.item.Item.{Item}
 use Rattle.journal.specs.declared.item.Item.TheVariants as item
-use Rattle.meters.specs.Meters.{PortLeavings, Seen, kept_meters}
+use Rattle.meters.specs.Meters.{PortLeavings, kept_meters}
+use Rattle.meters.specs.Seen.{Seen}
+use Rattle.net_file.specs.Owners.{port_mask}
+use Rattle.net_file.specs.declared.net.Net.{Net}
 
 -- what an item says of a packet that left
 abbrev pub left_by : Item → PortLeavings
@@ -27,3 +30,7 @@ abbrev pub KeepUp : (before after : List Item) → List Seen → List Seen → T
 KeepUp before after old new =
     (ports : ℕ) (meters : List Seen) → old ≡ kept_meters ports (left_in before) meters
     → new ≡ kept_meters ports (left_in after) meters
+
+-- the meters that stay while the packets of this journal leave the network
+abbrev pub kept_by : Net → List Item → List Seen → List Seen
+kept_by net journal meters = kept_meters (port_mask net.switches) (left_in journal) meters

@@ -3,8 +3,8 @@ use Rattle.std.specs.Prelude.{⊤, ℕ, ◌≡◌, Bool, true, false, Option, So
 use Rattle.controller.specs.declared.plan_error.PlanError.{PlanError}
 use Rattle.controller.specs.declared.plan_error.PlanError.TheVariants as why
 use Rattle.journal.specs.declared.item.Item.{Item}
-use Rattle.partition.specs.Plan.{NoPlan, Placed}
-use Rattle.partition.specs.Plan as no_plan
+use Rattle.partition.specs.Plan.{Placed}
+use Rattle.policy_rules.specs.Placed as no_plan
 use Rattle.steps.specs.declared.step.Event.{Event}
 use Rattle.steps.specs.declared.step.Event.TheVariants.{One, Flush, Drain}
 use Rattle.steps.specs.declared.step.Step.{Step}
@@ -13,6 +13,7 @@ use Rattle.update_machine.specs.Full.{HaveRoom, IsFull}
 use Rattle.update_machine.specs.Setting.{Setting}
 use Rattle.world.specs.State.{comes_in}
 use Rattle.replay.specs.declared.error.ReplayError.{ReplayError}
+use Rattle.policy_rules.specs.Placed.{NoPlan}
 use Rattle.replay.specs.declared.error.ReplayError.TheVariants as replayed
 
 -- the step that the event asks for next behind this journal, where it began or has yet to

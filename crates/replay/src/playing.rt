@@ -1,6 +1,7 @@
 ghost use Rattle.std.specs.Prelude.{◌≡◌, ◌≤◌, ◌+◌, All, IfErr, IfOk, IsOk, OnOk, length, map, slice_index_or, []};
 ghost use Rattle.meters.specs.Meters.{kept_meters};
-ghost use Rattle.net_file.specs.Net.{IsNet, port_mask};
+ghost use Rattle.net_file.specs.Net.{IsNet};
+ghost use Rattle.net_file.specs.Owners.{port_mask};
 ghost use Rattle.partition.specs.Plan.{plan_of};
 ghost use Rattle.policy_rules.specs.Policy.{IsPolicy};
 ghost use Rattle.steps.specs.Steps.{IsEvent, max_events};

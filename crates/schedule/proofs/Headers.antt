@@ -3,9 +3,10 @@ use Rattle.std.proofs.Common.{ℕ, ◌≡◌, ◌+◌, ◌*◌, ◌^◌, ◌≤�
 use Rattle.std.specs.Prelude.{bytes_eq, codes, nat_le}
 use Rattle.std.specs.Str.Parse.{digits_value}
 use Rattle.std.proofs.lemmas.Bool.Decides.{nat_tests}
-use Rattle.five_tuple.specs.Header.{IsHeader, header_of}
+use Rattle.five_tuple.specs.Header.{IsHeader}
 use Rattle.five_tuple.specs.Texts.{address_from, address_of, address_of_parts, fields_from, is_number, number_up_to, packet_fields_of, parts_round, proto_number_of}
 use Rattle.five_tuple.specs.declared.header.Fields.{Fields}
+use Rattle.five_tuple.specs.HeaderNumbers.{header_of}
 
 checked : (number : Bool) (most value n : ℕ) → cond (number && nat_le value most) (Some value) None
     ≡ Some n → n ≤ most

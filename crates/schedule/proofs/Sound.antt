@@ -7,15 +7,17 @@ use Rattle.std.specs.Result.{result_err, result_ok}
 use Rattle.std.proofs.lemmas.Bool.Decides.{nat_tests}
 use Rattle.std.proofs.lemmas.List.Elements.{All-from_recursion}
 use Rattle.std.proofs.lemmas.List.Quantifiers.{position-Some}
-use Rattle.five_tuple.specs.Header.{IsHeader, header_of}
+use Rattle.five_tuple.specs.Header.{IsHeader}
 use Rattle.five_tuple.specs.Texts.{number_up_to, packet_fields_of}
 use Rattle.five_tuple.specs.declared.header.Fields.{Fields}
 use Rattle.five_tuple.specs.declared.header.Header.{Header}
-use Rattle.net_file.specs.Net.{are_linked, switch_number}
+use Rattle.five_tuple.specs.HeaderNumbers.{header_of}
+use Rattle.net_file.specs.Joins.{are_linked}
 use Rattle.net_file.specs.Refusals.{require, with_value}
 use Rattle.net_file.specs.declared.net.LinkRow.{LinkRow}
 use Rattle.net_file.specs.declared.net.Net.{Net}
 use Rattle.net_file.specs.declared.net.SwitchRow.{SwitchRow}
+use Rattle.net_file.specs.Owners.{switch_number}
 use Rattle.steps.specs.Steps.{HasLink, HasSwitch, IsEvent, IsStep}
 use Rattle.steps.specs.declared.step.Event.{Event}
 use Rattle.steps.specs.declared.step.Event.TheVariants.{One, Flush, Drain}

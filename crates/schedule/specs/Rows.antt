@@ -1,13 +1,14 @@
 -- The event that a row states, for a network and so many policy files: a word for its kind, and the
 -- fields of that kind.
 use Rattle.std.specs.Prelude.{ℕ, Bool, nat_le, option_map, ok_or, Result, Ok, Err, List, [], ◌∷◌, codes, bytes_eq}
-use Rattle.five_tuple.specs.Header.{header_of}
+use Rattle.five_tuple.specs.HeaderNumbers.{header_of}
 use Rattle.five_tuple.specs.Texts.{number_up_to, packet_fields_of}
 use Rattle.five_tuple.specs.declared.header.Header.{Header}
-use Rattle.net_file.specs.Net.{are_linked, switch_number}
+use Rattle.net_file.specs.Joins.{are_linked}
 use Rattle.net_file.specs.Refusals.{require, with_value}
 use Rattle.net_file.specs.declared.net.LinkRow.{LinkRow}
 use Rattle.net_file.specs.declared.net.Net.{Net}
+use Rattle.net_file.specs.Owners.{switch_number}
 use Rattle.steps.specs.Steps.{max_number}
 use Rattle.steps.specs.declared.step.Event.{Event}
 use Rattle.steps.specs.declared.step.Event.TheVariants.{One, Flush, Drain}

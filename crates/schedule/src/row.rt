@@ -1,6 +1,7 @@
 ghost use Rattle.std.specs.Prelude.{◌≡◌, [], ◌∷◌, drop, length};
 ghost use Rattle.csv.specs.Records.{fields_of};
-ghost use Rattle.net_file.specs.Net.{IsNet, are_linked};
+ghost use Rattle.net_file.specs.Net.{IsNet};
+ghost use Rattle.net_file.specs.Joins.{are_linked};
 ghost use Rattle.schedule.specs.Rows.{event_of, event_with, file_in, header_in, is_heading, link_in, number_in, switch_in};
 
 use crate::error::ScheduleRefusal;

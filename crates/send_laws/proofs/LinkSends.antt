@@ -11,8 +11,10 @@ use Rattle.std.proofs.lemmas.List.Sums.{sum_by-le-sum_by}
 use Rattle.ctrl_msg.specs.declared.message.Message.{Message}
 use Rattle.failover.specs.Adverts.{held}
 use Rattle.masks.specs.Masks.{has, switches}
-use Rattle.net_file.specs.Net.{IsNet, are_linked, joins, links_of}
+use Rattle.net_file.specs.Net.{IsNet}
 use Rattle.net_file.specs.declared.net.LinkRow.{LinkRow}
+use Rattle.net_file.specs.Joins.{are_linked, joins}
+use Rattle.net_file.specs.Owners.{links_of}
 use Rattle.net_file.proofs.Masks.{in_mask_of, in_mask_past, mask_of_small}
 use Rattle.journal.specs.declared.item.Item.{Item}
 use Rattle.update_machine.specs.Adverts.{adverts_known, held_adverts, own_advert}

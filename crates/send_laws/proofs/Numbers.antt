@@ -12,7 +12,8 @@ use Rattle.ctrl_msg.specs.declared.message.Message.{Message}
 use Rattle.failover.specs.Adverts.{held}
 use Rattle.masks.specs.Masks.{has, least_in, switches}
 use Rattle.masks.proofs.CallerLemmas.{has_least}
-use Rattle.net_file.specs.Net.{IsNet, are_linked}
+use Rattle.net_file.specs.Net.{IsNet}
+use Rattle.net_file.specs.Joins.{are_linked}
 use Rattle.net_file.proofs.Masks.{mask_of_small}
 use Rattle.net_file.proofs.Places.{links}
 use Rattle.journal.specs.declared.item.Item.{Item}

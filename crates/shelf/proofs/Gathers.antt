@@ -2,7 +2,8 @@
 use Rattle.std.proofs.Common.{ℕ, ◌≡◌, ◌+◌, Option, Result, Ok, Err, OnErr, List, ◌++◌, length, take, drop, ap, ◌∙◌, sym, arith}
 use Rattle.std.proofs.Math.Seq.{drop-append_seam, take-add, take-append_seam}
 use Rattle.std.proofs.lemmas.List.{length-append, length-drop, take-append-drop, take-append-le}
-use Rattle.shelf.specs.Sink.{gained, gained-gained, GainedPart, IsGathered}
+use Rattle.shelf.specs.Sink.{gained, GainedPart}
+use Rattle.shelf.specs.SinkWrites.{gained-gained, IsGathered}
 
 -- what waited was written, so that all is
 pub all_written : (text : List ℕ) (before now later : Option (List ℕ)) (waiting : List ℕ)

@@ -2,7 +2,8 @@
 use Rattle.std.proofs.Common.{◌≡◌, ℕ, ◌+◌, ◌≤◌, Option, List, ◌++◌, length, take, drop, ap, sym, ◌∙◌, arith}
 use Rattle.std.proofs.lemmas.List.{take-take, length-take}
 use Rattle.std.proofs.Math.Seq.{take-add}
-use Rattle.shelf.specs.Sink.{gained, gained-gained}
+use Rattle.shelf.specs.Sink.{gained}
+use Rattle.shelf.specs.SinkWrites.{gained-gained}
 
 -- the first bytes, and then the first of a piece that begins behind them
 pub gained_more : (before : Option (List ℕ)) (bytes : List ℕ) (written rest most taken : ℕ)

@@ -3,9 +3,9 @@ use Rattle.std.specs.Prelude.{⊤, ◌≡◌, ◌<◌, ◌≤◌, ℕ, Bool, tru
 use Rattle.std.specs.Global.{Global}
 use Rattle.std.specs.Option.{option_map}
 use Rattle.std.specs.Str.{bytes_eq}
-use Rattle.shelf.specs.Faults.{CallScript, counted_up}
 use Rattle.shelf.specs.declared.source.ShelfError.{ShelfError}
 use Rattle.shelf.specs.declared.source.ShelfError.TheVariants.{Failed, NoMemory}
+use Rattle.shelf.specs.Scripts.{CallScript, counted_up}
 
 -- files by name: the bytes of each name, and those of the file
 abbrev pub Files : Type 0

@@ -1,9 +1,14 @@
--- What a sink of bytes holds, and what a write to it may answer.
-use Rattle.std.specs.Prelude.{⊤, ◌≡◌, ◌≢◌, ◌<◌, ◌≤◌, ℕ, Bool, IsTrue, true, false, ◌&&◌, ◌==◌, not, List, ◌++◌, length, take, drop, Option, Some, None, Result, Ok, Err, OnOk, OnErr, IsErrOf}
-use Rattle.std.proofs.Common.{refl, ap, append_assoc}
-use Rattle.shelf.specs.Faults.{CallScript, Rose}
-use Rattle.shelf.specs.declared.output.SinkError.{SinkError}
-use Rattle.shelf.specs.declared.output.SinkError.TheVariants.{Failed, NoMemory}
+-- What contracts see of a sink of bytes, and counts of faults: numbers of 64 bits that never fall
+-- and stand still at their last value.
+use Rattle.std.specs.Prelude.{◌≡◌, ◌<◌, ℕ, List, ◌++◌, length, take, Option, Some, None, ◌≤◌, ◌+◌, ◌-◌, ◌^◌, min}
+
+-- one more, or the last value
+abbrev pub counted : ℕ → ℕ
+counted n = min (n + 1) (2 ^ 64 - 1)
+
+-- the count rose, or stands at its last value
+abbrev pub Rose : ℕ → ℕ → Type 0
+Rose before now = counted before ≤ now
 
 -- what contracts see of each sink: its bytes, where they are known, and how often it failed
 pub record SinkState : Type 0 where
@@ -15,44 +20,6 @@ abbrev pub gained : Option (List ℕ) → List ℕ → Option (List ℕ)
 gained None piece = None
 gained (Some bytes) piece = Some (bytes ++ piece)
 
--- two gains are one of the bytes together
-pub gained-gained : (before : Option (List ℕ)) (first next : List ℕ)
-    → gained (gained before first) next ≡ gained before (first ++ next)
-gained-gained None first next = refl
-gained-gained (Some bytes) first next = ap Some (append_assoc bytes first next)
-
 -- the sink gained some of these bytes from the front, and not all
 abbrev pub GainedPart : Option (List ℕ) → List ℕ → Option (List ℕ) → Type 0
 GainedPart before bytes now = (n : ℕ) × (n < length bytes) × (now ≡ gained before (take n bytes))
-
--- of a text that is written in blocks the first bytes were written, and the others wait
-pub record IsGathered (text : List ℕ) (before now : Option (List ℕ)) (waiting : List ℕ)
-    : Type 0 where
-  pub written : ℕ
-  pub within : written ≤ length text
-  pub gained : now ≡ gained before (take written text)
-  pub waits : waiting ≡ drop written text
-
--- what a write of these bytes leaves of a sink: all of them where it succeeds, and else a part; and
--- each error has its cause. No fault is counted unless it failed, so a write is not tried again
--- behind a fault
-pub record IsAfterWrite (bytes : List ℕ) (takes_memory : Bool) (old new : SinkState)
-    (result : Result (⊤) SinkError) : Type 0 where
-  pub whole : OnOk result (new.bytes ≡ gained old.bytes bytes)
-  pub part : OnErr result (GainedPart old.bytes bytes new.bytes)
-  pub faults : old.faults ≤ new.faults
-  pub calm : result ≢ Err Failed → new.faults ≡ old.faults
-  pub failed : IsErrOf result Failed → Rose old.faults new.faults
-  pub no_memory : IsErrOf result NoMemory → IsTrue takes_memory
-
--- the answer is a fault, or an Ok of nothing for a piece that has bytes
-abbrev pub is_fault : List ℕ → Result ℕ SinkError → Bool
-is_fault piece (Ok taken) = (taken == 0) && not (length piece == 0)
-is_fault piece (Err Failed) = true
-is_fault piece (Err NoMemory) = false
-
--- bytes, the most that one call takes, and the calls that are to fail
-pub record ScriptedBytes : Type 0 where
-  pub bytes : List ℕ
-  pub most : ℕ
-  pub script : CallScript

@@ -1,7 +1,7 @@
 //! Pieces of a text that are gathered before they are written.
 ghost use Rattle.std.specs.Prelude.{◌≡◌, ◌≢◌, ◌≤◌, ◌+◌, ◌++◌, [], List, Option, ℕ, IsOk, IsErrOf, OnErr, OnOk, length, IsTrue};
-ghost use Rattle.shelf.specs.Faults.{Rose};
-ghost use Rattle.shelf.specs.Sink.{GainedPart, IsGathered, gained};
+ghost use Rattle.shelf.specs.Sink.{GainedPart, gained, Rose};
+ghost use Rattle.shelf.specs.SinkWrites.{IsGathered};
 
 use crate::output::{Sink, SinkError, write_whole};
 use std::marker::Model;

@@ -1,6 +1,6 @@
 //! Files and bytes in memory that never fail.
 ghost use Rattle.std.specs.Prelude.{◌≡◌, ◌↔◌, [], Some, true, false, IfOk, IsErrOf};
-ghost use Rattle.shelf.specs.Faults.{counted};
+ghost use Rattle.shelf.specs.Sink.{counted};
 
 use crate::output::{Sink, SinkError};
 use crate::source::{Shelf, ShelfError, copy_named};

@@ -1,8 +1,8 @@
 //! The sink of bytes, and a write of many bytes to it.
 ghost use Rattle.std.specs.Prelude.{◌≡◌, ◌≢◌, ◌≤◌, ◌<◌, Bool, IsTrue, [], length, take, IfOk, IsOk, OnErr, IsErrOf};
-ghost use Rattle.shelf.specs.Faults.{Rose};
-ghost use Rattle.shelf.specs.Sink.{SinkState, IsAfterWrite, gained};
+ghost use Rattle.shelf.specs.Sink.{SinkState, gained, Rose};
 ghost use Rattle.shelf.specs.declared.output.SinkError.TheVariants.{NoMemory};
+ghost use Rattle.shelf.specs.SinkWrites.{IsAfterWrite};
 
 use std::alloc::AllocError;
 use thiserror::Error;

@@ -1,6 +1,7 @@
 //! Files and bytes in memory, with calls that are ordered to fail.
 ghost use Rattle.std.specs.Prelude.{◌≡◌, ◌≤◌, ◌↔◌, ◌++◌, IsTrue, IfOk, OnErr, IsErrOf, Some, [], true, length, min, take};
-ghost use Rattle.shelf.specs.Faults.{script_of, counted, FailsNext, after_call};
+ghost use Rattle.shelf.specs.Sink.{counted};
+ghost use Rattle.shelf.specs.Scripts.{script_of, FailsNext, after_call};
 
 use crate::output::{Sink, SinkError};
 use crate::source::{Shelf, ShelfError, copy_named};

@@ -2,7 +2,7 @@
 ghost use Rattle.std.specs.Prelude.{◌≡◌, ◌≤◌, ◌↔◌, IfOk, IsErrOf, false, find, length, string_bytes};
 ghost use Rattle.std.specs.Option.{ForSome, ForNone, option_copied};
 ghost use Rattle.std.specs.Str.{bytes_eq};
-ghost use Rattle.shelf.specs.Faults.{Rose, counted};
+ghost use Rattle.shelf.specs.Sink.{Rose, counted};
 ghost use Rattle.shelf.specs.Shelf.{ShelfState, HasFile, LacksFile, HasLongerFile, IsServed, files_of, is_fault};
 ghost use Rattle.shelf.specs.declared.source.ShelfError.TheVariants.{NoMemory};
 

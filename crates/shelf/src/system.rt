@@ -3,7 +3,7 @@
 //! Nothing is known here of what a file holds or of what reaches a stream, so neither is known to
 //! contracts.
 ghost use Rattle.std.specs.Prelude.{◌≡◌, ◌≤◌, None, false, length, IfOk, ◌≢◌, if◌then◌else◌};
-ghost use Rattle.shelf.specs.Faults.{counted};
+ghost use Rattle.shelf.specs.Sink.{counted};
 
 use crate::output::{Sink, SinkError};
 use crate::source::{Shelf, ShelfError};

@@ -5,8 +5,7 @@ use Rattle.std.proofs.lemmas.Fmt.{length-decimal-le}
 use Rattle.line_fields.proofs.Lengths.{IsWithin, action_within, all_of, name_within, names_within, number, row_of, rule_within, widened, with_word, word_within}
 use Rattle.line_fields.specs.Sizes.{IsAction, IsNumber, IsRule}
 use Rattle.net_file.specs.Laws.{NameLaws}
-use Rattle.net_file.specs.Names.{name_of}
-use Rattle.net_file.specs.Net.{IsNet}
+use Rattle.net_file.specs.Net.{IsNet, name_of}
 use Rattle.net_file.specs.declared.net.Net.{Net}
 use Rattle.policy_rules.specs.declared.rules.Partition.{Partition}
 use Rattle.policy_rules.specs.declared.rules.Rule.{Rule}

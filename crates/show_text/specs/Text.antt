@@ -1,10 +1,10 @@
 -- The texts of plans and of tables, one fact a line.
 use Rattle.std.specs.Prelude.{ℕ, List, [], ◌∷◌, ◌++◌, length, codes, decimal}
 use Rattle.std.specs.List.{flat_map, enumerate_from}
-use Rattle.net_file.specs.Names.{name_of, names_text}
+use Rattle.net_file.specs.Net.{name_of, names_text}
 use Rattle.net_file.specs.declared.net.Net.{Net}
 use Rattle.partition.specs.Plan.{Placed}
-use Rattle.policy_rules.specs.Print.{action_text, rule_text}
+use Rattle.policy_rules.specs.Policy.{action_text, rule_text}
 use Rattle.policy_rules.specs.RuleList.{word_total}
 use Rattle.policy_rules.specs.declared.policy.Row.{Row}
 use Rattle.policy_rules.specs.declared.rules.Partition.{Partition}

@@ -1,7 +1,6 @@
 ghost use Rattle.std.specs.Prelude.{◌≡◌, ◌≤◌, ◌++◌, IfOk, OnOk, codes, decimal, length};
 ghost use Rattle.std.specs.List.{flat_map, enumerate_from};
-ghost use Rattle.net_file.specs.Names.{name_of};
-ghost use Rattle.net_file.specs.Net.{IsNet};
+ghost use Rattle.net_file.specs.Net.{IsNet, name_of};
 ghost use Rattle.switch_table.specs.Tables.{tables_of};
 ghost use Rattle.show_text.specs.Text.{authority_text, compile_text, line, own_lines, part_text, placed_lines, regions_text, row_line, table_text, targets_text};
 

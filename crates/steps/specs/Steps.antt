@@ -2,7 +2,7 @@
 -- files that there are.
 use Rattle.std.specs.Prelude.{⊤, ℕ, ◌<◌, ◌≤◌, length, IsTrue}
 use Rattle.five_tuple.specs.Header.{IsHeader}
-use Rattle.net_file.specs.Net.{are_linked}
+use Rattle.net_file.specs.Joins.{are_linked}
 use Rattle.net_file.specs.declared.net.Net.{Net}
 use Rattle.steps.specs.declared.step.Event.{Event}
 use Rattle.steps.specs.declared.step.Event.TheVariants.{One, Flush, Drain}

@@ -1,6 +1,6 @@
 -- What is said of a packet before a route is taken, by the switch that counted the call.
 use Rattle.std.proofs.Common.{ℕ, ◌≡◌, ◌∙◌, true, false, List, refl, ap, sym, subst}
-use Rattle.failover.specs.DownSet.{no_links}
+use Rattle.failover.specs.Links.{no_links}
 use Rattle.five_tuple.specs.declared.header.Header.{Header}
 use Rattle.net_file.specs.declared.ports.Ports.{Ports}
 use Rattle.switch_core.specs.Answering.{entered, incoming, looked_up}

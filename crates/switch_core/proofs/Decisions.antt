@@ -6,14 +6,15 @@ use Rattle.std.specs.Prelude.{⊤}
 use Rattle.std.proofs.lemmas.List.Elements.{All-cons, All-contains, All-head, All-tail}
 use Rattle.five_tuple.specs.Header.{IsHeader, number_of}
 use Rattle.five_tuple.specs.declared.header.Header.{Header}
-use Rattle.policy_rules.specs.Partitions.{AreSoundPartitions, Placed, is_in}
-use Rattle.policy_rules.specs.Policy.{scan}
+use Rattle.policy_rules.specs.Partitions.{AreSoundPartitions}
+use Rattle.policy_rules.specs.Scan.{scan}
 use Rattle.policy_rules.specs.RuleList.{hit_of_rule}
 use Rattle.policy_rules.specs.Rules.{first_rule}
 use Rattle.policy_rules.specs.declared.packet.Leg.{Leg}
 use Rattle.policy_rules.specs.declared.packet.Leg.TheVariants.{Seek as SeekLeg, Exit as ExitLeg}
 use Rattle.policy_rules.specs.declared.policy.Row.{Row}
 use Rattle.policy_rules.specs.declared.rules.Partition.{Partition}
+use Rattle.policy_rules.specs.Placed.{Placed, is_in}
 use Rattle.tunnel.specs.Tunnel.{TunnelValue}
 use Rattle.switch_table.proofs.TableLemmas.{find-there}
 use Rattle.switch_table.specs.Cache.{first_entry}

@@ -10,9 +10,9 @@ use Rattle.policy_rules.specs.declared.packet.Cause.{Cause}
 use Rattle.masks.proofs.CallerLemmas.{has-zero}
 use Rattle.failover.proofs.Rows.{has_known}
 use Rattle.failover.proofs.Searching.{known_route_is_route}
-use Rattle.failover.specs.Links.{is_link, known_links, neighbours_told, told_links}
+use Rattle.failover.specs.Links.{is_link, known_links, neighbours_told, told_links, IsPath}
 use Rattle.masks.specs.Masks.{has}
-use Rattle.failover.specs.Paths.{IsPath, IsRoute}
+use Rattle.failover.specs.Paths.{IsRoute}
 use Rattle.failover.specs.Routes.{route_of}
 use Rattle.failover.specs.declared.advert.Advert.{Advert}
 use Rattle.tunnel.specs.Moves.{here, marked_down, next, on_route, route_from_here}

@@ -3,8 +3,8 @@
 use Rattle.std.specs.Prelude.{ℕ, ◌≡◌, ◌≢◌, ◌+◌, ◌↔◌, ◌⊎◌, ◌==◌, if◌then◌else◌, Bool, true, false, Option, Some, None, List, [], ◌∷◌, map, slice_get, IsTrue, IsFalse, IsSome, MatchOption}
 use Rattle.five_tuple.specs.Header.{IsHeader, number_of}
 use Rattle.five_tuple.specs.declared.header.Header.{Header}
-use Rattle.policy_rules.specs.Partitions.{AreSoundPartitions, Placed}
-use Rattle.policy_rules.specs.Policy.{scan}
+use Rattle.policy_rules.specs.Partitions.{AreSoundPartitions}
+use Rattle.policy_rules.specs.Scan.{scan}
 use Rattle.policy_rules.specs.Rules.{first_rule}
 use Rattle.policy_rules.specs.declared.packet.Cause.TheVariants.{NoRoute}
 use Rattle.policy_rules.specs.declared.packet.How.{How}
@@ -16,8 +16,9 @@ use Rattle.policy_rules.specs.declared.policy.Action.TheVariants.{Drop, Out as O
 use Rattle.policy_rules.specs.declared.policy.Row.{Row}
 use Rattle.policy_rules.specs.declared.rules.Partition.{Partition}
 use Rattle.policy_rules.specs.declared.rules.Rule.{Rule}
+use Rattle.policy_rules.specs.Placed.{Placed}
 use Rattle.net_file.specs.Owners.{port_owner}
-use Rattle.failover.specs.DownSet.{with_link}
+use Rattle.failover.specs.Links.{with_link}
 use Rattle.masks.specs.Masks.{has}
 use Rattle.failover.specs.Routes.{route_of}
 use Rattle.tunnel.specs.Moves.{here, next}

@@ -5,12 +5,12 @@
 use Rattle.std.specs.Prelude.{⊤, ℕ, ◌≡◌, None, if◌then◌else◌, IsSomeAnd, IsTrue, IfSome, Result, Ok, Err}
 use Rattle.std.specs.Option.{option_map_or}
 use Rattle.five_tuple.specs.declared.header.Header.{Header}
-use Rattle.policy_rules.specs.Partitions.{is_in}
+use Rattle.policy_rules.specs.Placed.{is_in}
 use Rattle.policy_rules.specs.declared.packet.Leg.{Leg}
 use Rattle.policy_rules.specs.declared.packet.Leg.TheVariants.{Seek as SeekLeg, Exit as ExitLeg}
 use Rattle.policy_rules.specs.declared.packet.Cause.{Cause}
 use Rattle.policy_rules.specs.declared.rules.Partition.{Partition}
-use Rattle.failover.specs.DownSet.{no_links}
+use Rattle.failover.specs.Links.{no_links}
 use Rattle.tunnel.specs.Tunnel.{TunnelValue}
 use Rattle.switch_table.specs.Lookup.{lookup_of}
 use Rattle.switch_table.specs.declared.tables.Tables.{Tables}

@@ -4,7 +4,8 @@
 use Rattle.std.specs.Prelude.{⊤, ℕ, ◌≡◌, ◌==◌, if◌then◌else◌, Option, Some, None, unwrap_or, List, [], find, position, slice_index_or, IsTrue, IsSomeAnd}
 use Rattle.five_tuple.specs.Header.{number_of}
 use Rattle.five_tuple.specs.declared.header.Header.{Header}
-use Rattle.ternary.specs.Word.{any_word, holds}
+use Rattle.ternary.specs.Word.{holds}
+use Rattle.ternary.specs.Meets.{any_word}
 use Rattle.policy_rules.specs.Rules.{is_held}
 use Rattle.policy_rules.specs.declared.policy.Action.TheVariants.{Drop}
 use Rattle.policy_rules.specs.declared.packet.How.TheVariants.{Cached, Authority}

@@ -11,7 +11,7 @@ use Rattle.policy_rules.specs.declared.packet.Cause.{Cause}
 use Rattle.policy_rules.specs.declared.packet.Cause.TheVariants.{NoAuthority, NoRoute}
 use Rattle.net_file.specs.declared.ports.Ports.{Ports}
 use Rattle.net_file.specs.Owners.{port_owner}
-use Rattle.failover.specs.Links.{is_isolated}
+use Rattle.failover.specs.Isolated.{is_isolated}
 use Rattle.failover.specs.Routes.{route_of}
 use Rattle.tunnel.specs.Tunnel.{TunnelValue}
 use Rattle.tunnel.specs.Moves.{begun}

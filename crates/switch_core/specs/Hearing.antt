@@ -10,11 +10,12 @@ use Rattle.switch_table.specs.Cache.{accepted, raised}
 use Rattle.switch_table.specs.Tables.{AreSoundTables}
 use Rattle.switch_table.specs.declared.cache.CacheEntry.{CacheEntry}
 use Rattle.switch_table.specs.declared.tables.Tables.{Tables}
-use Rattle.ctrl_msg.specs.Bodies.{body_boot, is_for_controller}
+use Rattle.ctrl_msg.specs.Bodies.{body_boot}
 use Rattle.ctrl_msg.specs.declared.message.Body.{Body}
 use Rattle.ctrl_msg.specs.declared.message.Body.TheVariants.{Install, OpenAt, Stamp, Collect, CacheRule, Advertise, Installed, Stamped}
 use Rattle.ctrl_msg.specs.declared.message.Message.{Message}
 use Rattle.ctrl_msg.specs.declared.message.Receiver.TheVariants.{Switch, Controller}
+use Rattle.ctrl_msg.specs.Kinds.{is_for_controller}
 use Rattle.switch_core.specs.State.{SwitchValue, holds_version}
 
 -- tables that come in are sound

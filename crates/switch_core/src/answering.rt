@@ -1,5 +1,5 @@
 ghost use Rattle.std.specs.Prelude.{◌≡◌, ℕ, List, IsSomeAnd, IsTrue};
-ghost use Rattle.policy_rules.specs.Partitions.{is_in};
+ghost use Rattle.policy_rules.specs.Placed.{is_in};
 ghost use Rattle.policy_rules.specs.declared.packet.Leg.TheVariants.{Seek as SeekLeg};
 ghost use Rattle.switch_core.specs.declared.answers.Arrived.TheVariants.{Answered};
 ghost use Rattle.switch_core.specs.Answering.{CanLookUp, IsAtAuthority, IsUncached, answer_by, arrived, arrived_on, decided_at, decided_in, entered, incoming, looked_up, packet_of};

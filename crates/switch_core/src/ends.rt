@@ -1,6 +1,6 @@
 ghost use Rattle.std.specs.Prelude.{◌≡◌, ℕ, unwrap_or};
 ghost use Rattle.std.specs.Option.{option_copied};
-ghost use Rattle.failover.specs.DownSet.{no_links};
+ghost use Rattle.failover.specs.Links.{no_links};
 ghost use Rattle.five_tuple.specs.declared.header.Header.{Header as HeaderValue};
 ghost use Rattle.switch_core.specs.Deciding.{packet_with};
 ghost use Rattle.switch_core.specs.Ends.{are_isolated, begun_by, cause_of, set_out};

@@ -1,6 +1,6 @@
 ghost use Rattle.std.specs.Prelude.{◌≡◌, IfOk, IsSomeAnd, IsTrue};
 ghost use Rattle.five_tuple.specs.Header.{IsHeader};
-ghost use Rattle.policy_rules.specs.Partitions.{is_in};
+ghost use Rattle.policy_rules.specs.Placed.{is_in};
 ghost use Rattle.switch_table.specs.Lookup.{lookup_of};
 ghost use Rattle.switch_table.specs.Tables.{AreSoundTables};
 ghost use Rattle.switch_core.specs.Deciding.{IsFirstHit, first_place, own_part, part_numbered};

@@ -4,13 +4,15 @@ use Rattle.std.specs.Bool.{IsTrue}
 use Rattle.std.specs.Option.{IfSome, IsSomeAnd}
 use Rattle.five_tuple.specs.Header.{number_of}
 use Rattle.five_tuple.specs.declared.header.Header.{Header}
-use Rattle.ternary.specs.Word.{any_word, holds}
+use Rattle.ternary.specs.Word.{holds}
+use Rattle.ternary.specs.Meets.{any_word}
 use Rattle.ternary.proofs.CallerLemmas.{any_holds, covers_reflexive}
-use Rattle.policy_rules.specs.Partitions.{LastCovers, is_in}
+use Rattle.policy_rules.specs.Partitions.{LastCovers}
 use Rattle.policy_rules.specs.declared.packet.Leg.TheVariants.{Seek}
 use Rattle.policy_rules.specs.declared.policy.Action.TheVariants.{Out}
 use Rattle.policy_rules.specs.declared.rules.Partition.{Partition}
 use Rattle.policy_rules.specs.declared.rules.Rule.{Rule}
+use Rattle.policy_rules.specs.Placed.{is_in}
 use Rattle.failover.specs.declared.advert.Advert.{Advert}
 use Rattle.switch_table.specs.Tables.{AreSoundTables}
 use Rattle.switch_table.specs.declared.tables.PartRow.{PartRow}

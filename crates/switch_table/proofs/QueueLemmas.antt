@@ -15,7 +15,7 @@ use Rattle.std.proofs.lemmas.List.Elements.{All-append, All-cons, All-drop, All-
 use Rattle.std.proofs.lemmas.List.Folds.{list_any-append, list_any-from_Any}
 use Rattle.std.proofs.lemmas.List.Kept.{AllPairs-filter}
 use Rattle.std.proofs.lemmas.List.Quantifiers.{all_pairs_push, all_pairs_remove}
-use Rattle.ternary.specs.Word.{word_eq}
+use Rattle.ternary.specs.Meets.{word_eq}
 use Rattle.switch_table.specs.Cache.{HaveDistinctKeys, same_key}
 use Rattle.switch_table.specs.Queue.{IsRing, Pair, equal_keys, key_of, pair_of, pairs_from, ring_entries, turned}
 use Rattle.switch_table.specs.declared.cache.CacheEntry.{CacheEntry}

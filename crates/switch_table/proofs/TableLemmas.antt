@@ -14,13 +14,14 @@ use Rattle.five_tuple.specs.Header.{IsHeader, number_of}
 use Rattle.five_tuple.specs.declared.header.Header.{Header}
 use Rattle.ternary.proofs.CallerLemmas.{covers_held}
 use Rattle.policy_rules.proofs.CallerLemmas.{find-position}
-use Rattle.policy_rules.specs.Partitions.{AreNumbered, AreSoundPartitions, LastCovers, is_in}
-use Rattle.policy_rules.specs.Policy.{scan}
+use Rattle.policy_rules.specs.Partitions.{AreNumbered, AreSoundPartitions, LastCovers}
+use Rattle.policy_rules.specs.Scan.{scan}
 use Rattle.policy_rules.specs.RuleList.{hit_of_rule}
 use Rattle.policy_rules.specs.Rules.{first_rule, is_held}
 use Rattle.policy_rules.specs.declared.policy.Row.{Row}
 use Rattle.policy_rules.specs.declared.rules.Partition.{Partition}
 use Rattle.policy_rules.specs.declared.rules.Rule.{Rule}
+use Rattle.policy_rules.specs.Placed.{is_in}
 use Rattle.switch_table.specs.Tables.{AreSoundTables, DecidesAll, Placed, part_of, row_of, row_has, has_target, tables_of}
 use Rattle.switch_table.specs.Lookup.{AllDecide, Decides, Leads, authority_of, redirect_of, lookup_in, plan_lookup, table_lookup}
 use Rattle.switch_table.specs.declared.tables.PartRow.{PartRow}

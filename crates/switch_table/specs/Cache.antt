@@ -2,7 +2,8 @@
 -- which they came.
 use Rattle.std.specs.Prelude.{ℕ, ◌≤◌, Bool, ◌&&◌, ◌||◌, ◌==◌, nat_lt, nat_le, if◌then◌else◌, Option, List, [], ◌∷◌, ◌++◌, length, drop, filter, remove, find, AllPairs, IsFalse}
 use Rattle.std.specs.List.{list_any}
-use Rattle.ternary.specs.Word.{holds, word_eq}
+use Rattle.ternary.specs.Word.{holds}
+use Rattle.ternary.specs.Meets.{word_eq}
 use Rattle.switch_table.specs.declared.cache.CacheEntry.{CacheEntry}
 
 -- the entries in order, and how many there may be

@@ -5,13 +5,14 @@ use Rattle.std.specs.Prelude.{ℕ, ◌≡◌, ◌^◌, ◌<◌, if◌then◌else
 use Rattle.std.specs.Option.{option_map_or}
 use Rattle.five_tuple.specs.Header.{IsHeader, number_of}
 use Rattle.five_tuple.specs.declared.header.Header.{Header}
-use Rattle.policy_rules.specs.Partitions.{AreSoundPartitions, LastCovers, is_in}
-use Rattle.policy_rules.specs.Policy.{scan}
+use Rattle.policy_rules.specs.Partitions.{AreSoundPartitions, LastCovers}
+use Rattle.policy_rules.specs.Scan.{scan}
 use Rattle.policy_rules.specs.RuleList.{hit_of_rule}
 use Rattle.policy_rules.specs.Rules.{is_held}
 use Rattle.policy_rules.specs.declared.policy.Row.{Row}
 use Rattle.policy_rules.specs.declared.rules.Partition.{Partition}
 use Rattle.policy_rules.specs.declared.rules.Rule.{Rule}
+use Rattle.policy_rules.specs.Placed.{is_in}
 use Rattle.switch_table.specs.Cache.{first_entry}
 use Rattle.switch_table.specs.Tables.{AreSoundTables, DecidesAll, Placed, has_target, part_of, row_has, tables_of}
 use Rattle.switch_table.specs.declared.cache.CacheEntry.{CacheEntry}

@@ -1,6 +1,6 @@
 -- Cache entries as a map holds them: each under its key, in a ring.
 use Rattle.std.specs.Prelude.{ℕ, ◌≡◌, ◌≤◌, Bool, ◌&&◌, ◌==◌, List, ◌++◌, length, map, filter, take, drop, nat_le, All}
-use Rattle.ternary.specs.Word.{word_eq}
+use Rattle.ternary.specs.Meets.{word_eq}
 use Rattle.switch_table.specs.Cache.{HaveDistinctKeys}
 use Rattle.switch_table.specs.declared.cache.CacheEntry.{CacheEntry}
 use Rattle.switch_table.specs.declared.queue.CacheKey.{CacheKey}

@@ -6,10 +6,11 @@ use Rattle.std.specs.List.{list_any}
 use Rattle.five_tuple.specs.Header.{IsHeader, number_of}
 use Rattle.five_tuple.specs.declared.header.Header.{Header}
 use Rattle.ternary.specs.Word.{holds}
-pub use Rattle.policy_rules.specs.Partitions.{Placed}
-use Rattle.policy_rules.specs.Partitions.{LastCovers, is_in}
+pub use Rattle.policy_rules.specs.Placed.{Placed}
+use Rattle.policy_rules.specs.Partitions.{LastCovers}
 use Rattle.policy_rules.specs.Rules.{first_rule}
 use Rattle.policy_rules.specs.declared.rules.Partition.{Partition}
+use Rattle.policy_rules.specs.Placed.{is_in}
 use Rattle.switch_table.specs.declared.tables.PartRow.{PartRow}
 use Rattle.switch_table.specs.declared.tables.Tables.{Tables}
 

@@ -11,11 +11,12 @@ use Rattle.ctrl_msg.specs.declared.message.Body.{Body}
 use Rattle.ctrl_msg.specs.declared.message.Body.TheVariants.{Install}
 use Rattle.five_tuple.specs.declared.header.Header.{Header}
 use Rattle.partition.specs.Plan.{IsPlan}
-use Rattle.policy_rules.specs.Partitions.{AreNumbered, is_in}
+use Rattle.policy_rules.specs.Partitions.{AreNumbered}
 use Rattle.policy_rules.specs.declared.packet.Leg.{Leg}
 use Rattle.policy_rules.specs.declared.packet.Leg.TheVariants.{Seek, Exit}
 use Rattle.policy_rules.specs.declared.policy.Row.{Row}
 use Rattle.policy_rules.specs.declared.rules.Partition.{Partition}
+use Rattle.policy_rules.specs.Placed.{is_in}
 use Rattle.journal.specs.declared.item.Item.{Item}
 use Rattle.switch_core.specs.Answering.{CanLookUp, IsAtAuthority}
 use Rattle.switch_core.specs.Deciding.{own_part}

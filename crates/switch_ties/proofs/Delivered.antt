@@ -10,8 +10,9 @@ use Rattle.ctrl_msg.specs.declared.message.Body.TheVariants.{Install, OpenAt, St
 use Rattle.ctrl_msg.specs.declared.message.Message.{Message}
 use Rattle.masks.specs.Masks.{has, switches}
 use Rattle.failover.specs.declared.advert.Advert.{Advert}
-use Rattle.net_file.specs.Net.{IsLink, IsNet, are_linked}
+use Rattle.net_file.specs.Net.{IsLink, IsNet}
 use Rattle.net_file.specs.declared.net.LinkRow.{LinkRow}
+use Rattle.net_file.specs.Joins.{are_linked}
 use Rattle.policy_rules.proofs.CallerLemmas.{filter_more}
 use Rattle.journal.specs.declared.item.Item.{Item}
 use Rattle.journal.specs.declared.item.Item.TheVariants as item

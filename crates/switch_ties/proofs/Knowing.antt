@@ -11,16 +11,17 @@ use Rattle.std.proofs.lemmas.Option.{get_or_from_slice_get, slice_get_within}
 use Rattle.ctrl_msg.specs.declared.message.Body.{Body}
 use Rattle.ctrl_msg.specs.declared.message.Body.TheVariants.{Install}
 use Rattle.five_tuple.specs.declared.header.Header.{Header}
-use Rattle.partition.specs.Plan.{IsPlan, NoPlan, plan_of}
+use Rattle.partition.specs.Plan.{IsPlan, plan_of}
 use Rattle.partition.proofs.CallerLemmas.{plan_holds}
 use Rattle.policy_rules.specs.Policy.{IsPolicy}
 use Rattle.policy_rules.specs.declared.policy.Row.{Row}
+use Rattle.policy_rules.specs.Placed.{NoPlan}
 use Rattle.journal.specs.declared.item.Item.{Item}
 use Rattle.switch_core.specs.State.{SwitchValue, held_tables, holds_version, no_tables, stamp_tables}
 use Rattle.switch_table.specs.Tables.{AreSoundTables, Placed}
 use Rattle.switch_table.specs.declared.tables.Tables.{Tables}
 use Rattle.switch_table.proofs.TableLemmas.{find-there, tables_are_sound}
-use Rattle.failover.specs.Links.{is_isolated}
+use Rattle.failover.specs.Isolated.{is_isolated}
 use Rattle.failover.specs.Routes.{route_of}
 use Rattle.switch_table.specs.Lookup.{lookup_of}
 use Rattle.update_machine.specs.Adverts.{is_cut_off, route_from}

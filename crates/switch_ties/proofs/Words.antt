@@ -5,7 +5,7 @@ use Rattle.std.specs.List.{list_any}
 use Rattle.ctrl_msg.specs.declared.message.Body.{Body}
 use Rattle.failover.specs.Adverts.{after_hearing_all, first_adverts, no_adverts}
 use Rattle.failover.specs.declared.advert.Advert.{Advert}
-use Rattle.net_file.specs.Net.{links_of}
+use Rattle.net_file.specs.Owners.{links_of}
 use Rattle.journal.specs.declared.item.Item.{Item}
 use Rattle.switch_core.specs.State.{SwitchValue}
 use Rattle.switch_table.specs.Cache.{CacheValue}

@@ -1,6 +1,6 @@
 -- What a switch has and knows: the tables of its versions, what they say of headers, and routes.
 use Rattle.std.specs.Prelude.{ℕ, ◌≡◌, if◌then◌else◌, Some, None, List, IsTrue}
-use Rattle.failover.specs.Links.{is_isolated}
+use Rattle.failover.specs.Isolated.{is_isolated}
 use Rattle.failover.specs.Routes.{route_of}
 use Rattle.five_tuple.specs.declared.header.Header.{Header}
 use Rattle.journal.specs.declared.item.Item.{Item}

@@ -6,7 +6,8 @@ use Rattle.std.specs.Int.{w128, bit_at, trailing_zeros}
 use Rattle.std.proofs.lemmas.Bool.{cases_lt, cases_Bool, eqb-true}
 use Rattle.std.proofs.lemmas.List.Folds.{list_all_more, list_any_more}
 use Rattle.std.proofs.lemmas.Nat.Bits.{bit_at-lt, bit_at-zero, bit_at_and, bit_at_or, bit_at_ones, bit_at-trailing_zeros}
-use Rattle.ternary.specs.Word.{WordValue, is_fixed_of}
+use Rattle.ternary.specs.Word.{WordValue}
+use Rattle.ternary.specs.Meets.{is_fixed_of}
 use Rattle.cut_tree.specs.Cuts.{IsFreeBit}
 use Rattle.table_tree.specs.Cutting.{IsLowest, IsLeastFree, NoneFree}
 use Rattle.table_tree.specs.Regions.{all_fix, some_fix}

@@ -8,11 +8,13 @@ use Rattle.policy_rules.proofs.CallerLemmas.{at_item}
 use Rattle.std.proofs.lemmas.List.Elements.{All-nil, All-cons, All-head, All-tail, All-filter, filter_passes}
 use Rattle.std.proofs.lemmas.List.Sums.{sum_by-cons}
 use Rattle.std.proofs.lemmas.Nat.Bits.{bit_at_above}
-use Rattle.five_tuple.specs.Header.{IsHeader, header_numbered}
+use Rattle.five_tuple.specs.Header.{IsHeader}
 use Rattle.five_tuple.specs.Laws.{HeaderLaws}
 use Rattle.five_tuple.specs.declared.header.Header.{Header}
+use Rattle.five_tuple.specs.HeaderNumbers.{header_numbered}
 use Rattle.ternary.specs.Laws.{HoldsLaws, MeetLaws}
-use Rattle.ternary.specs.Word.{WordValue, IsWord, any_word, fix_of, holds, is_fixed_of, meets, meet_of}
+use Rattle.ternary.specs.Word.{WordValue, IsWord, holds}
+use Rattle.ternary.specs.Meets.{any_word, fix_of, is_fixed_of, meets, meet_of}
 use Rattle.ternary.proofs.CallerLemmas.{any_covers, fix_holds, fix_word, free_bits_shorter, is_some-meet_of, meet_both, meet_disjoint, meet_word, meets_cover}
 use Rattle.switch_table.specs.Tables.{row_has}
 use Rattle.switch_table.specs.declared.tables.PartRow.{PartRow}

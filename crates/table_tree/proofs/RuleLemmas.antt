@@ -7,7 +7,8 @@ use Rattle.std.specs.Option.{option_map, option_map_or}
 use Rattle.std.proofs.lemmas.Bool.{cases_Bool, cases_lt, cases_eq, both_ways, eqb-true, eq-eqb, lt-ltb, le-ltb, le-leb, lt-leb}
 use Rattle.std.proofs.lemmas.List.Elements.{All-nil, All-cons, All-head, All-tail, All-same}
 use Rattle.std.proofs.lemmas.Nat.Bits.{bit_at-lt}
-use Rattle.ternary.specs.Word.{WordValue, covers_of, fix_of, holds, joined, meets}
+use Rattle.ternary.specs.Word.{WordValue, holds}
+use Rattle.ternary.specs.Meets.{covers_of, fix_of, joined, meets}
 use Rattle.ternary.proofs.CallerLemmas.{meet_both}
 use Rattle.policy_rules.specs.Rules.{is_held}
 use Rattle.policy_rules.specs.declared.rules.Rule.{Rule}

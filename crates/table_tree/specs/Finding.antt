@@ -3,7 +3,8 @@
 -- bits is this project's own.
 use Rattle.std.specs.Prelude.{⊤, ℕ, ◌≡◌, ◌≢◌, ◌⊎◌, ◌<◌, ◌==◌, if◌then◌else◌, true, false, List, All, length, map}
 use Rattle.std.specs.Int.{bit_at}
-use Rattle.ternary.specs.Word.{WordValue, any_word, fix_of}
+use Rattle.ternary.specs.Word.{WordValue}
+use Rattle.ternary.specs.Meets.{any_word, fix_of}
 use Rattle.switch_table.specs.Tables.{AreSoundTables}
 use Rattle.switch_table.specs.declared.tables.PartRow.{PartRow}
 use Rattle.switch_table.specs.declared.tables.Tables.{Tables}

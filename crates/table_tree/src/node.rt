@@ -1,5 +1,5 @@
 ghost use Rattle.std.specs.Prelude.{Bool, ◌≡◌, ◌^◌, ◌<◌, IfOk, filter, length};
-ghost use Rattle.ternary.specs.Word.{any_word, fix_of, meets};
+ghost use Rattle.ternary.specs.Meets.{any_word, fix_of, meets};
 ghost use Rattle.cut_tree.specs.Cuts.{IsFreeBit};
 ghost use Rattle.table_tree.specs.Regions.{AreRegions, meets_region, side_of, spots_of};
 

@@ -8,7 +8,8 @@ use Rattle.std.proofs.lemmas.List.Elements.{All-nil, All-cons, All-weaker, All-c
 use Rattle.std.proofs.lemmas.List.FromFn.{length-range_with_len, get_or-range_with_len}
 use Rattle.std.proofs.lemmas.List.Kept.{IsStrictlyIncreasing-filter}
 use Rattle.std.proofs.lemmas.Nat.Bits.{bit_at-zero, bit_at_ones}
-use Rattle.ternary.specs.Word.{WordValue, any_word, exact_word, is_fixed_of, fix_of, free_bits}
+use Rattle.ternary.specs.Word.{WordValue}
+use Rattle.ternary.specs.Meets.{any_word, exact_word, is_fixed_of, fix_of, free_bits}
 use Rattle.ternary.proofs.WordLemmas.{is_fixed_decides, fix_fixed, fix_other}
 
 -- ---- words of no fixed bit, and of no free bit

@@ -1,6 +1,6 @@
 ghost use Rattle.std.specs.Prelude.{◌≡◌, IfOk, unwrap_or};
 ghost use Rattle.std.specs.Option.{option_copied};
-ghost use Rattle.failover.specs.DownSet.{no_links};
+ghost use Rattle.failover.specs.Links.{no_links};
 ghost use Rattle.travelling.specs.Travelling.{standing_at};
 
 use crate::travelling::Traveller;

@@ -5,7 +5,8 @@ use Rattle.std.specs.Int.{bit_at}
 use Rattle.std.specs.List.{count_by}
 use Rattle.std.proofs.lemmas.Nat.Bits.{bit_at-lt}
 use Rattle.five_tuple.specs.Header.{number_of}
-use Rattle.ternary.specs.Word.{any_word, fix_of, holds, is_fixed_of}
+use Rattle.ternary.specs.Word.{holds}
+use Rattle.ternary.specs.Meets.{any_word, fix_of, is_fixed_of}
 use Rattle.ternary.proofs.CallerLemmas.{any_holds, any_unfixed, fix_holds}
 use Rattle.switch_table.specs.Tables.{AreSoundTables}
 use Rattle.switch_table.specs.declared.tables.PartRow.{PartRow}

@@ -3,7 +3,7 @@ use Rattle.std.specs.Prelude.{ℕ, ◌+◌, Option, Some, None, List, slice_get,
 use Rattle.five_tuple.specs.declared.header.Header.{Header}
 use Rattle.policy_rules.specs.declared.packet.Leg.{Leg}
 use Rattle.failover.specs.declared.advert.Advert.{Advert}
-use Rattle.failover.specs.DownSet.{with_link}
+use Rattle.failover.specs.Links.{with_link}
 use Rattle.failover.specs.Routes.{route_of}
 use Rattle.tunnel.specs.Tunnel.{TunnelValue}
 

@@ -27,10 +27,11 @@ use Rattle.update_machine.specs.Ways.{route_in, route_place, next_switch, found_
 use Rattle.update_machine.specs.LinkMasks.{near}
 use Rattle.masks.specs.Masks.{has, mask_where, mask_of, switches, least_in}
 use Rattle.failover.specs.Adverts.{is_news, after_hearing, first_adverts}
-use Rattle.failover.specs.Links.{names, told_links, is_link, known_links, is_isolated}
+use Rattle.failover.specs.Links.{told_links, is_link, known_links, has_link, with_link}
 use Rattle.failover.specs.Routes.{wider, ball, nearer, onward, links_away, route_to, first_route, route_of}
-use Rattle.failover.specs.DownSet.{has_link, with_link}
-use Rattle.ternary.specs.Word.{holds, meets, meet_of, covers_of, is_fixed_of, free_of}
+use Rattle.failover.specs.Isolated.{names, is_isolated}
+use Rattle.ternary.specs.Word.{holds}
+use Rattle.ternary.specs.Meets.{meets, meet_of, covers_of, is_fixed_of, free_of}
 use Rattle.cache_maker.specs.Independent.{is_apart, is_independent, widen, widened}
 use Rattle.switch_table.specs.Cache.{same_key}
 

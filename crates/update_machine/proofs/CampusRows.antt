@@ -9,7 +9,7 @@ use Rattle.update_machine.specs.Answers.{after_steps}
 use Rattle.update_machine.proofs.Examples.{advert, at, by_action, leaving, link, on, out_or_drop, rule, switch, to, to_controller, tables_of}
 use Rattle.std.proofs.Common.{List}
 use Rattle.std.specs.Prelude.{Ok, codes}
-use Rattle.five_tuple.specs.Header.{header_of}
+use Rattle.five_tuple.specs.HeaderNumbers.{header_of}
 use Rattle.five_tuple.specs.declared.header.Header.{Header}
 use Rattle.ternary.specs.Word.{WordValue}
 use Rattle.net_file.specs.declared.net.Net.{Net}
@@ -37,10 +37,11 @@ use Rattle.update_machine.specs.Ways.{route_in, route_place, next_switch, found_
 use Rattle.update_machine.specs.LinkMasks.{near}
 use Rattle.masks.specs.Masks.{has, mask_where, mask_of, switches, least_in}
 use Rattle.failover.specs.Adverts.{is_news, after_hearing, first_adverts}
-use Rattle.failover.specs.Links.{names, told_links, is_link, known_links, is_isolated}
+use Rattle.failover.specs.Links.{told_links, is_link, known_links, has_link, with_link}
 use Rattle.failover.specs.Routes.{wider, ball, nearer, onward, links_away, route_to, first_route, route_of}
-use Rattle.failover.specs.DownSet.{has_link, with_link}
-use Rattle.ternary.specs.Word.{holds, meets, meet_of, covers_of, is_fixed_of, free_of}
+use Rattle.failover.specs.Isolated.{names, is_isolated}
+use Rattle.ternary.specs.Word.{holds}
+use Rattle.ternary.specs.Meets.{meets, meet_of, covers_of, is_fixed_of, free_of}
 use Rattle.cache_maker.specs.Independent.{is_apart, is_independent, widen, widened}
 use Rattle.switch_table.specs.Cache.{same_key}
 

@@ -7,14 +7,15 @@ use Rattle.std.specs.Option.{option_map_or}
 use Rattle.std.proofs.lemmas.Bool.{cases_eq, cases_lt, false_from_ne_true, or_left, or_right}
 use Rattle.std.proofs.lemmas.Bool.Decides.{nat_tests}
 use Rattle.std.proofs.lemmas.List.{set_past}
-use Rattle.failover.specs.DownSet.{has_link, no_links, with_link}
+use Rattle.failover.specs.Links.{has_link, no_links, with_link}
 use Rattle.failover.proofs.Balls.{or_cases}
 use Rattle.failover.proofs.LinkSets.{has_link-none}
 use Rattle.masks.specs.Masks.{has}
 use Rattle.masks.proofs.CallerLemmas.{has_mask, has-or, has-pow_other}
-use Rattle.net_file.specs.Net.{are_linked, joins}
-use Rattle.partition.specs.Plan.{NoPlan, Placed}
+use Rattle.net_file.specs.Joins.{are_linked, joins}
+use Rattle.partition.specs.Plan.{Placed}
 use Rattle.policy_rules.specs.declared.policy.Row.{Row}
+use Rattle.policy_rules.specs.Placed.{NoPlan}
 use Rattle.journal.specs.declared.item.Item.{Item}
 use Rattle.journal.specs.declared.item.Item.TheVariants as item
 use Rattle.update_machine.specs.Causes.{finds_down}

@@ -1,19 +1,20 @@
 -- Small networks, policies and messages on which the definitions are tried.
 use Rattle.std.proofs.Common.{ℕ, Some, None, List, [], ◌∷◌, ◌++◌, Option, ◌-◌, ◌^◌}
 use Rattle.std.specs.Prelude.{Ok, Err, Result, codes, replicate}
-use Rattle.five_tuple.specs.Header.{header_of}
+use Rattle.five_tuple.specs.HeaderNumbers.{header_of}
 use Rattle.five_tuple.specs.declared.header.Header.{Header}
 use Rattle.five_tuple.specs.declared.matching.Proto.TheVariants.{Any}
 use Rattle.ternary.specs.Word.{WordValue}
 use Rattle.net_file.specs.declared.net.Net.{Net}
 use Rattle.net_file.specs.declared.net.LinkRow.{LinkRow}
 use Rattle.net_file.specs.declared.net.SwitchRow.{SwitchRow}
-use Rattle.partition.specs.Plan.{NoPlan, Placed, TooManyLeaves}
+use Rattle.partition.specs.Plan.{Placed}
 use Rattle.policy_rules.specs.declared.rules.Rule.{Rule}
 use Rattle.policy_rules.specs.declared.packet.Leaving.{Leaving}
 use Rattle.policy_rules.specs.declared.policy.Action.{Action}
 use Rattle.policy_rules.specs.declared.policy.Action.TheVariants.{Drop, Out}
 use Rattle.policy_rules.specs.declared.policy.Row.{Row}
+use Rattle.policy_rules.specs.Placed.{NoPlan, TooManyLeaves}
 use Rattle.ctrl_msg.specs.declared.message.Body.{Body}
 use Rattle.ctrl_msg.specs.declared.message.Body.TheVariants.{Advertise}
 use Rattle.ctrl_msg.specs.declared.message.Message.{Message}

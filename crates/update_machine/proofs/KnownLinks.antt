@@ -4,16 +4,18 @@ use Rattle.std.specs.Prelude.{◌↔◌, ◌==◌, IsTrue, if◌then◌else◌, 
 use Rattle.std.specs.List.{AllByRecursion}
 use Rattle.std.proofs.lemmas.List.{map-set}
 use Rattle.std.proofs.lemmas.Bool.Decides.{nat_tests}
-use Rattle.failover.specs.Adverts.{AreByOrigin, IsNewest, after_hearing, after_hearing_all, first_adverts, held, no_adverts}
-use Rattle.failover.specs.Links.{is_link, known_links, link_row, neighbours_told, told_links}
-use Rattle.failover.specs.Paths.{IsIsolated, IsPath, IsReachable, IsRoute, Leads}
+use Rattle.failover.specs.Adverts.{after_hearing, after_hearing_all, first_adverts, held, no_adverts}
+use Rattle.failover.specs.Links.{is_link, known_links, link_row, neighbours_told, told_links, IsPath, IsReachable, Leads}
+use Rattle.failover.specs.Paths.{IsIsolated, IsRoute}
 use Rattle.failover.specs.declared.advert.Advert.{Advert}
+use Rattle.failover.specs.Newest.{AreByOrigin, IsNewest}
 use Rattle.failover.proofs.Adverts.{by_origin-first, by_origin-hearing, by_origin-none}
 use Rattle.failover.proofs.Newest.{held_newest}
 use Rattle.failover.proofs.Rows.{has_known, isolated_tells}
 use Rattle.failover.proofs.Searching.{known_route_is_route}
 use Rattle.masks.specs.Masks.{has, switches}
-use Rattle.net_file.specs.Net.{links_of, owner_of}
+use Rattle.net_file.specs.Joins.{owner_of}
+use Rattle.net_file.specs.Owners.{links_of}
 use Rattle.policy_rules.specs.declared.packet.Leg.TheVariants.{Exit}
 use Rattle.policy_rules.specs.declared.policy.Action.TheVariants.{Out}
 use Rattle.journal.specs.declared.item.Item.{Item}

@@ -7,7 +7,6 @@ use Rattle.journal.specs.declared.item.Item.{Item}
 use Rattle.journal.specs.declared.item.Item.TheVariants as item
 use Rattle.update_machine.specs.Answers.{after_steps}
 use Rattle.update_machine.proofs.Examples.{advert, at, one, open_net, ring, to}
-use Rattle.failover.specs.DownSet.{no_links}
 -- ---- names that compute
 use Rattle.update_machine.specs.Adverts.{own_seq, own_advert, adverts_known, held_adverts, route_from, is_cut_off}
 use Rattle.update_machine.specs.Boots.{boot_of, is_up, heard}
@@ -30,10 +29,11 @@ use Rattle.update_machine.specs.Ways.{route_in, route_place, next_switch, found_
 use Rattle.update_machine.specs.LinkMasks.{near}
 use Rattle.masks.specs.Masks.{has, mask_where, mask_of, switches, least_in}
 use Rattle.failover.specs.Adverts.{is_news, after_hearing, first_adverts}
-use Rattle.failover.specs.Links.{names, told_links, is_link, known_links, is_isolated}
+use Rattle.failover.specs.Links.{told_links, is_link, known_links, has_link, with_link, no_links}
 use Rattle.failover.specs.Routes.{wider, ball, nearer, onward, links_away, route_to, first_route, route_of}
-use Rattle.failover.specs.DownSet.{has_link, with_link}
-use Rattle.ternary.specs.Word.{holds, meets, meet_of, covers_of, is_fixed_of, free_of}
+use Rattle.failover.specs.Isolated.{names, is_isolated}
+use Rattle.ternary.specs.Word.{holds}
+use Rattle.ternary.specs.Meets.{meets, meet_of, covers_of, is_fixed_of, free_of}
 use Rattle.cache_maker.specs.Independent.{is_apart, is_independent, widen, widened}
 use Rattle.switch_table.specs.Cache.{same_key}
 

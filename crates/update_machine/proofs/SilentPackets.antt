@@ -1,7 +1,7 @@
 -- Items that don't concern a packet leave its words as they are.
 use Rattle.std.proofs.Common.{ℕ, ◌≡◌, false, Option, None, List, [], ◌++◌, refl, ap}
 use Rattle.std.specs.Prelude.{IsFalse, unwrap_or}
-use Rattle.failover.specs.DownSet.{no_links}
+use Rattle.failover.specs.Links.{no_links}
 use Rattle.policy_rules.specs.declared.packet.Leg.{Leg}
 use Rattle.journal.specs.declared.item.Item.{Item}
 use Rattle.journal.specs.declared.item.Item.TheVariants as item

@@ -3,7 +3,7 @@ use Rattle.std.proofs.Common.{ℕ, ◌≡◌, Bool, true, None, List, [], ◌∷
 use Rattle.std.specs.Prelude.{IsFalse, filter, unwrap_or}
 use Rattle.ctrl_msg.specs.declared.message.Body.{Body}
 use Rattle.switch_table.specs.Cache.{CacheValue}
-use Rattle.net_file.specs.Net.{links_of}
+use Rattle.net_file.specs.Owners.{links_of}
 use Rattle.net_file.specs.declared.net.LinkRow.{LinkRow}
 use Rattle.journal.specs.declared.item.Item.{Item}
 use Rattle.journal.specs.declared.item.Item.TheVariants as item

@@ -7,7 +7,7 @@ use Rattle.std.proofs.lemmas.List.FromFn.{get_or-map-range_with_len}
 use Rattle.failover.specs.Adverts.{first_advert, first_adverts, first_of}
 use Rattle.failover.proofs.Adverts.{held-first}
 use Rattle.five_tuple.specs.declared.header.Header.{Header}
-use Rattle.net_file.specs.Net.{links_of}
+use Rattle.net_file.specs.Owners.{links_of}
 use Rattle.switch_table.specs.Lookup.{table_lookup}
 use Rattle.net_file.specs.declared.net.LinkRow.{LinkRow}
 use Rattle.update_machine.specs.Adverts.{adverts_known, own_advert, own_seq}

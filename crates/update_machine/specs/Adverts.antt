@@ -2,7 +2,7 @@
 -- section 13.1); the routes that they find.
 use Rattle.std.specs.Prelude.{ℕ, ◌+◌, Bool, true, false, not, ◌&&◌, ◌==◌, if◌then◌else◌, Option, Some, None, List, ◌++◌, count_by, filter_map, slice_set}
 use Rattle.failover.specs.Adverts.{held}
-use Rattle.failover.specs.Links.{is_isolated}
+use Rattle.failover.specs.Isolated.{is_isolated}
 use Rattle.masks.specs.Masks.{switches}
 use Rattle.failover.specs.Routes.{route_of}
 use Rattle.failover.specs.declared.advert.Advert.{Advert}

@@ -3,8 +3,8 @@
 use Rattle.std.specs.Prelude.{⊤, ℕ, ◌≡◌, ◌⊎◌, Bool, false, not, ◌&&◌, ◌||◌, ◌==◌, Option, Some, None, option_to_list, List, [], ◌∷◌, ◌++◌, All, Contains, IsTrue, IsFalse}
 use Rattle.std.specs.List.{list_any}
 use Rattle.five_tuple.specs.declared.header.Header.{Header}
-use Rattle.net_file.specs.Net.{owner_of}
-use Rattle.policy_rules.specs.Partitions.{Placed, is_in}
+use Rattle.net_file.specs.Joins.{owner_of}
+use Rattle.policy_rules.specs.Placed.{Placed, is_in}
 use Rattle.policy_rules.specs.declared.packet.Leaving.{Leaving}
 use Rattle.policy_rules.specs.declared.packet.Leg.{Leg}
 use Rattle.policy_rules.specs.declared.packet.Leg.TheVariants.{Seek, Exit}

@@ -1,8 +1,8 @@
 -- The causes of what packets find, as the functions say that give their routes.
 use Rattle.std.specs.Prelude.{ℕ, ◌≡◌, Some, List, find, option_map, All, IsFalse}
-use Rattle.failover.specs.Paths.{IsReachable}
+use Rattle.failover.specs.Links.{IsReachable}
 use Rattle.masks.specs.Masks.{has}
-use Rattle.policy_rules.specs.Partitions.{is_in}
+use Rattle.policy_rules.specs.Placed.{is_in}
 use Rattle.policy_rules.specs.declared.packet.Leg.{Leg}
 use Rattle.policy_rules.specs.declared.packet.Leg.TheVariants.{Seek, Exit}
 use Rattle.policy_rules.specs.declared.policy.Action.TheVariants.{Out}

@@ -1,10 +1,12 @@
 -- The laws of words over journals: each is ensured by a function of the crate that has no body.
 use Rattle.std.specs.Prelude.{ℕ, ◌≡◌, ◌≢◌, ◌<◌, ◌≤◌, ◌↔◌, true, false, ◌==◌, if◌then◌else◌, Some, None, option_to_list, IsTrue, List, [], ◌∷◌, ◌++◌, length, map}
-use Rattle.failover.specs.Adverts.{IsNewest, first_advert, first_adverts, held}
-use Rattle.failover.specs.DownSet.{no_links}
+use Rattle.failover.specs.Adverts.{first_advert, first_adverts, held}
+use Rattle.failover.specs.Links.{no_links}
 use Rattle.failover.specs.Paths.{IsIsolated, IsRoute}
+use Rattle.failover.specs.Newest.{IsNewest}
 use Rattle.five_tuple.specs.declared.header.Header.{Header}
-use Rattle.net_file.specs.Net.{links_of, owner_of}
+use Rattle.net_file.specs.Joins.{owner_of}
+use Rattle.net_file.specs.Owners.{links_of}
 use Rattle.policy_rules.specs.declared.packet.Leg.TheVariants.{Exit}
 use Rattle.policy_rules.specs.declared.policy.Action.TheVariants.{Out}
 use Rattle.switch_table.specs.Lookup.{table_lookup}

@@ -1,7 +1,7 @@
 -- Which links a switch knows, as masks: its own that it can use, and of others those that both ends
 -- tell of by the newest advert that it heard (RFC 2328, sections 13.1 and 16.1).
 use Rattle.std.specs.Prelude.{ℕ, ◌==◌, if◌then◌else◌, Option, Some, None, List, filter, length, map, filter_map}
-use Rattle.net_file.specs.Net.{links_of}
+use Rattle.net_file.specs.Owners.{links_of}
 use Rattle.net_file.specs.declared.net.LinkRow.{LinkRow}
 use Rattle.journal.specs.declared.item.Item.{Item}
 use Rattle.update_machine.specs.Boots.{heard, is_in_first_boot}

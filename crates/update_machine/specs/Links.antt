@@ -11,7 +11,7 @@ use Rattle.ctrl_msg.specs.declared.message.Body.TheVariants.{Advertise}
 use Rattle.ctrl_msg.specs.declared.message.Message.{Message}
 use Rattle.ctrl_msg.specs.declared.message.Receiver.{Receiver}
 use Rattle.ctrl_msg.specs.declared.message.Receiver.TheVariants as receiver
-use Rattle.net_file.specs.Net.{are_linked, joins}
+use Rattle.net_file.specs.Joins.{are_linked, joins}
 use Rattle.net_file.specs.declared.net.LinkRow.{LinkRow}
 use Rattle.journal.specs.declared.item.Item.{Item}
 use Rattle.journal.specs.declared.item.Item.TheVariants as item

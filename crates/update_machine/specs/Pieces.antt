@@ -6,7 +6,7 @@ use Rattle.std.specs.List.{flat_map}
 use Rattle.ctrl_msg.specs.declared.message.Body.TheVariants.{Hello}
 use Rattle.ctrl_msg.specs.declared.message.Message.{Message}
 use Rattle.five_tuple.specs.declared.header.Header.{Header}
-use Rattle.partition.specs.Plan.{NoPlan, TooManyWords, TooManyLeaves, NoRoom}
+use Rattle.policy_rules.specs.Placed.{NoPlan, TooManyWords, TooManyLeaves, NoRoom}
 use Rattle.journal.specs.declared.item.Item.{Item}
 use Rattle.journal.specs.declared.item.Item.TheVariants as item
 use Rattle.steps.specs.declared.step.Step.{Step}

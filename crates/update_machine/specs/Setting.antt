@@ -2,11 +2,13 @@
 use Rattle.std.specs.Prelude.{ℕ, ◌-◌, ◌==◌, if◌then◌else◌, Option, Some, None, Result, Ok, Err, List, length, slice_get, ⊤, ◌≡◌, ◌⊎◌, Contains, is_some, IsOk, IsTrue, All}
 use Rattle.std.specs.List.{range_with_len}
 use Rattle.net_file.specs.declared.net.Net.{Net}
-use Rattle.net_file.specs.Net.{IsNet, owner_of}
-use Rattle.partition.specs.Plan.{NoPlan, Placed, TooManyLeaves, plan_of}
+use Rattle.net_file.specs.Net.{IsNet}
+use Rattle.net_file.specs.Joins.{owner_of}
+use Rattle.partition.specs.Plan.{Placed, plan_of}
 use Rattle.policy_rules.specs.declared.policy.Row.{Row}
 use Rattle.policy_rules.specs.Policy.{IsPolicy}
 use Rattle.policy_rules.specs.declared.policy.Action.{Action}
+use Rattle.policy_rules.specs.Placed.{NoPlan, TooManyLeaves}
 use Rattle.policy_rules.specs.declared.policy.Action.TheVariants as action
 use Rattle.journal.specs.declared.item.Item.{Item}
 use Rattle.journal.specs.declared.item.Item.TheVariants as item

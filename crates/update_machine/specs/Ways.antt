@@ -2,8 +2,8 @@
 -- They come in at an ingress switch, seek an authority switch and exit by a switch of their port, as
 -- in Yu, Rexford, Freedman and Wang, "Scalable Flow-Based Networking with DIFANE", SIGCOMM 2010.
 use Rattle.std.specs.Prelude.{ℕ, ◌+◌, ◌==◌, if◌then◌else◌, Option, Some, None, option_map, unwrap_or, List, [], ◌∷◌, slice_get}
-use Rattle.failover.specs.DownSet.{no_links, with_link}
-use Rattle.net_file.specs.Net.{owner_of}
+use Rattle.failover.specs.Links.{no_links, with_link}
+use Rattle.net_file.specs.Joins.{owner_of}
 use Rattle.policy_rules.specs.declared.packet.Leg.{Leg}
 use Rattle.policy_rules.specs.declared.packet.Leg.TheVariants.{Seek, Exit}
 use Rattle.switch_table.specs.Tables.{Placed}

@@ -6,8 +6,9 @@ use Rattle.ctrl_msg.specs.declared.message.Body.TheVariants.{Hello}
 use Rattle.ctrl_msg.specs.declared.message.Message.{Message}
 use Rattle.failover.specs.declared.advert.Advert.{Advert}
 use Rattle.masks.specs.Masks.{has, mask_of}
-use Rattle.net_file.specs.Net.{joins, links_of}
+use Rattle.net_file.specs.Joins.{joins}
 use Rattle.net_file.specs.declared.net.Net.{Net}
+use Rattle.net_file.specs.Owners.{links_of}
 use Rattle.steps.specs.declared.step.Step.{Step}
 use Rattle.steps.specs.declared.step.Step.TheVariants.{LinkDown, LinkUp}
 use Rattle.switch_core.specs.Life.{near_changed, next_advert}

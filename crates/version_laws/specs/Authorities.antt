@@ -4,8 +4,8 @@
 use Rattle.std.specs.Prelude.{ℕ, ◌≡◌, nat_eq, Some, List, slice_get, IsTrue}
 use Rattle.std.specs.List.{list_any}
 use Rattle.five_tuple.specs.declared.header.Header.{Header}
-use Rattle.net_file.specs.Net.{owner_of}
-use Rattle.policy_rules.specs.Partitions.{is_in}
+use Rattle.net_file.specs.Joins.{owner_of}
+use Rattle.policy_rules.specs.Placed.{is_in}
 use Rattle.policy_rules.specs.declared.packet.Leg.{Leg}
 use Rattle.policy_rules.specs.declared.packet.Leg.TheVariants.{Seek, Exit}
 use Rattle.switch_table.specs.Tables.{Placed, part_of}

@@ -6,15 +6,16 @@ use Rattle.std.specs.Prelude.{All, Contains, IsTrue, IsFalse, Ok, Result, ◌⊎
 use Rattle.std.proofs.lemmas.Bool.{eqb-true}
 use Rattle.std.proofs.lemmas.Bool.Decides.{nat_tests}
 use Rattle.std.proofs.lemmas.List.Elements.{All-from_recursion}
-use Rattle.failover.specs.DownSet.{no_links}
+use Rattle.failover.specs.Links.{no_links}
 use Rattle.five_tuple.specs.Header.{number_of}
 use Rattle.masks.specs.Masks.{has, mask_where, mask_of, switches}
-use Rattle.partition.specs.Plan.{NoPlan, Placed}
+use Rattle.partition.specs.Plan.{Placed}
 use Rattle.policy_rules.specs.declared.packet.Cause.TheVariants.{NoAuthority, NoRoute}
 use Rattle.policy_rules.specs.declared.packet.How.TheVariants.{Authority}
 use Rattle.policy_rules.specs.declared.packet.Leg.TheVariants.{Seek, Exit}
 use Rattle.policy_rules.specs.declared.policy.Action.TheVariants.{Drop, Out}
 use Rattle.policy_rules.specs.declared.rules.Rule.{Rule}
+use Rattle.policy_rules.specs.Placed.{NoPlan}
 use Rattle.ternary.specs.Word.{holds}
 use Rattle.journal.specs.declared.item.Item.{Item}
 use Rattle.journal.specs.declared.item.Item.TheVariants as item

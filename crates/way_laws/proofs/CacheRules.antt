@@ -11,15 +11,16 @@ use Rattle.cache_maker.specs.Independent.{IsIndependent, is_independent, widen, 
 use Rattle.cache_maker.proofs.Independence.{test_true}
 use Rattle.five_tuple.specs.Header.{IsHeader, number_of}
 use Rattle.five_tuple.specs.declared.header.Header.{Header}
-use Rattle.policy_rules.specs.Partitions.{is_in}
-use Rattle.policy_rules.specs.Policy.{scan}
+use Rattle.policy_rules.specs.Placed.{is_in}
+use Rattle.policy_rules.specs.Scan.{scan}
 use Rattle.policy_rules.specs.RuleList.{hit_of_rule}
 use Rattle.policy_rules.specs.Rules.{first_rule, is_held}
 use Rattle.policy_rules.specs.declared.policy.Row.{Row}
 use Rattle.policy_rules.specs.declared.rules.Partition.{Partition}
 use Rattle.policy_rules.specs.declared.rules.Rule.{Rule}
 use Rattle.switch_table.specs.Tables.{Placed, part_of}
-use Rattle.ternary.specs.Word.{WordValue, covers_of, exact_word, free_of, holds, meet_of}
+use Rattle.ternary.specs.Word.{WordValue, holds}
+use Rattle.ternary.specs.Meets.{covers_of, exact_word, free_of, meet_of}
 use Rattle.ternary.proofs.CallerLemmas.{covers_held, meet_disjoint}
 use Rattle.update_machine.specs.Setting.{Setting}
 use Rattle.way_laws.proofs.Plans.{Finds, IsPlanned}

@@ -6,10 +6,10 @@ use Rattle.std.proofs.lemmas.Bool.{cases_lt, eq-eqb, eqb-true}
 use Rattle.std.proofs.lemmas.Bool.Decides.{nat_tests}
 use Rattle.std.proofs.lemmas.List.Elements.{All-from_recursion, All-nil, All-weaker}
 use Rattle.std.proofs.lemmas.Option.{get_or_from_slice_get, slice_get_within, slice_get-get_or}
-use Rattle.failover.specs.Paths.{IsReachable}
+use Rattle.failover.specs.Links.{IsReachable}
 use Rattle.failover.proofs.Searching.{length-known_links}
 use Rattle.masks.specs.Masks.{has}
-use Rattle.net_file.specs.Net.{owner_of}
+use Rattle.net_file.specs.Joins.{owner_of}
 use Rattle.policy_rules.specs.declared.packet.Cause.{Cause}
 use Rattle.policy_rules.specs.declared.packet.Leaving.{Leaving}
 use Rattle.policy_rules.specs.declared.packet.Leg.{Leg}

@@ -3,9 +3,9 @@ use Rattle.std.proofs.Common.{ℕ, ◌≡◌, ◌<◌, true, false, Some, List, 
 use Rattle.std.specs.Prelude.{IsTrue, slice_get}
 use Rattle.std.proofs.lemmas.Bool.{cases_lt}
 use Rattle.std.proofs.lemmas.List.{get_or_past}
-use Rattle.failover.specs.Links.{is_link, neighbours_told, told_links}
+use Rattle.failover.specs.Links.{is_link, neighbours_told, told_links, AreJoined, IsPath}
 use Rattle.masks.specs.Masks.{has}
-use Rattle.failover.specs.Paths.{AreJoined, IsPath, IsRoute}
+use Rattle.failover.specs.Paths.{IsRoute}
 use Rattle.masks.proofs.CallerLemmas.{has-zero}
 use Rattle.journal.specs.declared.item.Item.{Item}
 use Rattle.update_machine.specs.Adverts.{adverts_known, route_from}

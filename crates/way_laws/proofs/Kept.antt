@@ -7,12 +7,13 @@ use Rattle.std.proofs.lemmas.Bool.Decides.{nat_tests}
 use Rattle.std.proofs.lemmas.List.Elements.{All-contains}
 use Rattle.five_tuple.specs.Header.{IsHeader, number_of}
 use Rattle.five_tuple.specs.declared.header.Header.{Header}
-use Rattle.net_file.specs.Net.{IsLink, IsNet, are_linked, joins, owner_of}
+use Rattle.net_file.specs.Net.{IsLink, IsNet}
 use Rattle.net_file.specs.declared.net.LinkRow.{LinkRow}
+use Rattle.net_file.specs.Joins.{are_linked, joins, owner_of}
 use Rattle.std.specs.List.{Any}
 use Rattle.std.proofs.lemmas.List.Folds.{Any-from_list_any}
-use Rattle.policy_rules.specs.Partitions.{is_in}
-use Rattle.policy_rules.specs.Policy.{scan}
+use Rattle.policy_rules.specs.Placed.{is_in}
+use Rattle.policy_rules.specs.Scan.{scan}
 use Rattle.policy_rules.specs.declared.packet.How.{How}
 use Rattle.policy_rules.specs.declared.packet.How.TheVariants as how
 use Rattle.policy_rules.specs.declared.packet.Leg.{Leg}

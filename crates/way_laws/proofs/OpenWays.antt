@@ -6,10 +6,9 @@ use Rattle.std.specs.List.{list_any}
 use Rattle.std.proofs.lemmas.Bool.{cases_eq}
 use Rattle.std.proofs.lemmas.List.{get_or-map, length-map}
 use Rattle.failover.specs.Adverts.{held}
-use Rattle.failover.specs.DownSet.{has_link}
-use Rattle.failover.specs.Links.{is_link, names, neighbours_told, told_links}
-use Rattle.failover.specs.Paths.{AreJoined, IsReachable, Leads as LeadsByMasks}
+use Rattle.failover.specs.Links.{is_link, neighbours_told, told_links, has_link, AreJoined, IsReachable, Leads as LeadsByMasks}
 use Rattle.failover.specs.declared.advert.Advert.{Advert}
+use Rattle.failover.specs.Isolated.{names}
 use Rattle.failover.proofs.Rows.{has_known}
 use Rattle.failover.proofs.Searching.{straight_path}
 use Rattle.masks.specs.Masks.{has}

@@ -7,15 +7,16 @@ use Rattle.std.proofs.lemmas.List.{get_or-map, length-map}
 use Rattle.std.proofs.lemmas.Option.{get_or_from_slice_get, slice_get-get_or, slice_get_within}
 use Rattle.five_tuple.specs.Header.{IsHeader, fields_of, number_of}
 use Rattle.five_tuple.specs.declared.header.Header.{Header}
-use Rattle.partition.specs.Plan.{IsPlan, NoPlan, plan_of}
+use Rattle.partition.specs.Plan.{IsPlan, plan_of}
 use Rattle.partition.proofs.CallerLemmas.{plan_holds}
-use Rattle.policy_rules.specs.Partitions.{is_in}
-use Rattle.policy_rules.specs.Policy.{IsPolicy, highest, hit_of, is_highest, row_matches, scan}
+use Rattle.policy_rules.specs.Placed.{is_in, NoPlan}
+use Rattle.policy_rules.specs.Policy.{IsPolicy, row_matches}
 use Rattle.policy_rules.specs.RuleList.{hit_of_rule}
 use Rattle.policy_rules.specs.Rules.{first_rule, is_held}
 use Rattle.policy_rules.specs.declared.policy.Row.{Row}
 use Rattle.policy_rules.specs.declared.rules.Partition.{Partition}
 use Rattle.policy_rules.specs.declared.rules.Rule.{Rule}
+use Rattle.policy_rules.specs.Scan.{highest, hit_of, is_highest, scan}
 use Rattle.policy_rules.proofs.CallerLemmas.{find-position}
 use Rattle.switch_table.specs.Lookup.{lookup_in, plan_lookup, table_lookup}
 use Rattle.switch_table.specs.Tables.{Placed, part_of, tables_of}

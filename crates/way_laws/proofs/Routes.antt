@@ -4,12 +4,12 @@ use Rattle.std.proofs.Common.{ℕ, zero, suc, ◌≡◌, ◌+◌, ◌-◌, ◌<�
 use Rattle.std.specs.Prelude.{IsTrue, IsFalse, nat_eq, slice_get, slice_index}
 use Rattle.std.specs.List.{list_any}
 use Rattle.std.proofs.lemmas.Bool.{eq-eqb}
-use Rattle.failover.specs.DownSet.{has_link}
-use Rattle.failover.specs.Links.{is_link, told_links}
+use Rattle.failover.specs.Links.{is_link, told_links, has_link, AreJoined, IsPath, Leads}
 use Rattle.masks.specs.Masks.{has}
-use Rattle.failover.specs.Paths.{AreJoined, IsPath, IsRoute, Leads}
+use Rattle.failover.specs.Paths.{IsRoute}
 use Rattle.failover.proofs.Searching.{path_is_route_list}
-use Rattle.net_file.specs.Net.{are_linked, links_of}
+use Rattle.net_file.specs.Joins.{are_linked}
+use Rattle.net_file.specs.Owners.{links_of}
 use Rattle.net_file.proofs.Masks.{in_mask_of}
 use Rattle.journal.specs.declared.item.Item.{Item}
 use Rattle.update_machine.specs.Adverts.{adverts_known, route_from}

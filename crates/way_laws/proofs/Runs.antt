@@ -5,12 +5,13 @@ use Rattle.std.specs.Option.{option_or}
 use Rattle.std.proofs.lemmas.Bool.{cases_eq, eq-eqb, ne_eqb}
 use Rattle.std.proofs.lemmas.Bool.Decides.{nat_tests}
 use Rattle.five_tuple.specs.declared.header.Header.{Header}
-use Rattle.policy_rules.specs.Policy.{IsFirstMatch, scan}
+use Rattle.policy_rules.specs.Policy.{IsFirstMatch}
 use Rattle.policy_rules.specs.declared.packet.How.{How}
 use Rattle.policy_rules.specs.declared.packet.Leaving.{Leaving}
 use Rattle.policy_rules.specs.declared.policy.Action.{Action}
 use Rattle.policy_rules.specs.declared.policy.Hit.{Hit}
 use Rattle.policy_rules.specs.declared.policy.Row.{Row}
+use Rattle.policy_rules.specs.Scan.{scan}
 use Rattle.policy_rules.proofs.CallerLemmas.{first_match-scan}
 use Rattle.journal.specs.declared.item.Item.{Item}
 use Rattle.journal.specs.declared.item.Item.TheVariants as item

@@ -7,7 +7,7 @@ use Rattle.std.specs.Option.{option_or}
 use Rattle.std.proofs.lemmas.Bool.{eqb-true}
 use Rattle.std.proofs.lemmas.Bool.Decides.{nat_tests}
 use Rattle.masks.specs.Masks.{has}
-use Rattle.net_file.specs.Net.{joins}
+use Rattle.net_file.specs.Joins.{joins}
 use Rattle.net_file.specs.declared.net.LinkRow.{LinkRow}
 use Rattle.five_tuple.specs.declared.header.Header.{Header}
 use Rattle.policy_rules.specs.declared.packet.Leg.{Leg}

@@ -1,7 +1,7 @@
 -- Causes of packets' items on journals of few items, which must fail: what no switch writes.
 use Rattle.std.proofs.Common.{◌≡◌, ◌⊎◌, false, true, Some, None, List, [], ◌∷◌, refl, sym, subst, arith, inl, inr}
 use Rattle.std.specs.Prelude.{IsTrue}
-use Rattle.failover.specs.DownSet.{has_link, no_links, with_link}
+use Rattle.failover.specs.Links.{has_link, no_links, with_link}
 use Rattle.masks.specs.Masks.{has}
 use Rattle.policy_rules.specs.declared.packet.Cause.TheVariants.{NoAuthority, NoRoute}
 use Rattle.policy_rules.specs.declared.packet.How.TheVariants.{Cached}

@@ -1,13 +1,14 @@
 -- A packet on its way: it stands at a place of a route that ends at a target of its leg.
 use Rattle.std.specs.Prelude.{ℕ, ◌≡◌, ◌+◌, ◌-◌, ◌<◌, ◌≤◌, false, nat_eq, Some, None, find, List, [], ◌∷◌, length, slice_get, IsTrue}
 use Rattle.std.specs.List.{list_any}
-use Rattle.failover.specs.DownSet.{no_links}
+use Rattle.failover.specs.Links.{no_links}
 use Rattle.masks.specs.Masks.{has}
 use Rattle.failover.specs.RouteList.{IsRouteList}
 use Rattle.five_tuple.specs.Header.{IsHeader}
 use Rattle.five_tuple.specs.declared.header.Header.{Header}
-use Rattle.net_file.specs.Net.{links_of, owner_of}
-use Rattle.policy_rules.specs.Partitions.{is_in}
+use Rattle.net_file.specs.Joins.{owner_of}
+use Rattle.net_file.specs.Owners.{links_of}
+use Rattle.policy_rules.specs.Placed.{is_in}
 use Rattle.policy_rules.specs.declared.packet.Leg.{Leg}
 use Rattle.policy_rules.specs.declared.packet.Leg.TheVariants.{Seek, Exit}
 use Rattle.policy_rules.specs.declared.policy.Action.TheVariants.{Out}

@@ -2,7 +2,7 @@
 use Rattle.std.specs.Prelude.{ℕ, ◌≡◌, ◌≤◌, Option, List, IsTrue}
 use Rattle.five_tuple.specs.Header.{IsHeader, number_of}
 use Rattle.five_tuple.specs.declared.header.Header.{Header}
-use Rattle.policy_rules.specs.Policy.{scan}
+use Rattle.policy_rules.specs.Scan.{scan}
 use Rattle.policy_rules.specs.declared.policy.Action.{Action}
 use Rattle.switch_table.specs.declared.cache.CacheEntry.{CacheEntry}
 use Rattle.ternary.specs.Word.{WordValue, holds}

@@ -1,6 +1,6 @@
 -- All that a journal says of one packet, as one value, and what each item makes of it.
 use Rattle.std.specs.Prelude.{ℕ, ◌+◌, Bool, true, false, ◌==◌, if◌then◌else◌, Option, Some, option_and_then, unwrap_or, List}
-use Rattle.failover.specs.DownSet.{with_link}
+use Rattle.failover.specs.Links.{with_link}
 use Rattle.five_tuple.specs.declared.header.Header.{Header}
 use Rattle.policy_rules.specs.declared.packet.Leg.{Leg}
 use Rattle.policy_rules.specs.declared.packet.Leg.TheVariants.{Seek, Exit}

@@ -1,6 +1,6 @@
 -- The format of messages: the receiver, the kind, and the fields of that kind.
 use Rattle.std.specs.Prelude.{◌≡◌, ℕ, ◌^◌, ◌<◌, nat_lt, Bool, true, not, ◌==◌, if◌then◌else◌, List, ◌++◌, length, All, Option, Some, None}
-use Rattle.ctrl_msg.specs.Bodies.{is_for_controller}
+use Rattle.ctrl_msg.specs.Kinds.{is_for_controller}
 use Rattle.ctrl_msg.specs.declared.message.Receiver.{Receiver}
 use Rattle.ctrl_msg.specs.declared.message.Receiver.TheVariants.{Switch, Controller}
 use Rattle.ctrl_msg.specs.declared.message.Body.{Body}

@@ -9,9 +9,10 @@ use Rattle.clap.specs.declared.parser.matches.ArgMatches.{ArgMatches}
 use Rattle.clap.proofs.WalkLemmas.{both}
 use Rattle.words.specs.Line.{line_app, net_and, none, options_of}
 use Rattle.words.specs.Named.{command_in, kind_name}
-use Rattle.words.specs.Words.{Command, Line, command_by, line_of, load_from, load_number, load_of, print_of, replay_from}
+use Rattle.words.specs.Words.{Line, command_by, line_of, load_from, load_number, load_of, print_of, replay_from}
 use Rattle.words.proofs.Parses.{Found, IsWithin, WalksTo, is_not, matches_found, reads, taken}
 use Rattle.words.specs.declared.grammar.Kind.{Kind}
+use Rattle.words.specs.Commands.{Command}
 use Rattle.words.specs.declared.grammar.Kind.TheVariants as kind
 
 -- a name, and not too many

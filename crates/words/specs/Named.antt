@@ -3,6 +3,7 @@ use Rattle.std.specs.Prelude.{⊤, ℕ, ◌≤◌, Option, option_map, option_an
 use Rattle.std.specs.Borrow.{Bor}
 use Rattle.std.specs.Global.{Global}
 use Rattle.words.specs.Words as grammar
+use Rattle.words.specs.Commands as grammar_commands
 use Rattle.words.specs.Words.{command_by, line_of, most_load, most_policies}
 use Rattle.words.specs.declared.command.Command.{Command}
 use Rattle.words.specs.declared.command.Command.TheVariants as given
@@ -21,7 +22,7 @@ net_named name = option_map (λ n. n.now) name
 abbrev pub names_seen : List (Bor (List ℕ)) → List (List ℕ)
 names_seen names = map (λ n. n.now) names
 
-abbrev pub replay_named : ReplayWords → grammar.ReplayCommand
+abbrev pub replay_named : ReplayWords → grammar_commands.ReplayCommand
 replay_named words = record {
   schedule = words.schedule.now;
   policies = names_seen words.policies.items;
@@ -29,15 +30,15 @@ replay_named words = record {
   quiet = words.quiet;
 }
 
-abbrev pub print_named : PrintWords → grammar.PrintCommand
+abbrev pub print_named : PrintWords → grammar_commands.PrintCommand
 print_named words =
     record { policy = words.policy.now; switch = net_named words.switch; net = net_named words.net }
 
 -- the command that names these files
-abbrev pub command_named : Command → grammar.Command
-command_named (given.Replay words) = grammar.Replay (replay_named words)
-command_named (given.Print words) = grammar.Print (print_named words)
-command_named (given.Load n) = grammar.Load n
+abbrev pub command_named : Command → grammar_commands.Command
+command_named (given.Replay words) = grammar_commands.Replay (replay_named words)
+command_named (given.Print words) = grammar_commands.Print (print_named words)
+command_named (given.Load n) = grammar_commands.Load n
 
 -- the words name one policy, or more, but not too many, or a load case
 abbrev pub HasPolicies : ReplayWords → Type 0
@@ -82,7 +83,7 @@ kind_name kind.Show = codes "show"
 kind_name kind.Load = codes "load"
 
 -- the command of this kind that the words behind its name are
-abbrev pub command_in : Kind → List (List ℕ) → Option grammar.Command
+abbrev pub command_in : Kind → List (List ℕ) → Option grammar_commands.Command
 command_in kind words = option_and_then (command_by (kind_name kind)) (line_of words)
 
 -- the network of an option, and the words behind it

@@ -1,34 +1,9 @@
 -- The grammar of the command line: a command, then options, then names, then options.
-use Rattle.std.specs.Prelude.{ℕ, Bool, true, false, not, ◌&&◌, ◌||◌, ◌==◌, nat_le, nat_lt, eqb, if◌then◌else◌, Option, Some, None, is_some, option_and_then, List, [], ◌∷◌, length, drop, take, map, slice_index, codes, bytes_eq, string_bytes, String, Vec}
-use Rattle.std.specs.Global.{Global}
+use Rattle.std.specs.Prelude.{ℕ, Bool, true, false, not, ◌&&◌, ◌||◌, ◌==◌, nat_le, nat_lt, eqb, if◌then◌else◌, Option, Some, None, is_some, option_and_then, List, [], ◌∷◌, length, drop, take, slice_index, codes, bytes_eq}
 use Rattle.std.specs.List.{prefix_len, starts_with}
 use Rattle.std.specs.Option.{option_map_or, option_or}
 use Rattle.five_tuple.specs.Texts.{number_up_to}
-
--- `replay SCHEDULE POLICY ..`, on the network of a file, or on that of one switch
-pub record ReplayCommand : Type 0 where
-  pub schedule : List ℕ
-  -- an update names one of them by its place, from 1
-  pub policies : List (List ℕ)
-  pub net : Option (List ℕ)
-  -- whether it is to say what the network came to, once it is quiet
-  pub quiet : Bool
-
--- `compile POLICY`, or `show POLICY SWITCH`; on the network of a file, or on that of one switch
-pub record PrintCommand : Type 0 where
-  pub policy : List ℕ
-  pub switch : Option (List ℕ)
-  pub net : Option (List ℕ)
-
--- `load N` has the number alone
-pub data Command : Type 0 where
-  Replay : ReplayCommand → Command
-  Print : PrintCommand → Command
-  Load : ℕ → Command
-
--- the bytes of the words
-abbrev pub texts : Vec (String Global) Global → List (List ℕ)
-texts words = map string_bytes words.items
+use Rattle.words.specs.Commands.{Command, Replay, Print, Load}
 
 -- a word that may name a file or a switch: it isn't empty and doesn't begin with a dash
 abbrev pub is_name : List ℕ → Bool

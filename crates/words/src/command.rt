@@ -1,6 +1,6 @@
 ghost use Rattle.std.specs.Prelude.{◌≡◌, ◌≤◌, true, IfOk, IfErr, IfSome, Some, is_some, map, string_bytes, option_map};
 ghost use Rattle.words.specs.Named.{HasPolicies, NamesPolicies, command_named, kind_name, line_seen, names_seen, replay_named};
-ghost use Rattle.words.specs.Words as grammar;
+ghost use Rattle.words.specs.Commands as grammar;
 ghost use Rattle.words.specs.Words.{command_by, command_of, load_from, replay_from};
 ghost use Rattle.five_tuple.specs.Texts.{number_up_to};
 

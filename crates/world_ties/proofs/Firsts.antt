@@ -12,8 +12,9 @@ use Rattle.switch_table.specs.declared.tables.Tables.{Tables}
 use Rattle.failover.proofs.Adverts.{by_origin-first, held-first}
 use Rattle.failover.specs.Adverts.{first_advert, first_adverts, first_of, is_newer}
 use Rattle.failover.specs.declared.advert.Advert.{Advert}
-use Rattle.net_file.specs.Net.{IsNet, links_of}
+use Rattle.net_file.specs.Net.{IsNet}
 use Rattle.net_file.specs.declared.net.Net.{Net}
+use Rattle.net_file.specs.Owners.{links_of}
 use Rattle.switch_core.specs.State.{HasOwnUpTo, own_advert}
 use Rattle.usable_links.specs.Linking.{AreNear}
 

@@ -20,7 +20,7 @@ use Rattle.log_ties.proofs.Others.{NoneName, none_more}
 use Rattle.log_ties.proofs.Posting.{bag_sends}
 use Rattle.masks.specs.Masks.{has}
 use Rattle.masks.proofs.CallerLemmas.{has_mask}
-use Rattle.net_file.specs.Net.{are_linked}
+use Rattle.net_file.specs.Joins.{are_linked}
 use Rattle.send_laws.specs.Sends.{NumbersFit}
 use Rattle.send_laws.proofs.Fitting.{fit_in_room}
 use Rattle.settle_laws.specs.Steps.{is_for_controller}

@@ -12,8 +12,9 @@ use Rattle.ctrl_msg.specs.declared.message.Message.{Message}
 use Rattle.journal.specs.declared.item.Item.{Item}
 use Rattle.masks.specs.Masks.{has, mask_of}
 use Rattle.masks.proofs.CallerLemmas.{has_mask, mask_of_is, mask_of_lt}
-use Rattle.net_file.specs.Net.{are_linked, joins, IsLink, IsNet}
+use Rattle.net_file.specs.Net.{IsLink, IsNet}
 use Rattle.net_file.specs.declared.net.LinkRow.{LinkRow}
+use Rattle.net_file.specs.Joins.{are_linked, joins}
 use Rattle.policy_rules.proofs.CallerLemmas.{filter_more, range_more}
 use Rattle.switch_core.specs.Life.{near_changed, next_advert}
 use Rattle.switch_core.specs.State.{SwitchValue, serves}

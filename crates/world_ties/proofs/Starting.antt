@@ -8,9 +8,10 @@ use Rattle.control_ties.specs.Controller.{IsControllerOf, IsPlanOfFile}
 use Rattle.control_ties.proofs.CallerLemmas.{begins}
 use Rattle.controller.specs.Controller.{ControllerValue, first_controller}
 use Rattle.controller.specs.Plan.{PlanValue}
-use Rattle.net_file.specs.Net.{IsNet, links_of}
+use Rattle.net_file.specs.Net.{IsNet}
 use Rattle.net_file.specs.declared.net.LinkRow.{LinkRow}
 use Rattle.net_file.specs.declared.net.Net.{Net}
+use Rattle.net_file.specs.Owners.{links_of}
 use Rattle.partition.specs.Plan.{Placed, plan_of}
 use Rattle.policy_rules.specs.Policy.{IsPolicy}
 use Rattle.policy_rules.specs.declared.policy.Row.{Row}

@@ -13,8 +13,9 @@ use Rattle.controller.specs.declared.sends.Act.{Act}
 use Rattle.journal.specs.declared.item.Item.{Item}
 use Rattle.journal.specs.declared.item.Item.TheVariants as item
 use Rattle.net_file.specs.declared.net.Net.{Net}
-use Rattle.partition.specs.Plan.{NoPlan, Placed, TooManyLeaves, plan_of}
+use Rattle.partition.specs.Plan.{Placed, plan_of}
 use Rattle.policy_rules.specs.declared.policy.Row.{Row}
+use Rattle.policy_rules.specs.Placed.{NoPlan, TooManyLeaves}
 use Rattle.steps.specs.declared.step.Step.TheVariants.{Update}
 use Rattle.switch_core.specs.State.{SwitchValue}
 use Rattle.switch_ties.proofs.Links.{kept_is}

@@ -6,7 +6,7 @@ use Rattle.control_ties.specs.Controller.{IsControllerOf}
 use Rattle.control_ties.proofs.CallerLemmas.{steps_leave}
 use Rattle.journal.specs.declared.item.Item.{Item}
 use Rattle.journal.specs.declared.item.Item.TheVariants as item
-use Rattle.net_file.specs.Net.{links_of}
+use Rattle.net_file.specs.Owners.{links_of}
 use Rattle.net_file.specs.declared.net.LinkRow.{LinkRow}
 use Rattle.settle_laws.specs.Steps.{is_for_controller}
 use Rattle.steps.specs.declared.step.Step.{Step}

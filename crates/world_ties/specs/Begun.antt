@@ -4,7 +4,7 @@ use Rattle.std.specs.List.{range_with_len}
 use Rattle.controller.specs.Controller.{ControllerValue, first_controller}
 use Rattle.controller.specs.Plan.{PlanValue}
 use Rattle.failover.specs.Adverts.{first_adverts}
-use Rattle.net_file.specs.Net.{links_of}
+use Rattle.net_file.specs.Owners.{links_of}
 use Rattle.net_file.specs.declared.net.Net.{Net}
 use Rattle.switch_core.specs.State.{SwitchValue, begun}
 use Rattle.switch_table.specs.Tables.{Placed, tables_of}

@@ -6,7 +6,7 @@ use Rattle.control_ties.specs.Controller.{IsControllerOf}
 use Rattle.log_ties.specs.Bags.{IsBagOf}
 use Rattle.log_ties.specs.Travellers.{traveller_in}
 use Rattle.journal.specs.declared.item.Item.{Item}
-use Rattle.net_file.specs.Net.{links_of}
+use Rattle.net_file.specs.Owners.{links_of}
 use Rattle.net_file.specs.declared.net.LinkRow.{LinkRow}
 use Rattle.switch_core.specs.State.{SwitchValue}
 use Rattle.switch_ties.specs.SwitchOf.{switch_of}

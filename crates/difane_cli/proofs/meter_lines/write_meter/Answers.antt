@@ -1,6 +1,6 @@
 use Rattle.std.proofs.Common.{ℕ, ◌≡◌, ◌≢◌, ◌∙◌, List, length, ap, rules, subst, sym}
-use Rattle.shelf.specs.Sink.{IsAfterWrite}
-use Rattle.difane_cli.specs.Meters.{meter_line, notes_line}
+use Rattle.shelf.specs.SinkWrites.{IsAfterWrite}
+use Rattle.difane_cli.specs.Texts.{meter_line, notes_line}
 use Rattle.difane_cli.proofs.MeterLines.{line_some}
 use Rattle.difane_cli.proofs.meter_lines.write_meter.Goals as goal
 

@@ -1,8 +1,9 @@
 use Rattle.std.proofs.Common.{◌≡◌, ◌∙◌, ap, arith, drop, get_or, subst, suc, sym, take}
 use Rattle.std.proofs.lemmas.List.{take_all}
 use Rattle.std.specs.List.{flat_map}
-use Rattle.shelf.specs.Sink.{gained, gained-gained, GainedPart}
-use Rattle.difane_cli.specs.Meters.{meter_line}
+use Rattle.shelf.specs.Sink.{gained, GainedPart}
+use Rattle.shelf.specs.SinkWrites.{gained-gained}
+use Rattle.difane_cli.specs.Texts.{meter_line}
 use Rattle.difane_cli.proofs.Gains.{GainedPart-behind, flat_map-one, flat_map-there, middle_none}
 use Rattle.difane_cli.proofs.MeterLines.{lines_of}
 use Rattle.difane_cli.proofs.meter_lines.write_meters.Goals as goal

@@ -1,7 +1,7 @@
 use Rattle.std.proofs.Common.{◌≡◌, [], map, take}
 use Rattle.std.specs.List.{flat_map}
 use Rattle.shelf.specs.Sink.{gained}
-use Rattle.difane_cli.specs.Meters.{meter_line, meter_lines}
+use Rattle.difane_cli.specs.Texts.{meter_line, meter_lines}
 use Rattle.difane_cli.proofs.meter_lines.write_meters.Given as goal
 
 abbrev pub invariant-loop-meter : goal.invariant-loop-meter

@@ -1,13 +1,14 @@
 use Rattle.std.proofs.Common.{ℕ, ◌∙◌, inr, Bool, IsTrue, List, ap, map, subst, sym}
 use Rattle.meters.specs.Meters.{kept_meters}
 use Rattle.net_file.specs.declared.net.Net.{Net}
-use Rattle.replay.specs.Leavings.{left_in}
+use Rattle.replay.specs.Leavings.{left_in, kept_by}
 use Rattle.steps.specs.declared.step.Event.{Event}
 use Rattle.update_machine.specs.Full.{IsPlay}
 use Rattle.difane_cli.specs.Commands.{inputs_stated}
-use Rattle.difane_cli.specs.Meters.{is_made, kept_by, play_text}
-use Rattle.difane_cli.specs.Run.{IsAfterText}
+use Rattle.difane_cli.specs.Texts.{play_text}
+use Rattle.difane_cli.specs.Prints.{IsAfterText}
 use Rattle.difane_cli.specs.Verdict.{is_asked}
+use Rattle.difane_cli.specs.Run.{is_made}
 use Rattle.difane_cli.proofs.Plays.{AnswerLaws, judged, played, told, unjudged}
 use Rattle.difane_cli.proofs.Worked.{after_work, by_failed, by_memory, of_failed, on_err, out_of_judging, out_of_writing}
 use Rattle.difane_cli.proofs.playing.play.Goals as goal

@@ -1,5 +1,5 @@
 use Rattle.std.proofs.Common.{◌∙◌, map}
-use Rattle.difane_cli.specs.Meters.{meter_lines, quiet_line}
+use Rattle.difane_cli.specs.Texts.{meter_lines, quiet_line}
 use Rattle.difane_cli.proofs.MeterLines.{both_written, first_part, none_left, none_right}
 use Rattle.difane_cli.proofs.playing.write_last.Goals as goal
 

@@ -1,7 +1,7 @@
 use Rattle.std.proofs.Common.{ℕ, ◌∙◌, ◌++◌, List, ap, map, subst}
 use Rattle.journal_text.specs.Lines.{journal_text}
-use Rattle.shelf.specs.Sink.{IsAfterWrite}
-use Rattle.difane_cli.specs.Meters.{last_lines}
+use Rattle.shelf.specs.SinkWrites.{IsAfterWrite}
+use Rattle.difane_cli.specs.Texts.{last_lines}
 use Rattle.difane_cli.proofs.MeterLines.{both_written, cut_short, none_left, none_right, none_of_text, text_whole}
 use Rattle.difane_cli.proofs.playing.write_played.Goals as goal
 

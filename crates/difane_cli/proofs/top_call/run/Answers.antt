@@ -2,14 +2,14 @@ use Rattle.std.specs.Prelude.{String, Vec, option_map, string_bytes}
 use Rattle.std.specs.Global.{Global}
 use Rattle.std.proofs.Common.{◌≡◌, ◌∙◌, Bool, Option, Some, List, ap, map, rules, subst, sym}
 use Rattle.journal.specs.declared.item.Item.{Item}
-use Rattle.meters.specs.Meters.{Seen}
+use Rattle.meters.specs.Seen.{Seen}
 use Rattle.shelf.specs.Shelf.{Files}
 use Rattle.shelf.specs.Sink.{SinkState}
 use Rattle.words.specs.Named.{command_named}
 use Rattle.difane_cli.specs.Inputs.{known_task}
 use Rattle.difane_cli.specs.Run.{Outcome, RanOut}
 use Rattle.words.specs.Words.{command_of}
-use Rattle.words.specs.Words as grammar
+use Rattle.words.specs.Commands as grammar
 use Rattle.difane_cli.specs.declared.status.Ended.{Ended}
 use Rattle.difane_cli.specs.declared.status.Status.{Status}
 use Rattle.words.specs.declared.command.Command.{Command}

@@ -1,6 +1,7 @@
 use Rattle.std.proofs.Common.{ℕ, ◌≡◌, ◌<◌, List, get_or, ap, subst, sym, ◌∙◌, arith, length-set}
 use Rattle.std.specs.Int.Bits.{bit_and}
-use Rattle.failover.specs.Links.{link_row, link_rows}
+use Rattle.failover.specs.Links.{link_row}
+use Rattle.failover.specs.Isolated.{link_rows}
 use Rattle.failover.proofs.Rows.{length-link_rows, row_of, row_turned}
 use Rattle.failover.proofs.Searching.{none_after}
 use Rattle.failover.proofs.Walking.{first_ball, next_ball, no_balls, more_balls, no_more, before_more, next_away}

@@ -1,6 +1,6 @@
 use Rattle.std.proofs.Common.{◌≡◌, ℕ, ◌<◌, false, length}
 use Rattle.masks.specs.Masks.{has}
-use Rattle.failover.specs.Links.{link_rows}
+use Rattle.failover.specs.Isolated.{link_rows}
 use Rattle.failover.specs.Routes.{ball}
 use Rattle.failover.specs.Search.{AreBalls, IsEdge}
 use Rattle.failover.proofs.search.distance.Given as goal

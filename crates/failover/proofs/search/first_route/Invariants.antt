@@ -1,5 +1,5 @@
 use Rattle.std.proofs.Common.{◌≡◌, drop}
-use Rattle.failover.specs.Links.{link_rows}
+use Rattle.failover.specs.Isolated.{link_rows}
 use Rattle.failover.specs.Routes.{first_route}
 use Rattle.failover.proofs.search.first_route.Given as goal
 

@@ -1,5 +1,5 @@
 use Rattle.std.proofs.Common.{sym, ◌∙◌, ap, arith, Some}
-use Rattle.failover.specs.Links.{link_rows}
+use Rattle.failover.specs.Isolated.{link_rows}
 use Rattle.failover.proofs.Rows.{length-link_rows}
 use Rattle.failover.proofs.Searching.{route_to-above, route_to-out}
 use Rattle.failover.proofs.Walking.{is_route_list, route_to-along}

@@ -1,5 +1,5 @@
 use Rattle.std.proofs.Common.{ℕ, ◌≡◌, ◌+◌, ◌-◌, List, ◌∷◌, ◌++◌, take, replicate, get_or, sym, ◌∙◌, ap, subst, arith, length}
-use Rattle.failover.specs.Links.{link_rows}
+use Rattle.failover.specs.Isolated.{link_rows}
 use Rattle.failover.specs.RouteList.{IsRouteList}
 use Rattle.std.specs.Int.Bits.{bit_and}
 use Rattle.masks.specs.Masks.{least_in}

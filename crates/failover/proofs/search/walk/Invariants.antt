@@ -1,5 +1,5 @@
 use Rattle.std.proofs.Common.{◌≡◌, ◌+◌, ◌-◌, ◌∷◌, ◌++◌, take, drop, replicate}
-use Rattle.failover.specs.Links.{link_rows}
+use Rattle.failover.specs.Isolated.{link_rows}
 use Rattle.failover.specs.Search.{along}
 use Rattle.failover.proofs.search.walk.Given as goal
 

@@ -3,7 +3,8 @@ use Rattle.std.specs.Int.{bit_not, w64}
 use Rattle.std.specs.Int.Bits.{bit_and, bit_xor}
 use Rattle.masks.specs.Masks.{least_in}
 use Rattle.masks.proofs.CallerLemmas.{least_lt, mask_of_lt}
-use Rattle.failover.specs.Links.{is_link, link_rows}
+use Rattle.failover.specs.Links.{is_link}
+use Rattle.failover.specs.Isolated.{link_rows}
 use Rattle.failover.proofs.RowLoop.{first_left, less, or_others}
 use Rattle.failover.proofs.Rows.{length-link_rows, row_of, row_turned}
 use Rattle.failover.proofs.WiderLoop.{IsWideSoFar, wide_begins, wide_ends, wide_goes_on}

@@ -1,4 +1,4 @@
-use Rattle.failover.specs.Links.{link_rows}
+use Rattle.failover.specs.Isolated.{link_rows}
 use Rattle.failover.proofs.WiderLoop.{IsWideSoFar}
 use Rattle.failover.proofs.search.wider.Given as goal
 

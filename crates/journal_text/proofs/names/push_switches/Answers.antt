@@ -2,7 +2,7 @@ use Rattle.std.proofs.Common.{ℕ, ◌≤◌, ◌++◌, Bool, List, [], length, 
 use Rattle.std.specs.Prelude.{codes, filter, if◌then◌else◌}
 use Rattle.std.specs.List.{range_with_len}
 use Rattle.masks.specs.Masks.{has}
-use Rattle.net_file.specs.Names.{name_of, names_text}
+use Rattle.net_file.specs.Net.{name_of, names_text}
 use Rattle.text_line.proofs.CallerLemmas.{pushed_append, pushed_nothing}
 use Rattle.text_line.specs.Pushes.{pushed}
 use Rattle.journal_text.proofs.MaskLemmas.{names_all, names_more, names_none}

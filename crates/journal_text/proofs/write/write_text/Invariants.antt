@@ -1,5 +1,5 @@
 use Rattle.std.proofs.Common.{◌≡◌, [], take}
-use Rattle.shelf.specs.Sink.{IsGathered}
+use Rattle.shelf.specs.SinkWrites.{IsGathered}
 use Rattle.journal_text.specs.Lines.{journal_text}
 use Rattle.journal_text.proofs.write.write_text.Given as goal
 

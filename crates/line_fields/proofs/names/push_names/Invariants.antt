@@ -1,5 +1,5 @@
 use Rattle.std.proofs.Common.{◌≡◌, take}
-use Rattle.net_file.specs.Names.{names_text}
+use Rattle.net_file.specs.Net.{names_text}
 use Rattle.text_line.specs.Pushes.{pushed}
 use Rattle.line_fields.proofs.names.push_names.Given as goal
 

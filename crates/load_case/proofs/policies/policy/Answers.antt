@@ -1,5 +1,5 @@
 use Rattle.std.proofs.Common.{ap, arith, length, subst}
-use Rattle.policy_rules.specs.Policy.{IsFirstRepeat}
+use Rattle.policy_rules.specs.Repeats.{IsFirstRepeat}
 use Rattle.load_case.proofs.Cases.{no_repeat, rows_count}
 use Rattle.load_case.proofs.policies.policy.Goals as goal
 

@@ -1,7 +1,7 @@
 use Rattle.std.proofs.Common.{◌≡◌, ◌+◌, ◌||◌, [], ◌∷◌, ◌++◌, length-append, map, drop, refl, ap, ◌∙◌, arith}
 use Rattle.std.proofs.lemmas.Result.{err_from_is_err_and}
 use Rattle.toml.specs.View.{view}
-use Rattle.net_file.specs.Net.{has_port}
+use Rattle.net_file.specs.Joins.{has_port}
 use Rattle.net_file.specs.Reading.{rows_from, switch_of}
 use Rattle.net_file.proofs.Masks.{in_mask_or}
 use Rattle.net_file.proofs.FreshPorts.{have_port_push}

@@ -1,7 +1,8 @@
 use Rattle.std.proofs.Common.{◌≡◌, [], drop, map, length}
 use Rattle.toml.specs.View.{view}
-use Rattle.net_file.specs.Net.{IsMask, have_port}
+use Rattle.net_file.specs.Laws.{IsMask}
 use Rattle.net_file.specs.Reading.{rows_from, switch_of}
+use Rattle.net_file.specs.Owners.{have_port}
 use Rattle.net_file.proofs.switches.read_switches.Given as goal
 
 abbrev pub invariant-loop-value : goal.invariant-loop-value

@@ -3,7 +3,7 @@ use Rattle.std.specs.Prelude.{decimal, option_map}
 use Rattle.five_tuple.specs.Texts.{number_up_to}
 use Rattle.policy_rules.specs.declared.policy.Action.{Action}
 use Rattle.policy_rules.specs.declared.policy.Action.TheVariants.{Drop, Out}
-use Rattle.policy_rules.specs.Print.{action_text}
+use Rattle.policy_rules.specs.Policy.{action_text}
 use Rattle.policy_rules.specs.Read.{action_of, HasSmallPort}
 use Rattle.policy_rules.proofs.read.printed_actions_are_read_back.Goals as goal
 

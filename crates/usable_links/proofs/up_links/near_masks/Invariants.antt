@@ -1,5 +1,5 @@
 use Rattle.std.proofs.Common.{◌≡◌, ◌<◌, ℕ, length, get_or}
-use Rattle.net_file.specs.Net.{links_of}
+use Rattle.net_file.specs.Owners.{links_of}
 use Rattle.usable_links.proofs.up_links.near_masks.Given as goal
 
 abbrev pub invariant-loop-switch : goal.invariant-loop-switch

@@ -2,7 +2,7 @@
 -- written is the answer's.
 use Rattle.std.proofs.Common.{◌≡◌, ◌+◌, ◌++◌, length, subst}
 use Rattle.std.specs.Prelude.{IfSome, OnErr, OnOk, unwrap_or}
-use Rattle.failover.specs.DownSet.{no_links}
+use Rattle.failover.specs.Links.{no_links}
 use Rattle.frame_laws.specs.Feeding.{HasShortSpelling}
 use Rattle.switch_core.specs.Answering.{arrived_on}
 use Rattle.switch_core.specs.Ends.{around}

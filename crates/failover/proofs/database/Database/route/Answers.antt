@@ -1,7 +1,8 @@
 use Rattle.std.proofs.Common.{ap, ◌∙◌, List, ℕ, sym, subst, Option}
-use Rattle.failover.specs.Links.{known_links, link_rows}
+use Rattle.failover.specs.Links.{known_links}
 use Rattle.failover.specs.Paths.{IsRoute}
 use Rattle.failover.specs.Routes.{route_of, first_route}
+use Rattle.failover.specs.Isolated.{link_rows}
 use Rattle.failover.proofs.Rows.{told_links_held}
 use Rattle.failover.proofs.Searching.{known_route_is_route, route_is_list}
 use Rattle.failover.proofs.database.Database.route.Goals as goal

@@ -1,7 +1,7 @@
 use Rattle.std.proofs.Common.{◌||◌, take, take_all, ap, sym, ◌∙◌}
 use Rattle.std.specs.Prelude.{nat_eq}
 use Rattle.std.proofs.lemmas.List.Folds.{list_any_more}
-use Rattle.net_file.specs.Net.{are_linked, joins}
+use Rattle.net_file.specs.Joins.{are_linked, joins}
 use Rattle.net_file.proofs.FreshPorts.{or_nothing}
 use Rattle.net_file.proofs.Masks.{in_mask_with, mask_of_is}
 use Rattle.net_file.proofs.net.Net.links_of.Goals as goal

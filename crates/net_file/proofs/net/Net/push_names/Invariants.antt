@@ -1,6 +1,6 @@
 use Rattle.std.proofs.Common.{◌≡◌, ◌++◌, take}
 use Rattle.std.specs.String.{string_bytes}
-use Rattle.net_file.specs.Names.{names_text}
+use Rattle.net_file.specs.Net.{names_text}
 use Rattle.net_file.proofs.net.Net.push_names.Given as goal
 
 abbrev pub invariant-loop-s : goal.invariant-loop-s

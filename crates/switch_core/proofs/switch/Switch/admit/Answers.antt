@@ -1,5 +1,5 @@
 use Rattle.std.proofs.Common.{ap, sym, subst, ◌∙◌}
-use Rattle.failover.specs.DownSet.{no_links}
+use Rattle.failover.specs.Links.{no_links}
 use Rattle.switch_core.specs.Answering.{IsUncached, incoming}
 use Rattle.switch_core.specs.Ends.{around}
 use Rattle.switch_core.specs.State.{SwitchValue}

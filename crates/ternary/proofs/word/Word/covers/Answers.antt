@@ -1,5 +1,5 @@
 use Rattle.std.proofs.Common.{◌↔◌, IsTrue, subst, sym}
-use Rattle.ternary.specs.Word.{Includes}
+use Rattle.ternary.specs.Meets.{Includes}
 use Rattle.ternary.proofs.WordLemmas.{covers_masked, covers_unmasked, inclusion}
 use Rattle.ternary.proofs.word.Word.covers.Goals as goal
 

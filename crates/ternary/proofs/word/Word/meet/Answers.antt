@@ -1,5 +1,5 @@
 use Rattle.std.proofs.Common.{◌↔◌, IsNone, subst, sym}
-use Rattle.ternary.specs.Word.{AreDisjoint}
+use Rattle.ternary.specs.Meets.{AreDisjoint}
 use Rattle.ternary.proofs.WordLemmas.{sum_meet, sum_word, no_meet, meet_both, disjoint}
 use Rattle.ternary.proofs.word.Word.meet.Goals as goal
 

@@ -1,19 +1,16 @@
--- What a play writes: the text of its journal, a line for each meter that has a note, and one that
--- says whether the network is quiet; or the summary. And which commands play nothing.
-use Rattle.std.specs.Prelude.{⊤, ℕ, Bool, true, false, Option, Some, None, List, [], ◌∷◌, ◌++◌, codes, decimal, length}
+-- What a command writes: the text of a play, and the line of a status.
+use Rattle.std.specs.Prelude.{ℕ, Bool, true, false, Option, Some, None, List, [], ◌∷◌, ◌++◌, codes, decimal, length}
 use Rattle.std.specs.List.{concat, flat_map}
 use Rattle.journal.specs.declared.item.Item.{Item}
 use Rattle.journal_text.specs.Lines.{journal_text}
-use Rattle.load_text.specs.Summary.{summary_of, summary_text}
-use Rattle.meters.specs.Meters.{Seen, kept_meters}
-use Rattle.net_file.specs.Net.{port_mask}
+use Rattle.load_text.specs.Summary.{counts_text}
+use Rattle.meters.specs.Seen.{Seen}
 use Rattle.net_file.specs.declared.net.Net.{Net}
 use Rattle.policy_rules.specs.declared.packet.Leaving.{Leaving}
-use Rattle.replay.specs.Leavings.{left_in}
-use Rattle.words.specs.Words.{Command}
-use Rattle.words.specs.Words as asked
 use Rattle.difane_cli.specs.declared.report.Report.{Report}
+use Rattle.difane_cli.specs.declared.status.Status.{Status}
 use Rattle.difane_cli.specs.declared.report.Report.TheVariants as report
+use Rattle.difane_cli.specs.declared.status.Status.TheVariants as status
 
 -- the line of a meter of this port that has so many notes, with its line feed
 abbrev pub notes_line : ℕ → ℕ → List ℕ
@@ -31,10 +28,6 @@ meter_line meter = line_by meter.port meter.held
 abbrev pub meter_lines : List Seen → List ℕ
 meter_lines meters = flat_map meter_line meters
 
--- the meters that stay while the packets of this journal leave the network
-abbrev pub kept_by : Net → List Item → List Seen → List Seen
-kept_by net journal meters = kept_meters (port_mask net.switches) (left_in journal) meters
-
 -- whether the network is quiet, with the line feed; nothing where no answer is given
 abbrev pub quiet_line : Option Bool → List ℕ
 quiet_line None = []
@@ -50,27 +43,27 @@ abbrev pub replay_text : Net → List Item → Option ℕ → List Seen → Opti
 replay_text net journal None meters answer = journal_text net journal ++ last_lines meters answer
 replay_text net journal (Some row) meters answer = journal_text net journal
 
--- the eleven counts of the journal; a play that stopped full has none
-abbrev pub counts_text : List Item → Option ℕ → List ℕ
-counts_text journal None = summary_text (summary_of journal)
-counts_text journal (Some row) = []
-
 -- what a play is to tell
 abbrev pub play_text : Report → Net → List Item → Option ℕ → List Seen → Option Bool → List ℕ
 play_text (report.Lines quiet) net journal full meters answer =
     replay_text net journal full meters answer
 play_text report.Summary net journal full meters answer = counts_text journal full
 
--- the summary, which a play that stopped full has none of, is made in memory before it is written;
--- lines aren't
-abbrev pub is_made : Report → Option ℕ → Bool
-is_made (report.Lines quiet) full = false
-is_made report.Summary None = true
-is_made report.Summary (Some row) = false
+-- the line of a refused file, with its line feed
+abbrev pub input_line : List ℕ → ℕ → ℕ → List ℕ
+input_line file code row = concat (codes "difane: input " ∷ file
+    ∷ codes " code " ∷ decimal code ∷ codes " row " ∷ decimal row ∷ codes "\n" ∷ [])
 
--- words off the grammar, and a command that plays nothing
-abbrev pub PlaysNothing : Option Command → Type 0
-PlaysNothing None = ⊤
-PlaysNothing (Some (asked.Print words)) = ⊤
-PlaysNothing (Some (asked.Replay words)) = ⊥
-PlaysNothing (Some (asked.Load n)) = ⊥
+-- the line of a play that stopped full, with its line feed
+abbrev pub full_line : ℕ → List ℕ
+full_line row = concat (codes "difane: full row " ∷ decimal row ∷ codes "\n" ∷ [])
+
+-- the line of a status, with its line feed; a command that did its work says nothing
+abbrev pub status_line : Status → List ℕ
+status_line status.Ok = []
+status_line status.Words = codes "difane: words\n"
+status_line (status.Input file code row) = input_line file code row
+status_line status.ReadFault = codes "difane: read fault\n"
+status_line status.WriteFault = codes "difane: write fault\n"
+status_line (status.Full row) = full_line row
+status_line status.NoMemory = codes "difane: no memory\n"

@@ -1,18 +1,6 @@
--- Counts of faults: numbers of 64 bits that never fall and stand still at their last value.
-use Rattle.std.specs.Prelude.{◌≤◌, ◌+◌, ◌-◌, ◌^◌, ℕ, zero, suc, min, Bool, if◌then◌else◌, List, Contains}
-
--- one more, or the last value
-abbrev pub counted : ℕ → ℕ
-counted n = min (n + 1) (2 ^ 64 - 1)
-
--- so many more, or the last value
-abbrev pub counted_up : ℕ → ℕ → ℕ
-counted_up zero n = n
-counted_up (suc many) n = counted (counted_up many n)
-
--- the count rose, or stands at its last value
-abbrev pub Rose : ℕ → ℕ → Type 0
-Rose before now = counted before ≤ now
+-- Faults that are ordered beforehand, and counts of many calls.
+use Rattle.std.specs.Prelude.{ℕ, Bool, if◌then◌else◌, List, Contains, zero, suc}
+use Rattle.shelf.specs.Sink.{counted}
 
 -- Faults that were ordered beforehand: the numbers of the calls that are to fail, counted from 1,
 -- how many calls there were, and how often a fault was counted. Both counts stand still at their
@@ -37,3 +25,8 @@ after_call script fault = record {
   calls = counted script.calls;
   faults = if fault then counted script.faults else script.faults;
 }
+
+-- so many more, or the last value
+abbrev pub counted_up : ℕ → ℕ → ℕ
+counted_up zero n = n
+counted_up (suc many) n = counted (counted_up many n)

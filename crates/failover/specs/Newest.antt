@@ -1,0 +1,20 @@
+-- The newest advert of an origin (OSPF, RFC 2328, section 13.1).
+use Rattle.std.specs.Prelude.{ℕ, ◌≡◌, ◌≢◌, Option, Some, None, List, ◌∷◌, ◌++◌, length, All, IsTrue, IsFalse}
+use Rattle.failover.specs.declared.advert.Advert.{Advert}
+use Rattle.failover.specs.Adverts.{is_newer, held}
+
+-- each advert stands at the place of its origin, of 64
+pub record AreByOrigin (adverts : List (Option Advert)) : Type 0 where
+  pub places : length adverts ≡ 64
+  pub origins : (origin : ℕ) (advert : Advert) → held adverts origin ≡ Some advert →
+      advert.origin ≡ origin
+
+-- of these adverts the newest of an origin, and of equally new ones the first; none where none is
+-- of that origin
+abbrev pub IsNewest : ℕ → List Advert → Option Advert → Type 0
+IsNewest origin adverts None = All (λ advert. advert.origin ≢ origin) adverts
+IsNewest origin adverts (Some best) =
+    (before : List Advert) × (after : List Advert) × (adverts ≡ before ++ best ∷ after)
+    × (best.origin ≡ origin)
+    × All (λ advert. advert.origin ≡ origin → IsTrue (is_newer best advert)) before
+    × All (λ advert. advert.origin ≡ origin → IsFalse (is_newer advert best)) after

@@ -1,0 +1,21 @@
+-- Which switch has a port, and which switches a link joins.
+use Rattle.std.specs.Prelude.{ℕ, ◌==◌, Bool, ◌&&◌, ◌||◌, Option, List, position}
+use Rattle.std.specs.Int.{bit_at}
+use Rattle.std.specs.List.{list_any}
+use Rattle.net_file.specs.declared.net.SwitchRow.{SwitchRow}
+use Rattle.net_file.specs.declared.net.LinkRow.{LinkRow}
+
+abbrev pub has_port : ℕ → SwitchRow → Bool
+has_port port row = bit_at row.ports port == 1
+
+-- the number of the switch that has the port
+abbrev pub owner_of : List SwitchRow → ℕ → Option ℕ
+owner_of switches port = position (has_port port) switches
+
+-- the link joins these two switches, in either order
+abbrev pub joins : ℕ → ℕ → LinkRow → Bool
+joins s x link = (link.one == s && link.two == x) || (link.one == x && link.two == s)
+
+-- some link joins them
+abbrev pub are_linked : List LinkRow → ℕ → ℕ → Bool
+are_linked links s x = list_any (joins s x) links

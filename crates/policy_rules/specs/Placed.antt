@@ -1,0 +1,24 @@
+-- A plan is of partitions with their targets, as in Yu, Rexford, Freedman and Wang, "Scalable
+-- Flow-Based Networking with DIFANE", SIGCOMM 2010.
+use Rattle.std.specs.Prelude.{ℕ, Bool, List}
+use Rattle.five_tuple.specs.Header.{number_of}
+use Rattle.five_tuple.specs.declared.header.Header.{Header}
+use Rattle.ternary.specs.Word.{holds}
+use Rattle.policy_rules.specs.declared.rules.Partition.{Partition}
+
+-- the region of the partition holds this header
+abbrev pub is_in : Header → Partition → Bool
+is_in header part = holds part.region (number_of header)
+
+-- a partition with its targets: the switches that decide its headers
+abbrev pub Placed : Type 0
+Placed = Partition × List ℕ
+
+-- why a policy has no plan on a network
+pub data NoPlan : Type 0 where
+  -- its rows have this many words, which are more than 4,096
+  TooManyWords : ℕ → NoPlan
+  -- its tree has more than 512 leaves
+  TooManyLeaves : NoPlan
+  -- too few switches have room for the partition of this number
+  NoRoom : ℕ → NoPlan

@@ -1,0 +1,27 @@
+-- Rows in the order of their priorities, and why rows are no policy.
+use Rattle.std.specs.Prelude.{⊤, ℕ, ◌≡◌, ◌+◌, ◌<◌, ◌≤◌, Bool, ◌==◌, IsTrue, List, length, take, AllPairs, slice_index_or}
+use Rattle.std.specs.List.{list_any}
+use Rattle.policy_rules.specs.declared.policy.Row.{Row}
+use Rattle.policy_rules.specs.declared.policy.NewPolicyError.{NewPolicyError}
+use Rattle.policy_rules.specs.declared.policy.NewPolicyError.TheVariants.{SamePriority, NoMemory}
+use Rattle.policy_rules.specs.Policy.{HaveDistinctPriorities}
+
+-- one of the rows has this priority
+abbrev pub has_priority : List Row → ℕ → Bool
+has_priority rows priority = list_any (λ row. row.priority == priority) rows
+
+-- no row exceeds an earlier one in priority
+abbrev pub IsFalling : List Row → Type 0
+IsFalling rows = AllPairs (λ row later. later.priority ≤ row.priority) rows
+
+-- the row at this place is the first that has an earlier row's priority
+pub record IsFirstRepeat (rows : List Row) (place : ℕ) : Type 0 where
+  pub there : place < length rows
+  pub repeats : (d : Row)
+      → IsTrue (has_priority (take place rows) (slice_index_or rows place d).priority)
+  pub first : HaveDistinctPriorities (take place rows)
+
+-- why these rows are no policy: one, counted from 1, repeats a priority, or memory ran out
+abbrev pub Refuses : List Row → NewPolicyError → Type 0
+Refuses rows (SamePriority row) = (place : ℕ) × (row ≡ place + 1) × IsFirstRepeat rows place
+Refuses rows NoMemory = ⊤

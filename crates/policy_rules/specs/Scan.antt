@@ -1,0 +1,37 @@
+-- The first match of a header as a function.
+use Rattle.std.specs.Prelude.{◌≡◌, Bool, nat_le, Option, Some, None, MatchOption, List, [], filter, find}
+use Rattle.std.specs.List.{list_all}
+use Rattle.std.specs.Borrow.{Bor}
+use Rattle.five_tuple.specs.Header.{fields_of}
+use Rattle.five_tuple.specs.declared.header.Fields.{Fields}
+use Rattle.five_tuple.specs.declared.header.Header.{Header}
+use Rattle.policy_rules.specs.declared.policy.Row.{Row}
+use Rattle.policy_rules.specs.declared.policy.Hit.{Hit}
+use Rattle.policy_rules.specs.declared.policy.Action.TheVariants.{Drop}
+use Rattle.policy_rules.specs.Policy.{row_matches, IsHighestIn}
+
+-- a reference to the highest of the rows that match, or to none where none matches
+abbrev pub IsHighestMatch : List Row → Fields → Option (Bor Row) → Type 0
+IsHighestMatch rows f best =
+    let matching = filter (λ row. row_matches row f) rows in
+    MatchOption best (matching ≡ []) (λ row. IsHighestIn matching row.now)
+
+-- none of the rows exceeds this one in priority
+abbrev pub is_highest : List Row → Row → Bool
+is_highest rows row = list_all (λ other. nat_le other.priority row.priority) rows
+
+-- of some rows, the one that none exceeds in priority
+abbrev pub highest : List Row → Option Row
+highest rows = find (is_highest rows) rows
+
+abbrev pub hit_of : Option Row → Hit
+hit_of None = record { rule = None; action = Drop }
+hit_of (Some row) = record { rule = Some row.priority; action = row.action }
+
+-- the first match of a header with these fields, as a function
+abbrev pub scan_by : List Row → Fields → Hit
+scan_by rows f = hit_of (highest (filter (λ row. row_matches row f) rows))
+
+-- the first match of a header, as a function
+abbrev pub scan : List Row → Header → Hit
+scan rows header = scan_by rows (fields_of header)

@@ -1,0 +1,45 @@
+-- What a write to a sink of bytes may answer, and sinks whose faults are ordered beforehand.
+use Rattle.std.specs.Prelude.{⊤, ◌≡◌, ◌≢◌, ◌≤◌, ℕ, Bool, IsTrue, true, false, ◌&&◌, ◌==◌, not, List, ◌++◌, length, take, drop, Option, Some, None, Result, Ok, Err, OnOk, OnErr, IsErrOf}
+use Rattle.std.proofs.Common.{refl, ap, append_assoc}
+use Rattle.shelf.specs.declared.output.SinkError.{SinkError}
+use Rattle.shelf.specs.declared.output.SinkError.TheVariants.{Failed, NoMemory}
+use Rattle.shelf.specs.Scripts.{CallScript}
+use Rattle.shelf.specs.Sink.{SinkState, gained, GainedPart, Rose}
+
+-- two gains are one of the bytes together
+pub gained-gained : (before : Option (List ℕ)) (first next : List ℕ)
+    → gained (gained before first) next ≡ gained before (first ++ next)
+gained-gained None first next = refl
+gained-gained (Some bytes) first next = ap Some (append_assoc bytes first next)
+
+-- of a text that is written in blocks the first bytes were written, and the others wait
+pub record IsGathered (text : List ℕ) (before now : Option (List ℕ)) (waiting : List ℕ)
+    : Type 0 where
+  pub written : ℕ
+  pub within : written ≤ length text
+  pub gained : now ≡ gained before (take written text)
+  pub waits : waiting ≡ drop written text
+
+-- what a write of these bytes leaves of a sink: all of them where it succeeds, and else a part; and
+-- each error has its cause. No fault is counted unless it failed, so a write is not tried again
+-- behind a fault
+pub record IsAfterWrite (bytes : List ℕ) (takes_memory : Bool) (old new : SinkState)
+    (result : Result (⊤) SinkError) : Type 0 where
+  pub whole : OnOk result (new.bytes ≡ gained old.bytes bytes)
+  pub part : OnErr result (GainedPart old.bytes bytes new.bytes)
+  pub faults : old.faults ≤ new.faults
+  pub calm : result ≢ Err Failed → new.faults ≡ old.faults
+  pub failed : IsErrOf result Failed → Rose old.faults new.faults
+  pub no_memory : IsErrOf result NoMemory → IsTrue takes_memory
+
+-- the answer is a fault, or an Ok of nothing for a piece that has bytes
+abbrev pub is_fault : List ℕ → Result ℕ SinkError → Bool
+is_fault piece (Ok taken) = (taken == 0) && not (length piece == 0)
+is_fault piece (Err Failed) = true
+is_fault piece (Err NoMemory) = false
+
+-- bytes, the most that one call takes, and the calls that are to fail
+pub record ScriptedBytes : Type 0 where
+  pub bytes : List ℕ
+  pub most : ℕ
+  pub script : CallScript

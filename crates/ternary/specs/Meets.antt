@@ -1,0 +1,96 @@
+-- How words meet, include each other and are cut at a bit.
+use Rattle.std.specs.Prelude.{◌≡◌, ℕ, ◌-◌, ◌*◌, ◌^◌, ◌<◌, Bool, not, ◌&&◌, ◌||◌, ◌==◌, if◌then◌else◌, bit_and, bit_or, Option, Some, None, IsTrue, List, filter}
+use Rattle.std.specs.Int.{bit_at, from_bool}
+use Rattle.std.specs.List.{range_with_len}
+use Rattle.ternary.specs.Word.{WordValue, fixed_value, holds}
+
+-- h and the value agree on each bit of the mask
+abbrev pub AgreesOnMask : WordValue → ℕ → Type 0
+AgreesOnMask w h = (k : ℕ) → bit_at w.mask k ≡ 1 → bit_at h k ≡ bit_at w.value k
+
+-- a holds each header that b holds
+abbrev pub Includes : WordValue → WordValue → Type 0
+Includes a b = (h : ℕ) → h < 2 ^ 104 → IsTrue (holds b h) → IsTrue (holds a h)
+
+-- no header is held by both
+abbrev pub AreDisjoint : WordValue → WordValue → Type 0
+AreDisjoint a b = (h : ℕ) → h < 2 ^ 104 → IsTrue (holds a h) → IsTrue (holds b h) → ⊥
+
+-- m holds exactly what both hold
+abbrev pub IsMeet : WordValue → WordValue → WordValue → Type 0
+IsMeet a b m = (h : ℕ) → holds m h ≡ (holds a h && holds b h)
+
+-- every bit is free
+abbrev pub any_word : WordValue
+any_word = record { value = 0; mask = 0 }
+
+-- all 104 bits are fixed to those of h
+abbrev pub exact_word : ℕ → WordValue
+exact_word h = record { value = h; mask = 2 ^ 104 - 1 }
+
+-- the same value and mask: what `==` and the keys of maps compare
+abbrev pub word_eq : WordValue → WordValue → Bool
+word_eq a b = (a.value == b.value) && (a.mask == b.mask)
+
+-- the values agree on each bit that both fix
+abbrev pub AgreesOnBoth : WordValue → WordValue → Type 0
+AgreesOnBoth a b = (k : ℕ) → bit_at a.mask k ≡ 1 → bit_at b.mask k ≡ 1
+    → bit_at a.value k ≡ bit_at b.value k
+
+-- each bit that a fixes, b fixes to the same
+abbrev pub IsFixedIn : WordValue → WordValue → Type 0
+IsFixedIn a b = (k : ℕ) → bit_at a.mask k ≡ 1
+    → (bit_at b.mask k ≡ 1) × (bit_at b.value k ≡ bit_at a.value k)
+
+-- the values agree on the bits that both fix
+unfoldable pub meets : WordValue → WordValue → Bool
+meets a b = let common = bit_and a.mask b.mask in bit_and a.value common == bit_and b.value common
+
+-- the fixed bits of both
+abbrev pub joined : WordValue → WordValue → WordValue
+joined a b = record { value = bit_or (fixed_value a) (fixed_value b); mask = bit_or a.mask b.mask }
+
+-- the word of what both hold, if there is something
+unfoldable pub meet_of : WordValue → WordValue → Option WordValue
+meet_of a b = if meets a b then Some (joined a b) else None
+
+-- each fixed bit of a is fixed in b, and to the same
+unfoldable pub covers_of : WordValue → WordValue → Bool
+covers_of a b = (bit_and a.mask b.mask == a.mask) && (bit_and b.value a.mask == fixed_value a)
+
+-- n with its bit k set to 0
+abbrev pub without_bit : ℕ → ℕ → ℕ
+without_bit n k = n - bit_at n k * 2 ^ k
+
+-- n with its bit k set to 1 or 0
+abbrev pub with_bit : ℕ → ℕ → Bool → ℕ
+with_bit n k one = bit_or (without_bit n k) (from_bool one * 2 ^ k)
+
+-- bit k is fixed
+unfoldable pub is_fixed_of : WordValue → ℕ → Bool
+is_fixed_of w k = bit_at w.mask k == 1
+
+-- bit k is free, or fixed to this
+unfoldable pub admits : WordValue → ℕ → Bool → Bool
+admits w k one = not (is_fixed_of w k) || (bit_at w.value k == from_bool one)
+
+-- bit k fixed to 1 or 0: a half of w, where the bit was free
+unfoldable pub fix_of : WordValue → ℕ → Bool → WordValue
+fix_of w k one = record { value = with_bit w.value k one; mask = bit_or w.mask (2 ^ k) }
+
+-- bit k freed
+unfoldable pub free_of : WordValue → ℕ → WordValue
+free_of w k = record { value = without_bit w.value k; mask = without_bit w.mask k }
+
+-- bit k is not fixed in both to different values
+unfoldable pub agrees_at : WordValue → WordValue → ℕ → Bool
+agrees_at a b k = not (is_fixed_of a k && is_fixed_of b k) || (bit_at a.value k == bit_at b.value k)
+
+-- bit k is fixed in b, and to the same, if a fixes it
+unfoldable pub includes_at : WordValue → WordValue → ℕ → Bool
+includes_at a b k =
+    not (is_fixed_of a k) || (is_fixed_of b k && (bit_at b.value k == bit_at a.value k))
+
+-- of the 104 bits, those that are free, ascending
+unfoldable pub free_bits : WordValue → List ℕ
+free_bits w = filter (λ k. not (is_fixed_of w k)) (range_with_len 0 104)

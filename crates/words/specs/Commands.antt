@@ -1,0 +1,28 @@
+-- The commands, by their words.
+use Rattle.std.specs.Prelude.{ℕ, Bool, Option, List, map, string_bytes, String, Vec}
+use Rattle.std.specs.Global.{Global}
+
+-- `replay SCHEDULE POLICY ..`, on the network of a file, or on that of one switch
+pub record ReplayCommand : Type 0 where
+  pub schedule : List ℕ
+  -- an update names one of them by its place, from 1
+  pub policies : List (List ℕ)
+  pub net : Option (List ℕ)
+  -- whether it is to say what the network came to, once it is quiet
+  pub quiet : Bool
+
+-- `compile POLICY`, or `show POLICY SWITCH`; on the network of a file, or on that of one switch
+pub record PrintCommand : Type 0 where
+  pub policy : List ℕ
+  pub switch : Option (List ℕ)
+  pub net : Option (List ℕ)
+
+-- `load N` has the number alone
+pub data Command : Type 0 where
+  Replay : ReplayCommand → Command
+  Print : PrintCommand → Command
+  Load : ℕ → Command
+
+-- the bytes of the words
+abbrev pub texts : Vec (String Global) Global → List (List ℕ)
+texts words = map string_bytes words.items
