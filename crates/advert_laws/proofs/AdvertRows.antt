@@ -10,7 +10,7 @@ use Rattle.failover.specs.declared.advert.Advert.{Advert}
 use Rattle.masks.specs.Masks.{mask_of, mask_where, switches}
 use Rattle.journal.specs.declared.item.Item.{Item}
 use Rattle.journal.specs.declared.item.Item.TheVariants as item
-use Rattle.net_file.specs.Net.{IsNet, IsSwitch, solo_net}
+use Rattle.net_file.specs.Net.{IsNet, IsSwitchRow, solo_net}
 use Rattle.steps.specs.declared.step.Step.TheVariants as step
 use Rattle.update_machine.specs.Adverts.{advert_known, adverts_known, held_adverts, own_advert, own_seq}
 use Rattle.update_machine.specs.Answers.{StepOfRow, after_steps}
@@ -170,7 +170,7 @@ pub is_net : IsNet solo_net
 is_net = record {
   some_switch = omega arith;
   few_switches = omega arith;
-  switches = All-from_recursion IsSwitch solo_net.switches
+  switches = All-from_recursion IsSwitchRow solo_net.switches
       (record { name = refl; ports = omega arith; room = omega arith }, tt);
   apart = λ i j row before inside. absurd (omega (arith, before, inside));
   few_links = omega arith;

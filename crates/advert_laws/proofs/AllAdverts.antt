@@ -20,7 +20,7 @@ use Rattle.net_file.specs.Owners.{links_of}
 use Rattle.steps.specs.Steps.{HasSwitch}
 use Rattle.journal.specs.declared.item.Item.{Item}
 use Rattle.journal.specs.declared.item.Item.TheVariants as item
-use Rattle.update_machine.specs.Adverts.{advert_known, own_advert, own_if_told}
+use Rattle.update_machine.specs.Adverts.{advert_known, own_advert, own_if_sent}
 use Rattle.update_machine.specs.Boots.{heard, is_in_first_boot, said_to}
 use Rattle.update_machine.specs.Causes.{HaveCauses}
 use Rattle.update_machine.specs.Deliveries.{advert_to}
@@ -112,7 +112,7 @@ begun_such setting P journal s origin such small = by_test (is_in_first_boot jou
     by_test false =
         subst (λ o. AllByRecursion P (option_to_list o)) (sym (none_held origin small)) tt
 
-pub own_told : (own advert : Advert) → own_if_told own ≡ Some advert → own ≡ advert
+pub own_told : (own advert : Advert) → own_if_sent own ≡ Some advert → own ≡ advert
 own_told own advert told = by_test (own.seq == 0) told
   where
     by_test : (b : Bool) → (if b then None else Some own) ≡ Some advert → own ≡ advert
@@ -127,7 +127,7 @@ pub known_such : (setting : Setting) (P : List Item → Advert → Type 0) (jour
 known_such setting P journal such s origin advert small told known =
     elim (cases_eq origin s) [
       | inl same ↦
-          let own : own_if_told (own_advert setting journal s) ≡ Some advert =
+          let own : own_if_sent (own_advert setting journal s) ≡ Some advert =
           sym (known_link_laws.own setting journal s (subst (λ x. x < 64) same small))
           ∙ ap (advert_known setting journal s) (sym same) ∙ known in
           subst (P journal) (own_told (own_advert setting journal s) advert own) told

@@ -15,7 +15,7 @@ use Rattle.ctrl_msg.specs.declared.message.Message.{Message}
 use Rattle.ctrl_msg.specs.declared.message.Receiver.{Receiver}
 use Rattle.ctrl_msg.specs.declared.message.Receiver.TheVariants as receiver
 use Rattle.failover.specs.Adverts.{after_hearing, after_hearing_all, first_advert, first_adverts, held, is_newer, is_news, no_adverts}
-use Rattle.failover.specs.Links.{neighbours_told}
+use Rattle.failover.specs.Links.{neighbours_named}
 use Rattle.failover.specs.declared.advert.Advert.{Advert}
 use Rattle.failover.specs.Newest.{AreByOrigin}
 use Rattle.failover.specs.Isolated.{names}
@@ -517,7 +517,7 @@ names_end setting journal have net s one two apart serving is =
         → IsTrue (names (adverts_of_others setting journal s) one two)
     by_held claim None e small linked same = absurd same
     by_held claim (Some advert) e small linked same =
-        ap (λ o. has (neighbours_told o) two) e ∙ same.links two small ∙ linked
+        ap (λ o. has (neighbours_named o) two) e ∙ same.links two small ∙ linked
 
     by_claim : (claim : Option Claim) → claim_of setting journal s one ≡ claim
         → IsTrue (option_map_or (λ c. c.links two) claim false)

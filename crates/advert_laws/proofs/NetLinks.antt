@@ -5,7 +5,7 @@ use Rattle.std.specs.List.{list_any}
 use Rattle.std.proofs.lemmas.Bool.{cases_eq, cases_lt}
 use Rattle.std.proofs.lemmas.List.{get_or-map, get_or_past, length-map}
 use Rattle.failover.specs.Adverts.{held}
-use Rattle.failover.specs.Links.{is_link, neighbours_told, told_links, AreJoined, IsPath, Leads}
+use Rattle.failover.specs.Links.{is_link, neighbours_named, named_links, AreJoined, IsPath, Leads}
 use Rattle.masks.specs.Masks.{has}
 use Rattle.failover.specs.Paths.{IsRoute}
 use Rattle.failover.specs.declared.advert.Advert.{Advert}
@@ -18,7 +18,7 @@ use Rattle.net_file.specs.Owners.{links_of}
 use Rattle.net_file.proofs.Masks.{in_mask, in_mask_of, in_mask_past, mask_of_small}
 use Rattle.steps.specs.Steps.{HasLink}
 use Rattle.journal.specs.declared.item.Item.{Item}
-use Rattle.update_machine.specs.Adverts.{advert_known, adverts_known, own_advert, own_if_told}
+use Rattle.update_machine.specs.Adverts.{advert_known, adverts_known, own_advert, own_if_sent}
 use Rattle.update_machine.specs.Causes.{HaveCauses}
 use Rattle.update_machine.specs.Links.{is_usable}
 use Rattle.update_machine.specs.Setting.{Setting}
@@ -87,7 +87,7 @@ pub known_origin : (setting : Setting) (journal : List Item) (s origin : ℕ) (a
     → advert.origin ≡ origin
 known_origin setting journal s origin advert small known = elim (cases_eq origin s) [
   | inl same ↦
-      let own : own_if_told (own_advert setting journal s) ≡ Some advert =
+      let own : own_if_sent (own_advert setting journal s) ≡ Some advert =
       sym (known_link_laws.own setting journal s (subst (λ x. x < 64) same small))
       ∙ ap (advert_known setting journal s) (sym same) ∙ known in
       ap (λ a. a.origin) (sym (own_told (own_advert setting journal s) advert own))
@@ -114,19 +114,19 @@ no_link_in_none k is = let none : has 0 k ≡ false = has-zero k in absurd cc
 
 -- what a switch is told of another one's links
 told_row : (adverts : List (Option Advert)) (one : ℕ)
-    → get_or (map neighbours_told adverts) one 0 ≡ neighbours_told (held adverts one)
+    → get_or (map neighbours_named adverts) one 0 ≡ neighbours_named (held adverts one)
 told_row adverts one = elim (cases_lt one (length adverts)) [
-  | inl within ↦ get_or-map neighbours_told adverts one None 0 within
+  | inl within ↦ get_or-map neighbours_named adverts one None 0 within
   | inr past ↦
-      get_or_past (map neighbours_told adverts) one 0
-      (omega (arith, past, length-map adverts neighbours_told))
-      ∙ ap neighbours_told (sym (get_or_past adverts one None past))
+      get_or_past (map neighbours_named adverts) one 0
+      (omega (arith, past, length-map adverts neighbours_named))
+      ∙ ap neighbours_named (sym (get_or_past adverts one None past))
 ]
 
 named_row : (net : Net) (told : Option Advert) (one other : ℕ)
     → ((advert : Advert) → told ≡ Some advert
     → NamesLinks net advert × (advert.origin ≡ one))
-    → IsTrue (has (neighbours_told told) other) → HasLink net one other
+    → IsTrue (has (neighbours_named told) other) → HasLink net one other
 named_row net None one other names is = absurd (no_link_in_none other is)
 named_row net (Some advert) one other names is =
     let named = names advert refl in
@@ -137,45 +137,45 @@ linked_row : (net : Net) (adverts : List (Option Advert)) (at own one other : �
     → (IsTrue (has own other) → HasLink net at other)
     → ((advert : Advert) → held adverts one ≡ Some advert
     → NamesLinks net advert × (advert.origin ≡ one))
-    → IsTrue (has (get_or (set (map neighbours_told adverts) at own) one 0) other)
+    → IsTrue (has (get_or (set (map neighbours_named adverts) at own) one 0) other)
     → HasLink net one other
 linked_row net adverts at own one other sees names is =
     elim (cases_eq one at) [
       | inl same ↦ by_place same (cases_lt at (length rows))
       | inr apart ↦
-          let row : get_or (set rows at own) one 0 ≡ neighbours_told (held adverts one) =
+          let row : get_or (set rows at own) one 0 ≡ neighbours_named (held adverts one) =
           get_or-set_other rows at one own 0 apart ∙ told_row adverts one in
           named_row net (held adverts one) one other names
           (subst (λ mask. IsTrue (has mask other)) row is)
     ]
   where
     rows : List ℕ
-    rows = map neighbours_told adverts
+    rows = map neighbours_named adverts
 
     by_place : one ≡ at
-        → (at < length (map neighbours_told adverts))
-        ⊎ (length (map neighbours_told adverts) ≤ at)
+        → (at < length (map neighbours_named adverts))
+        ⊎ (length (map neighbours_named adverts) ≤ at)
         → HasLink net one other
     by_place same (inl within) =
-        let row : get_or (set (map neighbours_told adverts) at own) one 0 ≡ own =
-        ap (λ x. get_or (set (map neighbours_told adverts) at own) x 0) same
-        ∙ get_or-set_same (map neighbours_told adverts) at own 0 within in
+        let row : get_or (set (map neighbours_named adverts) at own) one 0 ≡ own =
+        ap (λ x. get_or (set (map neighbours_named adverts) at own) x 0) same
+        ∙ get_or-set_same (map neighbours_named adverts) at own 0 within in
         subst (λ x. HasLink net x other) (sym same)
         (sees (subst (λ mask. IsTrue (has mask other)) row is))
     by_place same (inr past) =
-        let none : get_or (set (map neighbours_told adverts) at own) one 0 ≡ 0 =
-        get_or_past (set (map neighbours_told adverts) at own) one 0
-        (omega (arith, same, past, length-set (map neighbours_told adverts) at own)) in
+        let none : get_or (set (map neighbours_named adverts) at own) one 0 ≡ 0 =
+        get_or_past (set (map neighbours_named adverts) at own) one 0
+        (omega (arith, same, past, length-set (map neighbours_named adverts) at own)) in
         absurd (no_link_in_none other (subst (λ mask. IsTrue (has mask other)) none is))
 
 known_linked : (setting : Setting) (journal : List Item)
     → AllAdverts setting journal (NamesLinks setting.net)
     → (s one other : ℕ) (down : List ℕ) → one < 64 → other < 64
     → AreJoined (links_known setting journal s down) one other → HasLink setting.net one other
-unfolding is_link told_links
+unfolding is_link named_links
 known_linked setting journal adverts s one other down one_small other_small joined =
     let told : is_link
-    (told_links (adverts_known setting journal s) s (near setting journal s)) down one other
+    (named_links (adverts_known setting journal s) s (near setting journal s)) down one other
     ≡ true =
     sym (has_known_link setting journal s down one other one_small other_small) ∙ joined in
     linked_row setting.net (adverts_known setting journal s) s (near setting journal s) one other

@@ -13,7 +13,7 @@ use Rattle.journal.specs.declared.item.Item.{Item}
 use Rattle.journal.specs.declared.item.Item.TheVariants as item
 use Rattle.update_machine.specs.Adverts.{adverts_known, held_adverts, own_advert}
 use Rattle.update_machine.specs.Boots.{heard}
-use Rattle.update_machine.specs.Deliveries.{advert_to, has_changed, link_changes, passed_on, told_by, told_over, switches_in}
+use Rattle.update_machine.specs.Deliveries.{advert_to, has_changed, link_changes, passed_on, messages_of, messages_over, switches_in}
 use Rattle.update_machine.specs.Laws.{KnownKeeps, LinksKeep, SwitchKeeps}
 use Rattle.update_machine.specs.LinkMasks.{near, other_advert}
 use Rattle.update_machine.specs.Messages.{next_message, sends, sent_from}
@@ -170,7 +170,7 @@ own_told setting journal s neighbour linked =
 
 over_told : (setting : Setting) (before journal : List Item) (s neighbour : ℕ)
     → IsTrue (has (near setting journal s) neighbour)
-    → AllByRecursion (Tells setting journal) (told_over setting before journal s neighbour)
+    → AllByRecursion (Tells setting journal) (messages_over setting before journal s neighbour)
 over_told setting before journal s neighbour linked =
     by_link (has (near setting before s) neighbour)
   where
@@ -186,8 +186,8 @@ pub changes_told : (setting : Setting) (before journal : List Item)
 unfolding link_changes
 changes_told setting before journal =
     sends_told setting journal _
-    (each_flat_map (Tells setting journal) (told_by setting before journal)
-    (λ s. each_neighbour setting journal s (told_over setting before journal s)
+    (each_flat_map (Tells setting journal) (messages_of setting before journal)
+    (λ s. each_neighbour setting journal s (messages_over setting before journal s)
     (over_told setting before journal s))
     (filter (has_changed setting before journal) (switches_of setting)))
 

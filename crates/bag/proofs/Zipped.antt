@@ -6,7 +6,7 @@ use Rattle.std.specs.Option.{option_and_then, option_map_or}
 use Rattle.std.proofs.lemmas.Slice.Zip.{length-zip, seconds-zip}
 use Rattle.bag.specs.Deliveries.{is_deliverable, may_be_delivered}
 use Rattle.bag.specs.Numbered.{with_changed}
-use Rattle.bag.specs.Posts.{Post, frames_of, remembered, statuses_of, with_status}
+use Rattle.bag.specs.Posts.{Post, frames_posted, remembered, statuses_of, with_status}
 use Rattle.bag.specs.declared.deliveries.Status.{Status}
 
 pub zip_pushed : {A B : Type 0} (xs : List A) (ys : List B) (x : A) (y : B) → length xs ≡ length ys
@@ -70,7 +70,7 @@ length_of_zip all statuses same = length-zip all statuses
 -- what the bag says of a number its deliveries say
 pub deliverable_same : (all : List (List (List ℕ))) (statuses : List Status) (number : ℕ)
     → length all ≡ length statuses
-    → is_deliverable statuses number ≡ is_some (frames_of (zip all statuses) number)
+    → is_deliverable statuses number ≡ is_some (frames_posted (zip all statuses) number)
 deliverable_same all statuses zero same = refl
 deliverable_same all statuses (suc place) same = at_place all statuses place same
   where
@@ -90,7 +90,7 @@ deliverable_same all statuses (suc place) same = at_place all statuses place sam
 -- those of a message that isn't forgotten are the frames that are kept under its number
 pub the_frames : (all : List (List (List ℕ))) (statuses : List Status) (number : ℕ)
     (fs : List (List ℕ)) → is_deliverable statuses number ≡ true
-    → slice_get all (number - 1) ≡ Some fs → frames_of (zip all statuses) number ≡ Some fs
+    → slice_get all (number - 1) ≡ Some fs → frames_posted (zip all statuses) number ≡ Some fs
 the_frames all statuses zero fs is kept = absurd cc
 the_frames all statuses (suc place) fs is kept =
     let at : suc place - 1 ≡ place = omega arith in

@@ -29,17 +29,17 @@ abbrev pub remembered : Post → Option (List (List ℕ))
 remembered post = if post.1.forgotten then None else Some post.0
 
 -- the frames of the message of a number, if it was posted and isn't forgotten
-abbrev pub frames_of : List Post → ℕ → Option (List (List ℕ))
-frames_of posts number = option_and_then remembered (numbered posts number)
+abbrev pub frames_posted : List Post → ℕ → Option (List (List ℕ))
+frames_posted posts number = option_and_then remembered (numbered posts number)
 
 -- there is such a message
 abbrev pub is_deliverable : List Post → ℕ → Bool
-is_deliverable posts number = is_some (frames_of posts number)
+is_deliverable posts number = is_some (frames_posted posts number)
 
 -- the message has a spelling, and its frames are those of this number
 pub record IsMessageOf (posts : List Post) (number : ℕ) (message : Message) : Type 0 where
   pub fits : form.fits message ≡ true
-  pub frames_are : frames_of posts number ≡ Some (framed message)
+  pub frames_are : frames_posted posts number ≡ Some (framed message)
 
 -- the least number at or above `from` of a message that was never delivered and isn't forgotten
 abbrev pub next_waiting : List Post → ℕ → Option ℕ

@@ -11,7 +11,7 @@ use Rattle.journal.specs.declared.item.Item.{Item}
 use Rattle.journal.specs.declared.item.Item.TheVariants as item
 use Rattle.update_machine.specs.Boots.{boot_of, changes_heard, heard, is_up, said_to, tells_boot, tells_up}
 use Rattle.update_machine.specs.Folds.{all_given, count_of, last_told}
-use Rattle.update_machine.specs.Marks.{first_of, said_to_controller, changes_over, changes_told, controller_heard, current_mark, hello_boot, is_over, known_boot, open_sent, opened_at, retired_mark, tells_current, tells_retired}
+use Rattle.update_machine.specs.Marks.{first_number, said_to_controller, changes_over, changes_told, controller_heard, current_mark, hello_boot, is_over, known_boot, open_sent, opened_at, retired_mark, tells_current, tells_retired}
 use Rattle.update_machine.specs.Settling.{to_switch}
 use Rattle.update_machine.specs.Versions.{first_stamp, greatest, stamp_in, stamp_of, is_submission, version_count}
 use Rattle.update_machine.specs.Links.{serves, tells_serving, message_of, tells_message}
@@ -179,7 +179,7 @@ stamp_told before n s =
 -- the version at which the switch is opened in a boot, if it is
 unfoldable pub opened_in : List Item → ℕ → ℕ → Option ℕ
 opened_in journal s boot = if boot == 1 then Some 1
-    else first_of (all_given (open_sent s boot) journal)
+    else first_number (all_given (open_sent s boot) journal)
 
 pub opened_is : (journal : List Item) (s : ℕ) → opened_at journal s ≡ opened_in journal s
     (known_boot journal s)
@@ -188,35 +188,35 @@ opened_is journal s = refl
 
 pub opened_more : (before : List Item) (item : Item) (s boot : ℕ)
     → opened_in (before ++ item ∷ []) s boot
-    ≡ option_or (opened_in before s boot) (first_of (open_sent s boot item))
+    ≡ option_or (opened_in before s boot) (first_number (open_sent s boot item))
 unfolding opened_in
 opened_more before item s boot = by_test (boot == 1)
   where
-    first_append : (xs ys : List ℕ) → first_of (xs ++ ys) ≡ option_or (first_of xs) (first_of ys)
+    first_append : (xs ys : List ℕ) → first_number (xs ++ ys) ≡ option_or (first_number xs) (first_number ys)
     first_append [] ys = refl
     first_append (x ∷ xs) ys = refl
 
     by_test : (b : Bool)
-        → (if b then Some 1 else first_of (all_given (open_sent s boot) (before ++ item ∷ [])))
-        ≡ option_or (if b then Some 1 else first_of (all_given (open_sent s boot) before))
-        (first_of (open_sent s boot item))
+        → (if b then Some 1 else first_number (all_given (open_sent s boot) (before ++ item ∷ [])))
+        ≡ option_or (if b then Some 1 else first_number (all_given (open_sent s boot) before))
+        (first_number (open_sent s boot item))
     by_test true = refl
-    by_test false = ap first_of (sent_more before item s boot)
+    by_test false = ap first_number (sent_more before item s boot)
         ∙ first_append (all_given (open_sent s boot) before) (open_sent s boot item)
 
 -- in the known boot, where that stays
 pub opened_at_more : (before : List Item) (next : Item) (s : ℕ)
     → known_boot (before ++ next ∷ []) s ≡ known_boot before s
     → opened_at (before ++ next ∷ []) s
-    ≡ option_or (opened_at before s) (first_of (open_sent s (known_boot before s) next))
+    ≡ option_or (opened_at before s) (first_number (open_sent s (known_boot before s) next))
 opened_at_more before next s known =
     opened_is (before ++ next ∷ []) s ∙ ap (opened_in (before ++ next ∷ []) s) known
     ∙ opened_more before next s (known_boot before s)
-    ∙ ap (λ o. option_or o (first_of (open_sent s (known_boot before s) next)))
+    ∙ ap (λ o. option_or o (first_number (open_sent s (known_boot before s) next)))
     (sym (opened_is before s))
 
 -- an item opens a switch in a boot only by its message
-pub opens_by : (next : Item) (s boot version : ℕ) → first_of (open_sent s boot next) ≡ Some version
+pub opens_by : (next : Item) (s boot version : ℕ) → first_number (open_sent s boot next) ≡ Some version
     → (n : ℕ) × (next ≡ item.Sent n (to_switch s (OpenAt boot version)))
 opens_by (item.Sent n message) s boot version opens =
     let is : item.Sent n message ≡ item.Sent n (to_switch s (OpenAt boot version)) =

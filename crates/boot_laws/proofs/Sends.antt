@@ -13,7 +13,7 @@ use Rattle.journal.specs.declared.item.Item.{Item}
 use Rattle.journal.specs.declared.item.Item.TheVariants as item
 use Rattle.update_machine.specs.Causes.{HaveCauses}
 use Rattle.update_machine.specs.Laws.{SwitchKeeps}
-use Rattle.update_machine.specs.Marks.{controller_heard, has_acked, is_member, known_boot, first_of, open_sent, opened_at}
+use Rattle.update_machine.specs.Marks.{controller_heard, has_acked, is_member, known_boot, first_number, open_sent, opened_at}
 use Rattle.update_machine.specs.Messages.{next_message, sends, sent_from}
 use Rattle.update_machine.specs.Setting.{Setting}
 use Rattle.update_machine.specs.Versions.{tables_at}
@@ -133,9 +133,9 @@ opening_sent : (setting : Setting) (before : List Item) (s boot version n : ℕ)
 opening_sent setting before s boot version n message new right = record {
   to = known_sent before s boot n message right.to;
   opens = elim right.opens [
-    | inl first ↦ by_opens first (first_of (open_sent s (known_boot before s) next)) refl
+    | inl first ↦ by_opens first (first_number (open_sent s (known_boot before s) next)) refl
     | inr same ↦ inr (after
-        ∙ ap (λ o. option_or o (first_of (open_sent s (known_boot before s) next))) same)
+        ∙ ap (λ o. option_or o (first_number (open_sent s (known_boot before s) next))) same)
   ];
 }
   where
@@ -143,7 +143,7 @@ opening_sent setting before s boot version n message new right = record {
     next = item.Sent n message
 
     after : opened_at (before ++ next ∷ []) s
-        ≡ option_or (opened_at before s) (first_of (open_sent s (known_boot before s) next))
+        ≡ option_or (opened_at before s) (first_number (open_sent s (known_boot before s) next))
     after = opened_at_more before next s (known_more before next s)
 
     -- another one opens it at the current version too
@@ -155,12 +155,12 @@ opening_sent setting before s boot version n message new right = record {
     ]
 
     by_opens : IsFirstOpening before s version → (o : Option ℕ)
-        → first_of (open_sent s (known_boot before s) next) ≡ o
+        → first_number (open_sent s (known_boot before s) next) ≡ o
         → IsFirstOpening (before ++ next ∷ []) s version
         ⊎ (opened_at (before ++ next ∷ []) s ≡ Some version)
     by_opens first None e = inl (record {
       closed = after
-          ∙ ap (λ o. option_or o (first_of (open_sent s (known_boot before s) next))) first.closed
+          ∙ ap (λ o. option_or o (first_number (open_sent s (known_boot before s) next))) first.closed
           ∙ e;
       current = rw (current_more before next) first.current;
       acked = rw (acked_same (before ++ next ∷ []) before s version (told_more before next))
@@ -172,7 +172,7 @@ opening_sent setting before s boot version n message new right = record {
         at_current w first (subst (HasItemCause setting before) opens.1 new) in
         inr (
         after
-        ∙ ap (λ o. option_or o (first_of (open_sent s (known_boot before s) next))) first.closed
+        ∙ ap (λ o. option_or o (first_number (open_sent s (known_boot before s) next))) first.closed
         ∙ e ∙ ap Some same)
 
 -- ---- each message stays right behind others

@@ -9,7 +9,7 @@ use Rattle.journal.specs.declared.item.Item.{Item}
 use Rattle.journal.specs.declared.item.Item.TheVariants as item
 use Rattle.update_machine.specs.Boots.{boot_of, is_up}
 use Rattle.update_machine.specs.Causes.{HaveCauses}
-use Rattle.update_machine.specs.Marks.{controller_heard, first_of, hello_boot, is_member, is_over, known_boot, open_sent, opened_at, said_to_controller}
+use Rattle.update_machine.specs.Marks.{controller_heard, first_number, hello_boot, is_member, is_over, known_boot, open_sent, opened_at, said_to_controller}
 use Rattle.update_machine.specs.Setting.{Setting}
 use Rattle.update_machine.specs.Settling.{to_switch}
 use Rattle.update_machine.specs.Links.{serves, message_of}
@@ -50,7 +50,7 @@ pub opened_on : (before : List Item) (next : Item) (s boot version : ℕ)
 opened_on before next s boot version opened = rw (opened_more before next s boot, opened) refl
 
 pub own_opening : (s boot version n : ℕ)
-    → first_of (open_sent s boot (item.Sent n (to_switch s (OpenAt boot version)))) ≡ Some version
+    → first_number (open_sent s boot (item.Sent n (to_switch s (OpenAt boot version)))) ≡ Some version
 own_opening s boot version n =
     let s_is : (s == s) ≡ true = eq-eqb s s refl in
     let boot_is : (boot == boot) ≡ true = eq-eqb boot boot refl in
@@ -66,7 +66,7 @@ new_opening before s boot version n right =
           let none : opened_in before s boot ≡ None =
           ap (opened_in before s) right.to.known ∙ sym (opened_is before s) ∙ first.closed in
           opened_more before next s boot
-          ∙ ap (λ o. option_or o (first_of (open_sent s boot next))) none
+          ∙ ap (λ o. option_or o (first_number (open_sent s boot next))) none
           ∙ own_opening s boot version n
       | inr same ↦ opened_on before next s boot version
           (ap (opened_in before s) right.to.known ∙ sym (opened_is before s) ∙ same)
@@ -173,7 +173,7 @@ still_opened before next s same opened =
     rw (opened_at_more before next s same) (by_opened (opened_at before s) opened)
   where
     by_opened : (o : Option ℕ) → IsTrue (is_some o)
-        → IsTrue (is_some (option_or o (first_of (open_sent s (known_boot before s) next))))
+        → IsTrue (is_some (option_or o (first_number (open_sent s (known_boot before s) next))))
     by_opened None is = cc
     by_opened (Some version) is = refl
 

@@ -23,7 +23,7 @@ use Rattle.update_machine.specs.Adverts.{held_adverts, own_advert}
 use Rattle.update_machine.specs.Links.{serves}
 use Rattle.update_machine.specs.Caches.{lookup_at}
 use Rattle.update_machine.specs.Causes.{HaveCauses}
-use Rattle.update_machine.specs.Deliveries.{advert_to, has_changed, link_changes, passed_on, told_by, told_over, switches_in}
+use Rattle.update_machine.specs.Deliveries.{advert_to, has_changed, link_changes, passed_on, messages_of, messages_over, switches_in}
 use Rattle.update_machine.specs.LinkMasks.{near}
 use Rattle.update_machine.specs.Messages.{next_message, sends, sent_from}
 use Rattle.update_machine.specs.Moves.{put, AuthorityRule, arrive_by, arrive_items, authority_items, cache_items, end_items, found_items, go_on, header_at, leg_items, lookup_items, move_items, reroute_by, reroute_items, authority_rule, cache_rule, first_place, in_turn}
@@ -429,7 +429,7 @@ each_told setting told adverts (s ∷ switches) there =
 
 told_adverts : (setting : Setting) (before journal : List Item) (s neighbour : ℕ)
     → neighbour < length setting.net.switches
-    → AllByRecursion (IsAdvert setting) (told_over setting before journal s neighbour)
+    → AllByRecursion (IsAdvert setting) (messages_over setting before journal s neighbour)
 told_adverts setting before journal s neighbour there =
     by_link (has (near setting before s) neighbour)
   where
@@ -445,8 +445,8 @@ pub links_traffic : (setting : Setting) (before journal : List Item)
 unfolding link_changes
 links_traffic setting before journal =
     sent_traffic setting _ journal (next_message journal)
-    (each_flat_map (IsAdvert setting) (told_by setting before journal)
-    (λ s. each_told setting (told_over setting before journal s)
+    (each_flat_map (IsAdvert setting) (messages_of setting before journal)
+    (λ s. each_told setting (messages_over setting before journal s)
     (told_adverts setting before journal s) (switches_in setting (near setting journal s))
     (masked_there setting (near setting journal s)))
     (filter (has_changed setting before journal) (switches_of setting)))

@@ -22,7 +22,7 @@ pub record IndependentLaws : Type 0 where
       IsIndependent region rules index part
 
 -- the header is in the region, and the rule at this place is the first to hold it
-pub record IsDecided (h : ℕ) (region : WordValue) (rules : List Rule) (index : ℕ) : Type 0 where
+pub record IsDecidedWithin (h : ℕ) (region : WordValue) (rules : List Rule) (index : ℕ) : Type 0 where
   pub bound : h < 2 ^ 104
   pub region_word : IsWord region
   pub words : All (λ (rule : Rule). IsWord rule.word) rules
@@ -41,4 +41,4 @@ pub record IsWidest (h : ℕ) (region : WordValue) (rules : List Rule) (index : 
 -- what `widen` ensures of its result, for proofs where no call runs
 pub record WidenLaws : Type 0 where
   pub widest : (h : ℕ) (region : WordValue) (rules : List Rule) (index : ℕ)
-      → IsDecided h region rules index → IsWidest h region rules index (widen h region rules index)
+      → IsDecidedWithin h region rules index → IsWidest h region rules index (widen h region rules index)

@@ -28,14 +28,14 @@ use Rattle.settle_laws.proofs.Others.{installs_reopen, sends_leave}
 use Rattle.settle_laws.proofs.Leaves.{leaves_keep}
 use Rattle.settle_laws.proofs.Settles.{in_two}
 use Rattle.version_update.specs.Marks.{MarksValue, at_switch, record_of}
-use Rattle.version_update.specs.Record.{after_over, no_switch, takes_hello}
+use Rattle.version_update.specs.Record.{after_over, unknown_switch, takes_hello}
 use Rattle.version_update.specs.Record as known
 use Rattle.version_update.specs.declared.record.Phase.TheVariants.{Joining}
 use Rattle.version_update.specs.declared.record.SwitchRecord.{SwitchRecord}
 use Rattle.controller.specs.Controller.{ControllerValue, KeptPlan, SettlesWith, first_controller, plans_from}
 use Rattle.controller.specs.Plan.{PlanValue}
 use Rattle.controller.specs.Sends as acts
-use Rattle.controller.specs.Sends.{NamesThere, after_hearing, boot_of, hearing, install, installs_after}
+use Rattle.controller.specs.Sends.{NamesThere, marks_after, boot_recorded, hearing, install_act, installs_after}
 use Rattle.controller.specs.declared.sends.Act.{Act}
 use Rattle.controller.specs.declared.sends.Act.TheVariants.{Post}
 use Rattle.control_ties.specs.Controller.{IsControllerOf, IsPlanOfFile, planned}
@@ -113,13 +113,13 @@ are_written setting before one two items acts new same after = record {
 -- a switch that told a new boot
 hello_boot_is : (setting : Setting) (now : List Item) (s boot : ℕ) (old new : ControllerValue)
     → IsControllerOf setting (now ++ settling setting now) new
-    → SettlesWith (at_switch s (known.after_hello boot) old.marks) old.plans new
+    → SettlesWith (at_switch s (known.hello_recorded boot) old.marks) old.plans new
     → s < length old.marks.switches → takes_hello boot (record_of old.marks s) ≡ true
     → boot ≡ known_boot (now ++ settling setting now) s
 hello_boot_is setting now s boot old new after settles there taken =
-    let changed : MarksValue = at_switch s (known.after_hello boot) old.marks in
+    let changed : MarksValue = at_switch s (known.hello_recorded boot) old.marks in
     let long = length-set old.marks.switches s
-    (known.after_hello boot (record_of old.marks s)) in
+    (known.hello_recorded boot (record_of old.marks s)) in
     let is = settles.marks.1 in
     let below : s < length new.marks.switches =
     omega (
@@ -127,10 +127,10 @@ hello_boot_is setting now s boot old new after settles there taken =
       there,
       long,
       ap length is.switches,
-      length-map changed.switches (known.opened_at new.marks.current),
+      length-map changed.switches (known.opened_record new.marks.current),
     ) in
     sym (ap (λ value. boot_in value) (get_or-set_same old.marks.switches s
-    (known.after_hello boot (record_of old.marks s)) no_switch there)
+    (known.hello_recorded boot (record_of old.marks s)) unknown_switch there)
     ∙ new_boot (record_of old.marks s) taken)
     ∙ sym (settled_boot changed new.marks settles.marks.0 s is (omega (arith, there, long)))
     ∙ (after.marks.each s below).boot
@@ -143,7 +143,7 @@ hello_boot_is setting now s boot old new after settles there taken =
         record { boot = boot; phase = Joining; acked = 0; open_version = 0; acked_stamp = 0 }
 
     new_boot : (value : SwitchRecord) → takes_hello boot value ≡ true
-        → (known.after_hello boot value).boot ≡ boot
+        → (known.hello_recorded boot value).boot ≡ boot
     new_boot value taken = ap (λ b. boot_in (if b then joined else value)) taken
 
 hello_written : (setting : Setting) (before one : List Item) (body : Body)
@@ -163,14 +163,14 @@ hello_written setting before one (Hello s boot) old new have is told =
     versions = versions_from_current one
 
     by_new : (b : Bool) → takes_hello boot (record_of old s) ≡ b
-        → written one (if b then map (install s boot) (plans_from new.marks.current new.plans)
+        → written one (if b then map (install_act s boot) (plans_from new.marks.current new.plans)
         else []) ≡ elim b [ true ↦ installs_to setting s one | false ↦ [] ]
     by_new true e =
         ap (written one)
-        (ap (map (install s boot))
+        (ap (map (install_act s boot))
         (plans_stay setting one new.plans new.marks.current have is.marks.current is.plans)
-        ∙ map_twice (planned setting one) (install s boot) versions
-        ∙ ap (λ b. map (λ v. install s b (planned setting one v)) versions)
+        ∙ map_twice (planned setting one) (install_act s boot) versions
+        ∙ ap (λ b. map (λ v. install_act s b (planned setting one v)) versions)
         ((told s boot refl).1 e)
         ∙ sym (map_twice (λ v. install_for setting one v s) Post versions))
         ∙ posted (map (λ v. install_for setting one v s) versions) one
@@ -199,7 +199,7 @@ module _ (setting : Setting) (before : List Item) (row n : ℕ) (body : Body)
     (old new : ControllerValue) (have : AreCaused setting before)
     (is : IsControllerOf setting before old)
     (sent : message_of before n ≡ Some (to_controller body)) (there : NamesThere body old.marks)
-    (settles : SettlesWith (after_hearing body old.marks) old.plans new) where
+    (settles : SettlesWith (marks_after body old.marks) old.plans new) where
   abbrev here : List Item
   here = before ++ item.Row row (Deliver n) ∷ []
 
@@ -224,9 +224,9 @@ module _ (setting : Setting) (before : List Item) (row n : ℕ) (body : Body)
     | Some message ↦ if is_to_controller message.to then Some message.body else None
   ]) (message_more before (item.Row row (Deliver n)) n ∙ sent)
 
-  heard_settles : (written now (acts.settling (after_hearing body old.marks) new.marks)
+  heard_settles : (written now (acts.settling (marks_after body old.marks) new.marks)
       ≡ settling setting now) × IsControllerOf setting one new
-  heard_settles = settles_with setting now (after_hearing body old.marks) old.plans new now_have
+  heard_settles = settles_with setting now (marks_after body old.marks) old.plans new now_have
       (marks_told setting here n body old.marks here_have said there here_is.marks)
       (plans_on setting here (item.Delivered n ∷ []) old.plans here_have
       (count_more here (item.Delivered n)) (current_more here (item.Delivered n)) here_is.plans)
@@ -240,7 +240,7 @@ module _ (setting : Setting) (before : List Item) (row n : ℕ) (body : Body)
       subst (λ b. NamesThere b old.marks) e there in (
         ap (λ known. nat_lt known boot) (is.marks.each s below).boot,
         hello_boot_is setting now s boot old new heard_settles.1
-            (subst (λ b. SettlesWith (after_hearing b old.marks) old.plans new) e settles) below,
+            (subst (λ b. SettlesWith (marks_after b old.marks) old.plans new) e settles) below,
       )
 
   heard_so : (written now (hearing body old.marks new)
@@ -249,7 +249,7 @@ module _ (setting : Setting) (before : List Item) (row n : ℕ) (body : Body)
   unfolding controller_items
   heard_so = (
     written_in_two now (settling setting) (after_hello setting before body)
-        (acts.settling (after_hearing body old.marks) new.marks)
+        (acts.settling (marks_after body old.marks) new.marks)
         (installs_after body old.marks new) heard_settles.0
         (hello_written setting before one body old.marks new
         (settling_caused setting now now_have) heard_settles.1 hello_told),
@@ -284,7 +284,7 @@ deliver_piece setting before row n body may sent =
 pub hears : (setting : Setting) (before : List Item) (row n : ℕ) (body : Body)
     (old new : ControllerValue) → AreCaused setting before → IsControllerOf setting before old
     → IsTrue (is_deliverable before n) → message_of before n ≡ Some (to_controller body)
-    → NamesThere body old.marks → SettlesWith (after_hearing body old.marks) old.plans new
+    → NamesThere body old.marks → SettlesWith (marks_after body old.marks) old.plans new
     → AreWritten setting before (item.Row row (Deliver n) ∷ item.Delivered n ∷ [])
     (hearing body old.marks new) new (piece setting before row (Deliver n))
 hears setting before row n body old new have is may sent there settles =

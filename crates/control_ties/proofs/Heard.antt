@@ -26,11 +26,11 @@ use Rattle.mark_laws.proofs.Members.{opened_same}
 use Rattle.mark_laws.proofs.Told.{tells, told_by, told_by_more}
 use Rattle.settle_laws.proofs.Leaves.{member_same}
 use Rattle.version_update.specs.Marks.{MarksValue, at_switch, record_of}
-use Rattle.version_update.specs.Record.{after_hello, after_installed, after_over, after_stamped, has_acked, is_member, is_over, takes_hello, takes_installed, takes_stamped}
+use Rattle.version_update.specs.Record.{hello_recorded, after_installed, after_over, after_stamped, has_acked, is_member, is_over, takes_hello, takes_installed, takes_stamped}
 use Rattle.version_update.specs.declared.record.Phase.TheVariants.{Joining}
 use Rattle.version_update.specs.declared.record.SwitchRecord.{SwitchRecord}
 use Rattle.version_update.proofs.Acknowledged.{installed_acked}
-use Rattle.controller.specs.Sends.{NamesThere, after_hearing}
+use Rattle.controller.specs.Sends.{NamesThere, marks_after}
 use Rattle.control_ties.specs.Marks.{AreMarksOf, IsKnown}
 use Rattle.control_ties.proofs.Kept.{StaysKnown, known_on, quiet_stays, stay_on, switch_on}
 use Rattle.control_ties.proofs.Past.{acks_past}
@@ -216,7 +216,7 @@ new_hello setting here n s boot have said new =
 hello_known : (setting : Setting) (here : List Item) (n s boot : ℕ) (known : SwitchRecord)
     → HaveCauses (HasItemCause setting) [] here
     → said_to_controller here n ≡ Some (Hello s boot) → IsKnown here s known
-    → IsKnown (here ++ delivered n ∷ []) s (after_hello boot known)
+    → IsKnown (here ++ delivered n ∷ []) s (hello_recorded boot known)
 hello_known setting here n s boot known have said is =
     by_taken (takes_hello boot known) refl
   where
@@ -405,9 +405,9 @@ pub marks_told : (setting : Setting) (here : List Item) (n : ℕ) (body : Body)
     (marks : MarksValue) → HaveCauses (HasItemCause setting) [] here
     → said_to_controller here n ≡ Some body → NamesThere body marks
     → AreMarksOf setting here marks
-    → AreMarksOf setting (here ++ item.Delivered n ∷ []) (after_hearing body marks)
+    → AreMarksOf setting (here ++ item.Delivered n ∷ []) (marks_after body marks)
 marks_told setting here n (Hello s boot) marks have said there are =
-    told_on setting here n s marks (after_hello boot)
+    told_on setting here n s marks (hello_recorded boot)
     (λ t other. untold here n t (Hello s boot) said
     (ap (λ b. if b then Some boot else None) (apart s t other)) refl refl) there
     (hello_known setting here n s boot (record_of marks s) have said (are.each s there)) are

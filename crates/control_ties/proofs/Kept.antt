@@ -15,7 +15,7 @@ use Rattle.boot_laws.proofs.Sends.{acked_same}
 use Rattle.mark_laws.proofs.Members.{opened_same}
 use Rattle.settle_laws.proofs.Leaves.{member_same, stamp_same}
 use Rattle.version_update.specs.Marks.{MarksValue, at_switch, first_marks, record_of}
-use Rattle.version_update.specs.Record.{first_record, no_switch}
+use Rattle.version_update.specs.Record.{first_record, unknown_switch}
 use Rattle.version_update.specs.declared.record.SwitchRecord.{SwitchRecord}
 use Rattle.version_update.proofs.Acknowledged.{first_acked}
 use Rattle.control_ties.specs.Marks.{AreMarksOf, IsKnown}
@@ -151,11 +151,11 @@ switch_on setting journal next marks s change count current retired others there
     | inl same ↦ subst
         (λ k. IsKnown (journal ++ next ∷ []) k (record_of (at_switch s change marks) k)) (sym same)
         (subst (IsKnown (journal ++ next ∷ []) s)
-        (sym (get_or-set_same marks.switches s (change (record_of marks s)) no_switch there)) own)
+        (sym (get_or-set_same marks.switches s (change (record_of marks s)) unknown_switch there)) own)
     | inr other ↦
         let long = length-set marks.switches s (change (record_of marks s)) in
         subst (IsKnown (journal ++ next ∷ []) t)
-        (sym (get_or-set_other marks.switches s t (change (record_of marks s)) no_switch other))
+        (sym (get_or-set_other marks.switches s t (change (record_of marks s)) unknown_switch other))
         (known_on journal (journal ++ next ∷ []) t (record_of marks t) (others t other)
         (are.each t (omega (arith, below, long))))
   ];
@@ -187,6 +187,6 @@ marks_begun setting =
       retired = sym start_laws.retired;
       many = many;
       each = λ s there. subst (IsKnown [] s)
-          (sym (get_or-replicate n s first_record no_switch (omega (arith, there, many))))
+          (sym (get_or-replicate n s first_record unknown_switch (omega (arith, there, many))))
           (known_first s);
     }

@@ -24,7 +24,7 @@ use Rattle.version_update.specs.declared.record.Phase.TheVariants.{Joining, Memb
 use Rattle.version_update.specs.declared.record.SwitchRecord.{SwitchRecord}
 use Rattle.controller.specs.Controller.{ControllerValue}
 use Rattle.controller.specs.Sends as acts
-use Rattle.controller.specs.Sends.{NamesThere, install, is_missing, missing, resending, resending_to}
+use Rattle.controller.specs.Sends.{NamesThere, install_act, is_missing, missing_installs, resending, resending_to}
 use Rattle.controller.specs.declared.sends.Act.{Act}
 use Rattle.controller.specs.declared.sends.Act.TheVariants.{Post}
 use Rattle.control_ties.specs.Controller.{IsControllerOf, planned}
@@ -90,20 +90,20 @@ module _ (setting : Setting) (journal : List Item) (s : ℕ) (controller : Contr
   lacks first v = is_missing known first v
 
   abbrev again : ℕ → Act
-  again v = install s known.boot (planned setting journal v)
+  again v = install_act s known.boot (planned setting journal v)
 
   abbrev versions : List ℕ
   versions = versions_from_current journal
 
   -- the plans that it keeps are those of the versions
-  of_versions : (first : ℕ) → missing controller s first
+  of_versions : (first : ℕ) → missing_installs controller s first
       ≡ map again (filter (lacks first) versions)
   of_versions first =
-      ap (λ plans. map (install s known.boot) (filter (λ kept. lacks first kept.version) plans))
+      ap (λ plans. map (install_act s known.boot) (filter (λ kept. lacks first kept.version) plans))
       is.plans
-      ∙ ap (map (install s known.boot))
+      ∙ ap (map (install_act s known.boot))
       (filter_made (planned setting journal) (λ kept. lacks first kept.version) versions)
-      ∙ map_twice (planned setting journal) (install s known.boot) (filter (lacks first) versions)
+      ∙ map_twice (planned setting journal) (install_act s known.boot) (filter (lacks first) versions)
 
   -- of the versions from one on those that it didn't acknowledge
   from_on : IsFalse (machine.is_over journal s) → (first n : ℕ) → 1 ≤ first
@@ -116,7 +116,7 @@ module _ (setting : Setting) (journal : List Item) (s : ℕ) (controller : Contr
       let passes : nat_le first v ≡ true = grind (arith, nat_tests) in
       ap (λ b. b && not (has_acked known v)) passes
       ∙ ap not (own.acked none v (omega (arith, above, there))))
-      (λ v above below lacking. ap (λ boot. install s boot (planned setting journal v)) own.boot)
+      (λ v above below lacking. ap (λ boot. install_act s boot (planned setting journal v)) own.boot)
       ∙ sym (map_twice (λ v. install_for setting journal v s) Post
       (filter (λ v. not (machine.has_acked journal s v)) (range_with_len first n)))
 
@@ -142,8 +142,8 @@ module _ (setting : Setting) (journal : List Item) (s : ℕ) (controller : Contr
       then stamp_for journal low s ∷ [] else [] in
       let collect : List Message = if retired_mark journal == 0
       then [] else collect_for journal (retired_mark journal) s ∷ [] in
-      let lacking : missing controller s (controller.marks.current + 1) ≡ map Post first =
-      ap (λ c. missing controller s (c + 1)) is.marks.current ∙ of_versions (low + 1)
+      let lacking : missing_installs controller s (controller.marks.current + 1) ≡ map Post first =
+      ap (λ c. missing_installs controller s (c + 1)) is.marks.current ∙ of_versions (low + 1)
       ∙ after_current
       ∙ from_on none (low + 1) (version_count journal - low) (omega arith) in
       let stamped : acts.stamp_again controller.marks s ≡ map Post stamp =
@@ -160,7 +160,7 @@ module _ (setting : Setting) (journal : List Item) (s : ℕ) (controller : Contr
       ∙ ap (λ b. if nat_lt 0 (retired_mark journal)
       then Post (to_switch s (Collect b (retired_mark journal))) ∷ [] else []) own.boot
       ∙ if_retired (retired_mark journal) (collect_for journal (retired_mark journal) s) in
-      ap (λ act. act ∷ missing controller s (controller.marks.current + 1)
+      ap (λ act. act ∷ missing_installs controller s (controller.marks.current + 1)
       ++ acts.stamp_again controller.marks s ++ acts.collect_again controller.marks s)
       (ap (λ b. Post (to_switch s (OpenAt b known.open_version))) own.boot
       ∙ ap (λ v. Post (open_for journal v s)) (own.opened member))
@@ -190,7 +190,7 @@ module _ (setting : Setting) (journal : List Item) (s : ℕ) (controller : Contr
   by_phase Joining e =
       let over : false ≡ machine.is_over journal s = sym (ap is_over e) ∙ own.over in
       let member : false ≡ machine.is_member journal s = sym (ap is_member e) ∙ own.member in
-      ap (missing controller s) is.marks.current ∙ of_versions low
+      ap (missing_installs controller s) is.marks.current ∙ of_versions low
       ∙ from_on (sym over) low (version_count journal + 1 - low)
       (bounded setting journal have).first
       ∙ ap (λ b. map Post (elim b [

@@ -15,7 +15,7 @@ use Rattle.journal.specs.declared.item.Item.{Item}
 use Rattle.journal.specs.declared.item.Item.TheVariants as item
 use Rattle.update_machine.specs.Causes.{HaveCauses}
 use Rattle.update_machine.specs.Marks as machine
-use Rattle.update_machine.specs.Marks.{acked_stamp, controller_heard, current_mark, first_of, known_boot, least, next_current, next_retired, open_in, open_sent, open_version, opened_at, retired_mark}
+use Rattle.update_machine.specs.Marks.{acked_stamp, controller_heard, current_mark, first_number, known_boot, least, next_current, next_retired, open_in, open_sent, open_version, opened_at, retired_mark}
 use Rattle.update_machine.specs.Messages.{next_message, sends, sent_from}
 use Rattle.update_machine.specs.Moves.{put}
 use Rattle.update_machine.specs.Setting.{Setting, switches_of}
@@ -38,14 +38,14 @@ use Rattle.settle_laws.proofs.Settles.{in_three}
 use Rattle.version_update.specs.Marks as marks
 use Rattle.version_update.specs.Marks.{MarksValue, record_of}
 use Rattle.version_update.specs.Record as known
-use Rattle.version_update.specs.Record.{has_acked, is_joining, is_member, is_over, no_switch, opens_at}
+use Rattle.version_update.specs.Record.{has_acked, is_joining, is_member, is_over, unknown_switch, opens_at}
 use Rattle.version_update.specs.Settling.{RisesTo, Settles}
 use Rattle.version_update.specs.declared.marks.Settled.{Settled}
 use Rattle.version_update.specs.declared.record.Phase.{Phase}
 use Rattle.version_update.specs.declared.record.Phase.TheVariants.{Joining, Member, Over}
 use Rattle.version_update.specs.declared.record.SwitchRecord.{SwitchRecord}
 use Rattle.controller.specs.Sends as acts
-use Rattle.controller.specs.Sends.{boot_of, tell, those}
+use Rattle.controller.specs.Sends.{boot_recorded, tell, those}
 use Rattle.controller.specs.declared.sends.Act.{Act}
 use Rattle.controller.specs.declared.sends.Act.TheVariants.{Current, Post, Retired}
 use Rattle.control_ties.specs.Marks.{AreMarksOf, IsKnown}
@@ -58,7 +58,7 @@ use Rattle.control_ties.proofs.Written.{posted, written_in_three}
 
 made : (value : MarksValue)
     → value.switches ≡ map (record_of value) (range_with_len 0 (length value.switches))
-made value = fill_by_all (record_of value) value.switches (length value.switches) no_switch refl
+made value = fill_by_all (record_of value) value.switches (length value.switches) unknown_switch refl
     (λ k below. refl)
 
 -- what is made of the members is the same
@@ -66,11 +66,11 @@ members_made : {X : Type 0} (f : SwitchRecord → X) (g : ℕ → X) (setting : 
     (journal : List Item) (value : MarksValue) → AreMarksOf setting journal value
     → ((s : ℕ) → IsKnown journal s (record_of value s) → IsTrue (machine.is_member journal s)
     → f (record_of value s) ≡ g s)
-    → map f (marks.members value.switches) ≡ map g (machine.members setting journal)
+    → map f (marks.member_records value.switches) ≡ map g (machine.members setting journal)
 members_made f g setting journal value are makes =
     let of : ℕ → SwitchRecord = record_of value in
     let n : ℕ = length value.switches in
-    ap (λ xs. map f (marks.members xs)) (made value)
+    ap (λ xs. map f (marks.member_records xs)) (made value)
     ∙ ap (map f) (filter_made of (λ known. is_member known.phase) (range_with_len 0 n))
     ∙ map_twice of f (filter (λ s. is_member (of s).phase) (range_with_len 0 n))
     ∙ ap (λ k. map (λ s. f (of s)) (filter (λ s. is_member (of s).phase) (range_with_len 0 k)))
@@ -83,9 +83,9 @@ members_made f g setting journal value are makes =
 -- a version that all members acknowledged
 all_same : (setting : Setting) (journal : List Item) (value : MarksValue) (v : ℕ) → 1 ≤ v
     → AreMarksOf setting journal value
-    → marks.all_acked v value.switches ≡ machine.all_acked setting journal v
+    → marks.all_have_acked v value.switches ≡ machine.all_acked setting journal v
 all_same setting journal value v low are =
-    sym (list_all-map (λ b. b) (λ known. has_acked known v) (marks.members value.switches))
+    sym (list_all-map (λ b. b) (λ known. has_acked known v) (marks.member_records value.switches))
     ∙ ap (list_all (λ b. b))
     (members_made (λ known. has_acked known v) (λ s. machine.has_acked journal s v) setting journal
     value are (λ s is member. is.acked (member_parts journal s member).0 v low))
@@ -107,7 +107,7 @@ told_posted f g passes q setting journal value many tests makes =
     ∙ picked_same f (λ s. Post (g s)) p q 0 (length setting.net.switches)
     (λ s above below.
     let there : s < length value.switches = omega (arith, below, many) in
-    ap (λ o. option_map_or passes o false) (slice_get-get_or value.switches s no_switch there)
+    ap (λ o. option_map_or passes o false) (slice_get-get_or value.switches s unknown_switch there)
     ∙ tests s there)
     (λ s above below is. makes s (omega (arith, below, many)))
     ∙ sym (map_twice g Post (filter q (switches_of setting))))
@@ -151,7 +151,7 @@ rises_same setting now before current are rises =
 
 -- the boots that are known stay so
 abbrev SameBoots : List Item → MarksValue → ℕ → Type 0
-SameBoots journal after n = (s : ℕ) → s < n → boot_of after s ≡ known_boot journal s
+SameBoots journal after n = (s : ℕ) → s < n → boot_recorded after s ≡ known_boot journal s
 
 raises_on : (setting : Setting) (now : List Item) (before after : MarksValue)
     → AreMarksOf setting now before → before.current ≤ after.current
@@ -211,7 +211,7 @@ raises_on setting now before after are up is boots =
     )
     by_test true e = (
       ap (λ items. item.Current version ∷ items)
-          (told_posted (λ s. acts.post s (Stamp (boot_of after s) version)) (stamp_for now version)
+          (told_posted (λ s. acts.post s (Stamp (boot_recorded after s) version)) (stamp_for now version)
           (λ known. is_member known.phase) (machine.is_member now) setting raised before are.many
           (λ s there. (are.each s there).member)
           (λ s there. ap (λ boot. Post (to_switch s (Stamp boot version))) (boots s there))),
@@ -321,12 +321,12 @@ opened_many base journal n version s (t ∷ switches) same =
     messages = map (open_for base version) switches
 
     opens : (b : Bool) → (t == s) ≡ b
-        → first_of (if b then open_in (known_boot journal s) (OpenAt (known_boot base t) version)
+        → first_number (if b then open_in (known_boot journal s) (OpenAt (known_boot base t) version)
         else []) ≡ some_if b version
     opens true e =
         let own : known_boot base t ≡ known_boot journal s =
         ap (known_boot base) (eqb-true t s e) ∙ sym (same s) in
-        ap (λ b. first_of (if b then version ∷ [] else []))
+        ap (λ b. first_number (if b then version ∷ [] else []))
         (eq-eqb (known_boot base t) (known_boot journal s) own)
     opens false e = refl
 
@@ -335,7 +335,7 @@ opened_known : (one two : List Item) (s version : ℕ) (value : SwitchRecord)
     → IsKnown one s value → 1 ≤ version → SentStay one two
     → opened_at two s ≡ option_or (opened_at one s)
     (some_if (machine.is_joining one s && machine.has_acked one s version) version)
-    → acked_stamp two s ≤ version → IsKnown two s (known.opened_at version value)
+    → acked_stamp two s ≤ version → IsKnown two s (known.opened_record version value)
 opened_known one two s version value is low stay now most =
     by_opens (opens_at version value) refl
   where
@@ -387,24 +387,24 @@ opened_known one two s version value is low stay now most =
 
 -- what is known of a switch behind the openings
 record_opened : (before after : MarksValue) (version s : ℕ)
-    → after.switches ≡ map (known.opened_at version) before.switches
+    → after.switches ≡ map (known.opened_record version) before.switches
     → s < length before.switches
-    → record_of after s ≡ known.opened_at version (record_of before s)
+    → record_of after s ≡ known.opened_record version (record_of before s)
 record_opened before after version s switches there =
     ap (λ xs. marks.record_of (record after { switches = xs }) s) switches
-    ∙ get_or-map (known.opened_at version) before.switches s no_switch no_switch there
+    ∙ get_or-map (known.opened_record version) before.switches s unknown_switch unknown_switch there
 
 opens_on : (setting : Setting) (one : List Item) (before after : MarksValue)
     → AreMarksOf setting one before → 1 ≤ before.current
     → after.count ≡ before.count → after.current ≡ before.current
-    → after.switches ≡ map (known.opened_at before.current) before.switches
+    → after.switches ≡ map (known.opened_record before.current) before.switches
     → SameBoots one after (length before.switches)
     → MarksAreBounded setting (one ++ open_items setting one)
     → (written one (acts.opens before after) ≡ open_items setting one)
     × AreMarksOf setting (one ++ open_items setting one) (record after { retired = before.retired })
 unfolding open_items
 opens_on setting one before after are low count current switches boots bounds = (
-  told_posted (λ s. acts.post s (OpenAt (boot_of after s) after.current))
+  told_posted (λ s. acts.post s (OpenAt (boot_recorded after s) after.current))
       (open_for one (current_mark one)) (opens_at after.current) test setting one before are.many
       (λ s there.
       ap (λ v. opens_at v (record_of before s)) (current ∙ are.current)
@@ -420,7 +420,7 @@ opens_on setting one before after are low count current switches boots bounds = 
     each = λ s there.
         let below : s < length before.switches = omega (arith, there, long) in
         subst (IsKnown two s) (sym (record_opened before after before.current s switches below))
-        (subst (λ v. IsKnown two s (known.opened_at v (record_of before s))) (sym are.current)
+        (subst (λ v. IsKnown two s (known.opened_record v (record_of before s))) (sym are.current)
         (opened_known one two s (current_mark one) (record_of before s) (are.each s below) first
         stay (now s below) (omega (arith, bounds.known s, stay.current))));
   },
@@ -440,7 +440,7 @@ opens_on setting one before after are low count current switches boots bounds = 
         (next_message one)
 
     long : length after.switches ≡ length before.switches
-    long = ap length switches ∙ length-map before.switches (known.opened_at before.current)
+    long = ap length switches ∙ length-map before.switches (known.opened_record before.current)
 
     now : (s : ℕ) → s < length before.switches → opened_at two s
         ≡ option_or (opened_at one s) (some_if (test s) (current_mark one))
@@ -522,7 +522,7 @@ retires_on setting two before after are is least_is boots =
     )
     by_test true e = (
       ap (λ items. item.Retired version ∷ items)
-          (told_posted (λ s. acts.post s (Collect (boot_of after s) version))
+          (told_posted (λ s. acts.post s (Collect (boot_recorded after s) version))
           (collect_for two version) (λ known. is_member known.phase) (machine.is_member two) setting
           raised value are.many (λ s there. (are.each s there).member)
           (λ s there. ap (λ boot. Post (to_switch s (Collect boot version))) (boots s there))),
@@ -548,7 +548,7 @@ AreCaused setting journal = HaveCauses (HasItemCause setting) [] journal
 -- settling changes no boot
 pub settled_boot : (before after : MarksValue) (answer : Settled) (s : ℕ)
     → Settles before after answer → s < length before.switches
-    → boot_of after s ≡ boot_of before s
+    → boot_recorded after s ≡ boot_recorded before s
 settled_boot before after answer s is there =
     ap (λ value. value.boot) (record_opened before after after.current s is.switches there)
     ∙ boot_opened (opens_at after.current (record_of before s)) after.current (record_of before s)

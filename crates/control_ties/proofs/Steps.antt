@@ -12,7 +12,7 @@ use Rattle.update_machine.specs.Pieces.{piece, resend_items, resent_by_switch, s
 use Rattle.update_machine.specs.Setting.{Setting}
 use Rattle.update_machine.specs.Settling.{resent_by_controller}
 use Rattle.update_machine.proofs.CallerLemmas.{controller_keeps}
-use Rattle.settle_laws.specs.Steps.{is_for_controller}
+use Rattle.settle_laws.specs.Steps.{asks_controller}
 use Rattle.settle_laws.proofs.Others.{others_keep}
 use Rattle.controller.specs.Controller.{ControllerValue}
 use Rattle.controller.specs.declared.sends.Act.TheVariants.{Post}
@@ -35,7 +35,7 @@ items_leave setting before items controller have none is =
 
 pub steps_leave : (setting : Setting) (before : List Item) (row : ℕ) (step : Step)
     (controller : ControllerValue) → AreCaused setting before
-    → IsFalse (is_for_controller before step) → IsControllerOf setting before controller
+    → IsFalse (asks_controller before step) → IsControllerOf setting before controller
     → IsControllerOf setting (before ++ piece setting before row step) controller
 steps_leave setting before row step controller have none is =
     controller_on setting before (piece setting before row step) controller have

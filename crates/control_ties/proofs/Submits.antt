@@ -29,8 +29,8 @@ use Rattle.version_update.specs.Record.{is_over}
 use Rattle.controller.specs.Controller.{ControllerValue, KeptPlan}
 use Rattle.controller.specs.Plan.{PlanValue}
 use Rattle.controller.specs.Sends as acts
-use Rattle.controller.specs.Sends.{boot_of, install, submitting, those}
-use Rattle.controller.specs.Submit.{Submits}
+use Rattle.controller.specs.Sends.{boot_recorded, install_act, submitting, those}
+use Rattle.controller.specs.Submit.{SubmitsPlan}
 use Rattle.controller.specs.declared.sends.Act.{Act}
 use Rattle.controller.specs.declared.sends.Act.TheVariants.{Post}
 use Rattle.control_ties.specs.Controller.{IsControllerOf, IsPlanOfFile, planned}
@@ -122,7 +122,7 @@ module _ (setting : Setting) (before : List Item) (row file : ℕ) (old new : Co
     (plan : PlanValue) (have : AreCaused setting before)
     (is : IsControllerOf setting before old) (of : IsPlanOfFile setting file plan)
     (live : old.marks.count - old.marks.retired ≢ 8) (few : old.marks.count ≢ 64)
-    (taken : Submits old plan new) where
+    (taken : SubmitsPlan old plan new) where
   abbrev here : List Item
   here = before ++ item.Row row (Update file) ∷ []
 
@@ -197,16 +197,16 @@ module _ (setting : Setting) (before : List Item) (row file : ℕ) (old new : Co
       (sym now_marks.count ∙ number) (current_more here (item.Submitted file version))
       (kept_is ∙ ap (planned setting now) number) here_is.plans
 
-  installed : written now (map (λ s. install s (boot_of old.marks s) kept)
+  installed : written now (map (λ s. install_act s (boot_recorded old.marks s) kept)
       (those (λ known. not (is_over known.phase)) old.marks.switches))
       ≡ installs_to_all setting now
   unfolding installs_to_all
-  installed = told_posted (λ s. install s (boot_of old.marks s) kept)
+  installed = told_posted (λ s. install_act s (boot_recorded old.marks s) kept)
       (install_for setting now (version_count now)) (λ known. not (is_over known.phase))
       (λ s. not (machine.is_over now s)) setting now (with_version old.marks) now_marks.many
       (λ s below. ap not (now_marks.each s below).over)
-      (λ s below. ap (λ boot. install s boot kept) (now_marks.each s below).boot
-      ∙ ap (install s (known_boot now s)) kept_is
+      (λ s below. ap (λ boot. install_act s boot kept) (now_marks.each s below).boot
+      ∙ ap (install_act s (known_boot now s)) kept_is
       ∙ ap (λ v. Post (install_for setting now v s)) now_marks.count)
 
   abbrev one : List Item

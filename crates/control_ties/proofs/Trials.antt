@@ -20,7 +20,7 @@ use Rattle.update_machine.proofs.Examples.{all_to, open_net, plan_p, plan_q, to,
 use Rattle.version_update.specs.Record.{first_record}
 use Rattle.controller.specs.Controller.{KeptPlan, first_controller}
 use Rattle.controller.specs.Plan.{PlanValue}
-use Rattle.controller.specs.Sends.{install}
+use Rattle.controller.specs.Sends.{install_act}
 use Rattle.controller.specs.declared.sends.Act.TheVariants.{Current, Post, Retired}
 use Rattle.control_ties.specs.Controller.{IsControllerOf, IsPlanOfFile, planned}
 use Rattle.control_ties.specs.Marks.{IsKnown}
@@ -114,7 +114,7 @@ nothing_late : after_hello open_net late (Hello 0 1) late ≡ []
 unfolding known_boot controller_heard message_of
 nothing_late = refl
 
-not_installed : written late (map (install 0 1) (first_controller 2 outs).plans)
+not_installed : written late (map (install_act 0 1) (first_controller 2 outs).plans)
     ≡ after_hello open_net late (Hello 0 1) late → ⊥
 unfolding next_message known_boot controller_heard message_of
 not_installed same = cc same
@@ -132,7 +132,7 @@ unfolding installs_to_all machine.is_over known_boot controller_heard message_of
 to_other_alone = refl
 
 not_to_both : written later
-    (map (λ s. install s 1 (record { version = 2; plan = drops })) (0 ∷ 1 ∷ []))
+    (map (λ s. install_act s 1 (record { version = 2; plan = drops })) (0 ∷ 1 ∷ []))
     ≡ installs_to_all open_net later → ⊥
 unfolding installs_to_all machine.is_over known_boot controller_heard message_of next_message
     sent_from version_count policy_at plan_at file_of

@@ -2,8 +2,8 @@
 ghost use Rattle.std.specs.Prelude.{ℕ, ◌≡◌, ◌≢◌, ◌+◌, ◌-◌, ◌<◌, ◌++◌, Some, List, [], ◌∷◌, length, map, IsFalse, IsTrue};
 ghost use Rattle.controller.specs.Controller.{ControllerValue, SettlesWith, first_controller};
 ghost use Rattle.controller.specs.Plan.{PlanValue};
-ghost use Rattle.controller.specs.Sends.{NamesThere, after_hearing, hearing, resending, settling, submitting};
-ghost use Rattle.controller.specs.Submit.{Submits};
+ghost use Rattle.controller.specs.Sends.{NamesThere, marks_after, hearing, resending, settling, submitting};
+ghost use Rattle.controller.specs.Submit.{SubmitsPlan};
 ghost use Rattle.controller.specs.declared.sends.Act.{Act};
 ghost use Rattle.controller.specs.declared.sends.Act.TheVariants.{Post};
 ghost use Rattle.ctrl_msg.specs.declared.message.Message.{Message};
@@ -23,7 +23,7 @@ ghost use Rattle.update_machine.specs.Settling.{resent_by_controller};
 ghost use Rattle.update_machine.specs.Links.{message_of};
 ghost use Rattle.boot_laws.specs.ItemCauses.{HasItemCause};
 ghost use Rattle.name_laws.specs.Named.{BodiesNameThere};
-ghost use Rattle.settle_laws.specs.Steps.{is_for_controller};
+ghost use Rattle.settle_laws.specs.Steps.{asks_controller};
 ghost use Rattle.version_update.specs.Marks.{MarksValue, at_switch};
 ghost use Rattle.version_update.specs.Record.{after_over};
 ghost use Rattle.control_ties.specs.Controller.{IsControllerOf, IsPlanOfFile};
@@ -43,7 +43,7 @@ pub fn controllers_submit()
         (old new : ControllerValue) (plan : PlanValue)
         → HaveCauses (HasItemCause setting) [] before → IsControllerOf setting before old
         → IsPlanOfFile setting file plan → old.marks.count - old.marks.retired ≢ 8
-        → old.marks.count ≢ 64 → Submits old plan new
+        → old.marks.count ≢ 64 → SubmitsPlan old plan new
         → AreWritten setting before
         (Row row (Update file) ∷ Submitted file (old.marks.count + 1) ∷ [])
         (submitting old.marks plan new.marks) new (piece setting before row (Update file)) }
@@ -70,7 +70,7 @@ pub fn controllers_hear()
         → HaveCauses (HasItemCause setting) [] before → IsControllerOf setting before old
         → IsTrue (is_deliverable before number)
         → message_of before number ≡ Some (to_controller body) → NamesThere body old.marks
-        → SettlesWith (after_hearing body old.marks) old.plans new
+        → SettlesWith (marks_after body old.marks) old.plans new
         → AreWritten setting before (Row row (Deliver number) ∷ Delivered number ∷ [])
         (hearing body old.marks new) new (piece setting before row (Deliver number)) }
     ensures there { (setting : Setting) (journal : List Item) (number : ℕ) (body : Body)
@@ -122,7 +122,7 @@ pub fn others_leave_controllers()
         → IsControllerOf setting (before ++ items) controller }
     ensures steps { (setting : Setting) (before : List Item) (row : ℕ) (step : Step)
         (controller : ControllerValue) → HaveCauses (HasItemCause setting) [] before
-        → IsFalse (is_for_controller before step) → IsControllerOf setting before controller
+        → IsFalse (asks_controller before step) → IsControllerOf setting before controller
         → IsControllerOf setting (before ++ piece setting before row step) controller }
 {}
 

@@ -10,7 +10,7 @@ use Rattle.std.proofs.lemmas.List.FromFn.{get_or-map-range_with_len}
 use Rattle.policy_rules.proofs.CallerLemmas.{filter_more}
 use Rattle.version_update.specs.declared.record.SwitchRecord.{SwitchRecord}
 use Rattle.version_update.specs.Settling.{Names}
-use Rattle.controller.specs.News.{named}
+use Rattle.controller.specs.News.{switches_named}
 use Rattle.controller.specs.Sends.{those}
 
 -- what a test adds to a list
@@ -101,9 +101,9 @@ those_below passes switches n = filter (λ s. option_map_or passes (slice_get sw
 
 -- a mask's bits give those that it names
 pub those_named : (mask n : ℕ) (passes : SwitchRecord → Bool) (switches : List SwitchRecord)
-    → n ≡ length switches → Names mask passes switches → named mask n ≡ those passes switches
+    → n ≡ length switches → Names mask passes switches → switches_named mask n ≡ those passes switches
 those_named mask n passes switches all names =
-    ap (named mask) all ∙ picked_same _ _
+    ap (switches_named mask) all ∙ picked_same _ _
     (λ s. ap (λ b. eqb b 1) (names s)
     ∙ bit_of (option_map_or passes (slice_get switches s) false))
     (range_with_len 0 (length switches))

@@ -7,8 +7,8 @@ use Rattle.version_update.specs.declared.record.SwitchRecord.{SwitchRecord}
 use Rattle.version_update.specs.declared.marks.Settled.{Settled}
 use Rattle.version_update.specs.Record.{is_member, opens_at}
 use Rattle.version_update.specs.Marks.{MarksValue}
-use Rattle.version_update.specs.Settling.{Names, raised, Settles}
-use Rattle.controller.specs.News.{named}
+use Rattle.version_update.specs.Settling.{Names, rises_to, Settles}
+use Rattle.controller.specs.News.{switches_named}
 use Rattle.controller.specs.Sends.{tell, those, stamps, opens, collects, settling}
 use Rattle.controller.specs.declared.sends.Act.{Act}
 use Rattle.controller.specs.declared.sends.Act.TheVariants.{Current, Retired}
@@ -20,7 +20,7 @@ pub same_number : (before after : MarksValue) (answer : Settled) → Settles bef
 same_number before after answer is = ap length is.switches ∙ length-map before.switches _
 
 -- where the number rose it is the new one
-rose : (old new number : ℕ) → raised old new ≡ Some number → (number ≡ new) × (ltb old new ≡ true)
+rose : (old new number : ℕ) → rises_to old new ≡ Some number → (number ≡ new) × (ltb old new ≡ true)
 rose old new number is = by_test (ltb old new) refl is
   where
     by_test : (b : Bool) → ltb old new ≡ b → cond b (Some new) None ≡ Some number → (number ≡ new)
@@ -28,7 +28,7 @@ rose old new number is = by_test (ltb old new) refl is
     by_test true test is = (cc, test)
     by_test false test is = cc
 
-stays : (old new : ℕ) → raised old new ≡ None → ltb old new ≡ false
+stays : (old new : ℕ) → rises_to old new ≡ None → ltb old new ≡ false
 stays old new is = by_test (ltb old new) refl is
   where
     by_test : (b : Bool) → ltb old new ≡ b → cond b (Some new) None ≡ None → ltb old new ≡ false
@@ -49,13 +49,13 @@ headed head old rest mid acts begun made = made ∙ ap (λ l. l ++ rest) begun
 pub stamps_told : (before after : MarksValue) (answer : Settled) (n current : ℕ)
     (old mid acts : List Act) → n ≡ length after.switches → answer.current ≡ Some current
     → mid ≡ old ++ Current current ∷ [] → acts ≡ mid ++ tell after (λ boot. Stamp boot current)
-    (named answer.stamps n) → Settles before after answer → acts ≡ old ++ stamps before after
+    (switches_named answer.stamps n) → Settles before after answer → acts ≡ old ++ stamps before after
 stamps_told before after answer n current old mid acts all risen begun made is =
     let up = rose before.current after.current current (sym is.tells.current ∙ risen) in
     let names = and_first _ (λ known. is_member known.phase) answer.stamps before.switches up.1
     is.tells.stamps in
     let told : List ℕ = those (λ known. is_member known.phase) before.switches in
-    let who : named answer.stamps n ≡ told = those_named answer.stamps n _ before.switches
+    let who : switches_named answer.stamps n ≡ told = those_named answer.stamps n _ before.switches
     (all ∙ same_number before after answer is) names in
     headed (Current current) old _ mid acts begun made
     ∙ ap (λ l. old ++ Current current ∷ tell after (λ boot. Stamp boot current) l) who
@@ -72,10 +72,10 @@ stamps_none before after answer none is =
 
 pub opens_told : (before after : MarksValue) (answer : Settled) (n current : ℕ)
     (old acts : List Act) → n ≡ length after.switches → current ≡ after.current
-    → acts ≡ old ++ tell after (λ boot. OpenAt boot current) (named answer.opens n)
+    → acts ≡ old ++ tell after (λ boot. OpenAt boot current) (switches_named answer.opens n)
     → Settles before after answer → acts ≡ old ++ opens before after
 opens_told before after answer n current old acts all is_current made is =
-    let who : named answer.opens n ≡ those (opens_at after.current) before.switches =
+    let who : switches_named answer.opens n ≡ those (opens_at after.current) before.switches =
     those_named answer.opens n _ before.switches (all ∙ same_number before after answer is)
     is.tells.opens in
     made ∙ ap (λ l. old ++ tell after (λ boot. OpenAt boot current) l) who
@@ -85,13 +85,13 @@ opens_told before after answer n current old acts all is_current made is =
 pub collects_told : (before after : MarksValue) (answer : Settled) (n retired : ℕ)
     (old mid acts : List Act) → n ≡ length after.switches → answer.retired ≡ Some retired
     → mid ≡ old ++ Retired retired ∷ [] → acts ≡ mid ++ tell after (λ boot. Collect boot retired)
-    (named answer.collects n) → Settles before after answer → acts ≡ old ++ collects before after
+    (switches_named answer.collects n) → Settles before after answer → acts ≡ old ++ collects before after
 collects_told before after answer n retired old mid acts all risen begun made is =
     let up = rose before.retired after.retired retired (sym is.tells.retired ∙ risen) in
     let names = and_first _ (λ known. is_member known.phase) answer.collects after.switches up.1
     is.tells.collects in
     let told : List ℕ = those (λ known. is_member known.phase) after.switches in
-    let who : named answer.collects n ≡ told = those_named answer.collects n _ after.switches all
+    let who : switches_named answer.collects n ≡ told = those_named answer.collects n _ after.switches all
     names in
     headed (Retired retired) old _ mid acts begun made
     ∙ ap (λ l. old ++ Retired retired ∷ tell after (λ boot. Collect boot retired) l) who

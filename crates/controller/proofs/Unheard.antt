@@ -8,10 +8,10 @@ use Rattle.std.proofs.lemmas.Bool.Decides.{nat_tests}
 use Rattle.ctrl_msg.specs.declared.message.Body.{Body}
 use Rattle.ctrl_msg.specs.declared.message.Body.TheVariants.{Hello, Installed, Stamped}
 use Rattle.version_update.specs.declared.record.SwitchRecord.{SwitchRecord}
-use Rattle.version_update.specs.Record.{no_switch, is_member, opens_at}
-use Rattle.version_update.specs.Marks.{MarksValue, AreSettled}
+use Rattle.version_update.specs.Record.{unknown_switch, is_member, opens_at}
+use Rattle.version_update.specs.Marks.{MarksValue, AreMarksSettled}
 use Rattle.controller.specs.Controller.{KeptPlan, ControllerValue, plans_from}
-use Rattle.controller.specs.Sends.{tell, those, stamps, opens, collects, settling, after_hearing, hearing}
+use Rattle.controller.specs.Sends.{tell, those, stamps, opens, collects, settling, marks_after, hearing}
 use Rattle.controller.specs.declared.sends.Act.TheVariants.{Current, Retired}
 use Rattle.ctrl_msg.specs.declared.message.Body.TheVariants as body
 use Rattle.controller.proofs.Picking.{picked_same, passes_there}
@@ -36,13 +36,13 @@ those_none passes switches fail = picked_same _ (λ _. false) fails
             → option_map_or passes (slice_get switches s) false ≡ false
         by_test true is =
             let within : s < length switches = grind (arith, nat_tests) in
-            passes_there passes switches s no_switch within ∙ fail s no_switch within
+            passes_there passes switches s unknown_switch within ∙ fail s unknown_switch within
         by_test false is =
             let past : length switches ≤ s = grind (arith, nat_tests) in
             ap (λ o. option_map_or passes o false) (slice_get_past switches s past)
 
 -- nothing is sent
-pub nothing_sent : (marks : MarksValue) → AreSettled marks → settling marks marks ≡ []
+pub nothing_sent : (marks : MarksValue) → AreMarksSettled marks → settling marks marks ≡ []
 nothing_sent marks is =
     let one : stamps marks marks ≡ [] =
     ap (λ b. cond b (Current marks.current ∷ tell marks (λ boot. body.Stamp boot marks.current)
@@ -70,7 +70,7 @@ all_kept to from (suc n) (kept ∷ plans) low versions =
 
 -- a body that isn't for the controller
 pub record IsUnheard (body : Body) (controller : ControllerValue) : Type 0 where
-  pub same : after_hearing body controller.marks ≡ controller.marks
+  pub same : marks_after body controller.marks ≡ controller.marks
   pub sent : hearing body controller.marks controller ≡ settling controller.marks
       controller.marks ++ []
 

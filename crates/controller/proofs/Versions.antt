@@ -10,7 +10,7 @@ use Rattle.version_update.specs.Marks.{MarksValue, StaySettled, at_switch, with_
 use Rattle.version_update.specs.Settling.{Settles}
 use Rattle.version_update.specs.declared.marks.Settled.{Settled}
 use Rattle.version_update.specs.declared.record.SwitchRecord.{SwitchRecord}
-use Rattle.controller.specs.Controller.{KeptPlan, ControllerValue, IsController, StaysController, SettlesWith, plans_from, versions_from_current}
+use Rattle.controller.specs.Controller.{KeptPlan, ControllerValue, IsController, StaysController, SettlesWith, plans_from, live_from_current}
 use Rattle.controller.specs.Plan.{PlanValue, IsSoundPlan}
 
 test_le : (a b : ℕ) → a ≤ b → leb a b ≡ true
@@ -84,8 +84,8 @@ plans_twice to (kept ∷ plans) = by_test (leb to kept.version) refl (plans_twic
 -- last
 pub settled_versions : (before marks : MarksValue) (answer : Settled) (kept plans : List KeptPlan)
     → Settles before marks answer → before.current ≤ before.count → map (λ kept. kept.version) kept
-    ≡ versions_from_current before → plans ≡ plans_from marks.current kept
-    → map (λ kept. kept.version) plans ≡ versions_from_current marks
+    ≡ live_from_current before → plans ≡ plans_from marks.current kept
+    → map (λ kept. kept.version) plans ≡ live_from_current marks
 settled_versions before marks answer kept plans is low versions picked =
     let high : marks.current ≤ before.current + (before.count + 1 - before.current) =
     omega (arith, is.current.bound, low) in
@@ -99,8 +99,8 @@ settled_versions before marks answer kept plans is low versions picked =
 -- with one more version
 pub versions_more : (marks : MarksValue) (plans : List KeptPlan) (next : KeptPlan)
     → marks.current ≤ marks.count → next.version ≡ marks.count + 1
-    → map (λ kept. kept.version) plans ≡ versions_from_current marks
-    → map (λ kept. kept.version) (plans ++ next ∷ []) ≡ versions_from_current (with_version marks)
+    → map (λ kept. kept.version) plans ≡ live_from_current marks
+    → map (λ kept. kept.version) (plans ++ next ∷ []) ≡ live_from_current (with_version marks)
 versions_more marks plans next low number versions =
     let last : marks.current + (marks.count + 1 - marks.current) ≡ marks.count + 1 =
     omega (arith, low) in
@@ -108,7 +108,7 @@ versions_more marks plans next low number versions =
     omega (arith, low) in
     map-append (λ (kept : KeptPlan). kept.version) plans (next ∷ [])
     ∙ ap (λ l. l ++ next.version ∷ []) versions
-    ∙ ap (λ v. versions_from_current marks ++ v ∷ []) number
+    ∙ ap (λ v. live_from_current marks ++ v ∷ []) number
     ∙ sym (range_more marks.current (marks.count + 1 - marks.current) (marks.count + 1) last)
     ∙ ap (range_with_len marks.current) count
 
@@ -127,7 +127,7 @@ IsWhole marks plans = IsController (record { marks = marks; plans = plans })
 pub whole : (old before marks : MarksValue) (answer : Settled)
     (kept plans : List KeptPlan) → StaySettled old marks
     → Settles before marks answer → before.current ≤ before.count → map (λ kept. kept.version) kept
-    ≡ versions_from_current before → AreSoundPlans kept → plans ≡ plans_from marks.current kept
+    ≡ live_from_current before → AreSoundPlans kept → plans ≡ plans_from marks.current kept
     → IsWhole marks plans
 whole old before marks answer kept plans stays is low versions sound picked =
     let passes : KeptPlan → Bool = λ kept. leb marks.current kept.version in

@@ -3,7 +3,7 @@ use Rattle.std.specs.Prelude.{ℕ, ◌≡◌, ◌+◌, ◌-◌, ◌==◌, nat_le
 use Rattle.std.specs.List.{range_with_len}
 use Rattle.switch_table.specs.Tables.{tables_of}
 use Rattle.switch_table.specs.declared.tables.Tables.{Tables}
-use Rattle.version_update.specs.Marks.{MarksValue, first_marks, AreSettled}
+use Rattle.version_update.specs.Marks.{MarksValue, first_marks, AreMarksSettled}
 use Rattle.version_update.specs.Settling.{Settles}
 use Rattle.version_update.specs.declared.marks.Settled.{Settled}
 use Rattle.controller.specs.Plan.{PlanValue, IsSoundPlan}
@@ -37,16 +37,16 @@ first_controller switches plan = record {
 }
 
 -- the versions from the current one to the last
-abbrev pub versions_from_current : MarksValue → List ℕ
-versions_from_current marks = range_with_len marks.current (marks.count + 1 - marks.current)
+abbrev pub live_from_current : MarksValue → List ℕ
+live_from_current marks = range_with_len marks.current (marks.count + 1 - marks.current)
 
 -- the plans are those of the versions from the current one to the last: no later call names an
 -- earlier one
 pub record IsController (controller : ControllerValue) : Type 0 where
-  pub marks : AreSettled controller.marks
+  pub marks : AreMarksSettled controller.marks
   pub sound : All (λ kept. IsSoundPlan kept.plan) controller.plans
   pub versions : (map (λ kept. kept.version) controller.plans
-      ≡ versions_from_current controller.marks)
+      ≡ live_from_current controller.marks)
 
 -- a controller still, of the same switches
 pub record StaysController (old new : ControllerValue) : Type 0 where

@@ -13,5 +13,5 @@ body_of OpenAt version boot = body.OpenAt boot version
 body_of Collect version boot = body.Collect boot version
 
 -- of so many switches those that a mask names: switch s is bit s
-abbrev pub named : ℕ → ℕ → List ℕ
-named mask switches = filter (λ s. bit_at mask s == 1) (range_with_len 0 switches)
+abbrev pub switches_named : ℕ → ℕ → List ℕ
+switches_named mask switches = filter (λ s. bit_at mask s == 1) (range_with_len 0 switches)

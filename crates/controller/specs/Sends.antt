@@ -9,7 +9,7 @@ use Rattle.ctrl_msg.specs.declared.message.Body.TheVariants.{Install, OpenAt, St
 use Rattle.ctrl_msg.specs.declared.message.Receiver.TheVariants.{Switch}
 use Rattle.switch_table.specs.Tables.{tables_of}
 use Rattle.version_update.specs.Marks.{MarksValue, record_of, at_switch, with_version}
-use Rattle.version_update.specs.Record.{is_member, is_over, has_acked, takes_hello, after_hello, after_installed, after_stamped, opens_at}
+use Rattle.version_update.specs.Record.{is_member, is_over, has_acked, takes_hello, hello_recorded, after_installed, after_stamped, opens_at}
 use Rattle.version_update.specs.declared.record.Phase.{Phase}
 use Rattle.version_update.specs.declared.record.Phase.TheVariants.{Joining, Member, Over}
 use Rattle.version_update.specs.declared.record.SwitchRecord.{SwitchRecord}
@@ -25,12 +25,12 @@ abbrev pub post : ℕ → Body → Act
 post s body = Post (record { to = Switch s; body = body })
 
 -- the tables that the version's plan gives to the switch
-abbrev pub install : ℕ → ℕ → KeptPlan → Act
-install s boot kept = post s (Install boot (tables_of kept.plan.placed kept.version s))
+abbrev pub install_act : ℕ → ℕ → KeptPlan → Act
+install_act s boot kept = post s (Install boot (tables_of kept.plan.placed kept.version s))
 
 -- the boot that is known of a switch
-abbrev pub boot_of : MarksValue → ℕ → ℕ
-boot_of marks s = (record_of marks s).boot
+abbrev pub boot_recorded : MarksValue → ℕ → ℕ
+boot_recorded marks s = (record_of marks s).boot
 
 -- the switches that pass, by ascending number
 abbrev pub those : (SwitchRecord → Bool) → List SwitchRecord → List ℕ
@@ -40,7 +40,7 @@ those passes switches =
 
 -- to each of these switches the message for the boot that is known of it
 abbrev pub tell : MarksValue → (ℕ → Body) → List ℕ → List Act
-tell marks body switches = map (λ s. post s (body (boot_of marks s))) switches
+tell marks body switches = map (λ s. post s (body (boot_recorded marks s))) switches
 
 -- ---- settling
 
@@ -74,29 +74,29 @@ settling before after = stamps before after ++ opens before after ++ collects be
 -- the new version to each switch that isn't over; then settling
 abbrev pub submitting : MarksValue → PlanValue → MarksValue → List Act
 submitting old plan new =
-    map (λ s. install s (boot_of old s) (record { version = old.count + 1; plan = plan }))
+    map (λ s. install_act s (boot_recorded old s) (record { version = old.count + 1; plan = plan }))
     (those (λ known. not (is_over known.phase)) old.switches)
     ++ settling (with_version old) new
 
 -- what a message changes of what is known
-abbrev pub after_hearing : Body → MarksValue → MarksValue
-after_hearing (Hello switch boot) marks = at_switch switch (after_hello boot) marks
-after_hearing (Installed switch boot version) marks =
+abbrev pub marks_after : Body → MarksValue → MarksValue
+marks_after (Hello switch boot) marks = at_switch switch (hello_recorded boot) marks
+marks_after (Installed switch boot version) marks =
     at_switch switch (after_installed boot version) marks
-after_hearing (Stamped switch boot version) marks =
+marks_after (Stamped switch boot version) marks =
     at_switch switch (after_stamped boot version) marks
-after_hearing _ marks = marks
+marks_after _ marks = marks
 
 -- after a new boot, which has no tables, the versions from the current one to the last
 abbrev pub installs_after : Body → MarksValue → ControllerValue → List Act
 installs_after (Hello switch boot) old new = if takes_hello boot (record_of old switch)
-    then map (install switch boot) (plans_from new.marks.current new.plans)
+    then map (install_act switch boot) (plans_from new.marks.current new.plans)
     else []
 installs_after _ old new = []
 
 -- settling, and then what a new boot lacks
 abbrev pub hearing : Body → MarksValue → ControllerValue → List Act
-hearing body old new = settling (after_hearing body old) new.marks ++ installs_after body old new
+hearing body old new = settling (marks_after body old) new.marks ++ installs_after body old new
 
 -- the switch is there, and so is the version
 pub record NamesBoth (switch version : ℕ) (marks : MarksValue) : Type 0 where
@@ -118,30 +118,30 @@ abbrev pub is_missing : SwitchRecord → ℕ → ℕ → Bool
 is_missing known first version = nat_le first version && not (has_acked known version)
 
 -- the versions from this one on that the switch didn't acknowledge
-abbrev pub missing : ControllerValue → ℕ → ℕ → List Act
-missing controller s first =
+abbrev pub missing_installs : ControllerValue → ℕ → ℕ → List Act
+missing_installs controller s first =
     let known = record_of controller.marks s in
-    map (install s known.boot)
+    map (install_act s known.boot)
     (filter (λ kept. is_missing known first kept.version) controller.plans)
 
 -- to a member the current stamp, where it acknowledged a lower one
 abbrev pub stamp_again : MarksValue → ℕ → List Act
 stamp_again marks s = if nat_lt (record_of marks s).acked_stamp marks.current
-    then post s (Stamp (boot_of marks s) marks.current) ∷ []
+    then post s (Stamp (boot_recorded marks s) marks.current) ∷ []
     else []
 
 -- to a member that it drops the tables of the retired versions, where there are any
 abbrev pub collect_again : MarksValue → ℕ → List Act
 collect_again marks s = if nat_lt 0 marks.retired
-    then post s (Collect (boot_of marks s) marks.retired) ∷ []
+    then post s (Collect (boot_recorded marks s) marks.retired) ∷ []
     else []
 
 -- what a switch that stands so may lack
 abbrev pub resending_to : Phase → ControllerValue → ℕ → List Act
-resending_to Joining controller s = missing controller s controller.marks.current
+resending_to Joining controller s = missing_installs controller s controller.marks.current
 resending_to Member controller s =
-    post s (OpenAt (boot_of controller.marks s) (record_of controller.marks s).open_version)
-    ∷ missing controller s (controller.marks.current + 1)
+    post s (OpenAt (boot_recorded controller.marks s) (record_of controller.marks s).open_version)
+    ∷ missing_installs controller s (controller.marks.current + 1)
     ++ stamp_again controller.marks s ++ collect_again controller.marks s
 resending_to Over controller s = []
 

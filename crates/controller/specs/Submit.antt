@@ -9,8 +9,8 @@ use Rattle.controller.specs.declared.submit_error.SubmitError.{SubmitError}
 use Rattle.controller.specs.declared.submit_error.SubmitError.TheVariants.{TooManyLive, TooManyVersions, NoMemory}
 
 -- the plan is that of one more version
-abbrev pub Submits : ControllerValue → PlanValue → ControllerValue → Type 0
-Submits old plan new = SettlesWith (with_version old.marks)
+abbrev pub SubmitsPlan : ControllerValue → PlanValue → ControllerValue → Type 0
+SubmitsPlan old plan new = SettlesWith (with_version old.marks)
     (old.plans ++ (record { version = old.marks.count + 1; plan = plan }) ∷ []) new
 
 -- a refusal changes nothing; where memory ran out, either nothing changed, or the version stands
@@ -18,7 +18,7 @@ Submits old plan new = SettlesWith (with_version old.marks)
 abbrev pub IsLeft : ControllerValue → PlanValue → ControllerValue → SubmitError → Type 0
 IsLeft old plan new TooManyLive = new ≡ old
 IsLeft old plan new TooManyVersions = new ≡ old
-IsLeft old plan new NoMemory = (new ≡ old) ⊎ Submits old plan new
+IsLeft old plan new NoMemory = (new ≡ old) ⊎ SubmitsPlan old plan new
 
 -- the refusal of the marks
 abbrev pub of_marks : MarksError → SubmitError

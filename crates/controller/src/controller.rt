@@ -3,14 +3,14 @@ ghost use Rattle.net_file.specs.Net.{IsNet};
 ghost use Rattle.ctrl_msg.specs.Kinds.{is_for_controller};
 ghost use Rattle.ctrl_msg.specs.declared.message.Body.TheVariants.{Hello};
 ghost use Rattle.switch_table.specs.Tables.{AreSoundTables};
-ghost use Rattle.version_update.specs.Marks.{AreSettled, StaySettled, at_switch, record_of, with_version};
+ghost use Rattle.version_update.specs.Marks.{AreMarksSettled, StaySettled, at_switch, record_of, with_version};
 ghost use Rattle.version_update.specs.Record.{is_member, is_over, after_over};
 ghost use Rattle.version_update.specs.Settling.{Settles};
 ghost use Rattle.version_update.specs.declared.record.Phase.TheVariants.{Joining, Member};
 ghost use Rattle.controller.specs.Controller.{first_controller, kept_tables, plans_from, IsController, StaysController, SettlesWith};
 ghost use Rattle.controller.specs.Replies.{after_reply};
-ghost use Rattle.controller.specs.Sends.{those, boot_of, install, settling, submitting, after_hearing, hearing, NamesBoth, NamesThere, resending, resending_to};
-ghost use Rattle.controller.specs.Submit.{Submits, IsLeft};
+ghost use Rattle.controller.specs.Sends.{those, boot_recorded, install_act, settling, submitting, marks_after, hearing, NamesBoth, NamesThere, resending, resending_to};
+ghost use Rattle.controller.specs.Submit.{SubmitsPlan, IsLeft};
 ghost use Rattle.controller.specs.declared.submit_error.SubmitError.TheVariants.{TooManyLive, TooManyVersions, NoMemory};
 
 use crate::plan::Plan;
@@ -112,7 +112,7 @@ impl Controller {
     /// `TooManyLive` exactly where 8 versions are not retired; otherwise `TooManyVersions` exactly
     /// where there are 64. Nothing changed then.
     pub fn submit(&mut self, alloc: Global, plan: Plan) -> Result<Sends, SubmitError>
-        ensures after { OnOk result (Submits self.old plan self.new) }
+        ensures after { OnOk result (SubmitsPlan self.old plan self.new) }
         ensures sends { IfOk result (λ sends.
             sends ≡ submitting self.old.marks plan self.new.marks) }
         ensures live { (result ≡ Err TooManyLive)
@@ -138,7 +138,7 @@ impl Controller {
     pub fn hear(&mut self, alloc: Global, body: &Body) -> Result<Sends, AllocError>
         requires { NamesThere body.now self.old.marks }
         ensures after { SettlesWith
-            (after_hearing body.now self.old.marks) self.old.plans self.new }
+            (marks_after body.now self.old.marks) self.old.plans self.new }
         ensures sends { IfOk result (λ sends. sends ≡ hearing body.now self.old.marks self.new) }
         ensures others { IsFalse (is_for_controller body.now) → self.new ≡ self.old }
         ensures silent { IsFalse (is_for_controller body.now)
@@ -222,7 +222,7 @@ impl Controller {
     fn add(&mut self, alloc: Global, plan: Plan) -> Result<Sends, AllocError>
         requires live { self.old.marks.count - self.old.marks.retired ≢ 8 }
         requires versions { self.old.marks.count ≢ 64 }
-        ensures after { OnOk result (Submits self.old plan self.new) }
+        ensures after { OnOk result (SubmitsPlan self.old plan self.new) }
         ensures sends { IfOk result (λ sends.
             sends ≡ submitting self.old.marks plan self.new.marks) }
         ensures left { OnErr result (IsLeft self.old plan self.new NoMemory) }
@@ -253,7 +253,7 @@ impl Controller {
     fn hello(&mut self, alloc: Global, s: u32, boot: u32) -> Result<Sends, AllocError>
         requires { s < length self.old.marks.switches }
         ensures after { SettlesWith
-            (after_hearing (Hello s boot) self.old.marks) self.old.plans self.new }
+            (marks_after (Hello s boot) self.old.marks) self.old.plans self.new }
         ensures sends { IfOk result (λ sends.
             sends ≡ hearing (Hello s boot) self.old.marks self.new) }
         ensures rule { StaysController self.old self.new }
@@ -306,7 +306,7 @@ fn add_version(marks: &mut Marks) -> Settled
 // The version to each switch that isn't over.
 fn install_each(alloc: Global, marks: &Marks, version: &Version) -> Result<Vec<Act>, AllocError>
     ensures { IfOk result (λ acts. acts.items
-        ≡ map (λ s. install s (boot_of marks.now s) version.now)
+        ≡ map (λ s. install_act s (boot_recorded marks.now s) version.now)
         (those (λ known. not (is_over known.phase)) marks.now.switches)) }
 {
     let mut acts = Vec::new(alloc);
@@ -333,7 +333,7 @@ fn install_all(
     s: u32,
     boot: u32,
 ) -> Result<(), AllocError>
-    ensures { OnOk result (acts.new.items ≡ acts.old.items ++ map (install s boot) versions.now) }
+    ensures { OnOk result (acts.new.items ≡ acts.old.items ++ map (install_act s boot) versions.now) }
 {
     for kept in versions {
         acts.push(kept.install(alloc, s, boot)?)?;

@@ -2,7 +2,7 @@
 ghost use Rattle.std.specs.Prelude.{◌≡◌, ◌++◌, ◌+◌, ◌<◌, ◌≤◌, ◌&&◌, not, nat_le, length, map, filter, All, IsTrue, OnOk};
 ghost use Rattle.version_update.specs.Record.{is_member};
 ghost use Rattle.version_update.specs.Marks.{record_of};
-ghost use Rattle.controller.specs.Sends.{is_missing, missing, stamp_again, collect_again};
+ghost use Rattle.controller.specs.Sends.{is_missing, missing_installs, stamp_again, collect_again};
 
 use crate::sends::Act;
 use crate::version::Version;
@@ -26,7 +26,7 @@ pub fn install_missing(
     requires versions { All (λ kept. (1 ≤ kept.version) × (kept.version ≤ marks.now.count))
         versions.now }
     ensures { OnOk result (acts.new.items ≡ acts.old.items
-        ++ missing (record { marks = marks.now; plans = versions.now }) s first) }
+        ++ missing_installs (record { marks = marks.now; plans = versions.now }) s first) }
 {
     let boot = marks.boot(s);
     for kept in versions {

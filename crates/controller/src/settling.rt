@@ -3,7 +3,7 @@ ghost use Rattle.std.specs.Prelude.{◌≡◌, ◌++◌, ◌==◌, ◌<◌, leng
 ghost use Rattle.version_update.specs.Marks.{MarksValue};
 ghost use Rattle.version_update.specs.Settling.{Settles};
 ghost use Rattle.controller.specs.Controller.{plans_from};
-ghost use Rattle.controller.specs.News.{body_of, named};
+ghost use Rattle.controller.specs.News.{body_of, switches_named};
 ghost use Rattle.controller.specs.Sends.{tell, stamps, opens, collects, settling};
 
 use crate::sends::{Act, Sends};
@@ -123,7 +123,7 @@ fn tell(
     version: u32,
 ) -> Result<(), AllocError>
     ensures { OnOk result (acts.new.items
-        ≡ acts.old.items ++ tell marks.now (body_of news version) (named mask (length marks.now.switches))) }
+        ≡ acts.old.items ++ tell marks.now (body_of news version) (switches_named mask (length marks.now.switches))) }
 {
     for s in 0..marks.switches() {
         if has(mask, s) {

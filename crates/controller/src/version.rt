@@ -1,7 +1,7 @@
 ghost use Rattle.std.specs.Prelude.{◌≡◌, IfOk};
 ghost use Rattle.switch_table.specs.Tables.{tables_of};
 ghost use Rattle.controller.specs.Controller.{tables_by_switch};
-ghost use Rattle.controller.specs.Sends.{install};
+ghost use Rattle.controller.specs.Sends.{install_act};
 
 use crate::plan::Plan;
 use crate::sends::Act;
@@ -64,7 +64,7 @@ impl Version {
     /// # Errors
     /// Want of memory alone.
     pub fn install(&self, alloc: Global, s: u32, boot: u32) -> Result<Act, AllocError>
-        ensures { IfOk result (λ act. act ≡ install s boot self.now) }
+        ensures { IfOk result (λ act. act ≡ install_act s boot self.now) }
     {
         let tables = self.tables(alloc, s)?;
         Ok(Act::post(s, Body::Install { boot, tables }))

@@ -10,7 +10,7 @@ use Rattle.csv.specs.declared.parser.State.TheVariants as st
 use Rattle.csv.specs.declared.reader.Reader.{Reader}
 use Rattle.csv.proofs.ReadFacts.{rows-end, rows-more}
 use Rattle.csv_records.specs.Readers.{bytes_left, records_left}
-use Rattle.csv_records.specs.Texts.{TakesNext}
+use Rattle.csv_records.specs.Texts.{TakesRecord}
 
 -- after a record less is left than before, or the text is over
 abbrev pub LeavesLess : List ℕ → Read → Type 0
@@ -116,7 +116,7 @@ pub takes_next : (old new : Reader (Bor (List ℕ))) (found : Bool) (fields : Li
     (xs : List ℕ)
     → reader_config old ≡ default_config → bytes_left old ≡ Some xs
     → ReadRecord (λ slice. Some slice.now) old new found fields
-    → TakesNext (records_left old) found fields (cond (not found) [] (records_left new))
+    → TakesRecord (records_left old) found fields (cond (not found) [] (records_left new))
 takes_next old new false fields xs config source read = (
   left_at old xs source ∙ none_left default_config (length xs) (reader_state old) xs
       (rows-end (λ (slice : Bor (List ℕ)). Some slice.now) old new fields default_config xs config

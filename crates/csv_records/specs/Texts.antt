@@ -9,9 +9,9 @@ records_of text = records default_config (strip_bom text)
 
 -- a read gave these fields, the first of the records that were left; or it found none, and none was
 -- left
-abbrev pub TakesNext : List (List (List ℕ)) → Bool → List (List ℕ) → List (List (List ℕ)) → Type 0
-TakesNext before true fields after = before ≡ fields ∷ after
-TakesNext before false fields after = (before ≡ []) × (after ≡ [])
+abbrev pub TakesRecord : List (List (List ℕ)) → Bool → List (List ℕ) → List (List (List ℕ)) → Type 0
+TakesRecord before true fields after = before ≡ fields ∷ after
+TakesRecord before false fields after = (before ≡ []) × (after ≡ [])
 
 -- the field at this place, or an empty one where the record ends before it
 abbrev pub field : List (List ℕ) → ℕ → List ℕ

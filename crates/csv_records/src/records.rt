@@ -1,6 +1,6 @@
 ghost use Rattle.std.specs.Prelude.{◌≡◌, [], IfOk, OnErr};
 ghost use Rattle.csv.specs.Records.{fields_of};
-ghost use Rattle.csv_records.specs.Texts.{TakesNext, records_of};
+ghost use Rattle.csv_records.specs.Texts.{TakesRecord, records_of};
 
 use csv::{ByteRecord, ErrorKind, Reader, ReaderBuilder};
 use std::alloc::{AllocError, Global};
@@ -46,7 +46,7 @@ impl<'a> Records<'a> {
     /// Want of memory alone; then no record is left.
     pub fn read_next(&mut self, fields: &mut ByteRecord) -> Result<bool, AllocError>
         ensures takes { IfOk result (λ found.
-            TakesNext self.old found (fields_of fields.new) self.new) }
+            TakesRecord self.old found (fields_of fields.new) self.new) }
         ensures over { OnErr result (self.new ≡ []) }
     {
         if self.is_over {

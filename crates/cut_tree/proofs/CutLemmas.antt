@@ -5,7 +5,7 @@ use Rattle.std.proofs.lemmas.Bool.{cases_Bool, cases_eq, both_ways, cond-true, c
 use Rattle.ternary.specs.Word.{WordValue}
 use Rattle.ternary.specs.Meets.{is_fixed_of}
 use Rattle.policy_rules.specs.declared.rules.Rule.{Rule}
-use Rattle.cut_tree.specs.Cuts.{IsLeastCut, IsAtMost, cheaper, is_cheaper, cost_of, least_below}
+use Rattle.cut_tree.specs.Cuts.{IsLeastCut, CostsAtMost, cheaper, is_cheaper, cost_of, least_below}
 use Rattle.cut_tree.specs.declared.choice.Cost.{Cost}
 
 pub least_none : (rules : List Rule) (region : WordValue) → least_below 0 rules region ≡ None
@@ -39,21 +39,21 @@ record IsLeastBelow (n : ℕ) (rules : List Rule) (region : WordValue) (cost : C
   pub bound : cost.bit < n
   pub free : IsFalse (is_fixed_of region cost.bit)
   pub least : (other : ℕ) → other < n → IsFalse (is_fixed_of region other)
-      → IsAtMost cost (cost_of rules region other)
+      → CostsAtMost cost (cost_of rules region other)
 
-at_most_self : (a : Cost) → IsAtMost a a
+at_most_self : (a : Cost) → CostsAtMost a a
 at_most_self a = record { larger = omega arith; sum = λ e. omega arith; bit = λ e f. omega arith }
 
-at_most_trans : (a b c : Cost) → IsAtMost a b → IsAtMost b c → IsAtMost a c
+at_most_trans : (a b c : Cost) → CostsAtMost a b → CostsAtMost b c → CostsAtMost a c
 at_most_trans a b c p q =
     record { larger = omega arith; sum = λ e. omega arith; bit = λ e f. omega arith }
 
 -- a cheaper cost of a higher bit is less, and one that is not cheaper is no less than that of a
 -- lower bit
-cheaper_less : (a b : Cost) → is_cheaper a b ≡ true → IsAtMost a b
+cheaper_less : (a b : Cost) → is_cheaper a b ≡ true → CostsAtMost a b
 cheaper_less a b is = grind arith
 
-not_cheaper : (a b : Cost) → b.bit < a.bit → is_cheaper a b ≡ false → IsAtMost b a
+not_cheaper : (a b : Cost) → b.bit < a.bit → is_cheaper a b ≡ false → CostsAtMost b a
 not_cheaper a b lower is = grind arith
 
 -- no bit is free where there is no least cut
@@ -72,7 +72,7 @@ least_missing (suc n) rules region none bit within = elim (cases_Bool (is_fixed_
 -- what is known one bit further
 further : (n : ℕ) (rules : List Rule) (region : WordValue) (cost : Cost)
     → IsLeastBelow n rules region cost
-    → (is_fixed_of region n ≡ false → IsAtMost cost (cost_of rules region n))
+    → (is_fixed_of region n ≡ false → CostsAtMost cost (cost_of rules region n))
     → IsLeastBelow (suc n) rules region cost
 further n rules region cost below here = record {
   is = below.is;
@@ -80,7 +80,7 @@ further n rules region cost below here = record {
   free = below.free;
   least = λ other within free. elim (cases_eq other n) [
     | inl same ↦
-        let Goal : ℕ → Type 0 = λ k. IsAtMost cost (cost_of rules region k) in
+        let Goal : ℕ → Type 0 = λ k. CostsAtMost cost (cost_of rules region k) in
         subst Goal (sym same) (here (sym (ap (is_fixed_of region) same) ∙ free))
     | inr before ↦ below.least other (omega arith) free
   ];
@@ -89,7 +89,7 @@ further n rules region cost below here = record {
 -- a new least cut
 newest : (n : ℕ) (rules : List Rule) (region : WordValue) → is_fixed_of region n ≡ false
     → ((other : ℕ) → other < n → IsFalse (is_fixed_of region other)
-    → IsAtMost (cost_of rules region n) (cost_of rules region other))
+    → CostsAtMost (cost_of rules region n) (cost_of rules region other))
     → IsLeastBelow (suc n) rules region (cost_of rules region n)
 newest n rules region free before = record {
   is = refl;
@@ -97,7 +97,7 @@ newest n rules region free before = record {
   free = free;
   least = λ other within freed. elim (cases_eq other n) [
     | inl same ↦
-        let Goal : ℕ → Type 0 = λ k. IsAtMost (cost_of rules region n) (cost_of rules region k) in
+        let Goal : ℕ → Type 0 = λ k. CostsAtMost (cost_of rules region n) (cost_of rules region k) in
         subst Goal (sym same) (at_most_self (cost_of rules region n))
     | inr lower ↦ before other (omega arith) freed
   ];
@@ -149,14 +149,14 @@ pub least_cuts : (rules : List Rule) (region : WordValue) (cost : Cost)
     → least_below 104 rules region ≡ Some cost → IsLeastCut rules region cost.bit
 least_cuts rules region cost is =
     let below = least_some 104 rules region cost is in
-    let Goal : (ℕ → Cost → Type 0) = λ other best. IsAtMost best (cost_of rules region other) in
+    let Goal : (ℕ → Cost → Type 0) = λ other best. CostsAtMost best (cost_of rules region other) in
     record {
       cuts = record { bound = below.bound; free = below.free };
       least = λ other free. subst (Goal other) below.is (below.least other free.bound free.free);
     }
 
 -- costs of which neither is greater are those of one bit
-at_most_both : (a b : Cost) → IsAtMost a b → IsAtMost b a → a.bit ≡ b.bit
+at_most_both : (a b : Cost) → CostsAtMost a b → CostsAtMost b a → a.bit ≡ b.bit
 at_most_both a b p q = grind arith
 
 -- and it is the only one

@@ -9,7 +9,7 @@ use Rattle.ternary.specs.Word.{WordValue}
 use Rattle.ternary.specs.Meets.{is_fixed_of}
 use Rattle.policy_rules.specs.declared.rules.Rule.{Rule}
 use Rattle.cut_tree.specs.Counts.{HasCounted, IsHeight, IsLeastOf, count_at, count_by, counted_cost}
-use Rattle.cut_tree.specs.Cuts.{IsAtMost, IsFreeBit, cost_from, cost_of, least_below, side_of}
+use Rattle.cut_tree.specs.Cuts.{CostsAtMost, IsFreeBit, cost_from, cost_of, least_below, side_of}
 use Rattle.cut_tree.specs.declared.choice.Cost.{Cost}
 use Rattle.cut_tree.specs.declared.choice.Side.{Side}
 use Rattle.cut_tree.proofs.CutLemmas.{least_is}
@@ -277,7 +277,7 @@ pub least_first : (low high : List ℕ) (above bits fewest least bit : ℕ)
     → ((k : ℕ) → (bit_at least k ≡ 1) ↔ IsLeastOf fewest (count_by high low above) k)
     → bit_at least bit ≡ 1 → ((j : ℕ) → j < bit → bit_at least j ≡ 0)
     → (other : ℕ) → bit_at bits other ≡ 1
-    → IsAtMost (counted_cost low high bit) (counted_cost low high other)
+    → CostsAtMost (counted_cost low high bit) (counted_cost low high other)
 least_first low high above bits fewest least bit is_above is_fewest is_least set before other m =
     let last = (is_least bit).0 set in
     let own = (is_fewest bit).0 last.member in
@@ -346,7 +346,7 @@ pub counted_cut : (low high : Side) (rules : List Rule) (region : WordValue) (fr
     → HasCounted low false rules region → HasCounted high true rules region
     → ((k : ℕ) → (bit_at free k ≡ 1) ↔ IsFreeBit region k) → bit_at free bit ≡ 1
     → ((other : ℕ) → bit_at free other ≡ 1
-    → IsAtMost (counted_cost low.counts.planes high.counts.planes bit)
+    → CostsAtMost (counted_cost low.counts.planes high.counts.planes bit)
     (counted_cost low.counts.planes high.counts.planes other))
     → Some (counted_cost low.counts.planes high.counts.planes bit) ≡ least_below 104 rules region
 counted_cut low high rules region free bit lows highs frees set least =
@@ -358,8 +358,8 @@ counted_cut low high rules region free bit lows highs frees set least =
     ap Some (same bit is_free) ∙ sym (least_is rules region bit (record {
       cuts = is_free;
       least = λ other f.
-          let Left : Cost → Type 0 = λ c. IsAtMost c (cost_of rules region other) in
-          let Right : Cost → Type 0 = λ c. IsAtMost (counted bit) c in
+          let Left : Cost → Type 0 = λ c. CostsAtMost c (cost_of rules region other) in
+          let Right : Cost → Type 0 = λ c. CostsAtMost (counted bit) c in
           subst Left (same bit is_free)
           (subst Right (same other f) (least other ((frees other).1 f)));
     }))

@@ -32,23 +32,23 @@ abbrev pub counted_cost : List ℕ → List ℕ → ℕ → Cost
 counted_cost low high bit = cost_from bit (count_at low bit) (count_at high bit)
 
 -- what is counted for a bit
-abbrev pub count_of : Side → ℕ → ℕ
-count_of side bit = count_at side.counts.planes bit
+abbrev pub count_on_side : Side → ℕ → ℕ
+count_on_side side bit = count_at side.counts.planes bit
 
 -- what will be counted for a bit in the end, where these rules are still to come
 abbrev pub expected : Side → WordValue → ℕ → List Rule → ℕ
 expected side region bit rules =
-    count_of side bit + bit_at side.open bit * length (side_of rules region bit side.one)
+    count_on_side side bit + bit_at side.open bit * length (side_of rules region bit side.one)
 
 -- the side has counted the rules before this place
 pub record IsCounting (side : Side) (upper : Bool) (rules : List Rule)
     (region : WordValue) (place : ℕ) : Type 0 where
   pub one : side.one ≡ upper
-  pub few : (bit : ℕ) → count_of side bit ≤ place
+  pub few : (bit : ℕ) → count_on_side side bit ≤ place
   pub rest : (bit : ℕ) → IsFreeBit region bit →
       expected side region bit (drop place rules) ≡ length (side_of rules region bit upper)
 
 -- the side has counted the rules of each half
 abbrev pub HasCounted : Side → Bool → List Rule → WordValue → Type 0
 HasCounted side one rules region =
-    (bit : ℕ) → IsFreeBit region bit → count_of side bit ≡ length (side_of rules region bit one)
+    (bit : ℕ) → IsFreeBit region bit → count_on_side side bit ≡ length (side_of rules region bit one)

@@ -23,7 +23,7 @@ cost_of rules region bit =
     (length (side_of rules region bit true))
 
 -- a costs no more than b
-pub record IsAtMost (a b : Cost) : Type 0 where
+pub record CostsAtMost (a b : Cost) : Type 0 where
   pub larger : a.larger ≤ b.larger
   pub sum : a.larger ≡ b.larger → a.sum ≤ b.sum
   pub bit : a.larger ≡ b.larger → a.sum ≡ b.sum → a.bit ≤ b.bit
@@ -37,7 +37,7 @@ pub record IsFreeBit (region : WordValue) (bit : ℕ) : Type 0 where
 pub record IsLeastCut (rules : List Rule) (region : WordValue) (bit : ℕ) : Type 0 where
   pub cuts : IsFreeBit region bit
   pub least : (other : ℕ) → IsFreeBit region other →
-      IsAtMost (cost_of rules region bit) (cost_of rules region other)
+      CostsAtMost (cost_of rules region bit) (cost_of rules region other)
 
 -- a has the smaller larger side, or the smaller sum where these are equal
 abbrev pub is_cheaper : Cost → Cost → Bool

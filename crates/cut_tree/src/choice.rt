@@ -3,8 +3,8 @@ ghost use Rattle.std.specs.Int.{bit_at, from_bool};
 ghost use Rattle.ternary.specs.Word.{WordValue};
 ghost use Rattle.ternary.specs.Meets.{admits, covers_of, fix_of, is_fixed_of};
 ghost use Rattle.policy_rules.specs.declared.rules.Rule.{Rule};
-ghost use Rattle.cut_tree.specs.Counts.{count_of, counted_cost, expected, HasCounted};
-ghost use Rattle.cut_tree.specs.Cuts.{IsAtMost, IsFreeBit, cost_from, least_below, side_of};
+ghost use Rattle.cut_tree.specs.Counts.{count_on_side, counted_cost, expected, HasCounted};
+ghost use Rattle.cut_tree.specs.Cuts.{CostsAtMost, IsFreeBit, cost_from, least_below, side_of};
 ghost use Rattle.cut_tree.specs.Nodes.{LiesIn};
 
 use crate::counters::Counters;
@@ -63,7 +63,7 @@ fn least_bit(low: &Counters, high: &Counters, bits: u128) -> u32
     requires some { bits ≢ 0 }
     ensures member { bit_at bits result ≡ 1 }
     ensures least { (other : ℕ) → bit_at bits other ≡ 1 →
-        IsAtMost (counted_cost low.now.planes high.now.planes result)
+        CostsAtMost (counted_cost low.now.planes high.now.planes result)
         (counted_cost low.now.planes high.now.planes other) }
 {
     let height = low.height(high);
@@ -102,7 +102,7 @@ pub struct Side {
 impl Side {
     fn new(one: bool) -> Side
         ensures one { result.one ≡ one }
-        ensures none { (bit : ℕ) → count_of result bit ≡ 0 }
+        ensures none { (bit : ℕ) → count_on_side result bit ≡ 0 }
         ensures expected { (region : WordValue) (bit : ℕ) (rules : List Rule) → bit < 104 →
             expected result region bit rules ≡ length (side_of rules region bit one) }
     {
@@ -115,10 +115,10 @@ impl Side {
 
     // Counts the next rule in each half that keeps it.
     fn count(&mut self, rule: &Rule, region: &Word)
-        requires room { (bit : ℕ) → count_of self.old bit + 1 < 2 ^ 32 }
+        requires room { (bit : ℕ) → count_on_side self.old bit + 1 < 2 ^ 32 }
         requires within { LiesIn region.now rule.now }
         ensures one { self.new.one ≡ self.old.one }
-        ensures few { (bit : ℕ) → count_of self.new bit ≤ count_of self.old bit + 1 }
+        ensures few { (bit : ℕ) → count_on_side self.new bit ≤ count_on_side self.old bit + 1 }
         ensures expected { (bit : ℕ) (rules : List Rule) → IsFreeBit region.now bit →
             expected self.new region.now bit rules
             ≡ expected self.old region.now bit (rule.now ∷ rules) }

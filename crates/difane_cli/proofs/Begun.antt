@@ -8,7 +8,7 @@ use Rattle.net_file.specs.Net.{IsNet}
 use Rattle.net_file.specs.declared.net.Net.{Net}
 use Rattle.net_file.specs.Owners.{port_mask}
 use Rattle.partition.specs.Plan.{Placed, plan_of}
-use Rattle.policy_file.specs.Ports.{has_port}
+use Rattle.policy_file.specs.Ports.{names_port_of}
 use Rattle.policy_rules.specs.declared.policy.Action.{Action}
 use Rattle.policy_rules.specs.declared.policy.Action.TheVariants as action
 use Rattle.policy_rules.specs.declared.policy.Row.{Row}
@@ -30,24 +30,24 @@ use Rattle.difane_cli.specs.Tasks.{IsNetOf}
 -- ---- ports
 
 own_port : PortLaws → (net : Net) (policies : List (List Row)) → IsNet net → (a : Action)
-    → IsTrue (has_port (port_mask net.switches) a) → NamesOwnPort (setting_of net policies) a
+    → IsTrue (names_port_of (port_mask net.switches) a) → NamesOwnPort (setting_of net policies) a
 own_port laws net policies sound action.Drop has = tt
 own_port laws net policies sound (action.Out port) has = sym (laws.mask net port sound) ∙ has
 
 pub own_ports : PortLaws → (net : Net) (policies : List (List Row)) → IsNet net
-    → All (All (λ row. IsTrue (has_port (port_mask net.switches) row.action))) policies
+    → All (All (λ row. IsTrue (names_port_of (port_mask net.switches) row.action))) policies
     → All (All (λ row. NamesOwnPort (setting_of net policies) row.action)) policies
 own_ports laws net policies sound has = λ i d within j e inside.
     own_port laws net policies sound _ (has i d within j e inside)
 
 drawn_port : PortLaws → (net : Net) → IsNet net → (a : Action) → NamesPort net a
-    → IsTrue (has_port (port_mask net.switches) a)
+    → IsTrue (names_port_of (port_mask net.switches) a)
 drawn_port laws net sound action.Drop names = refl
 drawn_port laws net sound (action.Out port) names = laws.mask net port sound ∙ names
 
 -- a load case names ports of its network alone
 pub drawn_ports : PortLaws → (load : LoadCase) → IsPlayable load
-    → All (All (λ row. IsTrue (has_port (port_mask load.net.switches) row.action))) load.policies
+    → All (All (λ row. IsTrue (names_port_of (port_mask load.net.switches) row.action))) load.policies
 drawn_ports laws load may = λ i d within j e inside.
     drawn_port laws load.net may.net _ (may.ports i d within j e inside)
 

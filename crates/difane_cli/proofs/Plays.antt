@@ -22,7 +22,7 @@ use Rattle.shelf.specs.Sink.{GainedPart, SinkState}
 use Rattle.shelf.specs.declared.output.SinkError.{SinkError}
 use Rattle.shelf.specs.declared.output.SinkError.TheVariants as sink
 use Rattle.difane_cli.specs.Texts.{play_text}
-use Rattle.difane_cli.specs.Verdict.{Decides, IsVerdict, asks_quiet, is_asked}
+use Rattle.difane_cli.specs.Verdict.{IsWhetherQuiet, IsVerdict, asks_quiet, is_asked}
 use Rattle.difane_cli.proofs.Verdicts.{QuietLaws, verdict}
 use Rattle.difane_cli.specs.Run.{IsAnswer, IsPlayOf, MayBePlayed, PlayOutcome, Unfinished, WantsMemory, is_made}
 use Rattle.difane_cli.specs.Ending.{status_after}
@@ -76,7 +76,7 @@ pub judged : AnswerLaws → (command : Command) (known : Known) (inputs : Inputs
     → IsAnswer command known inputs journal full → inputs.setting.net ≡ net
     → is_some given ≡ is_asked (asks_quiet inputs.report) full
     → ((setting : Setting) → setting.net ≡ net → IsPlain setting journal
-    → Decides setting journal given)
+    → IsWhetherQuiet setting journal given)
     → IsVerdict (asks_quiet inputs.report) inputs.setting journal full given
 judged laws command known inputs journal full net given answer own asked decides =
     let sound = answer.sound.setting.net in

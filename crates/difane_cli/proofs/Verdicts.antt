@@ -11,7 +11,7 @@ use Rattle.steps.specs.declared.step.Event.{Event}
 use Rattle.update_machine.specs.Full.{IsPlay}
 use Rattle.update_machine.specs.Quiet.{IsQuiet}
 use Rattle.update_machine.specs.Setting.{Setting}
-use Rattle.difane_cli.specs.Verdict.{Decides, HasSettled, IsVerdict, Says, is_asked}
+use Rattle.difane_cli.specs.Verdict.{IsWhetherQuiet, HasComeToRest, IsVerdict, Says, is_asked}
 
 -- what holds at the end of a play, where the network is quiet
 pub record QuietLaws : Type 0 where
@@ -24,7 +24,7 @@ pub record QuietLaws : Type 0 where
 
 settled : QuietLaws → (setting : Setting) (events : List Event) (journal : List Item)
     → IsNet setting.net → IsPlay setting events journal None → IsQuiet setting journal
-    → HasSettled setting journal
+    → HasComeToRest setting journal
 settled laws setting events journal net play quiet = record {
   quiet = quiet;
   converged = laws.converged.answered setting events journal play.answers net quiet;
@@ -35,7 +35,7 @@ settled laws setting events journal net play quiet = record {
 says : QuietLaws → (quiet : Bool) (setting : Setting) (events : List Event) (journal : List Item)
     (full : Option ℕ) (answer : Option Bool) → IsNet setting.net
     → IsPlay setting events journal full → is_some answer ≡ is_asked quiet full
-    → Decides setting journal answer → Says setting journal answer
+    → IsWhetherQuiet setting journal answer → Says setting journal answer
 says laws quiet setting events journal full None net play asked decides = tt
 says laws quiet setting events journal (Some row) (Some answer) net play asked decides =
     absurd (true≢false asked)
@@ -48,7 +48,7 @@ says laws quiet setting events journal None (Some false) net play asked decides 
 pub verdict : QuietLaws → (quiet : Bool) (setting : Setting) (events : List Event)
     (journal : List Item) (full : Option ℕ) (answer : Option Bool) → IsNet setting.net
     → IsPlay setting events journal full → is_some answer ≡ is_asked quiet full
-    → Decides setting journal answer → IsVerdict quiet setting journal full answer
+    → IsWhetherQuiet setting journal answer → IsVerdict quiet setting journal full answer
 verdict laws quiet setting events journal full answer net play given decides = record {
   asked = given;
   holds = says laws quiet setting events journal full answer net play given decides;

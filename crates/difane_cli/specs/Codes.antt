@@ -7,8 +7,8 @@ abbrev pub most_bytes : ℕ
 most_bytes = 16_777_216
 
 -- there is no such file
-abbrev pub missing : ℕ
-missing = 0
+abbrev pub missing_file : ℕ
+missing_file = 0
 
 -- it has more bytes
 abbrev pub too_long : ℕ
@@ -31,5 +31,5 @@ abbrev pub no_room : ℕ
 no_room = 15
 
 -- the network lacks the switch
-abbrev pub no_switch : ℕ
-no_switch = 21
+abbrev pub no_such_switch : ℕ
+no_such_switch = 21

@@ -34,7 +34,7 @@ task_stated (asked.Print inputs) = Print (printing_stated inputs)
 
 -- in the world of a play nothing happened yet, its network is the one that was read, and the
 -- events may happen on it
-pub record IsReady (inputs : PlayInputs) : Type 0 where
+pub record AreReadyToPlay (inputs : PlayInputs) : Type 0 where
   pub begun : IsBegun (setting_at inputs.world) inputs.world
   pub net : inputs.world.net ≡ inputs.net
   pub sound : MayBePlayed (inputs_stated inputs)
@@ -42,7 +42,7 @@ pub record IsReady (inputs : PlayInputs) : Type 0 where
 
 -- a plan is on a network
 abbrev pub IsReadyTask : declared_task.Task → Type 0
-IsReadyTask (asked.Play inputs) = IsReady inputs
+IsReadyTask (asked.Play inputs) = AreReadyToPlay inputs
 IsReadyTask (asked.Print inputs) = IsNet inputs.net
 
 -- the task is of the kind that the command asks for, and as it asks for it

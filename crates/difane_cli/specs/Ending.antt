@@ -2,7 +2,7 @@
 use Rattle.std.specs.Prelude.{⊤, ℕ, ◌≡◌, ◌⊎◌, Option, Some, None, Result, Ok, Err}
 use Rattle.shelf.specs.Shelf.{Files}
 use Rattle.shelf.specs.declared.output.SinkError.{SinkError}
-use Rattle.difane_cli.specs.Codes.{missing, too_long}
+use Rattle.difane_cli.specs.Codes.{missing_file, too_long}
 use Rattle.difane_cli.specs.declared.status.Status.{Status}
 use Rattle.difane_cli.specs.declared.status.Stop.{Stop}
 use Rattle.shelf.specs.declared.output.SinkError.TheVariants as sink
@@ -44,5 +44,5 @@ status_number status.NoMemory = 7
 -- absent file or one too long
 abbrev pub NeedsReadFault : Option Files → Status → Type 0
 NeedsReadFault files status.ReadFault = ⊤
-NeedsReadFault None (status.Input file code row) = (code ≡ missing) ⊎ (code ≡ too_long)
+NeedsReadFault None (status.Input file code row) = (code ≡ missing_file) ⊎ (code ≡ too_long)
 NeedsReadFault _ _ = ⊥

@@ -22,7 +22,7 @@ use Rattle.shelf.specs.Shelf.{Files, file_named}
 use Rattle.update_machine.specs.Setting.{setting_of}
 use Rattle.words.specs.Commands.{Command, PrintCommand, ReplayCommand}
 use Rattle.words.specs.Commands as asked
-use Rattle.difane_cli.specs.Codes.{missing, most_bytes, no_port, no_room, no_switch, too_long, too_many_leaves, too_many_words}
+use Rattle.difane_cli.specs.Codes.{missing_file, most_bytes, no_port, no_room, no_such_switch, too_long, too_many_leaves, too_many_words}
 use Rattle.difane_cli.specs.declared.report.Report.TheVariants as report
 use Rattle.difane_cli.specs.declared.status.Refusal.{Refusal}
 use Rattle.difane_cli.specs.declared.status.Stop.{Stop}
@@ -39,13 +39,13 @@ and_then (Err refusal) next = Err refusal
 -- ---- one file
 
 -- a file that is refused as a whole
-abbrev pub whole : List ℕ → ℕ → Refusal
-whole name code = record { file = name; code = code; row = 0 }
+abbrev pub refused_whole : List ℕ → ℕ → Refusal
+refused_whole name code = record { file = name; code = code; row = 0 }
 
 abbrev pub content_from : List ℕ → Option (List ℕ) → Result (List ℕ) Refusal
-content_from name None = Err (whole name missing)
+content_from name None = Err (refused_whole name missing_file)
 content_from name (Some bytes) =
-    if nat_le (length bytes) most_bytes then Ok bytes else Err (whole name too_long)
+    if nat_le (length bytes) most_bytes then Ok bytes else Err (refused_whole name too_long)
 
 -- the content of the file of this name, unless there is none or it is too long
 abbrev pub content_of : Files → List ℕ → Result (List ℕ) Refusal
@@ -55,7 +55,7 @@ abbrev pub schedule_from : List ℕ → Result (List Event) refused_by.Refusal
     → Result (List Event) Refusal
 schedule_from name (Ok events) = Ok events
 schedule_from name (Err refusal) =
-    Err (record { file = name; code = refused_by.code_of refusal.refusal; row = refusal.row })
+    Err (record { file = name; code = refused_by.schedule_code refusal.refusal; row = refusal.row })
 
 -- the events that the bytes of this file state for the network and so many policy files
 abbrev pub schedule_in : Net → ℕ → List ℕ → List ℕ → Result (List Event) Refusal
@@ -65,15 +65,15 @@ schedule_in net policies name bytes =
 abbrev pub policy_from : List ℕ → Result (List Row) policy_text.Refusal → Result (List Row) Refusal
 policy_from name (Ok rows) = Ok rows
 policy_from name (Err refusal) =
-    Err (record { file = name; code = policy_text.code_of refusal.refusal; row = refusal.row })
+    Err (record { file = name; code = policy_text.policy_code refusal.refusal; row = refusal.row })
 
 abbrev pub with_ports : List ℕ → List Row → Option NoPort → Result (List Row) Refusal
 with_ports name rows None = Ok rows
 with_ports name rows (Some lack) = Err (record { file = name; code = no_port; row = lack.row })
 
 -- the rows that the bytes of this file state, unless one names a port outside this mask
-abbrev pub policy_in : ℕ → List ℕ → List ℕ → Result (List Row) Refusal
-policy_in ports name bytes =
+abbrev pub policy_stated : ℕ → List ℕ → List ℕ → Result (List Row) Refusal
+policy_stated ports name bytes =
     and_then (policy_from name (policy_text.policy_of bytes)) (λ rows.
     with_ports name rows (first_without_port ports rows))
 
@@ -82,7 +82,7 @@ read_schedule net policies files name =
     and_then (content_of files name) (schedule_in net policies name)
 
 abbrev pub read_policy : ℕ → Files → List ℕ → Result (List Row) Refusal
-read_policy ports files name = and_then (content_of files name) (policy_in ports name)
+read_policy ports files name = and_then (content_of files name) (policy_stated ports name)
 
 -- the policies of these files in their order, or the first refusal
 abbrev pub read_policies : ℕ → Files → List (List ℕ) → Result (List (List Row)) Refusal
@@ -95,23 +95,23 @@ read_policies ports files (name ∷ names) =
 abbrev pub net_from : List ℕ → Result Net net_text.Refusal → Result Net Refusal
 net_from name (Ok net) = Ok net
 net_from name (Err refusal) =
-    Err (record { file = name; code = net_text.code_of refusal.refusal; row = refusal.row })
+    Err (record { file = name; code = net_text.net_code refusal.refusal; row = refusal.row })
 
 -- the network that the bytes of this file state
-abbrev pub net_in : List ℕ → List ℕ → Result Net Refusal
-net_in name bytes = net_from name (net_of bytes)
+abbrev pub net_stated : List ℕ → List ℕ → Result Net Refusal
+net_stated name bytes = net_from name (net_of bytes)
 
 -- the network of this file, or that of one switch
 abbrev pub read_net : Files → Option (List ℕ) → Result Net Refusal
 read_net files None = Ok solo_net
-read_net files (Some name) = and_then (content_of files name) (net_in name)
+read_net files (Some name) = and_then (content_of files name) (net_stated name)
 
 -- ---- plans
 
 abbrev pub plan_from : List ℕ → Result (List Placed) NoPlan → Result (List Placed) Refusal
 plan_from name (Ok placed) = Ok placed
-plan_from name (Err (no_plan.TooManyWords words)) = Err (whole name too_many_words)
-plan_from name (Err no_plan.TooManyLeaves) = Err (whole name too_many_leaves)
+plan_from name (Err (no_plan.TooManyWords words)) = Err (refused_whole name too_many_words)
+plan_from name (Err no_plan.TooManyLeaves) = Err (refused_whole name too_many_leaves)
 plan_from name (Err (no_plan.NoRoom partition)) =
     Err (record { file = name; code = no_room; row = partition })
 
@@ -165,11 +165,11 @@ load_inputs n =
 abbrev pub switch_on : Net → Option (List ℕ) → Result (Option ℕ) Refusal
 switch_on net None = Ok None
 switch_on net (Some name) =
-    option_map_or (λ s. Ok (Some s)) (switch_number net.switches name) (Err (whole name no_switch))
+    option_map_or (λ s. Ok (Some s)) (switch_number net.switches name) (Err (refused_whole name no_such_switch))
 
 -- the network, and the switch on it
-abbrev pub place_of : Files → PrintCommand → Result (Net × Option ℕ) Refusal
-place_of files command =
+abbrev pub place_asked : Files → PrintCommand → Result (Net × Option ℕ) Refusal
+place_asked files command =
     and_then (read_net files command.net) (λ net.
     and_then (switch_on net command.switch) (λ switch.
     Ok (net, switch)))
@@ -178,7 +178,7 @@ place_of files command =
 -- checked, and then it is planned
 abbrev pub printing_of : Files → PrintCommand → Result Printing Refusal
 printing_of files command =
-    and_then (place_of files command) (λ place.
+    and_then (place_asked files command) (λ place.
     and_then (read_policy (port_mask place.0.switches) files command.policy) (λ rows.
     and_then (plan_on command.policy place.0 rows) (λ placed.
     Ok (record { policy = rows; net = place.0; placed = placed; switch = place.1 }))))
@@ -245,7 +245,7 @@ most_reads None (Some (asked.Load n)) = 0
 most_reads (Some files) (Some (asked.Replay words)) =
     net_reads words.net + replay_reads files words (read_net files words.net)
 most_reads (Some files) (Some (asked.Print words)) =
-    net_reads words.net + (if is_ok (place_of files words) then 1 else 0)
+    net_reads words.net + (if is_ok (place_asked files words) then 1 else 0)
 most_reads (Some files) (Some (asked.Load n)) = 0
 
 -- what a stop says of what was to be read: a refusal is the one that stands there
@@ -254,16 +254,16 @@ Stops read (stop.Refused refusal) = read ≡ Err refusal
 Stops read _ = ⊤
 
 -- this refusal, or want of memory
-abbrev pub Refuses : Refusal → Stop → Type 0
-Refuses given (stop.Refused refusal) = refusal ≡ given
-Refuses given stop.NoMemory = ⊤
-Refuses given stop.ReadFault = ⊥
+abbrev pub RefusesInput : Refusal → Stop → Type 0
+RefusesInput given (stop.Refused refusal) = refusal ≡ given
+RefusesInput given stop.NoMemory = ⊤
+RefusesInput given stop.ReadFault = ⊥
 
 -- a stop at the content of a file: its refusal, by a code that an absent file or one too long
 -- doesn't have
 abbrev pub StopsContent : {X : Type 0} → Result X Refusal → Stop → Type 0
 StopsContent read (stop.Refused refusal) =
-    (read ≡ Err refusal) × (missing < refusal.code) × (refusal.code < too_long)
+    (read ≡ Err refusal) × (missing_file < refusal.code) × (refusal.code < too_long)
 StopsContent read stop.NoMemory = ⊤
 StopsContent read stop.ReadFault = ⊥
 

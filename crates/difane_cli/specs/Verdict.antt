@@ -21,14 +21,14 @@ is_asked quiet None = quiet
 is_asked quiet (Some row) = false
 
 -- an answer, if one is given, is whether the network is quiet
-abbrev pub Decides : Setting → List Item → Option Bool → Type 0
-Decides setting journal None = ⊤
-Decides setting journal (Some answer) = IsTrue answer ↔ IsQuiet setting journal
+abbrev pub IsWhetherQuiet : Setting → List Item → Option Bool → Type 0
+IsWhetherQuiet setting journal None = ⊤
+IsWhetherQuiet setting journal (Some answer) = IsTrue answer ↔ IsQuiet setting journal
 
 -- the network is quiet: so the switches know the links that can be used, a step makes a packet that
 -- had found no link down stuck only where no target is reached, and the switches that are up stamp
 -- with the newest version
-pub record HasSettled (setting : Setting) (journal : List Item) : Type 0 where
+pub record HasComeToRest (setting : Setting) (journal : List Item) : Type 0 where
   pub quiet : IsQuiet setting journal
   pub converged : HasConverged setting journal
   pub apart : GetStuckApart setting journal
@@ -37,7 +37,7 @@ pub record HasSettled (setting : Setting) (journal : List Item) : Type 0 where
 -- what an answer says of the network
 abbrev pub Says : Setting → List Item → Option Bool → Type 0
 Says setting journal None = ⊤
-Says setting journal (Some true) = HasSettled setting journal
+Says setting journal (Some true) = HasComeToRest setting journal
 Says setting journal (Some false) = ¬ IsQuiet setting journal
 
 -- there is an answer exactly where one is asked for, and what it says holds

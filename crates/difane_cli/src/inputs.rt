@@ -2,15 +2,15 @@
 ghost use Rattle.std.specs.Prelude.{◌≡◌, All, IsTrue, IfOk, IfErr, Ok, Some, length};
 ghost use Rattle.std.specs.Option.{ForSome};
 ghost use Rattle.net_file.specs.Net.{IsNet};
-ghost use Rattle.policy_file.specs.Ports.{has_port};
+ghost use Rattle.policy_file.specs.Ports.{names_port_of};
 ghost use Rattle.policy_rules.specs.Policy.{IsPolicy};
-ghost use Rattle.schedule.specs.Reading.{AreSound};
+ghost use Rattle.schedule.specs.Reading.{AreSoundEvents};
 ghost use Rattle.shelf.specs.Sink.{Rose};
 ghost use Rattle.shelf.specs.Shelf.{IsAfterReads};
-ghost use Rattle.difane_cli.specs.Inputs.{Refuses, Stops, StopsContent, content_of, inputs_of, most_reads, policy_reads, read_policies, read_policy, read_schedule, schedule_in};
+ghost use Rattle.difane_cli.specs.Inputs.{RefusesInput, Stops, StopsContent, content_of, inputs_of, most_reads, policy_reads, read_policies, read_policy, read_schedule, schedule_in};
 ghost use Rattle.difane_cli.specs.Run.{IsReplayOf};
 ghost use Rattle.difane_cli.specs.Ending.{NeedsReadFault, status_of};
-ghost use Rattle.difane_cli.specs.Commands.{IsReady, inputs_stated};
+ghost use Rattle.difane_cli.specs.Commands.{AreReadyToPlay, inputs_stated};
 ghost use Rattle.words.specs.Named.{HasPolicies, names_seen, replay_named};
 ghost use Rattle.words.specs.Commands.{Replay};
 
@@ -38,7 +38,7 @@ pub const TOO_LONG: u32 = 20;
 
 /// The refusal of a file by this code in this row.
 pub fn refused(alloc: Global, name: &str, code: u32, row: u32) -> Stop
-    ensures { Refuses (record { file = name.now; code = code; row = row }) result }
+    ensures { RefusesInput (record { file = name.now; code = code; row = row }) result }
 {
     match FileName::new(alloc, name) {
         Ok(file) => Stop::Refused(Refusal { file, code, row }),
@@ -78,7 +78,7 @@ fn check_schedule(
         schedule_in net.now policies name.now bytes.now ≡ Ok events.items) }
     ensures stopped { IfErr result
         (StopsContent (schedule_in net.now policies name.now bytes.now)) }
-    ensures sound { IfOk result (λ events. AreSound net.now policies events.items) }
+    ensures sound { IfOk result (λ events. AreSoundEvents net.now policies events.items) }
 {
     match schedule::read_schedule(alloc, bytes, net, policies) {
         Ok(events) => Ok(events),
@@ -105,7 +105,7 @@ fn read_schedule<F: Shelf>(
     ensures faults { IfErr result (λ stop. NeedsReadFault (F.state shelf.old).files (status_of stop)
         → Rose (F.state shelf.old).faults (F.state shelf.new).faults) }
     ensures shelf { IsAfterReads 1 (F.state shelf.old) (F.state shelf.new) }
-    ensures sound { IfOk result (λ events. AreSound net.now policies events.items) }
+    ensures sound { IfOk result (λ events. AreSoundEvents net.now policies events.items) }
 {
     let bytes = read_bytes(alloc, shelf, name)?;
     check_schedule(alloc, name, &bytes, net, policies)
@@ -125,7 +125,7 @@ pub fn read_policy<F: Shelf>(
     ensures faults { IfErr result (λ stop. NeedsReadFault (F.state shelf.old).files (status_of stop)
         → Rose (F.state shelf.old).faults (F.state shelf.new).faults) }
     ensures shelf { IsAfterReads 1 (F.state shelf.old) (F.state shelf.new) }
-    ensures own_ports { IfOk result (All (λ row. IsTrue (has_port ports row.action))) }
+    ensures own_ports { IfOk result (All (λ row. IsTrue (names_port_of ports row.action))) }
     ensures sound { IfOk result IsPolicy }
 {
     let bytes = read_bytes(alloc, shelf, name)?;
@@ -150,7 +150,7 @@ fn read_policies<F: Shelf>(
         (F.state shelf.old) (F.state shelf.new) }
     ensures many { IfOk result (λ policies. length policies.items ≡ length names.now) }
     ensures own_ports { IfOk result (λ policies.
-        All (All (λ row. IsTrue (has_port ports row.action))) policies.items) }
+        All (All (λ row. IsTrue (names_port_of ports row.action))) policies.items) }
     ensures sound { IfOk result (λ policies. All IsPolicy policies.items) }
 {
     let mut policies = Vec::new(alloc);
@@ -188,7 +188,7 @@ pub fn read_inputs<F: Shelf>(
     ensures shelf { IsAfterReads
         (most_reads (F.state shelf.old).files (Some (Replay (replay_named words.now))))
         (F.state shelf.old) (F.state shelf.new) }
-    ensures ready { IfOk result IsReady }
+    ensures ready { IfOk result AreReadyToPlay }
     ensures asked { IfOk result (λ inputs.
         IsReplayOf (replay_named words.now) (inputs_stated inputs)) }
 {

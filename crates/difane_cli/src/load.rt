@@ -1,6 +1,6 @@
 //! Load cases as a command takes them.
 ghost use Rattle.std.specs.Prelude.{◌≡◌, ◌≤◌, IfOk, IfErr, Ok};
-ghost use Rattle.difane_cli.specs.Commands.{IsReady, inputs_stated};
+ghost use Rattle.difane_cli.specs.Commands.{AreReadyToPlay, inputs_stated};
 ghost use Rattle.difane_cli.specs.Inputs.{StopsContent, case_inputs, load_inputs};
 ghost use Rattle.load_case.specs.Case.{load_case};
 
@@ -20,7 +20,7 @@ pub fn draw_inputs(alloc: Global, n: u32) -> Result<PlayInputs, Stop>
     requires { (1 ≤ n) × (n ≤ 1000) }
     ensures value { IfOk result (λ inputs. load_inputs n ≡ Ok (inputs_stated inputs)) }
     ensures stopped { IfErr result (StopsContent (load_inputs n)) }
-    ensures ready { IfOk result IsReady }
+    ensures ready { IfOk result AreReadyToPlay }
     ensures drawn { IfOk result (λ inputs. inputs_stated inputs ≡ case_inputs (load_case n)) }
 {
     port_laws();

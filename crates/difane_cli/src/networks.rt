@@ -5,7 +5,7 @@ ghost use Rattle.net_file.specs.Net.{IsNet};
 ghost use Rattle.shelf.specs.Sink.{Rose};
 ghost use Rattle.shelf.specs.Shelf.{IsAfterReads};
 ghost use Rattle.words.specs.Named.{net_named};
-ghost use Rattle.difane_cli.specs.Inputs.{Stops, StopsContent, StopsSwitch, net_in, net_reads, read_net, switch_on};
+ghost use Rattle.difane_cli.specs.Inputs.{Stops, StopsContent, StopsSwitch, net_stated, net_reads, read_net, switch_on};
 ghost use Rattle.difane_cli.specs.Prints.{IsSwitchOf};
 ghost use Rattle.difane_cli.specs.Ending.{NeedsReadFault, status_of};
 ghost use Rattle.difane_cli.specs.Tasks.{IsNetOf};
@@ -19,8 +19,8 @@ use std::alloc::Global;
 
 /// The network that the bytes of this file state.
 fn check_net(alloc: Global, name: &str, bytes: &[u8]) -> Result<Net, Stop>
-    ensures value { IfOk result (λ net. net_in name.now bytes.now ≡ Ok net) }
-    ensures stopped { IfErr result (StopsContent (net_in name.now bytes.now)) }
+    ensures value { IfOk result (λ net. net_stated name.now bytes.now ≡ Ok net) }
+    ensures stopped { IfErr result (StopsContent (net_stated name.now bytes.now)) }
     ensures sound { IfOk result IsNet }
 {
     match read_net(alloc, bytes) {

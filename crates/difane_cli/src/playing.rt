@@ -4,7 +4,7 @@ ghost use Rattle.std.specs.Option.{ForSome};
 ghost use Rattle.net_file.specs.Net.{IsNet};
 ghost use Rattle.shelf.specs.Sink.{Rose};
 ghost use Rattle.shelf.specs.SinkWrites.{IsAfterWrite};
-ghost use Rattle.difane_cli.specs.Commands.{IsReady, inputs_stated};
+ghost use Rattle.difane_cli.specs.Commands.{AreReadyToPlay, inputs_stated};
 ghost use Rattle.difane_cli.specs.Texts.{last_lines, play_text, replay_text};
 ghost use Rattle.difane_cli.specs.Run.{IsPlayOf, PlayOutcome, RanOut, is_made};
 ghost use Rattle.difane_cli.specs.Tasks.{Play, Known};
@@ -45,7 +45,7 @@ pub fn play<M: Meter, K: Sink>(
     meters: Vec<M>,
     out: &mut K,
 ) -> Ended<M>
-    requires { IsReady inputs }
+    requires { AreReadyToPlay inputs }
     ensures outcome { (command : Command) (known : Known)
         → IsPlayOf command (inputs_stated inputs)
         → ForSome known (λ read. read ≡ Ok (Play (inputs_stated inputs)))

@@ -1,11 +1,11 @@
 //! Policies as a command takes them: read from bytes, and checked against the network.
 ghost use Rattle.std.specs.Prelude.{◌≡◌, ◌≤◌, All, List, IfOk, IfErr, IsOk, IsTrue, Ok, OnOk, length};
 ghost use Rattle.policy_file.specs.Reading.{policy_of};
-ghost use Rattle.policy_file.specs.Ports.{has_port};
+ghost use Rattle.policy_file.specs.Ports.{names_port_of};
 ghost use Rattle.policy_rules.specs.Policy.{IsPolicy};
 ghost use Rattle.policy_rules.specs.declared.policy.Row.{Row};
 ghost use Rattle.controller.specs.Plan.{RefusesPlan};
-ghost use Rattle.difane_cli.specs.Inputs.{StopsContent, first_plan, plan_on, policy_from, policy_in};
+ghost use Rattle.difane_cli.specs.Inputs.{StopsContent, first_plan, plan_on, policy_from, policy_stated};
 ghost use Rattle.net_file.specs.Net.{IsNet};
 ghost use Rattle.net_file.specs.declared.net.Net.{Net};
 ghost use Rattle.net_file.specs.Owners.{port_mask};
@@ -55,9 +55,9 @@ fn state_policy(alloc: Global, name: &str, bytes: &[u8]) -> Result<Policy, Stop>
 
 /// The policy that the bytes of this file state, which names only ports of the mask.
 pub fn check_policy(alloc: Global, name: &str, bytes: &[u8], ports: u64) -> Result<Policy, Stop>
-    ensures value { IfOk result (λ policy. policy_in ports name.now bytes.now ≡ Ok policy) }
-    ensures stopped { IfErr result (StopsContent (policy_in ports name.now bytes.now)) }
-    ensures own_ports { IfOk result (All (λ row. IsTrue (has_port ports row.action))) }
+    ensures value { IfOk result (λ policy. policy_stated ports name.now bytes.now ≡ Ok policy) }
+    ensures stopped { IfErr result (StopsContent (policy_stated ports name.now bytes.now)) }
+    ensures own_ports { IfOk result (All (λ row. IsTrue (names_port_of ports row.action))) }
     ensures sound { IfOk result IsPolicy }
 {
     let policy = state_policy(alloc, name, bytes)?;
@@ -92,7 +92,7 @@ pub fn begin_world(
     requires some { 1 ≤ length policies.items }
     requires named { 1 ≤ length names.now }
     requires sound { All IsPolicy policies.items }
-    requires ports { All (All (λ row. IsTrue (has_port (port_mask net.now.switches) row.action)))
+    requires ports { All (All (λ row. IsTrue (names_port_of (port_mask net.now.switches) row.action)))
         policies.items }
     ensures planned { OnOk result
         (IsOk (first_plan (names_seen names.now) net.now policies.items)) }

@@ -5,7 +5,7 @@ ghost use Rattle.quiet_journals.specs.Plain.{IsPlain};
 ghost use Rattle.shelf.specs.SinkWrites.{IsAfterWrite};
 ghost use Rattle.update_machine.specs.Setting.{Setting};
 ghost use Rattle.difane_cli.specs.Texts.{quiet_line};
-ghost use Rattle.difane_cli.specs.Verdict.{Decides, is_asked};
+ghost use Rattle.difane_cli.specs.Verdict.{IsWhetherQuiet, is_asked};
 
 use meters::Meter;
 use net_file::Net;
@@ -27,7 +27,7 @@ pub fn judge<M: Meter>(
     ensures asked { IfOk result (λ answer. is_some answer ≡ is_asked asked played.now.full) }
     ensures wants { IfErr result (λ _. IsTrue (is_asked asked played.now.full)) }
     ensures decides { IfOk result (λ answer. (setting : Setting) → setting.net ≡ net.now
-        → IsPlain setting played.now.journal → Decides setting played.now.journal answer) }
+        → IsPlain setting played.now.journal → IsWhetherQuiet setting played.now.journal answer) }
 {
     if !asked || played.full.is_some() {
         return Ok(None);

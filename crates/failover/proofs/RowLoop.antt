@@ -7,7 +7,7 @@ use Rattle.std.proofs.lemmas.Bool.Decides.{nat_tests}
 use Rattle.std.proofs.lemmas.Nat.{pow_pos, pow_below, and_le_l, and_le_r}
 use Rattle.std.proofs.lemmas.Nat.Bits.{bit_at_xor, bit_at_not, bit_at_ones, bit_at-lt, bit_at-pow_same, bit_at-pow_other, and_pow}
 use Rattle.masks.specs.Masks.{has, only_if, least_in}
-use Rattle.failover.specs.Links.{is_link, link_row}
+use Rattle.failover.specs.Links.{is_link, links_at}
 use Rattle.masks.proofs.CallerLemmas.{has-or, has-and, has-zero, has_only_same, has_only_other, has_least, same_masks, only_if_lt, has_mask}
 use Rattle.failover.proofs.Balls.{apart_tests, and_left}
 
@@ -55,13 +55,13 @@ row_begins neighbours down one within fits = record {
 
 pub row_ends : (neighbours down : List ℕ) (one within row rest : ℕ) → within < 2 ^ 64 →
     IsRowSoFar neighbours down one within row rest →
-    rest ≡ 0 → row ≡ bit_and (link_row neighbours down one) within
+    rest ≡ 0 → row ≡ bit_and (links_at neighbours down one) within
 row_ends neighbours down one within row rest fits so_far none =
     same_masks row _ so_far.row_fits
-    (omega (arith, and_le_r (link_row neighbours down one) within))
+    (omega (arith, and_le_r (links_at neighbours down one) within))
     (λ k below. at_end (has row k) (has rest k) _ _ (ap (λ n. has n k) none ∙ has-zero k)
     (so_far.found k below)
-    ∙ sym (has-and (link_row neighbours down one) within k
+    ∙ sym (has-and (links_at neighbours down one) within k
     ∙ ap (λ b. b && has within k) (has_mask (is_link neighbours down one) k below)))
   where
     at_end : (row rest link wanted : Bool) → rest ≡ false → (row || (rest && link)) ≡ wanted →

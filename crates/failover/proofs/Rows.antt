@@ -5,9 +5,9 @@ use Rattle.std.proofs.lemmas.Bool.{cases_lt}
 use Rattle.std.proofs.lemmas.List.{get_or_past, get_or-map, length-map}
 use Rattle.failover.specs.declared.advert.Advert.{Advert}
 use Rattle.masks.specs.Masks.{has, mask_where, switches, mask_of}
-use Rattle.failover.specs.Links.{told_links, is_link, link_row, known_links, neighbours_told, has_link}
+use Rattle.failover.specs.Links.{named_links, is_link, links_at, known_links, neighbours_named, has_link}
 use Rattle.failover.specs.Paths.{IsIsolated}
-use Rattle.failover.specs.Isolated.{is_isolated, names, IsDatabase, link_rows}
+use Rattle.failover.specs.Isolated.{is_isolated, names, IsDatabase, links_of_each}
 use Rattle.masks.proofs.CallerLemmas.{has-zero, same_sets, length-switches, get_or-switches, has_mask, has_mask_past}
 use Rattle.failover.proofs.Balls.{and_both, and_left, and_right, apart_tests, false_of, same_number, number_test}
 use Rattle.failover.proofs.LinkSets.{has_link-turned}
@@ -37,7 +37,7 @@ at_least : (n : ℕ) → 64 ≤ n → nat_le 64 n ≡ true
 at_least n past = grind (arith, nat_tests)
 
 pub no_row_past : (neighbours down : List ℕ) (one : ℕ) → length neighbours ≡ 64 → 64 ≤ one →
-    nat_le 64 one ≡ (link_row neighbours down one == 0)
+    nat_le 64 one ≡ (links_at neighbours down one == 0)
 unfolding mask_of
 no_row_past neighbours down one rows past =
     at_least one past ∙ is_zero _
@@ -46,32 +46,32 @@ no_row_past neighbours down one rows past =
 
 -- ---- rows of links
 
-pub length-link_rows : (neighbours down : List ℕ) → length (link_rows neighbours down) ≡ 64
-unfolding link_rows
+pub length-link_rows : (neighbours down : List ℕ) → length (links_of_each neighbours down) ≡ 64
+unfolding links_of_each
 length-link_rows neighbours down =
-    length-map switches (link_row neighbours down) ∙ length-switches
+    length-map switches (links_at neighbours down) ∙ length-switches
 
 pub row_of : (neighbours down : List ℕ) (one : ℕ) → one < 64 →
-    get_or (link_rows neighbours down) one 0 ≡ link_row neighbours down one
-unfolding link_rows
+    get_or (links_of_each neighbours down) one 0 ≡ links_at neighbours down one
+unfolding links_of_each
 row_of neighbours down one below =
-    get_or-map (link_row neighbours down) switches one 0 0 (omega (arith, length-switches))
-    ∙ ap (link_row neighbours down) (get_or-switches one below)
+    get_or-map (links_at neighbours down) switches one 0 0 (omega (arith, length-switches))
+    ∙ ap (links_at neighbours down) (get_or-switches one below)
 
 has_row : (neighbours down : List ℕ) (one other : ℕ) → one < 64 → other < 64 →
-    has (get_or (link_rows neighbours down) one 0) other ≡ is_link neighbours down one other
+    has (get_or (links_of_each neighbours down) one 0) other ≡ is_link neighbours down one other
 has_row neighbours down one other one_fits other_fits =
     ap (λ row. has row other) (row_of neighbours down one one_fits)
     ∙ has_mask (is_link neighbours down one) other other_fits
 
 row_past : (neighbours down : List ℕ) (one other : ℕ) → (one < 64 → other < 64 → ⊥) →
-    has (get_or (link_rows neighbours down) one 0) other ≡ false
+    has (get_or (links_of_each neighbours down) one 0) other ≡ false
 row_past neighbours down one other past = elim (cases_lt one 64) [
   | inl below ↦ ap (λ row. has row other) (row_of neighbours down one below)
       ∙ has_mask_past (is_link neighbours down one) other
       (elim (cases_lt other 64) [ inl fits ↦ absurd (past below fits) | inr more ↦ more ])
   | inr more ↦ ap (λ row. has row other)
-      (get_or_past (link_rows neighbours down) one 0
+      (get_or_past (links_of_each neighbours down) one 0
       (omega (arith, length-link_rows neighbours down))) ∙ has-zero other
 ]
 
@@ -94,7 +94,7 @@ link_turned neighbours down one other =
     (get_or neighbours other 0) one)
     (not (has_link down other one)))
 
-pub row_turned : (neighbours down : List ℕ) → AreBothWays (link_rows neighbours down)
+pub row_turned : (neighbours down : List ℕ) → AreBothWays (links_of_each neighbours down)
 row_turned neighbours down one other = elim (both_or_not one other) [
   | inl fit ↦ has_row neighbours down one other fit.0 fit.1
       ∙ link_turned neighbours down one other ∙ sym (has_row neighbours down other one fit.1 fit.0)
@@ -113,64 +113,64 @@ row_turned neighbours down one other = elim (both_or_not one other) [
 
 pub has_known : (adverts : List (Option Advert)) (at near : ℕ) (down : List ℕ) (one other : ℕ) →
     one < 64 → other < 64 → has (get_or (known_links adverts at near down) one 0) other ≡
-    is_link (told_links adverts at near) down one other
-unfolding known_links link_rows
-has_known adverts at near down one other = has_row (told_links adverts at near) down one other
+    is_link (named_links adverts at near) down one other
+unfolding known_links links_of_each
+has_known adverts at near down one other = has_row (named_links adverts at near) down one other
 
 known_past : (adverts : List (Option Advert)) (at near : ℕ) (down : List ℕ) (one other : ℕ) →
     (one < 64 → other < 64 → ⊥) →
     has (get_or (known_links adverts at near down) one 0) other ≡ false
-unfolding known_links link_rows
-known_past adverts at near down one other = row_past (told_links adverts at near) down one other
+unfolding known_links links_of_each
+known_past adverts at near down one other = row_past (named_links adverts at near) down one other
 
 pub known_turned : (adverts : List (Option Advert)) (at near : ℕ) (down : List ℕ) (one other : ℕ) →
     has (get_or (known_links adverts at near down) one 0) other ≡
     has (get_or (known_links adverts at near down) other 0) one
-unfolding known_links link_rows
-known_turned adverts at near down = row_turned (told_links adverts at near) down
+unfolding known_links links_of_each
+known_turned adverts at near down = row_turned (named_links adverts at near) down
 
 -- what is held, with the neighbours that a switch sees itself
 pub told_links_held : (adverts : List (Option Advert)) (told : List ℕ) (at near : ℕ)
     (neighbours : List ℕ) → IsDatabase adverts told → neighbours ≡ set told at near →
-    neighbours ≡ told_links adverts at near
-unfolding told_links
+    neighbours ≡ named_links adverts at near
+unfolding named_links
 told_links_held adverts told at near neighbours held e =
     e ∙ ap (λ all. set all at near) held.neighbours
 
 -- ---- isolated targets
 
 length-told_links : (adverts : List (Option Advert)) (at near : ℕ) →
-    length (told_links adverts at near) ≡ length adverts
-unfolding told_links
+    length (named_links adverts at near) ≡ length adverts
+unfolding named_links
 length-told_links adverts at near =
-    length-set (map neighbours_told adverts) at near ∙ length-map adverts neighbours_told
+    length-set (map neighbours_named adverts) at near ∙ length-map adverts neighbours_named
 
 -- a row without switches
 bare_row : (adverts : List (Option Advert)) (at near : ℕ) (down : List ℕ) (target : ℕ) →
     length adverts ≡ 64 → ((one : ℕ) →
     has (get_or (known_links adverts at near down) one 0) target ≡ true → ⊥) → (other : ℕ) →
-    has (link_row (told_links adverts at near) down target) other ≡ false
+    has (links_at (named_links adverts at near) down target) other ≡ false
 bare_row adverts at near down target rows linkless other = elim (cases_lt other 64) [
-  | inl below ↦ has_mask (is_link (told_links adverts at near) down target) other below
+  | inl below ↦ has_mask (is_link (named_links adverts at near) down target) other below
       ∙ elim (cases_lt target 64) [
         | inl fits ↦ sym (has_known adverts at near down target other fits below)
             ∙ known_turned adverts at near down target other ∙ false_of _ (linkless other)
-        | inr past ↦ strange (told_links adverts at near) down target
+        | inr past ↦ strange (named_links adverts at near) down target
             (omega (arith, length-told_links adverts at near)) other
       ]
-  | inr past ↦ has_mask_past (is_link (told_links adverts at near) down target) other past
+  | inr past ↦ has_mask_past (is_link (named_links adverts at near) down target) other past
 ]
 
 bare_known : (adverts : List (Option Advert)) (at near : ℕ) (down : List ℕ) (target one : ℕ) →
-    target < 64 → link_row (told_links adverts at near) down target ≡ 0 →
+    target < 64 → links_at (named_links adverts at near) down target ≡ 0 →
     has (get_or (known_links adverts at near down) target 0) one ≡ false
-unfolding known_links link_rows
+unfolding known_links links_of_each
 bare_known adverts at near down target one fits bare =
-    ap (λ row. has row one) (row_of (told_links adverts at near) down target fits ∙ bare)
+    ap (λ row. has row one) (row_of (named_links adverts at near) down target fits ∙ bare)
     ∙ has-zero one
 
 joined_row : (adverts : List (Option Advert)) (at near : ℕ) (down : List ℕ) (target : ℕ) →
-    link_row (told_links adverts at near) down target ≡ 0 → (one : ℕ) →
+    links_at (named_links adverts at near) down target ≡ 0 → (one : ℕ) →
     has (get_or (known_links adverts at near down) one 0) target ≡ true → ⊥
 joined_row adverts at near down target bare one joined =
     apart_tests _ (sym (known_turned adverts at near down one target) ∙ joined)
@@ -202,12 +202,12 @@ isolated_tells adverts at target near down rows = (
 )
 
 pub isolated_is : (adverts : List (Option Advert)) (at target near : ℕ)
-    (down neighbours : List ℕ) (answer : Bool) → neighbours ≡ told_links adverts at near →
-    answer ≡ (link_row neighbours down target == 0) → target ≢ at →
+    (down neighbours : List ℕ) (answer : Bool) → neighbours ≡ named_links adverts at near →
+    answer ≡ (links_at neighbours down target == 0) → target ≢ at →
     answer ≡ is_isolated adverts at target near down
 unfolding is_isolated
 isolated_is adverts at target near down neighbours answer e linkless apart =
-    rw (not_test target at apart) (linkless ∙ ap (λ t. link_row t down target == 0) e)
+    rw (not_test target at apart) (linkless ∙ ap (λ t. links_at t down target == 0) e)
 
 pub isolated_answer : (adverts : List (Option Advert)) (at target near : ℕ) (down : List ℕ)
     (answer : Bool) → length adverts ≡ 64 → answer ≡ is_isolated adverts at target near down →
@@ -219,19 +219,19 @@ isolated_answer adverts at target near down answer rows same =
 -- ---- what each switch names
 
 told_own : (adverts : List (Option Advert)) (at near : ℕ) → length adverts ≡ 64 → at < 64 →
-    get_or (told_links adverts at near) at 0 ≡ near
-unfolding told_links
+    get_or (named_links adverts at near) at 0 ≡ near
+unfolding named_links
 told_own adverts at near rows fits =
-    get_or-set_same (map neighbours_told adverts) at near 0
-    (omega (arith, length-map adverts neighbours_told, rows))
+    get_or-set_same (map neighbours_named adverts) at near 0
+    (omega (arith, length-map adverts neighbours_named, rows))
 
 told_other : (adverts : List (Option Advert)) (at near origin other : ℕ) → length adverts ≡ 64 →
-    origin < 64 → origin ≢ at → has (get_or (told_links adverts at near) origin 0) other ≡
+    origin < 64 → origin ≢ at → has (get_or (named_links adverts at near) origin 0) other ≡
     names adverts origin other
-unfolding told_links names
+unfolding named_links names
 told_other adverts at near origin other rows fits apart =
-    ap (λ row. has row other) (get_or-set_other (map neighbours_told adverts) at origin near 0 apart
-    ∙ get_or-map neighbours_told adverts origin None 0 (omega (arith, rows)))
+    ap (λ row. has row other) (get_or-set_other (map neighbours_named adverts) at origin near 0 apart
+    ∙ get_or-map neighbours_named adverts origin None 0 (omega (arith, rows)))
 
 link_test : (neighbours down : List ℕ) (one other : ℕ) (a b : Bool) → one ≢ other →
     has (get_or neighbours one 0) other ≡ a → has (get_or neighbours other 0) one ≡ b →
@@ -245,7 +245,7 @@ pub own_link : (adverts : List (Option Advert)) (at near : ℕ) (down : List ℕ
     (has near other && names adverts other at && not (has_link down at other))
 own_link adverts at near down other rows fits other_fits apart =
     has_known adverts at near down at other fits other_fits
-    ∙ link_test (told_links adverts at near) down at other (has near other)
+    ∙ link_test (named_links adverts at near) down at other (has near other)
     (names adverts other at) apart
     (ap (λ row. has row other) (told_own adverts at near rows fits))
     (told_other adverts at near other at rows other_fits (λ e. apart (sym e)))
@@ -256,7 +256,7 @@ pub link_elsewhere : (adverts : List (Option Advert)) (at near : ℕ) (down : Li
     (names adverts one other && names adverts other one && not (has_link down one other))
 link_elsewhere adverts at near down one other rows one_fits other_fits apart one_apart other_apart =
     has_known adverts at near down one other one_fits other_fits
-    ∙ link_test (told_links adverts at near) down one other (names adverts one other)
+    ∙ link_test (named_links adverts at near) down one other (names adverts one other)
     (names adverts other one) apart
     (told_other adverts at near one other rows one_fits one_apart)
     (told_other adverts at near other one rows other_fits other_apart)

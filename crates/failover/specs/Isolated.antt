@@ -2,25 +2,25 @@
 use Rattle.std.specs.Prelude.{ℕ, Bool, not, ◌&&◌, ◌==◌, Option, List, ◌≡◌, map}
 use Rattle.failover.specs.declared.advert.Advert.{Advert}
 use Rattle.failover.specs.Adverts.{held}
-use Rattle.failover.specs.Links.{neighbours_told, told_links, link_row}
+use Rattle.failover.specs.Links.{neighbours_named, named_links, links_at}
 use Rattle.failover.specs.Newest.{AreByOrigin}
 use Rattle.masks.specs.Masks.{has, switches}
 
 -- the origin is held to name this neighbour
 unfoldable pub names : List (Option Advert) → ℕ → ℕ → Bool
-names adverts origin other = has (neighbours_told (held adverts origin)) other
+names adverts origin other = has (neighbours_named (held adverts origin)) other
 
 -- no link that `at` knows ends at another switch
 unfoldable pub is_isolated : List (Option Advert) → ℕ → ℕ → ℕ → List ℕ → Bool
 is_isolated adverts at target near down =
-    not (target == at) && (link_row (told_links adverts at near) down target == 0)
+    not (target == at) && (links_at (named_links adverts at near) down target == 0)
 
 -- what a database holds: each advert at the place of its origin, and beside it the neighbours that
 -- it names
 pub record IsDatabase (adverts : List (Option Advert)) (told : List ℕ) : Type 0 where
   pub by_origin : AreByOrigin adverts
-  pub neighbours : told ≡ map neighbours_told adverts
+  pub neighbours : told ≡ map neighbours_named adverts
 
 -- for each switch those to which it has a link
-unfoldable pub link_rows : List ℕ → List ℕ → List ℕ
-link_rows neighbours down = map (link_row neighbours down) switches
+unfoldable pub links_of_each : List ℕ → List ℕ → List ℕ
+links_of_each neighbours down = map (links_at neighbours down) switches

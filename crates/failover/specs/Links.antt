@@ -17,13 +17,13 @@ unfoldable pub with_link : List ℕ → ℕ → ℕ → List ℕ
 with_link links one other = let low =
     min one other in slice_set links low (bit_or (slice_index links low) (2 ^ max one other))
 
-abbrev pub neighbours_told : Option Advert → ℕ
-neighbours_told None = 0
-neighbours_told (Some advert) = advert.up
+abbrev pub neighbours_named : Option Advert → ℕ
+neighbours_named None = 0
+neighbours_named (Some advert) = advert.up
 
 -- the neighbours that each switch names: `at` those that it sees, every other those of its advert
-unfoldable pub told_links : List (Option Advert) → ℕ → ℕ → List ℕ
-told_links adverts at near = slice_set (map neighbours_told adverts) at near
+unfoldable pub named_links : List (Option Advert) → ℕ → ℕ → List ℕ
+named_links adverts at near = slice_set (map neighbours_named adverts) at near
 
 -- two different switches name each other, and their link isn't in the set of those found down
 unfoldable pub is_link : List ℕ → List ℕ → ℕ → ℕ → Bool
@@ -32,13 +32,13 @@ is_link neighbours down one other =
     (slice_index neighbours other) one && not (has_link down one other)
 
 -- the switches to which this one has a link
-abbrev pub link_row : List ℕ → List ℕ → ℕ → ℕ
-link_row neighbours down one = mask_of (is_link neighbours down one)
+abbrev pub links_at : List ℕ → List ℕ → ℕ → ℕ
+links_at neighbours down one = mask_of (is_link neighbours down one)
 
 -- the links that `at` knows: for each switch those to which it has a link
 unfoldable pub known_links : List (Option Advert) → ℕ → ℕ → List ℕ → List ℕ
 known_links adverts at near down = let neighbours =
-    told_links adverts at near in map (link_row neighbours down) switches
+    named_links adverts at near in map (links_at neighbours down) switches
 
 -- row `one` of the links has the other switch
 abbrev pub AreJoined : List ℕ → ℕ → ℕ → Type 0

@@ -16,18 +16,18 @@ abbrev pub first_switches : Inside → List ℕ
 first_switches r = take r.len r.switches
 
 -- of the 64 places, those past the list are 0
-pub record IsFilled (r : Inside) : Type 0 where
+pub record IsFilledRoute (r : Inside) : Type 0 where
   pub places : length r.switches ≡ 64
   pub few : r.len ≤ 64
   pub rest : drop r.len r.switches ≡ replicate (64 - r.len) 0
   pub list : IsRouteList (first_switches r)
 
 -- the 64 places that hold this list
-abbrev pub filled : List ℕ → Inside
-filled xs = record { switches = xs ++ replicate (64 - length xs) 0; len = length xs }
+abbrev pub filled_route : List ℕ → Inside
+filled_route xs = record { switches = xs ++ replicate (64 - length xs) 0; len = length xs }
 
 -- the 64 places are those of the list that they hold
-pub filled-first_switches : (r : Inside) → IsFilled r → filled (first_switches r) ≡ r
+pub filled-first_switches : (r : Inside) → IsFilledRoute r → filled_route (first_switches r) ≡ r
 filled-first_switches r h =
     let len : length (take r.len r.switches) ≡ r.len =
     omega (arith, length-take r.len r.switches, h.places, h.few) in

@@ -1,7 +1,7 @@
 ghost use Rattle.std.specs.Prelude.{◌≡◌, ◌<◌, ℕ, map, ◌↔◌, slice_set, IfSome, IsTrue};
 ghost use Rattle.std.specs.Bool.{OnTrue};
 ghost use Rattle.failover.specs.Adverts.{held, is_news, after_hearing, no_adverts, first_of, first_adverts};
-ghost use Rattle.failover.specs.Links.{neighbours_told, known_links};
+ghost use Rattle.failover.specs.Links.{neighbours_named, known_links};
 ghost use Rattle.failover.specs.Paths.{IsIsolated, IsRoute};
 ghost use Rattle.failover.specs.RouteList.{IsRouteList};
 ghost use Rattle.failover.specs.Routes.{route_of};
@@ -152,7 +152,7 @@ fn set_own(neighbours: &mut [u64; 64], at: u32, near: u64)
 
 // The neighbours that each of these adverts names.
 fn all_told(adverts: &[Option<Advert>; 64]) -> [u64; 64]
-    ensures { result ≡ map neighbours_told adverts.now }
+    ensures { result ≡ map neighbours_named adverts.now }
 {
     let mut told = [0; 64];
     for origin in 0..64 {
@@ -163,7 +163,7 @@ fn all_told(adverts: &[Option<Advert>; 64]) -> [u64; 64]
 
 // The neighbours that an advert names, if there is one.
 fn neighbours_told(advert: &Option<Advert>) -> u64
-    ensures { result ≡ neighbours_told advert.now }
+    ensures { result ≡ neighbours_named advert.now }
 {
     match advert {
         None => 0,

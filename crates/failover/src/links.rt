@@ -1,6 +1,6 @@
 ghost use Rattle.std.specs.Prelude.{◌≡◌, ◌<◌, ◌==◌, bit_and, slice_index, true};
 ghost use Rattle.masks.specs.Masks.{has};
-ghost use Rattle.failover.specs.Links.{is_link, link_row};
+ghost use Rattle.failover.specs.Links.{is_link, links_at};
 
 use crate::SWITCHES;
 use crate::down_set::DownSet;
@@ -10,7 +10,7 @@ use masks::{has, only_if};
 /// link isn't down. Only the links to these switches are looked at.
 pub fn links_within(neighbours: &[u64; 64], down: &DownSet, one: u32, within: u64) -> u64
     requires { one < 64 }
-    ensures { result ≡ bit_and (link_row neighbours.now down.now one) within }
+    ensures { result ≡ bit_and (links_at neighbours.now down.now one) within }
 {
     let mut row = 0;
     let mut rest = neighbours[one as usize] & within;
@@ -35,7 +35,7 @@ fn is_link_to(neighbours: &[u64; 64], down: &DownSet, one: u32, other: u32) -> b
 
 /// Whether no link ends at this switch.
 pub fn is_linkless(neighbours: &[u64; 64], down: &DownSet, one: u32) -> bool
-    ensures { result ≡ (link_row neighbours.now down.now one == 0) }
+    ensures { result ≡ (links_at neighbours.now down.now one == 0) }
 {
     one >= SWITCHES || links_within(neighbours, down, one, u64::MAX) == 0
 }

@@ -1,5 +1,5 @@
 ghost use Rattle.std.specs.Prelude.{◌≡◌, ◌<◌, ◌∷◌, IfSome, IfNone};
-ghost use Rattle.failover.specs.Isolated.{link_rows};
+ghost use Rattle.failover.specs.Isolated.{links_of_each};
 ghost use Rattle.failover.specs.Routes.{wider, first_route, route_to};
 ghost use Rattle.failover.specs.RouteList.{IsRouteList};
 ghost use Rattle.failover.specs.Search.{IsAway, IsOutOfReach, AreBalls, IsEdge, along};
@@ -21,7 +21,7 @@ pub fn first_route(
     from: u32,
     targets: &[u32],
 ) -> Option<Route>
-    ensures { result ≡ first_route (link_rows neighbours.now down.now) from targets.now }
+    ensures { result ≡ first_route (links_of_each neighbours.now down.now) from targets.now }
 {
     for target in targets {
         if let Some(route) = route_to(neighbours, down, from, *target) {
@@ -33,7 +33,7 @@ pub fn first_route(
 
 // The least path to the target.
 fn route_to(neighbours: &[u64; 64], down: &DownSet, from: u32, target: u32) -> Option<Route>
-    ensures { result ≡ route_to (link_rows neighbours.now down.now) from target }
+    ensures { result ≡ route_to (links_of_each neighbours.now down.now) from target }
 {
     if from >= SWITCHES || target >= SWITCHES {
         return None;
@@ -54,9 +54,9 @@ fn distance(
 ) -> Option<usize>
     requires from { from < 64 }
     requires target { target < 64 }
-    ensures away { IfSome result (λ k. IsAway (link_rows neighbours.now down.now) target k from) }
-    ensures balls { IfSome result (AreBalls (link_rows neighbours.now down.now) target balls.new) }
-    ensures none { IfNone result (IsOutOfReach (link_rows neighbours.now down.now) target from) }
+    ensures away { IfSome result (λ k. IsAway (links_of_each neighbours.now down.now) target k from) }
+    ensures balls { IfSome result (AreBalls (links_of_each neighbours.now down.now) target balls.new) }
+    ensures none { IfNone result (IsOutOfReach (links_of_each neighbours.now down.now) target from) }
 {
     let mut ball = only_if(true, target);
     let mut edge = ball;
@@ -82,8 +82,8 @@ fn distance(
 // The ball, and the switches to which one of it has a link: so has one of its edge, as the links
 // of all others stay within the ball.
 fn wider(neighbours: &[u64; 64], down: &DownSet, ball: u64, edge: u64) -> u64
-    requires { IsEdge (link_rows neighbours.now down.now) ball edge }
-    ensures { result ≡ wider (link_rows neighbours.now down.now) ball }
+    requires { IsEdge (links_of_each neighbours.now down.now) ball edge }
+    ensures { result ≡ wider (links_of_each neighbours.now down.now) ball }
 {
     let mut wide = ball;
     let mut rest = edge;
@@ -104,8 +104,8 @@ fn walk(
     from: u32,
 ) -> Route
     requires { IsRouteList
-        (from ∷ along (link_rows neighbours.now down.now) balls.now distance from) }
-    ensures { result ≡ from ∷ along (link_rows neighbours.now down.now) balls.now distance from }
+        (from ∷ along (links_of_each neighbours.now down.now) balls.now distance from) }
+    ensures { result ≡ from ∷ along (links_of_each neighbours.now down.now) balls.now distance from }
 {
     let mut switches = [0; 64];
     switches[0] = from;

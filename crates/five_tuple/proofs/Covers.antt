@@ -8,7 +8,7 @@ use Rattle.std.proofs.lemmas.List.Elements.{All-cons}
 use Rattle.std.proofs.lemmas.List.Kept.{AllPairs-cons}
 use Rattle.std.proofs.lemmas.Nat.{and_le_l, mod-mul-add, mod-pow-add, pow_below, pow_pos, shr_split}
 use Rattle.std.proofs.lemmas.Nat.Bits.{and_high_mask}
-use Rattle.five_tuple.specs.Cover.{IsBlock, IsLargestBlock, IsCover, block_holds, AreDisjoint, IsPortBlock}
+use Rattle.five_tuple.specs.Cover.{IsBlock, IsLargestBlock, IsCover, block_holds, AreBlocksApart, IsPortBlock}
 
 pub exponent_small : (first high e : ℕ) → IsBlock first high e → high < 2 ^ 16 → e ≤ 16
 exponent_small first high e b h =
@@ -75,7 +75,7 @@ ascending low high (b ∷ bs) (e, l, same, rest) =
     (ascending (low + 2 ^ e) high bs rest)
 
 apart : (first high e : ℕ) → IsBlock first high e → high < 2 ^ 16 → (b : ℕ × ℕ)
-    → first + 2 ^ e ≤ b.0 → AreDisjoint (first, 2 ^ 16 - 2 ^ e) b
+    → first + 2 ^ e ≤ b.0 → AreBlocksApart (first, 2 ^ 16 - 2 ^ e) b
 apart first high e block h b above port p held other =
     let below = and_parts (leb first port) (ltb port (first + 2 ^ e))
     (sym (holds_is port first e block.aligned (exponent_small first high e block h) p) ∙ held)
@@ -88,10 +88,10 @@ apart first high e block h b above port p held other =
     )
 
 pub disjoint : (low high : ℕ) (xs : List (ℕ × ℕ)) → IsCover low high xs → high < 2 ^ 16
-    → AllPairs AreDisjoint xs
+    → AllPairs AreBlocksApart xs
 disjoint low high [] c h = λ i j d u k. absurd (omega arith)
 disjoint low high (b ∷ bs) (e, l, same, rest) h =
-    AllPairs-cons AreDisjoint b bs
+    AllPairs-cons AreBlocksApart b bs
     (λ k d u. rw same (apart low high e l.block h _
     (from_low (low + 2 ^ e) high bs rest k d u))) (disjoint (low + 2 ^ e) high bs rest h)
 

@@ -20,8 +20,8 @@ abbrev pub block_holds : ℕ → Block → Bool
 block_holds port block = bit_and port block.1 == block.0
 
 -- no port is in both
-abbrev pub AreDisjoint : Block → Block → Type 0
-AreDisjoint a b =
+abbrev pub AreBlocksApart : Block → Block → Type 0
+AreBlocksApart a b =
     (port : ℕ) → port < 2 ^ 16 → IsTrue (block_holds port a) → IsTrue (block_holds port b) → ⊥
 
 -- the block of 2 ^ exponent ports that begins at `first`

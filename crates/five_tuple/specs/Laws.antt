@@ -4,7 +4,7 @@ use Rattle.std.specs.Prelude.{ℕ, ◌≡◌, ◌^◌, ◌<◌, ◌≤◌, ◌�
 use Rattle.std.specs.List.{AllPass, list_any}
 use Rattle.five_tuple.specs.declared.header.Header.{Header}
 use Rattle.five_tuple.specs.declared.matching.Proto.{Proto}
-use Rattle.five_tuple.specs.Cover.{Block, IsPortBlock, block_holds, AreDisjoint, cover_of, IsCover}
+use Rattle.five_tuple.specs.Cover.{Block, IsPortBlock, block_holds, AreBlocksApart, cover_of, IsCover}
 use Rattle.five_tuple.specs.Header.{IsHeader, number_of, AddressBlock, IsAddressBlock, PortRangeValue, IsPortRange, range_matches, IsProtocol}
 use Rattle.five_tuple.specs.Printing.{address_text, proto_number_text}
 use Rattle.five_tuple.specs.HeaderNumbers.{header_numbered, header_eq}
@@ -24,7 +24,7 @@ pub record IsCoverOf (range : PortRangeValue) (blocks : List Block) : Type 0 whe
   -- .. exactly its ports, each in one block
   pub exact : (port : ℕ) → port < 2 ^ 16
       → list_any (block_holds port) blocks ≡ range_matches range port
-  pub disjoint : AllPairs AreDisjoint blocks
+  pub disjoint : AllPairs AreBlocksApart blocks
   pub ascending : AllPairs (λ a b. a.0 < b.0) blocks
   pub masked : All IsPortBlock blocks
   pub some : 0 < length blocks

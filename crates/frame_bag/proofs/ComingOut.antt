@@ -5,7 +5,7 @@ use Rattle.std.proofs.lemmas.List.{append-nil, take_all}
 use Rattle.std.proofs.lemmas.List.Elements.{All-head}
 use Rattle.std.proofs.lemmas.Option.{slice_get_within}
 use Rattle.ctrl_msg.specs.declared.message.Message.{Message}
-use Rattle.wire.specs.Assembly.{AreAllHeld, IsRefused, with_frame}
+use Rattle.wire.specs.Assembly.{AreAllHeld, IsRefusedFrame, with_frame}
 use Rattle.wire.specs.Frames.{AreFrames, count_of, frames, piece_of}
 use Rattle.wire.specs.Messages.{IsSpelling}
 use Rattle.wire.proofs.Assembling.{spelled_by}
@@ -48,9 +48,9 @@ begins first fs held of empty = record {
 }
 
 pub not_refused : (first : List ℕ) (fs held : List (List ℕ)) (next : List ℕ) (place : ℕ) (m : Message)
-    → IsFedTo first fs held next place m → IsRefused held next → ⊥
+    → IsFedTo first fs held next place m → IsRefusedFrame held next → ⊥
 not_refused first fs held next place m fed refused =
-    (comes_next m place next fed.has fed.next_is).taken (subst (λ h. IsRefused h next) fed.held_is refused)
+    (comes_next m place next fed.has fed.next_is).taken (subst (λ h. IsRefusedFrame h next) fed.held_is refused)
 
 -- what is held then
 joined : (first : List ℕ) (fs held after : List (List ℕ)) (next : List ℕ) (place : ℕ) (m : Message)

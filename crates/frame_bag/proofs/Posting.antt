@@ -13,7 +13,7 @@ use Rattle.frame_laws.specs.Feeding.{HasFrames}
 use Rattle.frame_laws.specs.Installing.{frame_count}
 use Rattle.frame_laws.proofs.Installing.{fits_whole}
 use Rattle.switch_table.specs.declared.tables.Tables.{Tables}
-use Rattle.frame_bag.specs.Kept.{AreOfMessage, First, IsGrown, IsKept, IsThere, SayTables, frames_in, tables_version}
+use Rattle.frame_bag.specs.Kept.{AreOfMessage, First, IsGrown, AreKeptFrames, IsThere, SayTables, frames_in, tables_version}
 use Rattle.frame_bag.proofs.Installs.{carried, only_frame}
 
 -- ---- a message of one frame
@@ -41,14 +41,14 @@ there_still before after (Some number) grown there =
     omega (arith, there, length-take (length before) after, ap length grown)
 
 pub all_stay : (before after : List (List (List ℕ))) (firsts : List First) → IsGrown before after
-    → All (IsKept before) firsts → map (frames_in after) firsts ≡ map (frames_in before) firsts
+    → All (AreKeptFrames before) firsts → map (frames_in after) firsts ≡ map (frames_in before) firsts
 all_stay before after [] grown kept = refl
 all_stay before after (first ∷ firsts) grown kept =
-    rw (stays before after first grown (All-head (IsKept before) first firsts kept).there)
-    (ap (λ others. frames_in before first ∷ others) (all_stay before after firsts grown (All-tail (IsKept before) first firsts kept)))
+    rw (stays before after first grown (All-head (AreKeptFrames before) first firsts kept).there)
+    (ap (λ others. frames_in before first ∷ others) (all_stay before after firsts grown (All-tail (AreKeptFrames before) first firsts kept)))
 
 pub still_kept : (before after : List (List (List ℕ))) (firsts : List First) → IsGrown before after
-    → All (IsKept before) firsts → All (IsKept after) firsts
+    → All (AreKeptFrames before) firsts → All (AreKeptFrames after) firsts
 still_kept before after firsts grown kept = λ k d lt.
     let is = kept k d lt in
     record {
@@ -58,16 +58,16 @@ still_kept before after firsts grown kept = λ k d lt.
 
 -- one more: the bag has the frames of its message at the end
 pub posted : (m : Message) (before after : List (List (List ℕ))) (firsts longer : List First) (first : First)
-    → IsGrown before after → All (IsKept before) firsts → longer ≡ firsts ++ first ∷ [] → frames_in after first ≡ frames m
+    → IsGrown before after → All (AreKeptFrames before) firsts → longer ≡ firsts ++ first ∷ [] → frames_in after first ≡ frames m
     → map (frames_in after) longer ≡ map (frames_in before) firsts ++ frames m ∷ []
 posted m before after firsts longer first grown kept more is =
     rw (more, map_push, all_stay before after firsts grown kept, is) refl
 
 pub posted_kept : (m : Message) (before after : List (List (List ℕ))) (firsts longer : List First) (first : First)
-    → IsGrown before after → All (IsKept before) firsts → longer ≡ firsts ++ first ∷ [] → IsThere after first.1
-    → HasFrames m → frames_in after first ≡ frames m → All (IsKept after) longer
+    → IsGrown before after → All (AreKeptFrames before) firsts → longer ≡ firsts ++ first ∷ [] → IsThere after first.1
+    → HasFrames m → frames_in after first ≡ frames m → All (AreKeptFrames after) longer
 posted_kept m before after firsts longer first grown kept more there has is =
-    rw more (All-push (IsKept after) firsts first (still_kept before after firsts grown kept)
+    rw more (All-push (AreKeptFrames after) firsts first (still_kept before after firsts grown kept)
     (record { there = there; are = (m, has, is) }))
 
 -- the same kept frames
@@ -81,16 +81,16 @@ on_err (Err e) p = p
 -- ---- a first frame that is pushed, or not for want of memory
 
 pub kept_after : {T E : Type 0} (r : Result T E) (m : Message) (before after : List (List (List ℕ)))
-    → (firsts longer : List First) (first : First) → IsGrown before after → All (IsKept before) firsts
+    → (firsts longer : List First) (first : First) → IsGrown before after → All (AreKeptFrames before) firsts
     → OnOk r (longer ≡ firsts ++ first ∷ []) → OnErr r (longer ≡ firsts) → IsThere after first.1 → HasFrames m
-    → frames_in after first ≡ frames m → All (IsKept after) longer
+    → frames_in after first ≡ frames m → All (AreKeptFrames after) longer
 kept_after (Ok x) m before after firsts longer first grown kept more same there has is =
     posted_kept m before after firsts longer first grown kept more there has is
 kept_after (Err e) m before after firsts longer first grown kept more same there has is =
     rw same (still_kept before after firsts grown kept)
 
 pub posted_after : {T E : Type 0} (r : Result T E) (m : Message) (before after bag : List (List (List ℕ)))
-    → (firsts longer : List First) (first : First) → IsGrown before after → All (IsKept before) firsts
+    → (firsts longer : List First) (first : First) → IsGrown before after → All (AreKeptFrames before) firsts
     → map (frames_in before) firsts ≡ bag → OnOk r (longer ≡ firsts ++ first ∷ []) → frames_in after first ≡ frames m
     → OnOk r (map (frames_in after) longer ≡ bag ++ frames m ∷ [])
 posted_after (Ok x) m before after bag firsts longer first grown kept view more is =
@@ -98,7 +98,7 @@ posted_after (Ok x) m before after bag firsts longer first grown kept view more 
 posted_after (Err e) m before after bag firsts longer first grown kept view more is = tt
 
 pub unchanged_after : {T E : Type 0} (r : Result T E) (before after bag : List (List (List ℕ)))
-    → (firsts longer : List First) → IsGrown before after → All (IsKept before) firsts
+    → (firsts longer : List First) → IsGrown before after → All (AreKeptFrames before) firsts
     → map (frames_in before) firsts ≡ bag → OnErr r (longer ≡ firsts) → OnErr r (map (frames_in after) longer ≡ bag)
 unchanged_after (Ok x) before after bag firsts longer grown kept view same = tt
 unchanged_after (Err e) before after bag firsts longer grown kept view same =

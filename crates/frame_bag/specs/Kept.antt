@@ -47,7 +47,7 @@ IsThere kept (Some number) = number < length kept
 abbrev pub AreOfMessage : List (List ℕ) → Type 0
 AreOfMessage fs = (m : Message) × HasFrames m × (fs ≡ frames m)
 
-pub record IsKept (kept : List (List (List ℕ))) (first : First) : Type 0 where
+pub record AreKeptFrames (kept : List (List (List ℕ))) (first : First) : Type 0 where
   pub there : IsThere kept first.1
   pub are : AreOfMessage (frames_in kept first)
 

@@ -3,7 +3,7 @@ ghost use Rattle.std.specs.Prelude.{◌≡◌, ◌∷◌, ◌↔◌, ℕ, [], tr
 ghost use Rattle.ctrl_msg.specs.declared.message.Body.TheVariants.{Install};
 ghost use Rattle.ctrl_msg.specs.declared.message.Receiver.{Receiver};
 ghost use Rattle.frame_laws.specs.Installing.{table_frames};
-ghost use Rattle.wire.specs.Assembly.{AreAllHeld, IsRefused, with_frame};
+ghost use Rattle.wire.specs.Assembly.{AreAllHeld, IsRefusedFrame, with_frame};
 ghost use Rattle.wire.specs.Fields as fields;
 ghost use Rattle.wire.specs.Frames.{AreFrames, count_of};
 ghost use Rattle.wire.specs.Messages.{IsFront};
@@ -37,7 +37,7 @@ fn feed(
     alloc: Global,
     frame: &[u8],
 ) -> Result<Option<Message>, AllocError>
-    requires { IsRefused assembler.old frame.now → ⊥ }
+    requires { IsRefusedFrame assembler.old frame.now → ⊥ }
     ensures held { OnOk result (assembler.new ≡ with_frame assembler.old frame.now) }
     ensures some { IfOk result (λ answer.
         IsSome answer ↔ AreAllHeld assembler.new (count_of frame.now)) }

@@ -3,7 +3,7 @@ ghost use Rattle.std.specs.Prelude.{◌≡◌, ◌<◌, ◌^◌, ◌++◌, ◌�
 ghost use Rattle.ctrl_msg.specs.declared.message.Body.TheVariants.{Install};
 ghost use Rattle.switch_table.specs.declared.tables.Tables.{Tables};
 ghost use Rattle.wire.specs.Frames.{AreFrames, frame, frames};
-ghost use Rattle.wire.specs.Messages.{HasSpelling, IsSwitch, front, message as form, spelled_front};
+ghost use Rattle.wire.specs.Messages.{HasSpelling, IsReceiver, front, message as form, spelled_front};
 ghost use Rattle.frame_bag.specs.Kept.{AreOfMessage, IsGrown, SayRows, SayTables, frames_in};
 
 use crate::reading::{shared, tables_in};
@@ -80,7 +80,7 @@ impl TableFrames {
     // Writes at the end the first frame of an installation of these tables: only the receiver and
     // the boot are its own.
     fn put_first(&self, out: &mut Vec<u8>, to: Receiver, boot: u32) -> Result<(), AllocError>
-        requires { IsSwitch to }
+        requires { IsReceiver to }
         ensures fits { OnOk result (front.fits (to, (1, boot)) ≡ true) }
         ensures put { OnOk result (out.new.items
             ≡ out.old.items ++ frame 0 (length self.now) (spelled_front to boot)) }
@@ -210,7 +210,7 @@ fn put_first_of(
     boot: u32,
 ) -> Result<(), AllocError>
     requires there { number < length kept.now }
-    requires switch { IsSwitch to }
+    requires switch { IsReceiver to }
     ensures fits { OnOk result (front.fits (to, (1, boot)) ≡ true) }
     ensures put { OnOk result (out.new.items
         ≡ out.old.items ++ frame 0 (length (get_or kept.now number [])) (spelled_front to boot)) }

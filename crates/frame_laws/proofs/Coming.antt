@@ -5,8 +5,8 @@ use Rattle.std.specs.List.{Contains, flat_map}
 use Rattle.std.proofs.lemmas.Bool.{cases_eq}
 use Rattle.std.proofs.lemmas.List.Elements.{All-contains, All-contains_itself, All-head, All-tail}
 use Rattle.ctrl_msg.specs.declared.message.Message.{Message}
-use Rattle.wire.specs.Frames.{AreFrames, count_of, frames, piece_of, pieces, place_of}
-use Rattle.wire.specs.Assembly.{held_at, with_frame, AreAllHeld, AreRising, IsOfCount, IsRefused, too_short, too_long, past_the_count, another_count, another_frame, no_message}
+use Rattle.wire.specs.Frames.{AreFrames, count_of, frames, piece_of, pieces, place_in_frame}
+use Rattle.wire.specs.Assembly.{held_at, with_frame, AreAllHeld, AreRising, IsOfCount, IsRefusedFrame, too_short, too_long, past_the_count, another_count, another_frame, no_message}
 use Rattle.wire.proofs.Laws.{some_is}
 use Rattle.wire.proofs.Assembling.{spelled_by}
 use Rattle.wire.proofs.Decoding.{one_message}
@@ -22,15 +22,15 @@ of_count : (from count : ℕ) (fs : List (List ℕ)) (place : ℕ) (f : List ℕ
     → held_at fs place ≡ Some f → IsOfCount count f
 of_count from count [] place f rising at = absurd (cc at)
 of_count from count (g ∷ gs) place f rising at =
-    elim (cases_eq (place_of g) place) [
+    elim (cases_eq (place_in_frame g) place) [
       | inl same ↦ subst (IsOfCount count) (first_is g f gs place same at) rising.1
       | inr other ↦
-          let miss : held_at (g ∷ gs) place ≡ held_at gs place = rw (differ (place_of g) place other) refl in
-          of_count (place_of g + 1) count gs place f rising.2 (sym miss ∙ at)
+          let miss : held_at (g ∷ gs) place ≡ held_at gs place = rw (differ (place_in_frame g) place other) refl in
+          of_count (place_in_frame g + 1) count gs place f rising.2 (sym miss ∙ at)
     ]
 
 pub record IsOneOf (m : Message) (f : List ℕ) : Type 0 where
-  pub at : held_at (frames m) (place_of f) ≡ Some f
+  pub at : held_at (frames m) (place_in_frame f) ≡ Some f
   pub of : IsOfCount (length (pieces m)) f
   pub sized : IsSized f
 
@@ -40,7 +40,7 @@ is_one_of m f has there =
     let at = held_there 0 count (frames m) f (frames_rise m has) there in
     record {
       at = at;
-      of = of_count 0 count (frames m) (place_of f) f (frames_rise m has) at;
+      of = of_count 0 count (frames m) (place_in_frame f) f (frames_rise m has) at;
       sized = All-contains IsSized (frames m) f (frames_sized m) there;
     }
 
@@ -56,7 +56,7 @@ all_are m p has held =
 
 -- the frames of a message are not refused, whichever of them are held
 pub never_refused : (m : Message) (p q : ℕ → Bool) (f : List ℕ) → HasFrames m → IsOneOf m f
-    → with_frame (part p (frames m)) f ≡ part q (frames m) → IsRefused (part p (frames m)) f → ⊥
+    → with_frame (part p (frames m)) f ≡ part q (frames m) → IsRefusedFrame (part p (frames m)) f → ⊥
 never_refused m p q f has one joined (too_short lt) = absurd (omega (arith, one.sized.long))
 never_refused m p q f has one joined (too_long lt) = absurd (omega (arith, one.sized.short))
 never_refused m p q f has one joined (past_the_count le) = absurd (omega (arith, one.of.below, one.of.count_is))
@@ -64,9 +64,9 @@ never_refused m p q f has one joined (another_count place g at other) =
     other (held_count 0 (length (pieces m)) (part p (frames m)) place g
     (part_rises p 0 (length (pieces m)) (frames m) (frames_rise m has)) at ∙ sym one.of.count_is)
 never_refused m p q f has one joined (another_frame g at other) =
-    other (by_test (p (place_of f)) (sym (held_part p (frames m) (place_of f)) ∙ at))
+    other (by_test (p (place_in_frame f)) (sym (held_part p (frames m) (place_in_frame f)) ∙ at))
   where
-    by_test : (b : Bool) → cond b (held_at (frames m) (place_of f)) None ≡ Some g → g ≡ f
+    by_test : (b : Bool) → cond b (held_at (frames m) (place_in_frame f)) None ≡ Some g → g ≡ f
     by_test true is = some_is g f (sym is ∙ one.at)
     by_test false is = absurd (cc is)
 never_refused m p q f has one joined (no_message all none) =
@@ -81,12 +81,12 @@ never_refused m p q f has one joined (no_message all none) =
 abbrev has_come : List (List ℕ) → ℕ → Bool
 has_come fed n = is_some (held_at fed n)
 
-come_here : (f : List ℕ) (fed : List (List ℕ)) → has_come (f ∷ fed) (place_of f) ≡ true
-come_here f fed = rw (same_place (place_of f)) refl
+come_here : (f : List ℕ) (fed : List (List ℕ)) → has_come (f ∷ fed) (place_in_frame f) ≡ true
+come_here f fed = rw (same_place (place_in_frame f)) refl
 
-come_elsewhere : (f : List ℕ) (fed : List (List ℕ)) (n : ℕ) → n ≢ place_of f
+come_elsewhere : (f : List ℕ) (fed : List (List ℕ)) (n : ℕ) → n ≢ place_in_frame f
     → has_come (f ∷ fed) n ≡ has_come fed n
-come_elsewhere f fed n other = rw (differ (place_of f) n (λ e. other (sym e))) refl
+come_elsewhere f fed n other = rw (differ (place_in_frame f) n (λ e. other (sym e))) refl
 
 joins : (m : Message) (f : List ℕ) (fed : List (List ℕ)) → HasFrames m → IsOneOf m f
     → with_frame (part (has_come fed) (frames m)) f ≡ part (has_come (f ∷ fed)) (frames m)
@@ -102,11 +102,11 @@ held_is m (f ∷ fed) has of =
     ap (λ held. with_frame held f) (held_is m fed has (All-tail (Contains (frames m)) f fed of)) ∙ joins m f fed has one
 
 pub taken : (m : Message) (f : List ℕ) (fed : List (List ℕ)) → HasFrames m → AreOf m (f ∷ fed)
-    → IsRefused (held_after fed) f → ⊥
+    → IsRefusedFrame (held_after fed) f → ⊥
 taken m f fed has of refused =
     let one = is_one_of m f has (All-head (Contains (frames m)) f fed of) in
     never_refused m (has_come fed) (has_come (f ∷ fed)) f has one (joins m f fed has one)
-    (subst (λ held. IsRefused held f) (held_is m fed has (All-tail (Contains (frames m)) f fed of)) refused)
+    (subst (λ held. IsRefusedFrame held f) (held_is m fed has (All-tail (Contains (frames m)) f fed of)) refused)
 
 -- each place has come where each frame has
 places_come : (m : Message) (fed : List (List ℕ)) → HasFrames m → AreAllAmong m fed
@@ -126,10 +126,10 @@ whole m fed has of among =
 
 -- a frame whose place has come has come itself
 frame_come : (m : Message) (fed : List (List ℕ)) (g : List ℕ) → HasFrames m → AreOf m fed → Contains (frames m) g
-    → has_come fed (place_of g) ≡ true → Contains fed g
+    → has_come fed (place_in_frame g) ≡ true → Contains fed g
 frame_come m fed g has of there come =
-    let h = the_some (held_at fed (place_of g)) come in
-    let found = found_there fed (place_of g) h.0 h.1 in
+    let h = the_some (held_at fed (place_in_frame g)) come in
+    let found = found_there fed (place_in_frame g) h.0 h.1 in
     let one = is_one_of m g has there in
     let other = is_one_of m h.0 has (All-contains (Contains (frames m)) fed h.0 of found.0) in
     let same : h.0 ≡ g = some_is h.0 g (sym other.at ∙ ap (held_at (frames m)) found.1 ∙ one.at) in
@@ -149,11 +149,11 @@ all_come m f fed has of = (forth, back)
     forth held = λ k d lt.
         let g = slice_index_or (frames m) k d in
         let there : Contains (frames m) g = All-contains_itself (frames m) k d lt in
-        let below : place_of g < count = (is_one_of m g has there).of.below in
+        let below : place_in_frame g < count = (is_one_of m g has there).of.below in
         let all : AreAllHeld (part (has_come (f ∷ fed)) (frames m)) count =
         subst (AreAllHeld (part (has_come (f ∷ fed)) (frames m))) one.of.count_is
         (subst (λ fs. AreAllHeld fs (count_of f)) (held_is m (f ∷ fed) has of) held) in
-        frame_come m (f ∷ fed) g has of there (passes m (has_come (f ∷ fed)) (place_of g) (all (place_of g) below))
+        frame_come m (f ∷ fed) g has of there (passes m (has_come (f ∷ fed)) (place_in_frame g) (all (place_in_frame g) below))
 
     back : AreAllAmong m (f ∷ fed) → AreAllHeld (held_after (f ∷ fed)) (count_of f)
     back among =

@@ -6,8 +6,8 @@ use Rattle.std.specs.List.{Contains}
 use Rattle.std.proofs.lemmas.Bool.{cases_lt, le-ltb, lt-ltb}
 use Rattle.std.proofs.lemmas.Option.{slice_get_within}
 use Rattle.ctrl_msg.specs.declared.message.Message.{Message}
-use Rattle.wire.specs.Frames.{count_of, frame, frames, frames_from, pieces, place_of}
-use Rattle.wire.specs.Assembly.{held_at, with_frame, AreAllHeld, IsRefused}
+use Rattle.wire.specs.Frames.{count_of, frame, frames, frames_from, pieces, place_in_frame}
+use Rattle.wire.specs.Assembly.{held_at, with_frame, AreAllHeld, IsRefusedFrame}
 use Rattle.wire.proofs.Framing.{place_of_frame}
 use Rattle.wire.proofs.Holding.{all_held}
 use Rattle.wire.proofs.Laws.{some_is}
@@ -31,10 +31,10 @@ all_before m has =
 -- ---- the frame of a place
 
 place_from : (place count : ℕ) (parts : List (List ℕ)) (i : ℕ) (f : List ℕ) → place + length parts ≤ count
-    → count < 2 ^ 32 → slice_get (frames_from place count parts) i ≡ Some f → place_of f ≡ place + i
+    → count < 2 ^ 32 → slice_get (frames_from place count parts) i ≡ Some f → place_in_frame f ≡ place + i
 place_from place count [] i f within few at = absurd (cc at)
 place_from place count (part ∷ parts) zero f within few at =
-    ap place_of (sym (some_is (frame place count part) f at))
+    ap place_in_frame (sym (some_is (frame place count part) f at))
     ∙ place_of_frame place count part (omega arith) ∙ omega arith
 place_from place count (part ∷ parts) (suc i) f within few at =
     place_from (place + 1) count parts i f (omega arith) few at ∙ omega arith
@@ -57,7 +57,7 @@ beside n place other =
 
 -- what comes of the frame of the next place
 pub record ComesNext (m : Message) (place : ℕ) (f : List ℕ) : Type 0 where
-  pub taken : IsRefused (frames_before m place) f → ⊥
+  pub taken : IsRefusedFrame (frames_before m place) f → ⊥
   pub held : with_frame (frames_before m place) f ≡ frames_before m (place + 1)
   pub some : place + 1 ≡ length (frames m) → AreAllHeld (frames_before m (place + 1)) (count_of f)
   pub none : AreAllHeld (frames_before m (place + 1)) (count_of f) → place + 1 ≡ length (frames m)
@@ -86,7 +86,7 @@ comes_next m place f has at = record {
     one : IsOneOf m f
     one = is_one_of m f has (there (frames m) place f at)
 
-    here : place_of f ≡ place
+    here : place_in_frame f ≡ place
     here = place_from 0 (length (pieces m)) (pieces m) place f (omega arith) (few_frames m has) at ∙ omega arith
 
     joined : with_frame (frames_before m place) f ≡ frames_before m (place + 1)

@@ -10,7 +10,7 @@ use Rattle.switch_table.specs.declared.tables.Tables.{Tables}
 use Rattle.wire.specs.Fields.{n1, n4, partition, region, tables}
 use Rattle.wire.specs.Format.{list_of}
 use Rattle.wire.specs.Frames.{cut, frame, frames, frames_from, frames_of, most_of_piece, slices}
-use Rattle.wire.specs.Messages.{body, front, install, message, receiver, spelled_front, suits}
+use Rattle.wire.specs.Messages.{body, front, install_form, message, receiver, spelled_front, suits}
 use Rattle.wire.proofs.Cutting.{length-slices}
 use Rattle.wire.proofs.Framing.{length_n4}
 use Rattle.wire.proofs.Laws.{both_true}
@@ -20,7 +20,7 @@ use Rattle.frame_laws.proofs.Sized.{length_from}
 
 spelled : (to : Receiver) (boot : ℕ) (t : Tables)
     → message.spell (record { to = to; body = Install boot t }) ≡ spelled_front to boot ++ tables.spell t
-unfolding message body install front
+unfolding message body install_form front
 spelled to boot t =
     sym (append_assoc (receiver.spell to) (n1.spell 1 ++ n4.spell boot) (tables.spell t)
     ∙ ap (λ u. receiver.spell to ++ u) (append_assoc (n1.spell 1) (n4.spell boot) (tables.spell t)))
@@ -53,7 +53,7 @@ installed to boot t =
 
 pub fits_parts : (to : Receiver) (boot : ℕ) (t : Tables) → message.fits (record { to = to; body = Install boot t }) ≡ true
     → (front.fits (to, (1, boot)) ≡ true) × (tables.fits t ≡ true) × (suits to (Install boot t) ≡ true)
-unfolding message body install front n1
+unfolding message body install_form front n1
 fits_parts to boot t fits =
     let all = both_true (receiver.fits to && (n4.fits boot && tables.fits t)) (suits to (Install boot t)) fits in
     let parts = both_true (receiver.fits to) (n4.fits boot && tables.fits t) all.0 in
@@ -62,7 +62,7 @@ fits_parts to boot t fits =
 
 pub fits_whole : (to : Receiver) (boot : ℕ) (t : Tables) → front.fits (to, (1, boot)) ≡ true → tables.fits t ≡ true
     → suits to (Install boot t) ≡ true → message.fits (record { to = to; body = Install boot t }) ≡ true
-unfolding message body install front n1
+unfolding message body install_form front n1
 fits_whole to boot t head rest is =
     let parts = both_true (receiver.fits to) (n4.fits boot) head in
     rw (parts.0, parts.1, rest, is) refl

@@ -14,14 +14,14 @@ use Rattle.ternary.specs.Word.{WordValue}
 use Rattle.wire.specs.Format.{spelled_number}
 use Rattle.wire.specs.Fields.{n1, n4, n8, n16, switch, word, rule_name, action, tables}
 use Rattle.wire.proofs.Framing.{length_n4}
-use Rattle.wire.specs.Messages.{receiver, install, of_version, cache_rule, advert, hello, acknowledged, kind_of, spelled_fields, body, message}
+use Rattle.wire.specs.Messages.{receiver, install_form, of_version, cache_rule_form, advert, hello, acknowledged, kind_number, spelled_fields, body, message}
 
 pub length_receiver : (to : Receiver) → length (receiver.spell to) ≡ 1
 unfolding receiver switch n1 spelled_number
 length_receiver (Switch s) = refl
 length_receiver Controller = refl
 
-pub length_kind : (b : Body) → length (n1.spell (kind_of b)) ≡ 1
+pub length_kind : (b : Body) → length (n1.spell (kind_number b)) ≡ 1
 unfolding n1 spelled_number
 length_kind b = refl
 
@@ -31,8 +31,8 @@ unfolding message body
 length_message m =
     omega (
       arith,
-      length-append (receiver.spell m.to) (n1.spell (kind_of m.body) ++ spelled_fields m.body),
-      length-append (n1.spell (kind_of m.body)) (spelled_fields m.body),
+      length-append (receiver.spell m.to) (n1.spell (kind_number m.body) ++ spelled_fields m.body),
+      length-append (n1.spell (kind_number m.body)) (spelled_fields m.body),
       length_receiver m.to,
       length_kind m.body,
     )
@@ -73,8 +73,8 @@ action_len Drop = omega arith
 action_len (Out port) = omega arith
 
 rule_fields : (version : ℕ) (w : WordValue) (rule : Option ℕ) (act : Action)
-    → length (cache_rule.spell (version, (w, (rule, act)))) ≤ 46
-unfolding cache_rule
+    → length (cache_rule_form.spell (version, (w, (rule, act)))) ≤ 46
+unfolding cache_rule_form
 rule_fields version w rule act =
     omega (
       arith,
@@ -100,7 +100,7 @@ fields_short (Stamped s boot version) alone = omega (arith, three_numbers s boot
 
 -- of an installation there is the boot
 pub install_long : (boot : ℕ) (t : Tables) → 4 ≤ length (spelled_fields (Install boot t))
-unfolding install
+unfolding install_form
 install_long boot t =
     omega (arith, length-append (n4.spell boot) (tables.spell t), length_n4 boot)
 

@@ -4,7 +4,7 @@ use Rattle.std.specs.Prelude.{IsSome, slice_index_or}
 use Rattle.std.specs.List.{Contains}
 use Rattle.std.proofs.lemmas.Bool.{cases_lt, cases_eq, le-ltb, lt-ltb}
 use Rattle.std.proofs.lemmas.Bool.Decides.{eqb_tells, nat_tests}
-use Rattle.wire.specs.Frames.{place_of}
+use Rattle.wire.specs.Frames.{place_in_frame}
 use Rattle.wire.specs.Assembly.{held_at, with_frame, AreRising}
 use Rattle.wire.proofs.Decoding.{none_is_not}
 use Rattle.wire.proofs.Holding.{all_higher, first_is, none_below, none_lower, step_held}
@@ -20,7 +20,7 @@ differ m n other =
     ]
 
 abbrev pub part : (ℕ → Bool) → List (List ℕ) → List (List ℕ)
-part p fs = filter (λ f. p (place_of f)) fs
+part p fs = filter (λ f. p (place_in_frame f)) fs
 
 later : (from less count : ℕ) (fs : List (List ℕ)) → less ≤ from → AreRising from count fs → AreRising less count fs
 later from less count [] le rising = tt
@@ -30,30 +30,30 @@ pub part_rises : (p : ℕ → Bool) (from count : ℕ) (fs : List (List ℕ)) �
     → AreRising from count (part p fs)
 part_rises p from count [] rising = tt
 part_rises p from count (f ∷ fs) rising =
-    by_test (p (place_of f)) (part_rises p (place_of f + 1) count fs rising.2)
+    by_test (p (place_in_frame f)) (part_rises p (place_in_frame f + 1) count fs rising.2)
   where
-    by_test : (b : Bool) → AreRising (place_of f + 1) count (part p fs)
+    by_test : (b : Bool) → AreRising (place_in_frame f + 1) count (part p fs)
         → AreRising from count (cond b (f ∷ part p fs) (part p fs))
     by_test true rest = (rising.0, rising.1, rest)
-    by_test false rest = later (place_of f + 1) from count (part p fs) (omega (arith, rising.0)) rest
+    by_test false rest = later (place_in_frame f + 1) from count (part p fs) (omega (arith, rising.0)) rest
 
 pub part_all : (p : ℕ → Bool) (from count : ℕ) (fs : List (List ℕ)) → AreRising from count fs
     → ((n : ℕ) → n < count → p n ≡ true) → part p fs ≡ fs
 part_all p from count [] rising all = refl
 part_all p from count (f ∷ fs) rising all =
-    rw (all (place_of f) rising.1.below) (ap (λ gs. f ∷ gs) (part_all p (place_of f + 1) count fs rising.2 all))
+    rw (all (place_in_frame f) rising.1.below) (ap (λ gs. f ∷ gs) (part_all p (place_in_frame f + 1) count fs rising.2 all))
 
 pub part_none : (p : ℕ → Bool) (fs : List (List ℕ)) → ((n : ℕ) → p n ≡ false) → part p fs ≡ []
 part_none p [] none = refl
-part_none p (f ∷ fs) none = rw (none (place_of f)) (part_none p fs none)
+part_none p (f ∷ fs) none = rw (none (place_in_frame f)) (part_none p fs none)
 
 -- tests that agree from a place on
 part_same : (p q : ℕ → Bool) (from count : ℕ) (fs : List (List ℕ)) → AreRising from count fs
     → ((n : ℕ) → from ≤ n → q n ≡ p n) → part q fs ≡ part p fs
 part_same p q from count [] rising same = refl
 part_same p q from count (f ∷ fs) rising same =
-    rw (same (place_of f) rising.0) (ap (λ gs. cond (p (place_of f)) (f ∷ gs) gs)
-    (part_same p q (place_of f + 1) count fs rising.2 (λ n le. same n (omega (arith, rising.0)))))
+    rw (same (place_in_frame f) rising.0) (ap (λ gs. cond (p (place_in_frame f)) (f ∷ gs) gs)
+    (part_same p q (place_in_frame f + 1) count fs rising.2 (λ n le. same n (omega (arith, rising.0)))))
 
 -- what is held at a place
 pub held_part : (p : ℕ → Bool) (fs : List (List ℕ)) (n : ℕ) → held_at (part p fs) n ≡ cond (p n) (held_at fs n) None
@@ -64,18 +64,18 @@ held_part p [] n = by_test (p n)
     by_test false = refl
 held_part p (f ∷ fs) n =
     let rest = held_part p fs n in
-    elim (cases_eq (place_of f) n) [
-      | inl same ↦ here (p (place_of f)) (ap p (sym same)) (rw same (same_place n)) rest
-      | inr other ↦ behind (p (place_of f)) (differ (place_of f) n other) rest
+    elim (cases_eq (place_in_frame f) n) [
+      | inl same ↦ here (p (place_in_frame f)) (ap p (sym same)) (rw same (same_place n)) rest
+      | inr other ↦ behind (p (place_in_frame f)) (differ (place_in_frame f) n other) rest
     ]
   where
-    here : (b : Bool) → p n ≡ b → eqb (place_of f) n ≡ true
+    here : (b : Bool) → p n ≡ b → eqb (place_in_frame f) n ≡ true
         → held_at (part p fs) n ≡ cond (p n) (held_at fs n) None
         → held_at (cond b (f ∷ part p fs) (part p fs)) n ≡ cond (p n) (held_at (f ∷ fs) n) None
     here true is hit rest = rw (is, hit) refl
     here false is hit rest = rest ∙ rw is refl
 
-    behind : (b : Bool) → eqb (place_of f) n ≡ false
+    behind : (b : Bool) → eqb (place_in_frame f) n ≡ false
         → held_at (part p fs) n ≡ cond (p n) (held_at fs n) None
         → held_at (cond b (f ∷ part p fs) (part p fs)) n ≡ cond (p n) (held_at (f ∷ fs) n) None
     behind true miss rest = rw miss rest
@@ -83,45 +83,45 @@ held_part p (f ∷ fs) n =
 
 -- one frame more: the test now passes its place too
 pub with_part : (p q : ℕ → Bool) (from count : ℕ) (fs : List (List ℕ)) (f : List ℕ) → AreRising from count fs
-    → held_at fs (place_of f) ≡ Some f → ((n : ℕ) → n ≢ place_of f → q n ≡ p n) → q (place_of f) ≡ true
+    → held_at fs (place_in_frame f) ≡ Some f → ((n : ℕ) → n ≢ place_in_frame f → q n ≡ p n) → q (place_in_frame f) ≡ true
     → with_frame (part p fs) f ≡ part q fs
 with_part p q from count [] f rising at same here = absurd (none_is_not f at)
 with_part p q from count (g ∷ gs) f rising at same here =
-    elim (cases_lt (place_of g) (place_of f)) [
+    elim (cases_lt (place_in_frame g) (place_in_frame f)) [
       | inl lt ↦
-          let rest = with_part p q (place_of g + 1) count gs f rising.2 (sym (step_held g gs (place_of f) lt) ∙ at) same here in
-          rw (same (place_of g) (λ e. absurd (omega arith))) (before (p (place_of g)) lt rest)
+          let rest = with_part p q (place_in_frame g + 1) count gs f rising.2 (sym (step_held g gs (place_in_frame f) lt) ∙ at) same here in
+          rw (same (place_in_frame g) (λ e. absurd (omega arith))) (before (p (place_in_frame g)) lt rest)
       | inr ge ↦
-          elim (cases_lt (place_of f) (place_of g)) [
-            | inl lt ↦ absurd (none_is_not f (sym (none_below (place_of g) count (g ∷ gs) (place_of f) (omega arith, rising.1, rising.2) lt) ∙ at))
+          elim (cases_lt (place_in_frame f) (place_in_frame g)) [
+            | inl lt ↦ absurd (none_is_not f (sym (none_below (place_in_frame g) count (g ∷ gs) (place_in_frame f) (omega arith, rising.1, rising.2) lt) ∙ at))
             | inr le ↦
-                let one : place_of g ≡ place_of f = omega arith in
-                let is : g ≡ f = first_is g f gs (place_of f) one at in
-                let rest : part q gs ≡ part p gs = part_same p q (place_of g + 1) count gs rising.2 (λ n above. same n (λ e. absurd (omega arith))) in
-                let now : q (place_of g) ≡ true = ap q one ∙ here in
+                let one : place_in_frame g ≡ place_in_frame f = omega arith in
+                let is : g ≡ f = first_is g f gs (place_in_frame f) one at in
+                let rest : part q gs ≡ part p gs = part_same p q (place_in_frame g + 1) count gs rising.2 (λ n above. same n (λ e. absurd (omega arith))) in
+                let now : q (place_in_frame g) ≡ true = ap q one ∙ here in
                 let part_now : part q (g ∷ gs) ≡ f ∷ part p gs = rw (now, rest) (ap (λ h. h ∷ part p gs) is) in
-                among (p (place_of g)) one ∙ sym part_now
+                among (p (place_in_frame g)) one ∙ sym part_now
           ]
     ]
   where
-    before : (b : Bool) → place_of g < place_of f → with_frame (part p gs) f ≡ part q gs
+    before : (b : Bool) → place_in_frame g < place_in_frame f → with_frame (part p gs) f ≡ part q gs
         → with_frame (cond b (g ∷ part p gs) (part p gs)) f ≡ cond b (g ∷ part q gs) (part q gs)
     before true lt rest =
-        rw (lt-ltb _ _ lt, le-ltb (place_of f) (place_of g) (omega arith)) (ap (λ hs. g ∷ hs) rest)
+        rw (lt-ltb _ _ lt, le-ltb (place_in_frame f) (place_in_frame g) (omega arith)) (ap (λ hs. g ∷ hs) rest)
     before false lt rest = rest
 
-    among_later : (b : Bool) → place_of g ≡ place_of f → filter (λ h. ltb (place_of h) (place_of f)) (part p gs) ≡ []
-        → filter (λ h. ltb (place_of f) (place_of h)) (part p gs) ≡ part p gs
+    among_later : (b : Bool) → place_in_frame g ≡ place_in_frame f → filter (λ h. ltb (place_in_frame h) (place_in_frame f)) (part p gs) ≡ []
+        → filter (λ h. ltb (place_in_frame f) (place_in_frame h)) (part p gs) ≡ part p gs
         → with_frame (cond b (g ∷ part p gs) (part p gs)) f ≡ f ∷ part p gs
     among_later true one lower higher =
-        rw (le-ltb (place_of g) (place_of f) (omega arith), le-ltb (place_of f) (place_of g) (omega arith), lower, higher) refl
+        rw (le-ltb (place_in_frame g) (place_in_frame f) (omega arith), le-ltb (place_in_frame f) (place_in_frame g) (omega arith), lower, higher) refl
     among_later false one lower higher = rw (lower, higher) refl
 
-    among : (b : Bool) → place_of g ≡ place_of f → with_frame (cond b (g ∷ part p gs) (part p gs)) f ≡ f ∷ part p gs
+    among : (b : Bool) → place_in_frame g ≡ place_in_frame f → with_frame (cond b (g ∷ part p gs) (part p gs)) f ≡ f ∷ part p gs
     among b one =
-        let rises : AreRising (place_of g + 1) count (part p gs) = part_rises p (place_of g + 1) count gs rising.2 in
-        among_later b one (none_lower (place_of g + 1) count (part p gs) (place_of f) rises (omega arith))
-        (all_higher (place_of g + 1) count (part p gs) (place_of f) rises (omega arith))
+        let rises : AreRising (place_in_frame g + 1) count (part p gs) = part_rises p (place_in_frame g + 1) count gs rising.2 in
+        among_later b one (none_lower (place_in_frame g + 1) count (part p gs) (place_in_frame f) rises (omega arith))
+        (all_higher (place_in_frame g + 1) count (part p gs) (place_in_frame f) rises (omega arith))
 
 -- ---- frames that are in a list
 
@@ -134,30 +134,30 @@ above from count fs place f rising at =
     ]
 
 held_from : (from count : ℕ) (fs : List (List ℕ)) (f : List ℕ) (k : ℕ) → AreRising from count fs → k < length fs
-    → slice_index_or fs k f ≡ f → held_at fs (place_of f) ≡ Some f
+    → slice_index_or fs k f ≡ f → held_at fs (place_in_frame f) ≡ Some f
 held_from from count [] f k rising lt is = absurd (omega arith)
-held_from from count (g ∷ gs) f zero rising lt is = let same : g ≡ f = is in rw (same, same_place (place_of f)) refl
+held_from from count (g ∷ gs) f zero rising lt is = let same : g ≡ f = is in rw (same, same_place (place_in_frame f)) refl
 held_from from count (g ∷ gs) f (suc k) rising lt is =
-    let rest : held_at gs (place_of f) ≡ Some f = held_from (place_of g + 1) count gs f k rising.2 (omega arith) is in
-    let behind = above (place_of g + 1) count gs (place_of f) f rising.2 rest in
-    step_held g gs (place_of f) (omega arith) ∙ rest
+    let rest : held_at gs (place_in_frame f) ≡ Some f = held_from (place_in_frame g + 1) count gs f k rising.2 (omega arith) is in
+    let behind = above (place_in_frame g + 1) count gs (place_in_frame f) f rising.2 rest in
+    step_held g gs (place_in_frame f) (omega arith) ∙ rest
 
 -- each of rising frames is held at its place
 pub held_there : (from count : ℕ) (fs : List (List ℕ)) (f : List ℕ) → AreRising from count fs → Contains fs f
-    → held_at fs (place_of f) ≡ Some f
+    → held_at fs (place_in_frame f) ≡ Some f
 held_there from count fs f rising there = held_from from count fs f there.0 rising there.1 there.2
 
 -- a frame that is found is in the list, and at the place
 pub found_there : (fs : List (List ℕ)) (place : ℕ) (f : List ℕ) → held_at fs place ≡ Some f
-    → Contains fs f × (place_of f ≡ place)
+    → Contains fs f × (place_in_frame f ≡ place)
 found_there [] place f at = absurd (none_is_not f at)
 found_there (g ∷ gs) place f at =
-    elim (cases_eq (place_of g) place) [
+    elim (cases_eq (place_in_frame g) place) [
       | inl same ↦
           let is : g ≡ f = first_is g f gs place same at in
-          ((0, omega arith, is), ap place_of (sym is) ∙ same)
+          ((0, omega arith, is), ap place_in_frame (sym is) ∙ same)
       | inr other ↦
-          let miss : held_at (g ∷ gs) place ≡ held_at gs place = rw (differ (place_of g) place other) refl in
+          let miss : held_at (g ∷ gs) place ≡ held_at gs place = rw (differ (place_in_frame g) place other) refl in
           let rest = found_there gs place f (sym miss ∙ at) in
           ((suc rest.0.0, omega (arith, rest.0.1), rest.0.2), rest.1)
     ]
@@ -167,14 +167,14 @@ some_either true x o some = refl
 some_either false x o some = some
 
 found_from : (fs : List (List ℕ)) (f : List ℕ) (k : ℕ) → k < length fs → slice_index_or fs k f ≡ f
-    → IsSome (held_at fs (place_of f))
+    → IsSome (held_at fs (place_in_frame f))
 found_from [] f k lt is = absurd (omega arith)
-found_from (g ∷ gs) f zero lt is = let same : g ≡ f = is in rw (same, same_place (place_of f)) refl
+found_from (g ∷ gs) f zero lt is = let same : g ≡ f = is in rw (same, same_place (place_in_frame f)) refl
 found_from (g ∷ gs) f (suc k) lt is =
-    some_either (eqb (place_of g) (place_of f)) g (held_at gs (place_of f)) (found_from gs f k (omega arith) is)
+    some_either (eqb (place_in_frame g) (place_in_frame f)) g (held_at gs (place_in_frame f)) (found_from gs f k (omega arith) is)
 
 -- where a frame is in a list, one is found at its place
-pub is_found : (fs : List (List ℕ)) (f : List ℕ) → Contains fs f → IsSome (held_at fs (place_of f))
+pub is_found : (fs : List (List ℕ)) (f : List ℕ) → Contains fs f → IsSome (held_at fs (place_in_frame f))
 is_found fs f there = found_from fs f there.0 there.1 there.2
 
 pub the_some : {A : Type 0} (o : Option A) → IsSome o → (x : A) × (o ≡ Some x)

@@ -10,7 +10,7 @@ use Rattle.ctrl_msg.specs.declared.message.Body.{Body}
 use Rattle.ctrl_msg.specs.declared.message.Body.TheVariants.{Install, OpenAt, Stamp, Collect, CacheRule, Advertise, Hello, Installed, Stamped}
 use Rattle.ctrl_msg.specs.declared.message.Message.{Message}
 use Rattle.wire.specs.Messages.{message, spelled_fields}
-use Rattle.wire.specs.Frames.{frame, frames, frames_from, pieces, place_of, slices, head_len, most_of_piece}
+use Rattle.wire.specs.Frames.{frame, frames, frames_from, pieces, place_in_frame, slices, head_len, most_of_piece}
 use Rattle.wire.specs.Assembly.{AreRising, IsOfCount}
 use Rattle.wire.proofs.Framing.{length_frame, place_of_frame, count_of_frame, piece_of_frame}
 use Rattle.wire.proofs.Cutting.{few_pieces}
@@ -26,10 +26,10 @@ rising : (place count : ℕ) (parts : List (List ℕ)) → place + length parts 
     → AreRising place count (frames_from place count parts)
 rising place count [] all few = tt
 rising place count (part ∷ parts) all few =
-    let at : place_of (frame place count part) ≡ place = place_of_frame place count part (omega arith) in
+    let at : place_in_frame (frame place count part) ≡ place = place_of_frame place count part (omega arith) in
     let of : IsOfCount count (frame place count part) = record {
       below = omega arith;
-      whole = ap (λ p. frame p count part) (sym at) ∙ ap (frame (place_of (frame place count part)) count) (sym (piece_of_frame place count part));
+      whole = ap (λ p. frame p count part) (sym at) ∙ ap (frame (place_in_frame (frame place count part)) count) (sym (piece_of_frame place count part));
       count_is = count_of_frame place count part few;
     } in (
       omega arith,

@@ -4,7 +4,7 @@ ghost use Rattle.ctrl_msg.specs.declared.message.Body.TheVariants.{Install};
 ghost use Rattle.ctrl_msg.specs.declared.message.Message.{Message};
 ghost use Rattle.ctrl_msg.specs.declared.message.Receiver.{Receiver};
 ghost use Rattle.switch_table.specs.declared.tables.Tables.{Tables};
-ghost use Rattle.wire.specs.Assembly.{AreAllHeld, IsRefused};
+ghost use Rattle.wire.specs.Assembly.{AreAllHeld, IsRefusedFrame};
 ghost use Rattle.wire.specs.Frames.{AreFrames, count_of, frames, frames_of_version};
 ghost use Rattle.frame_laws.specs.Feeding.{AreAllAmong, AreOf, HasFrames, held_after};
 ghost use Rattle.frame_laws.specs.Installing.{install_frames};
@@ -17,7 +17,7 @@ ghost use Rattle.frame_laws.specs.Installing.{install_frames};
 /// message then and at each repeat.
 pub fn frames_come_in_any_order()
     ensures taken { (m : Message) (f : List ℕ) (fed : List (List ℕ)) → HasFrames m
-        → AreOf m (f ∷ fed) → IsRefused (held_after fed) f → ⊥ }
+        → AreOf m (f ∷ fed) → IsRefusedFrame (held_after fed) f → ⊥ }
     ensures all_held { (m : Message) (f : List ℕ) (fed : List (List ℕ)) → HasFrames m
         → AreOf m (f ∷ fed)
         → (AreAllHeld (held_after (f ∷ fed)) (count_of f) ↔ AreAllAmong m (f ∷ fed)) }

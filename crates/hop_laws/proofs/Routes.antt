@@ -20,7 +20,7 @@ use Rattle.mark_laws.proofs.Marks.{bounded}
 use Rattle.mark_laws.proofs.Planned.{current_rises}
 use Rattle.version_laws.proofs.Planned.{versions_planned}
 use Rattle.way_laws.specs.OnWay.{IsOnWay, IsSeeking}
-use Rattle.way_laws.specs.Words.{PacketWords, names, told_by, words_of}
+use Rattle.way_laws.specs.Words.{PacketWords, names, words_after, words_of}
 use Rattle.way_laws.proofs.Words.{words_grow}
 use Rattle.hop_laws.specs.Hops.{detours, exits, routes_taken, searches}
 use Rattle.way_laws.specs.Kept.{AllKept}
@@ -79,7 +79,7 @@ is_raised setting before i version partition route known few takes raises =
     here_of setting before i takes.switch (stage_of before i) knows_it.is knows_it.have
     knows_it.kept takes.at in
     let after : PacketWords =
-    told_by 0 (item.Seeking i version partition route) (words_of before i) in
+    words_after 0 (item.Seeking i version partition route) (words_of before i) in
     let way : IsOnWay setting before after =
     (seeking_after setting before i 0 version partition route knows_it takes).on_way
     here.travelling (inl refl) in
@@ -157,7 +157,7 @@ named_few : (setting : Setting) (before : List Item) (next : Item) (i current : 
     → Facts setting before next → current_mark before ≤ current → (b : Bool)
     → names i next ≡ b → IsFewOf setting before i
     → IsFew setting current
-    (if b then told_by (retired_mark before) next (words_of before i) else words_of before i)
+    (if b then words_after (retired_mark before) next (words_of before i) else words_of before i)
     (option_or (tells_stage i next) (stage_of before i)) (tallied i next (tally_of before i))
 named_few setting before (item.Entered packet s header) i current facts more true e few =
     rw e (record {

@@ -16,7 +16,7 @@ use Rattle.update_machine.specs.Setting.{Setting, IsSetting}
 use Rattle.update_machine.proofs.CallerLemmas.{folded_append}
 use Rattle.boot_laws.proofs.Facts.{Behind, Both, fact_on, have_both, have_weaker}
 use Rattle.way_laws.specs.OnWay.{IsOnLeg, IsOnWay}
-use Rattle.way_laws.specs.Words.{PacketWords, names, told_by, words_of}
+use Rattle.way_laws.specs.Words.{PacketWords, names, words_after, words_of}
 use Rattle.way_laws.proofs.Words.{words_grow}
 use Rattle.hop_laws.specs.Hops.{changes_taken, hops_taken, most_hops, most_switches, routes_taken}
 use Rattle.way_laws.specs.Kept.{AllKept}
@@ -120,7 +120,7 @@ row_within setting before packet i known rested within true e =
 within_by : (setting : Setting) (before : List Item) (next : Item) (i : ℕ)
     → Facts setting before next → (b : Bool) → names i next ≡ b → IsWithinOf before i
     → IsWithin
-    (if b then told_by (retired_mark before) next (words_of before i) else words_of before i)
+    (if b then words_after (retired_mark before) next (words_of before i) else words_of before i)
     (option_or (tells_stage i next) (stage_of before i))
     (changes_told i before (is_told before i) next) (tallied i next (tally_of before i))
     (changes_taken i before (hops_taken before i) next)
@@ -139,7 +139,7 @@ within_by setting before (item.Entered packet s header) i facts true e within =
 within_by setting before (item.Seeking packet version partition route) i facts true e within =
     let few : IsTrue (words_of before packet).travels → length route ≤ 64 = λ tr.
     route_few setting before
-    (told_by 0 (item.Seeking packet version partition route) (words_of before packet))
+    (words_after 0 (item.Seeking packet version partition route) (words_of before packet))
     ((seeking_after setting before packet 0 version partition route
     (knows setting before packet facts.known) facts.way).on_way tr (inl refl)) in
     rw e (record {
@@ -154,7 +154,7 @@ within_by setting before (item.Seeking packet version partition route) i facts t
     })
 within_by setting before (item.Exiting packet route) i facts true e within =
     let few : IsTrue (words_of before packet).travels → length route ≤ 64 = λ tr.
-    route_few setting before (told_by 0 (item.Exiting packet route) (words_of before packet))
+    route_few setting before (words_after 0 (item.Exiting packet route) (words_of before packet))
     ((exiting_after setting before packet 0 route (knows setting before packet facts.known)
     facts.way).on_way tr (inl refl)) in
     rw e (record {
@@ -169,7 +169,7 @@ within_by setting before (item.Exiting packet route) i facts true e within =
     })
 within_by setting before (item.Rerouted packet route) i facts true e within =
     let few : IsTrue (words_of before packet).travels → length route ≤ 64 = λ tr.
-    route_few setting before (told_by 0 (item.Rerouted packet route) (words_of before packet))
+    route_few setting before (words_after 0 (item.Rerouted packet route) (words_of before packet))
     ((rerouted_after setting before packet 0 route (knows setting before packet facts.known)
     facts.way).on_way tr (inl refl)) in
     rw e (record {

@@ -10,7 +10,7 @@ use Rattle.five_tuple.specs.Header.{IsHeader}
 use Rattle.five_tuple.specs.Printing.{address_text, fields_text, proto_number_text}
 use Rattle.five_tuple.specs.declared.header.Header.{Header}
 use Rattle.net_file.specs.Laws.{NameLaws}
-use Rattle.net_file.specs.Net.{IsNet, IsSwitch, name_of, names_text}
+use Rattle.net_file.specs.Net.{IsNet, IsSwitchRow, name_of, names_text}
 use Rattle.net_file.specs.declared.net.Net.{Net}
 use Rattle.net_file.specs.declared.net.SwitchRow.{SwitchRow}
 use Rattle.policy_rules.specs.Policy.{action_text, rule_text}
@@ -115,8 +115,8 @@ module _ (laws : NameLaws) (net : Net) (sound : IsNet net) where
           ⊎ ((length net.switches ≤ s) × (slice_get net.switches s ≡ None))
           → IsWithin 16 (name_of net s)
       by (inl w) =
-          let is : IsSwitch w.0 = subst IsSwitch w.3
-          (All-get_or IsSwitch net.switches s w.0 w.1 sound.switches) in
+          let is : IsSwitchRow w.0 = subst IsSwitchRow w.3
+          (All-get_or IsSwitchRow net.switches s w.0 w.1 sound.switches) in
           rw w.2 (record { size = (laws.size w.0.name is.name).1 })
       by (inr w) = rw w.1 (record { size = omega arith })
 

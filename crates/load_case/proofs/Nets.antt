@@ -8,9 +8,9 @@ use Rattle.std.proofs.lemmas.Slice.Eq.{bytes_eq-Decides}
 use Rattle.std.proofs.lemmas.List.FromFn.{map-range_with_len_more}
 use Rattle.std.proofs.lemmas.List.Elements.{All-cons, All-nil}
 use Rattle.std.proofs.lemmas.List.Kept.{AllPairs-cons}
-use Rattle.net_file.specs.Net.{AreApart, AreOther, IsLink, IsNet, IsSwitch, is_name}
+use Rattle.net_file.specs.Net.{AreApart, AreOther, IsLink, IsNet, IsSwitchRow, is_name}
 use Rattle.net_file.specs.Joins.{has_port, joins, owner_of}
-use Rattle.load_case.specs.Case.{load_links, load_net, room_of, switch_of}
+use Rattle.load_case.specs.Case.{load_links, load_net, room_of, switch_row}
 
 -- ---- lists by a test that computes
 
@@ -49,20 +49,20 @@ module _ {A X : Type 0} (f : A → X) where
 
 -- ---- switches
 
-all_sound : All IsSwitch load_net.switches
-all_sound = all_by switch_of IsSwitch
-    (λ i. is_name (switch_of i).name && (nat_lt (2 ^ i) (2 ^ 64) && nat_le (room_of i) 8192))
+all_sound : All IsSwitchRow load_net.switches
+all_sound = all_by switch_row IsSwitchRow
+    (λ i. is_name (switch_row i).name && (nat_lt (2 ^ i) (2 ^ 64) && nat_le (room_of i) 8192))
     (λ i e.
-    let sizes = second (is_name (switch_of i).name) _ e in
+    let sizes = second (is_name (switch_row i).name) _ e in
     record {
-      name = first (is_name (switch_of i).name) _ e;
+      name = first (is_name (switch_row i).name) _ e;
       ports = ltb-true _ _ (first (nat_lt (2 ^ i) (2 ^ 64)) _ sizes);
       room = leb-true _ _ (second (nat_lt (2 ^ i) (2 ^ 64)) _ sizes);
     })
     (range_with_len 0 8) refl
 
-other_ports : (i j port : ℕ) → i ≢ j → IsTrue (has_port port (switch_of i))
-    → IsFalse (has_port port (switch_of j))
+other_ports : (i j port : ℕ) → i ≢ j → IsTrue (has_port port (switch_row i))
+    → IsFalse (has_port port (switch_row j))
 other_ports i j port apart has = ne_eqb _ _ (λ e. one_of (port == i) refl e)
   where
     one_of : (b : Bool) → (port == i) ≡ b → bit_at (2 ^ j) port ≡ 1 → ⊥
@@ -76,18 +76,18 @@ other_ports i j port apart has = ne_eqb _ _ (λ e. one_of (port == i) refl e)
         let some : bit_at (2 ^ i) port ≡ 1 = eqb-true _ _ has in
         absurd (omega (arith, some, none))
 
-other_names : (i j : ℕ) → i ≢ j → IsFalse (bytes_eq (switch_of i).name (switch_of j).name)
-other_names i j apart = go (bytes_eq (switch_of i).name (switch_of j).name) refl
+other_names : (i j : ℕ) → i ≢ j → IsFalse (bytes_eq (switch_row i).name (switch_row j).name)
+other_names i j apart = go (bytes_eq (switch_row i).name (switch_row j).name) refl
   where
-    go : (b : Bool) → bytes_eq (switch_of i).name (switch_of j).name ≡ b → IsFalse b
+    go : (b : Bool) → bytes_eq (switch_row i).name (switch_row j).name ≡ b → IsFalse b
     go false e = refl
     go true e =
-        let same = (bytes_eq-Decides (switch_of i).name (switch_of j).name).0 e in
+        let same = (bytes_eq-Decides (switch_row i).name (switch_row j).name).0 e in
         let digit : 48 + i ≡ 48 + j = ap (λ name. slice_index name 1) same in
         absurd (apart (omega (arith, digit)))
 
 all_apart : AllPairs AreApart load_net.switches
-all_apart = pairs_by switch_of AreApart (λ i j. not (i == j))
+all_apart = pairs_by switch_row AreApart (λ i j. not (i == j))
     (λ i j e. let apart : i ≢ j = λ same. true≢false (sym (eq-eqb i j same) ∙ is_not _ e) in
     record { names = other_names i j apart; ports = λ port. other_ports i j port apart })
     (range_with_len 0 8) refl
@@ -148,6 +148,6 @@ port_owned port below =
     (omega (arith, below))
 
 -- one more switch
-pub switches_more : (i : ℕ) → map switch_of (range_with_len 0 (i + 1))
-    ≡ map switch_of (range_with_len 0 i) ++ switch_of i ∷ []
-switches_more i = map-range_with_len_more switch_of 0 i i (omega arith)
+pub switches_more : (i : ℕ) → map switch_row (range_with_len 0 (i + 1))
+    ≡ map switch_row (range_with_len 0 i) ++ switch_row i ∷ []
+switches_more i = map-range_with_len_more switch_row 0 i i (omega arith)

@@ -25,13 +25,13 @@ use Rattle.steps.specs.declared.step.Step.TheVariants as step
 -- ---- draws
 
 -- the state of the generator behind one draw
-unfoldable pub next : ℕ → ℕ
-next x = (x * 1103515245 + 12345) % 2147483648
+unfoldable pub next_drawn : ℕ → ℕ
+next_drawn x = (x * 1103515245 + 12345) % 2147483648
 
 -- the state behind so many draws
 abbrev pub behind : ℕ → ℕ → ℕ
 behind zero x = x
-behind (suc n) x = behind n (next x)
+behind (suc n) x = behind n (next_drawn x)
 
 -- the number below m that the draw gave which left this state
 abbrev pub below : ℕ → ℕ → ℕ
@@ -44,8 +44,8 @@ abbrev pub room_of : ℕ → ℕ
 room_of i = if i == 1 || i == 5 then 8192 else 0
 
 -- the switch `ni` has the port i
-abbrev pub switch_of : ℕ → SwitchRow
-switch_of i = record { name = 110 ∷ (48 + i) ∷ []; ports = 2 ^ i; room = room_of i }
+abbrev pub switch_row : ℕ → SwitchRow
+switch_row i = record { name = 110 ∷ (48 + i) ∷ []; ports = 2 ^ i; room = room_of i }
 
 abbrev pub link : ℕ → ℕ → LinkRow
 link one two = record { one = one; two = two }
@@ -57,7 +57,7 @@ load_links = link 0 1 ∷ link 1 2 ∷ link 2 3 ∷ link 3 4 ∷ link 4 5 ∷ li
 
 abbrev pub load_net : Net
 load_net = record {
-  switches = map switch_of (range_with_len 0 8);
+  switches = map switch_row (range_with_len 0 8);
   links = load_links;
   leaf_rules = 32;
   backups = 1;
@@ -71,13 +71,13 @@ address a b c d = a * 2 ^ 24 + b * 2 ^ 16 + c * 2 ^ 8 + d
 
 -- one draw says whether a row drops, and if it doesn't a second one its port
 abbrev pub drops : ℕ → ℕ
-drops x = below 4 (next x)
+drops x = below 4 (next_drawn x)
 
 abbrev pub action_at : ℕ → Action
 action_at x = if drops x == 0 then Drop else Out (below 8 (behind 2 x))
 
 abbrev pub action_ends : ℕ → ℕ
-action_ends x = if drops x == 0 then next x else behind 2 x
+action_ends x = if drops x == 0 then next_drawn x else behind 2 x
 
 -- the row of this priority, that is drawn from the state x
 abbrev pub row_at : ℕ → ℕ → Row
@@ -95,10 +95,10 @@ abbrev pub row_ends : ℕ → ℕ
 row_ends x = action_ends (behind 4 x)
 
 -- so many rows, whose priorities are their places from 1, and the state behind them
-abbrev pub rows_from : ℕ → ℕ → List Row × ℕ
-rows_from zero x = ([], x)
-rows_from (suc k) x =
-    let before = rows_from k x in
+abbrev pub rows_drawn : ℕ → ℕ → List Row × ℕ
+rows_drawn zero x = ([], x)
+rows_drawn (suc k) x =
+    let before = rows_drawn k x in
     (before.0 ++ row_at (k + 1) before.1 ∷ [], row_ends before.1)
 
 -- ---- the schedule
@@ -107,8 +107,8 @@ abbrev pub address_at : ℕ → ℕ
 address_at x = address 10 (below 4 (behind 1 x)) (below 256 (behind 2 x)) (below 256 (behind 3 x))
 
 -- the header that is drawn from the state x
-abbrev pub header_at : ℕ → Header
-header_at x = header_of (record {
+abbrev pub header_drawn : ℕ → Header
+header_drawn x = header_of (record {
   src = address_at x;
   dst = address_at (behind 3 x);
   sport = 1024 + below 30000 (behind 7 x);
@@ -117,12 +117,12 @@ header_at x = header_of (record {
 })
 
 -- the switch is drawn before the header
-abbrev pub packet_at : ℕ → Step
-packet_at x = step.Packet (below 8 (next x)) (header_at (next x))
+abbrev pub packet_drawn : ℕ → Step
+packet_drawn x = step.Packet (below 8 (next_drawn x)) (header_drawn (next_drawn x))
 
 -- a packet at a switch, which then goes its way, and what was sent is delivered
 abbrev pub group_at : ℕ → List Event
-group_at x = One (packet_at x) ∷ Drain ∷ Flush ∷ []
+group_at x = One (packet_drawn x) ∷ Drain ∷ Flush ∷ []
 
 -- so many groups, and the state behind them
 abbrev pub groups_from : ℕ → ℕ → List Event × ℕ
@@ -132,8 +132,8 @@ groups_from (suc k) x =
     (before.0 ++ group_at before.1, behind 9 before.1)
 
 -- the second policy becomes the newest, and then the link n0-n1 fails
-abbrev pub changes : List Event
-changes = One (step.Update 2) ∷ Flush ∷ One (step.LinkDown 0 1) ∷ Flush ∷ []
+abbrev pub change_events : List Event
+change_events = One (step.Update 2) ∷ Flush ∷ One (step.LinkDown 0 1) ∷ Flush ∷ []
 
 -- ---- the case
 
@@ -145,14 +145,14 @@ pub record LoadCase : Type 0 where
 -- two policies of n rows, and 4 n packets, with the changes behind the first half of them
 abbrev pub load_case : ℕ → LoadCase
 load_case n =
-    let first = rows_from n n in
-    let second = rows_from n first.1 in
+    let first = rows_drawn n n in
+    let second = rows_drawn n first.1 in
     let early = groups_from (2 * n) second.1 in
     let late = groups_from (2 * n) early.1 in
     record {
       net = load_net;
       policies = first.0 ∷ second.0 ∷ [];
-      events = early.0 ++ changes ++ late.0;
+      events = early.0 ++ change_events ++ late.0;
     }
 
 -- the case that was made

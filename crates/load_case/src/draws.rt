@@ -1,5 +1,5 @@
 ghost use Rattle.std.specs.Prelude.{◌≡◌, ◌≤◌, ◌<◌, ◌+◌, ◌*◌, ◌^◌};
-ghost use Rattle.load_case.specs.Case.{address, below, next};
+ghost use Rattle.load_case.specs.Case.{address, below, next_drawn};
 
 /// A linear congruential generator, with its state.
 #[derive(Clone, Copy)]
@@ -9,10 +9,10 @@ pub struct Draws {
 
 impl Draws {
     /// The next number below `limit`.
-    #[tactic(auto, unfolding(crate::specs::Case::next))]
+    #[tactic(auto, unfolding(crate::specs::Case::next_drawn))]
     pub fn below(&mut self, limit: u32) -> u32
         requires { 0 < limit }
-        ensures state { self.new.state ≡ next self.old.state }
+        ensures state { self.new.state ≡ next_drawn self.old.state }
         ensures drawn { result ≡ below limit self.new.state }
         ensures below { result < limit }
     {

@@ -1,5 +1,5 @@
 ghost use Rattle.std.specs.Prelude.{◌≡◌, ◌<◌, IfOk};
-ghost use Rattle.load_case.specs.Case.{load_links, load_net, switch_of};
+ghost use Rattle.load_case.specs.Case.{load_links, load_net, switch_row};
 ghost use Rattle.net_file.specs.Net.{IsNet};
 
 use net_file::{LinkRow, Links, Name, Net, SwitchRow, Switches};
@@ -37,7 +37,7 @@ fn ring(alloc: Global) -> Result<Net, AllocError>
 // The switch of this number, which has the port of its number.
 fn switch(alloc: Global, i: u32) -> Result<SwitchRow, AllocError>
     requires { i < 8 }
-    ensures { IfOk result (λ row. row ≡ switch_of i) }
+    ensures { IfOk result (λ row. row ≡ switch_row i) }
 {
     let bytes = [b'n', b'0' + i as u8];
     let is_authority = i == 1 || i == 5;

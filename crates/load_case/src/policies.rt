@@ -1,5 +1,5 @@
 ghost use Rattle.std.specs.Prelude.{◌≡◌, ◌≤◌, IfOk};
-ghost use Rattle.load_case.specs.Case.{action_at, action_ends, row_at, row_ends, rows_from};
+ghost use Rattle.load_case.specs.Case.{action_at, action_ends, row_at, row_ends, rows_drawn};
 ghost use Rattle.policy_rules.specs.Policy.{IsPolicy};
 
 use crate::draws::{Draws, address};
@@ -13,8 +13,8 @@ use std::alloc::{AllocError, Global};
 /// Want of memory alone.
 pub fn policy(alloc: Global, draws: &mut Draws, rows: u32) -> Result<Policy, AllocError>
     ensures drawn { IfOk result (λ policy.
-        (policy ≡ (rows_from rows draws.old.state).0)
-        × (draws.new.state ≡ (rows_from rows draws.old.state).1)) }
+        (policy ≡ (rows_drawn rows draws.old.state).0)
+        × (draws.new.state ≡ (rows_drawn rows draws.old.state).1)) }
     ensures sound { IfOk result IsPolicy }
 {
     let rows = draw_rows(alloc, draws, rows)?;
@@ -28,8 +28,8 @@ pub fn policy(alloc: Global, draws: &mut Draws, rows: u32) -> Result<Policy, All
 #[tactic(auto, using(crate::proofs::Cases::rows_more))]
 fn draw_rows(alloc: Global, draws: &mut Draws, count: u32) -> Result<Vec<Row>, AllocError>
     ensures { IfOk result (λ rows.
-        (rows.items ≡ (rows_from count draws.old.state).0)
-        × (draws.new.state ≡ (rows_from count draws.old.state).1)) }
+        (rows.items ≡ (rows_drawn count draws.old.state).0)
+        × (draws.new.state ≡ (rows_drawn count draws.old.state).1)) }
 {
     let mut rows = Vec::new(alloc);
     for k in 0..count {

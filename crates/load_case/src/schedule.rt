@@ -1,5 +1,5 @@
 ghost use Rattle.std.specs.Prelude.{◌≡◌, ◌++◌, ◌<◌, ◌^◌, IfOk, OnOk};
-ghost use Rattle.load_case.specs.Case.{address_at, behind, changes, groups_from, header_at, packet_at};
+ghost use Rattle.load_case.specs.Case.{address_at, behind, change_events, groups_from, header_drawn, packet_drawn};
 
 use crate::draws::{Draws, address};
 use five_tuple::{Fields, Header};
@@ -13,7 +13,7 @@ use steps::{Event, Step};
 pub fn events(alloc: Global, draws: &mut Draws, half: u32) -> Result<Vec<Event>, AllocError>
     ensures { IfOk result (λ events.
         let early = groups_from half draws.old.state in
-        events.items ≡ early.0 ++ changes ++ (groups_from half early.1).0) }
+        events.items ≡ early.0 ++ change_events ++ (groups_from half early.1).0) }
 {
     let mut events = Vec::new(alloc);
     push_groups(&mut events, draws, half)?;
@@ -42,7 +42,7 @@ fn push_groups(events: &mut Vec<Event>, draws: &mut Draws, count: u32) -> Result
 }
 
 fn draw_packet(draws: &mut Draws) -> Step
-    ensures packet { result ≡ packet_at draws.old.state }
+    ensures packet { result ≡ packet_drawn draws.old.state }
     ensures state { draws.new.state ≡ behind 9 draws.old.state }
 {
     let switch = draws.below(8);
@@ -51,7 +51,7 @@ fn draw_packet(draws: &mut Draws) -> Step
 }
 
 fn draw_header(draws: &mut Draws) -> Header
-    ensures header { result ≡ header_at draws.old.state }
+    ensures header { result ≡ header_drawn draws.old.state }
     ensures state { draws.new.state ≡ behind 8 draws.old.state }
 {
     let src = draw_address(draws);

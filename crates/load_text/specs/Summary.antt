@@ -20,8 +20,8 @@ is_closed (item.Closed packet switch) = true
 is_closed _ = false
 
 -- a packet that came in, or was refused at a switch that didn't serve
-abbrev pub is_packet : Item → Bool
-is_packet item = is_entered item || is_closed item
+abbrev pub is_packet_item : Item → Bool
+is_packet_item item = is_entered item || is_closed item
 
 abbrev pub is_left : Item → Bool
 is_left (item.Left packet port leaving) = true
@@ -57,7 +57,7 @@ is_sent _ = false
 -- how many items of each kind there are, and the marks at the end
 abbrev pub counts_of : List Item → Counts
 counts_of journal = record {
-  packets = count_of is_packet journal;
+  packets = count_of is_packet_item journal;
   entered = count_of is_entered journal;
   closed = count_of is_closed journal;
   left = count_of is_left journal;
@@ -94,9 +94,9 @@ summary_of journal = summary_by (counts_of journal)
 abbrev pub one_more : Bool → ℕ → ℕ
 one_more counts n = if counts then n + 1 else n
 
-abbrev pub counted : Counts → Item → Counts
-counted c item = record {
-  packets = one_more (is_packet item) c.packets;
+abbrev pub counted_with : Counts → Item → Counts
+counted_with c item = record {
+  packets = one_more (is_packet_item item) c.packets;
   entered = one_more (is_entered item) c.entered;
   closed = one_more (is_closed item) c.closed;
   left = one_more (is_left item) c.left;
@@ -110,7 +110,7 @@ counted c item = record {
 }
 
 -- no count is at its type's end
-pub record HasRoom (c : Counts) : Type 0 where
+pub record CountsHaveRoom (c : Counts) : Type 0 where
   pub packets : c.packets + 1 < 2 ^ 64
   pub entered : c.entered + 1 < 2 ^ 64
   pub closed : c.closed + 1 < 2 ^ 64

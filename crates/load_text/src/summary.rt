@@ -1,5 +1,5 @@
 ghost use Rattle.std.specs.Prelude.{◌≡◌};
-ghost use Rattle.load_text.specs.Summary.{HasRoom, counted, counts_of, summary_by, summary_of};
+ghost use Rattle.load_text.specs.Summary.{CountsHaveRoom, counted_with, counts_of, summary_by, summary_of};
 
 use journal::{How, Item, Journal};
 
@@ -76,8 +76,8 @@ fn count(items: &[Item]) -> Counts
 impl Counts {
     // Counts one more item.
     fn note(&mut self, item: &Item)
-        requires { HasRoom self.old }
-        ensures { self.new ≡ counted self.old item.now }
+        requires { CountsHaveRoom self.old }
+        ensures { self.new ≡ counted_with self.old item.now }
     {
         match item {
             Item::Entered { .. } => {

@@ -9,7 +9,7 @@ use Rattle.net_file.specs.Owners.{AreOwners}
 use Rattle.net_file.specs.declared.ports.Ports.{Ports}
 use Rattle.journal.specs.declared.item.Item.{Item}
 use Rattle.journal.specs.declared.item.Item.TheVariants as item
-use Rattle.switch_core.specs.Deciding.{by_rule, cache_rule, no_rule, rule_in}
+use Rattle.switch_core.specs.Deciding.{by_rule, rule_for_cache, no_rule, rule_in}
 use Rattle.switch_core.specs.Ends.{around, next_of}
 use Rattle.switch_core.specs.State.{SwitchValue}
 use Rattle.switch_core.specs.declared.answers.Decision.{Decision}
@@ -62,7 +62,7 @@ IsOwnRule found = slice_get found.part.rules found.place ≡ Some found.rule
 -- the message of the switch's answer
 abbrev pub told_by_rule : ℕ → Packet → AuthorityRule → Option Message
 told_by_rule s packet found =
-    cache_message packet.ingress (cache_rule s packet found.version found.part found.place)
+    cache_message packet.ingress (rule_for_cache s packet found.version found.part found.place)
 
 -- a rule of this place is what the switch finds there
 own_rule : (found : AuthorityRule) → IsOwnRule found
@@ -76,7 +76,7 @@ pub told_is : (s : ℕ) (packet : Packet) (found : AuthorityRule) → IsOwnRule 
       | true ↦ None
       | false ↦ Some (rule_message found packet.ingress packet.header)
     ]
-unfolding cache_rule
+unfolding rule_for_cache
 told_is s packet found own true here = rw here refl
 told_is s packet found own false other =
     rw (other, own_rule found own) refl

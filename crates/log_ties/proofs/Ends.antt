@@ -22,7 +22,7 @@ use Rattle.update_machine.specs.Packets.{decision_of, header_in}
 use Rattle.update_machine.specs.Setting.{Setting}
 use Rattle.update_machine.specs.Ways.{found_down, no_switch, owner}
 use Rattle.update_machine.proofs.CallerLemmas.{known_link_laws}
-use Rattle.world_log.specs.Writing.{end_of, leaves}
+use Rattle.world_log.specs.Writing.{end_item, left_item}
 use Rattle.travelling.specs.Travelling.{Standing}
 use Rattle.log_ties.proofs.Legs.{at_switch, leg_law, set_item}
 use Rattle.log_ties.proofs.Seeing.{Sees}
@@ -40,7 +40,7 @@ pub record IsDecided (journal : List Item) (packet : Packet) (decision : Decided
 
 exit_item : (at : Standing) (decision : Decided) (port : ℕ) (way : Result TunnelValue Cause)
     → decision.action ≡ action.Out port
-    → set_item at (Exit port) way ≡ end_of at decision (exit_by way)
+    → set_item at (Exit port) way ≡ end_item at decision (exit_by way)
 exit_item at decision port (Ok tunnel) is = refl
 exit_item at decision port (Err cause) is = rw is refl
 
@@ -50,20 +50,20 @@ out_law : (setting : Setting) (journal : List Item) (s : ℕ) (w : SwitchValue) 
     → IsDecided journal packet decision → (port its : ℕ) → decision.action ≡ action.Out port
     → owner setting port ≡ its → (b : Bool) → (its == s) ≡ b
     → end_items setting packet.number s (action.Out port) journal
-    ≡ end_of (at_switch s packet) decision (leave_by w mask packet port (Some its)) ∷ []
+    ≡ end_item (at_switch s packet) decision (leave_by w mask packet port (Some its)) ∷ []
 unfolding end_items leave_by
 out_law setting journal s w mask sees packet decision said port its acts owns true here =
     let at : Standing = at_switch s packet in
     let i : ℕ = packet.number in
     let way : Result TunnelValue Cause = set_out w mask packet (Exit port) (its ∷ []) in
-    let out : left journal i port ≡ leaves at decision.version decision.rule port =
+    let out : left journal i port ≡ left_item at decision.version decision.rule port =
     rw (said.entered, said.decided) refl in
     ap (λ b. elim b [
       | true ↦ left journal i port ∷ []
       | false ↦ leg_items setting journal i s (Exit port)
     ]) (ap (λ o. o == s) owns ∙ here)
     ∙ ap (λ one. one ∷ []) out
-    ∙ sym (ap (λ b. end_of at decision (if b then next.Out port else exit_by way) ∷ [])
+    ∙ sym (ap (λ b. end_item at decision (if b then next.Out port else exit_by way) ∷ [])
     (ap (λ n. its == n) sees.number ∙ here))
 out_law setting journal s w mask sees packet decision said port its acts owns false here =
     let at : Standing = at_switch s packet in
@@ -76,7 +76,7 @@ out_law setting journal s w mask sees packet decision said port its acts owns fa
     ∙ leg_law setting journal s w mask sees packet said.found (Exit port)
     ∙ ap (λ o. set_item at (Exit port) (set_out w mask packet (Exit port) (o ∷ [])) ∷ []) owns
     ∙ ap (λ one. one ∷ []) (exit_item at decision port way acts)
-    ∙ sym (ap (λ b. end_of at decision (if b then next.Out port else exit_by way) ∷ [])
+    ∙ sym (ap (λ b. end_item at decision (if b then next.Out port else exit_by way) ∷ [])
     (ap (λ n. its == n) sees.number ∙ here))
 
 -- a port that no switch has
@@ -85,7 +85,7 @@ portless_law : (setting : Setting) (journal : List Item) (s : ℕ) (w : SwitchVa
     → (port : ℕ) → decision.action ≡ action.Out port
     → owner_of setting.net.switches port ≡ None
     → end_items setting packet.number s (action.Out port) journal
-    ≡ end_of (at_switch s packet) decision (leave_by w mask packet port None) ∷ []
+    ≡ end_item (at_switch s packet) decision (leave_by w mask packet port None) ∷ []
 unfolding leave_by
 portless_law setting journal s w mask there packet decision said port acts none =
     let i : ℕ = packet.number in
@@ -99,7 +99,7 @@ pub end_law : (setting : Setting) (journal : List Item) (s : ℕ) (w : SwitchVal
     → (packet : Packet) (decision : Decided) → IsDecided journal packet decision
     → (what : Action) → decision.action ≡ what
     → end_items setting packet.number s what journal
-    ≡ end_of (at_switch s packet) decision (next_of w (around mask ports) packet what) ∷ []
+    ≡ end_item (at_switch s packet) decision (next_of w (around mask ports) packet what) ∷ []
 unfolding end_items next_of
 end_law setting journal s w mask sees there ports owners packet decision said action.Drop acts =
     refl
@@ -107,7 +107,7 @@ end_law setting journal s w mask sees there ports owners packet decision said (a
     acts = by_owner (owner_of setting.net.switches port) refl
   where
     at_owner : Option ℕ → Item
-    at_owner o = end_of (at_switch s packet) decision (leave_by w mask packet port o)
+    at_owner o = end_item (at_switch s packet) decision (leave_by w mask packet port o)
 
     by_owner : (o : Option ℕ) → owner_of setting.net.switches port ≡ o
         → end_items setting packet.number s (action.Out port) journal

@@ -27,7 +27,7 @@ use Rattle.switch_core.specs.declared.answers.Next.TheVariants.{Out}
 use Rattle.switch_core.specs.declared.packet.Packet.{Packet}
 use Rattle.switch_table.specs.declared.search.Found.{Found}
 use Rattle.switch_table.specs.declared.search.Found.TheVariants as found
-use Rattle.tunnel.specs.Moves.{begun}
+use Rattle.tunnel.specs.Moves.{tunnel_begun}
 use Rattle.tunnel.specs.Tunnel.{TunnelValue}
 use Rattle.update_machine.specs.Caches.{lookup_at}
 use Rattle.update_machine.specs.Marks.{retired_mark}
@@ -36,7 +36,7 @@ use Rattle.update_machine.specs.Ways.{no_switch, owner, targets_of}
 use Rattle.update_machine.specs.Setting.{Setting}
 use Rattle.update_machine.specs.Versions.{stamp_of, tables_at}
 use Rattle.way_laws.specs.OnWay.{IsUnknown}
-use Rattle.way_laws.specs.Words.{PacketWords, told_by}
+use Rattle.way_laws.specs.Words.{PacketWords, words_after}
 use Rattle.way_laws.proofs.Lookups.{FindsTargets, IsStamped, redirect_told, stamped}
 use Rattle.world_log.specs.Writing.{answer_items, answer_traveller, cache_message, entered_items, entered_traveller, messages_in}
 use Rattle.travelling.specs.Travelling.{Standing}
@@ -53,7 +53,7 @@ exit_goes : (setting : Setting) (journal : List Item) (s : SwitchValue) (near : 
     (decision : Decision) (cause : Cause) (route : Option (List ℕ))
     → decision.action ≡ action.Out port → owner setting port ≡ its
     → GoesOn (targets_of setting journal) (at_switch at packet) packet.ingress decision
-    (exit_by (ok_or (option_map (λ way. begun packet.number packet.header packet.ingress
+    (exit_by (ok_or (option_map (λ way. tunnel_begun packet.number packet.header packet.ingress
     (Exit port) (its ∷ []) way packet.down) route) cause))
 exit_goes setting journal s near packet at port its decision cause None acts owns = tt
 exit_goes setting journal s near packet at port its decision cause (Some route) acts owns = (
@@ -61,7 +61,7 @@ exit_goes setting journal s near packet at port its decision cause (Some route) 
   acts,
   record {
     route = route;
-    is = ap (λ o. begun packet.number packet.header packet.ingress (Exit port) (o ∷ []) route
+    is = ap (λ o. tunnel_begun packet.number packet.header packet.ingress (Exit port) (o ∷ []) route
         packet.down) (sym owns);
   },
 )
@@ -106,7 +106,7 @@ pub record IsWay (targets : Targets) (at : Standing) (tunnel : TunnelValue) : Ty
   pub version : ℕ
   pub partition : ℕ
   pub route : List ℕ
-  pub is : tunnel ≡ begun at.packet at.header at.ingress (Seek version partition)
+  pub is : tunnel ≡ tunnel_begun at.packet at.header at.ingress (Seek version partition)
       (targets (Seek version partition)) route at.down
 
 abbrev pub IsComing : Targets → Standing → Answer → Type 0
@@ -118,14 +118,14 @@ IsComing targets at (answer.Stuck cause leg) = ⊤
 seek_goes : (targets : Targets) (packet : Packet) (s version partition : ℕ) (to : List ℕ)
     (cause : Cause) (route : Option (List ℕ)) → targets (Seek version partition) ≡ to
     → IsComing targets (at_switch s packet) (seek_by (Seek version partition)
-    (ok_or (option_map (λ way. begun packet.number packet.header packet.ingress
+    (ok_or (option_map (λ way. tunnel_begun packet.number packet.header packet.ingress
     (Seek version partition) to way packet.down) route) cause))
 seek_goes targets packet s version partition to cause None is = tt
 seek_goes targets packet s version partition to cause (Some route) is = record {
   version = version;
   partition = partition;
   route = route;
-  is = ap (λ t. begun packet.number packet.header packet.ingress (Seek version partition) t route
+  is = ap (λ t. tunnel_begun packet.number packet.header packet.ingress (Seek version partition) t route
       packet.down) (sym is);
 }
 
@@ -189,7 +189,7 @@ pub record AreOfWords (version : ℕ) (rule : Option ℕ) (words : PacketWords) 
 
 by_way : (targets : Targets) (before : List Item) (number : ℕ) (at : Standing)
     (version partition : ℕ) (route : List ℕ) (words : PacketWords) → IsSeen at at.ingress words
-    → (let tunnel : TunnelValue = begun at.packet at.header at.ingress (Seek version partition)
+    → (let tunnel : TunnelValue = tunnel_begun at.packet at.header at.ingress (Seek version partition)
     (targets (Seek version partition)) route at.down in
     answer_traveller (unwrap_or (option_map (λ decision. decision.version) words.decision) 0)
     (unwrap_or (option_map (λ decision. decision.rule) words.decision) None) (answer.Seek tunnel)
@@ -241,11 +241,11 @@ entered_goes targets before number at entered.Closed words unknown unmarked come
 entered_goes targets before number at (entered.Answered what) words unknown unmarked comes =
     let own : (at.packet == at.packet) ≡ true = eq-eqb _ _ refl in
     let came : Item = item.Entered at.packet at.switch at.header in
-    let seen : PacketWords = told_by (retired_mark before) came words in
+    let seen : PacketWords = words_after (retired_mark before) came words in
     let P : Bool → Type 0 = λ b. answer_traveller 0 None what
     ≡ traveller_by targets at.packet (words_along at.packet (before ++ came ∷ [])
     (answer_items number at what)
-    (if b then told_by (retired_mark before) came words else words)) in
+    (if b then words_after (retired_mark before) came words else words)) in
     subst P (sym own)
     (answer_goes targets (before ++ came ∷ []) number at 0 None what seen
     (record { on = refl; header = refl; came = ap Some (sym comes.0); found = unmarked })

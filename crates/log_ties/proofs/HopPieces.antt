@@ -8,7 +8,7 @@ use Rattle.net_file.specs.declared.ports.Ports.{Ports}
 use Rattle.steps.specs.declared.step.Step.TheVariants.{Hop}
 use Rattle.switch_core.specs.Ends.{around}
 use Rattle.switch_core.specs.Answering.{arrived}
-use Rattle.switch_core.specs.Moving.{found_down, hopped}
+use Rattle.switch_core.specs.Moving.{link_found_down, hopped}
 use Rattle.switch_core.specs.State.{SwitchValue, counted}
 use Rattle.switch_core.specs.declared.answers.HopEnd.{HopEnd}
 use Rattle.switch_core.specs.declared.answers.HopEnd.TheVariants as hop
@@ -30,7 +30,7 @@ use Rattle.update_machine.specs.Travels.{is_at, travels, travels_at}
 use Rattle.update_machine.specs.Ways.{targets_of}
 use Rattle.way_laws.specs.Words.{PacketWords, words_of}
 use Rattle.way_laws.proofs.Words.{words_grow}
-use Rattle.world_log.specs.Packets.{arrival_items, ended_items, ended_switch, hop_items, hop_traveller, hopped_traveller, turned_items}
+use Rattle.world_log.specs.Packets.{arrival_items, ended_items, ended_switch, hop_written, hop_traveller, hopped_traveller, turned_items}
 use Rattle.travelling.specs.Travelling.{standing_at}
 use Rattle.world_log.proofs.Hopping.{hopped_same}
 use Rattle.travelling.specs.declared.travelling.Traveller.{Traveller}
@@ -56,7 +56,7 @@ same_words journal row i q = words_grow q journal (item.Row row (Hop i))
 pub hop_piece : (setting : Setting) (journal : List Item) (row i : ℕ) (t : Traveller) (s near : ℕ)
     (w : SwitchValue) (ports : Ports) → CanAsk setting journal i t s near w ports
     → piece setting journal row (Hop i)
-    ≡ item.Row row (Hop i) ∷ hop_items (next_message journal) w near ports t
+    ≡ item.Row row (Hop i) ∷ hop_written (next_message journal) w near ports t
 unfolding piece hop_items_of words_of
 hop_piece setting journal row i t s near w ports can =
     let new : List Item = begun journal row i in
@@ -71,7 +71,7 @@ hop_piece setting journal row i t s near w ports can =
     ∙ ap (λ items. item.Row row (Hop i) ∷ items)
     (hop_law setting journal row i standing.place standing.header standing.ingress standing.leg w
     near ports can.hops
-    ∙ ap (hop_items (next_message journal) w near ports) (sym standing.is))
+    ∙ ap (hop_written (next_message journal) w near ports) (sym standing.is))
 
 -- a packet that doesn't travel
 pub left_piece : (setting : Setting) (journal : List Item) (row i : ℕ) → travels journal i ≡ false
@@ -102,9 +102,9 @@ ended_later number w near ports t (hop.Move other) = (tt, tt)
 ended_later number w near ports t (hop.Stuck cause) = (tt, tt)
 
 pub hop_later : (number : ℕ) (w : SwitchValue) (near : ℕ) (ports : Ports) (t : Traveller)
-    → AreInStep (hop_items number w near ports t)
+    → AreInStep (hop_written number w near ports t)
 hop_later number w near ports t =
-    turned_later t.tunnel.packet w.number (found_down near (next t.tunnel))
+    turned_later t.tunnel.packet w.number (link_found_down near (next t.tunnel))
     (hopped w near t.tunnel).end (hopped w near t.tunnel).tunnel.route _
     (ended_later number (counted w) near ports (hopped_traveller w near t)
     (hopped w near t.tunnel).end)
@@ -158,13 +158,13 @@ ended_other q number w near ports t (hop.Move two) other = (other, tt)
 ended_other q number w near ports t (hop.Stuck cause) other = (other, tt)
 
 pub hop_other : (q number : ℕ) (w : SwitchValue) (near : ℕ) (ports : Ports) (t : Traveller)
-    → (t.tunnel.packet == q) ≡ false → NoneName q (hop_items number w near ports t)
+    → (t.tunnel.packet == q) ≡ false → NoneName q (hop_written number w near ports t)
 hop_other q number w near ports t other =
     let m = hopped w near t.tunnel in
     none_more q
-    (turned_items t.tunnel.packet w.number (found_down near (next t.tunnel)) m.end m.tunnel.route)
+    (turned_items t.tunnel.packet w.number (link_found_down near (next t.tunnel)) m.end m.tunnel.route)
     (ended_items number (counted w) near ports (hopped_traveller w near t) m.end)
-    (turned_other q t.tunnel.packet w.number (found_down near (next t.tunnel)) m.end
+    (turned_other q t.tunnel.packet w.number (link_found_down near (next t.tunnel)) m.end
     m.tunnel.route other)
     (ended_other q number (counted w) near ports (hopped_traveller w near t) m.end
     (ap (λ k. k == q) (hopped_same w near t.tunnel).packet ∙ other))
@@ -177,7 +177,7 @@ module _ (setting : Setting) (journal : List Item) (row i : ℕ) (t : Traveller)
   number = next_message journal
 
   abbrev items : List Item
-  items = hop_items number w near ports t
+  items = hop_written number w near ports t
 
   abbrev all : List Item
   all = item.Row row (Hop i) ∷ items
@@ -190,16 +190,16 @@ module _ (setting : Setting) (journal : List Item) (row i : ℕ) (t : Traveller)
   hop_own =
       let standing : IsStanding setting journal i t = can.standing in
       subst (λ (u : Traveller). hop_traveller w near ports u ≡ traveller_in setting
-      (journal ++ item.Row row (Hop i) ∷ hop_items number w near ports u) i) (sym standing.is)
+      (journal ++ item.Row row (Hop i) ∷ hop_written number w near ports u) i) (sym standing.is)
       (hop_goes setting journal row i standing.place standing.header standing.ingress standing.leg
       w near ports can.hops
       ∙ sym (traveller_along setting journal
-      (item.Row row (Hop i) ∷ hop_items number w near ports
+      (item.Row row (Hop i) ∷ hop_written number w near ports
       (on_leg (targets_of setting journal) i (words_of journal i) standing.header
       standing.ingress standing.leg)) i (
         refl,
         apart_policies number (begun journal row i)
-            (hop_items number w near ports (on_leg (targets_of setting journal) i
+            (hop_written number w near ports (on_leg (targets_of setting journal) i
             (words_of journal i) standing.header standing.ingress standing.leg))
             (hop_sends number w near ports (on_leg (targets_of setting journal) i
             (words_of journal i) standing.header standing.ingress standing.leg)).0,
@@ -208,7 +208,7 @@ module _ (setting : Setting) (journal : List Item) (row i : ℕ) (t : Traveller)
   stays : stays_on_way items ≡ stays_by end
   stays =
       let standing : IsStanding setting journal i t = can.standing in
-      subst (λ (u : Traveller). stays_on_way (hop_items number w near ports u)
+      subst (λ (u : Traveller). stays_on_way (hop_written number w near ports u)
       ≡ stays_by (hopped w near u.tunnel).end) (sym standing.is)
       (hop_stays setting journal row i standing.place standing.header standing.ingress standing.leg
       w near ports can.hops)

@@ -11,7 +11,7 @@ use Rattle.journal.specs.declared.item.Item.{Item}
 use Rattle.journal.specs.declared.item.Item.TheVariants as item
 use Rattle.switch_core.specs.Answering.{arrived}
 use Rattle.switch_core.specs.Ends.{around}
-use Rattle.switch_core.specs.Moving.{found_down, hopped}
+use Rattle.switch_core.specs.Moving.{link_found_down, hopped}
 use Rattle.switch_core.specs.State.{SwitchValue, counted}
 use Rattle.switch_core.specs.declared.answers.Answer.{Answer}
 use Rattle.switch_core.specs.declared.answers.Answer.TheVariants as answer
@@ -31,9 +31,9 @@ use Rattle.update_machine.specs.Messages.{sent_from}
 use Rattle.update_machine.specs.Moves.{takes_route}
 use Rattle.update_machine.specs.Packets.{is_packet}
 use Rattle.switch_ties.specs.Calls.{AreInStep, IsInStep}
-use Rattle.world_log.specs.Packets.{arrival_items, arrival_posts, ended_items, ended_posts, hop_items, hop_posts, hopped_traveller, turned_items}
+use Rattle.world_log.specs.Packets.{arrival_items, arrival_posts, ended_items, ended_posts, hop_written, hop_posts, hopped_traveller, turned_items}
 use Rattle.travelling.specs.Travelling.{standing_at}
-use Rattle.world_log.specs.Writing.{answer_items, answer_posts, arrived_items, arrived_posts, cache_message, decided_items, end_of, entered_items, entered_posts, messages_in}
+use Rattle.world_log.specs.Writing.{answer_items, answer_posts, arrived_items, arrived_posts, cache_message, decided_items, end_item, entered_items, entered_posts, messages_in}
 use Rattle.travelling.specs.Travelling.{Standing}
 use Rattle.travelling.specs.declared.travelling.Traveller.{Traveller}
 use Rattle.log_ties.proofs.Posting.{SendFrom, posts_in}
@@ -57,7 +57,7 @@ route_later i (Seek version partition) route = tt
 route_later i (Exit port) route = tt
 
 pub end_later : (at : Standing) (decision : Decision) (onward : Next)
-    → IsInStep (end_of at decision onward)
+    → IsInStep (end_item at decision onward)
 end_later at decision next.Dropped = tt
 end_later at decision (next.Out port) = tt
 end_later at decision (next.Exit tunnel) = route_later at.packet tunnel.leg tunnel.route
@@ -93,7 +93,7 @@ route_still i (Seek version partition) route = refl
 route_still i (Exit port) route = refl
 
 end_still : (at : Standing) (decision : Decision) (onward : Next)
-    → stays_on_way (end_of at decision onward ∷ []) ≡ false
+    → stays_on_way (end_item at decision onward ∷ []) ≡ false
 end_still at decision next.Dropped = refl
 end_still at decision (next.Out port) = refl
 end_still at decision (next.Exit tunnel) = route_still at.packet tunnel.leg tunnel.route
@@ -127,7 +127,7 @@ route_sends number i (Seek version partition) route = (tt, refl)
 route_sends number i (Exit port) route = (tt, refl)
 
 end_sends : (number : ℕ) (at : Standing) (decision : Decision) (onward : Next)
-    → SendNone number (end_of at decision onward ∷ [])
+    → SendNone number (end_item at decision onward ∷ [])
 end_sends number at decision next.Dropped = (tt, refl)
 end_sends number at decision (next.Out port) = (tt, refl)
 end_sends number at decision (next.Exit tunnel) =
@@ -187,10 +187,10 @@ ended_sends number switch near ports t (hop.Move other) = (tt, refl)
 ended_sends number switch near ports t (hop.Stuck cause) = (tt, refl)
 
 pub hop_sends : (number : ℕ) (switch : SwitchValue) (near : ℕ) (ports : Ports) (t : Traveller)
-    → SendFrom number (hop_items number switch near ports t)
-    × (posts_in (hop_items number switch near ports t) ≡ hop_posts switch near ports t)
+    → SendFrom number (hop_written number switch near ports t)
+    × (posts_in (hop_written number switch near ports t) ≡ hop_posts switch near ports t)
 hop_sends number switch near ports t =
-    turned_sends number t.tunnel.packet switch.number (found_down near (next_switch t.tunnel))
+    turned_sends number t.tunnel.packet switch.number (link_found_down near (next_switch t.tunnel))
     (hopped switch near t.tunnel).end (hopped switch near t.tunnel).tunnel.route _ _
     (ended_sends number (counted switch) near ports (hopped_traveller switch near t)
     (hopped switch near t.tunnel).end)

@@ -14,7 +14,7 @@ use Rattle.journal.specs.declared.item.Item.TheVariants as item
 use Rattle.switch_core.specs.Ends.{are_isolated, cause_of, set_out}
 use Rattle.switch_core.specs.State.{SwitchValue}
 use Rattle.switch_core.specs.declared.packet.Packet.{Packet}
-use Rattle.tunnel.specs.Moves.{begun}
+use Rattle.tunnel.specs.Moves.{tunnel_begun}
 use Rattle.tunnel.specs.Tunnel.{TunnelValue}
 use Rattle.update_machine.specs.Adverts.{is_cut_off, route_from}
 use Rattle.update_machine.specs.Moves.{cause_at, leg_items, takes_route}
@@ -65,7 +65,7 @@ by_route : (s : ℕ) (packet : Packet) (leg : Leg) (targets : List ℕ) (cause :
       | Some way ↦ takes_route packet.number leg way ∷ []
     ]
     ≡ set_item (at_switch s packet) leg (ok_or (option_map (λ way.
-    begun packet.number packet.header packet.ingress leg targets way packet.down) route) cause)
+    tunnel_begun packet.number packet.header packet.ingress leg targets way packet.down) route) cause)
     ∷ []
 by_route s packet leg targets cause None = refl
 by_route s packet leg targets cause (Some route) = refl

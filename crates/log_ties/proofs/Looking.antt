@@ -14,7 +14,7 @@ use Rattle.policy_rules.specs.declared.rules.Rule.{Rule}
 use Rattle.journal.specs.declared.item.Item.{Item}
 use Rattle.journal.specs.declared.item.Item.TheVariants as item
 use Rattle.switch_core.specs.Answering.{answer_by, decided_at, looked_up, seek_by}
-use Rattle.switch_core.specs.Deciding.{by_entry, by_rule, cache_rule, no_rule, part_numbered, rule_in}
+use Rattle.switch_core.specs.Deciding.{by_entry, by_rule, rule_for_cache, no_rule, part_numbered, rule_in}
 use Rattle.switch_core.specs.Ends.{Site, around, next_of, set_out}
 use Rattle.switch_core.specs.State.{SwitchValue, stamp_tables}
 use Rattle.switch_core.specs.declared.answers.Answer.TheVariants.{Decided}
@@ -126,7 +126,7 @@ module _ (setting : Setting) (journal : List Item) (s : ℕ) (w : SwitchValue) (
       let part : Partition = part_of ours.placed in
       let items_of : ℕ → Partition → Rule → List Item = λ number part rule.
       answer_items (next_message journal) at (Decided (by_rule number version part.number rule)
-      (cache_rule number packet version part place) (next_of w site packet rule.action)) in
+      (rule_for_cache number packet version part place) (next_of w site packet rule.action)) in
       let own : part_numbered (tables_at setting journal version s) partition ≡ part =
       own_numbered (plan_at setting journal version) s version partition ours.placed
       ours.planned.parts.sound.numbers

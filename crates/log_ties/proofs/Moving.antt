@@ -16,7 +16,7 @@ use Rattle.journal.specs.declared.item.Item.TheVariants as item
 use Rattle.steps.specs.declared.step.Step.TheVariants.{Hop}
 use Rattle.switch_core.specs.Answering.{arrived, arrived_on}
 use Rattle.switch_core.specs.Ends.{around, cause_of}
-use Rattle.switch_core.specs.Moving.{Moved, found_down as found_by, hopped, hopped_to, moved, moved_along, rerouted}
+use Rattle.switch_core.specs.Moving.{Moved, link_found_down as found_by, hopped, hopped_to, moved, moved_along, rerouted_here}
 use Rattle.switch_core.specs.State.{SwitchValue, counted}
 use Rattle.switch_core.specs.declared.answers.Arrived.{Arrived}
 use Rattle.switch_core.specs.declared.answers.HopEnd.{HopEnd}
@@ -46,7 +46,7 @@ use Rattle.way_laws.proofs.Ends.{last_here, one_target}
 use Rattle.way_laws.proofs.Here.{found_in, next_in}
 use Rattle.way_laws.proofs.Kept.{Knows}
 use Rattle.way_laws.proofs.Routes.{IsWay, route_way}
-use Rattle.world_log.specs.Packets.{arrival, arrival_items, ended_items, ended_traveller, hop_items, hop_traveller, turned_items}
+use Rattle.world_log.specs.Packets.{arrival, arrival_items, ended_items, ended_traveller, hop_written, hop_traveller, turned_items}
 use Rattle.travelling.specs.Travelling.{standing_at}
 use Rattle.world_log.specs.Writing.{arrived_items}
 use Rattle.travelling.specs.Travelling.{Standing}
@@ -384,7 +384,7 @@ module _ (setting : Setting) (journal : List Item) (row i place : ℕ) (header :
 
   blocked_is : (two : ℕ) → next t.tunnel ≡ Some two → has mask two ≡ false
       → hopped w mask t.tunnel ≡ moved_along w mask (tunnel_down two) (route_down two leg)
-  unfolding hopped rerouted
+  unfolding hopped rerouted_here
   blocked_is two goes off =
       let along : ℕ → ℕ → Moved = λ n k. moved_along w mask
       (tunnel_on targets i header ingress leg words.route words.hops (with_link words.found n two))
@@ -645,7 +645,7 @@ module _ (setting : Setting) (journal : List Item) (row i place : ℕ) (header :
 
   -- what it writes
   pub hop_law : move_items setting i place (journal ++ item.Row row (Hop i) ∷ [])
-      ≡ hop_items (next_message journal) w mask ports
+      ≡ hop_written (next_message journal) w mask ports
       (on_leg (targets_of setting journal) i (words_of journal i) header ingress leg)
   hop_law = outcome.0
 
@@ -654,13 +654,13 @@ module _ (setting : Setting) (journal : List Item) (row i place : ℕ) (header :
       (on_leg (targets_of setting journal) i (words_of journal i) header ingress leg)
       ≡ traveller_by (targets_of setting journal) i
       (words_along i (journal ++ item.Row row (Hop i) ∷ [])
-      (hop_items (next_message journal) w mask ports
+      (hop_written (next_message journal) w mask ports
       (on_leg (targets_of setting journal) i (words_of journal i) header ingress leg))
       (words_of journal i))
   hop_goes = outcome.1
 
   -- and whether its switch is called once or twice
-  pub hop_stays : stays_on_way (hop_items (next_message journal) w mask ports
+  pub hop_stays : stays_on_way (hop_written (next_message journal) w mask ports
       (on_leg (targets_of setting journal) i (words_of journal i) header ingress leg))
       ≡ stays_by (hopped w mask (on_leg (targets_of setting journal) i (words_of journal i) header
       ingress leg).tunnel).end

@@ -17,8 +17,8 @@ use Rattle.switch_core.specs.declared.answers.Next.TheVariants as next
 use Rattle.update_machine.specs.Marks.{retired_mark}
 use Rattle.update_machine.specs.Messages.{sent_from}
 use Rattle.update_machine.specs.Moves.{takes_route}
-use Rattle.way_laws.specs.Words.{PacketWords, names, told_by}
-use Rattle.world_log.specs.Writing.{answer_items, arrived_items, cache_message, end_of, entered_items, messages_in}
+use Rattle.way_laws.specs.Words.{PacketWords, names, words_after}
+use Rattle.world_log.specs.Writing.{answer_items, arrived_items, cache_message, end_item, entered_items, messages_in}
 use Rattle.travelling.specs.Travelling.{Standing}
 use Rattle.travelling.specs.declared.travelling.Traveller.{Traveller}
 use Rattle.log_ties.proofs.Words.{words_along}
@@ -42,7 +42,7 @@ unnamed_first i before [] items words none =
     ap (λ js. words_along i js items words) (sym (append-nil before))
 unnamed_first i before (one ∷ first) items words none =
     ap (λ b. words_along i (before ++ one ∷ []) (first ++ items)
-    (if b then told_by (retired_mark before) one words else words)) none.0
+    (if b then words_after (retired_mark before) one words else words)) none.0
     ∙ unnamed_first i (before ++ one ∷ []) first items words none.1
     ∙ ap (λ js. words_along i js items words) (append_assoc before (one ∷ []) first)
 
@@ -64,7 +64,7 @@ route_other q i (Seek version partition) route other = other
 route_other q i (Exit port) route other = other
 
 end_other : (q : ℕ) (at : Standing) (decision : Decision) (onward : Next)
-    → (at.packet == q) ≡ false → names q (end_of at decision onward) ≡ false
+    → (at.packet == q) ≡ false → names q (end_item at decision onward) ≡ false
 end_other q at decision next.Dropped other = other
 end_other q at decision (next.Out port) other = other
 end_other q at decision (next.Exit tunnel) other =
@@ -76,7 +76,7 @@ answer_other : (q number : ℕ) (at : Standing) (what : Answer) → (at.packet =
 answer_other q number at (answer.Decided decision cache onward) other = (
   other,
   none_more q (sent_from number (messages_in (cache_message at.ingress cache)))
-      (end_of at decision onward ∷ [])
+      (end_item at decision onward ∷ [])
       (sends_unnamed q number (cache_message at.ingress cache))
       (end_other q at decision onward other, tt),
 )

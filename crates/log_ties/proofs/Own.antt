@@ -8,10 +8,10 @@ use Rattle.journal.specs.declared.item.Item.TheVariants as item
 use Rattle.switch_core.specs.declared.answers.Decision.{Decision}
 use Rattle.switch_core.specs.declared.answers.Next.{Next}
 use Rattle.switch_core.specs.declared.answers.Next.TheVariants as next
-use Rattle.tunnel.specs.Moves.{begun}
+use Rattle.tunnel.specs.Moves.{tunnel_begun}
 use Rattle.tunnel.specs.Tunnel.{TunnelValue}
 use Rattle.way_laws.specs.Words.{PacketWords}
-use Rattle.world_log.specs.Writing.{decided_items, decided_traveller, end_of}
+use Rattle.world_log.specs.Writing.{decided_items, decided_traveller, end_item}
 use Rattle.travelling.specs.Travelling.{Standing}
 use Rattle.log_ties.proofs.Others.{NoneName, unnamed_first}
 use Rattle.log_ties.proofs.Words.{Targets, traveller_by, words_along}
@@ -37,7 +37,7 @@ decided_words decision words = record words {
 pub record IsExit (targets : Targets) (at : Standing) (ingress port : ℕ) (tunnel : TunnelValue)
     : Type 0 where
   pub route : List ℕ
-  pub is : tunnel ≡ begun at.packet at.header ingress (Exit port)
+  pub is : tunnel ≡ tunnel_begun at.packet at.header ingress (Exit port)
       (targets (Exit port)) route at.down
 
 -- what goes on goes by the port of the decision
@@ -50,11 +50,11 @@ GoesOn targets at ingress decision _ = ⊤
 by_port : (targets : Targets) (before : List Item) (at : Standing) (ingress : ℕ)
     (decision : Decision) (route : List ℕ) (port : ℕ) (words : PacketWords)
     → IsSeen at ingress words → decision.action ≡ action.Out port
-    → (let tunnel : TunnelValue = begun at.packet at.header ingress (Exit port)
+    → (let tunnel : TunnelValue = tunnel_begun at.packet at.header ingress (Exit port)
     (targets (Exit port)) route at.down in
     decided_traveller decision (next.Exit tunnel)
     ≡ traveller_by targets at.packet (words_along at.packet before
-    (end_of at decision (next.Exit tunnel) ∷ []) (decided_words decision words)))
+    (end_item at decision (next.Exit tunnel) ∷ []) (decided_words decision words)))
 by_port targets before at ingress decision route port words seen acts =
     let own : (at.packet == at.packet) ≡ true = eq-eqb _ _ refl in
     rw (own, acts, seen.on, seen.header, seen.came, seen.found) refl
@@ -64,7 +64,7 @@ end_goes : (targets : Targets) (before : List Item) (at : Standing) (ingress : �
     → IsSeen at ingress words → GoesOn targets at ingress decision onward
     → decided_traveller decision onward
     ≡ traveller_by targets at.packet (words_along at.packet before
-    (end_of at decision onward ∷ []) (decided_words decision words))
+    (end_item at decision onward ∷ []) (decided_words decision words))
 end_goes targets before at ingress decision next.Dropped words seen goes =
     let own : (at.packet == at.packet) ≡ true = eq-eqb _ _ refl in
     rw own refl
@@ -77,7 +77,7 @@ end_goes targets before at ingress decision (next.Stuck cause) words seen goes =
 end_goes targets before at ingress decision (next.Exit tunnel) words seen goes =
     let P : TunnelValue → Type 0 = λ t. decided_traveller decision (next.Exit t)
     ≡ traveller_by targets at.packet (words_along at.packet before
-    (end_of at decision (next.Exit t) ∷ []) (decided_words decision words)) in
+    (end_item at decision (next.Exit t) ∷ []) (decided_words decision words)) in
     subst P (sym goes.2.is)
     (by_port targets before at ingress decision goes.2.route goes.0 words seen goes.1)
 
@@ -93,7 +93,7 @@ decided_goes targets before sends at ingress decision onward words none seen goe
     let own : (at.packet == at.packet) ≡ true = eq-eqb _ _ refl in
     let decided : Item = item.Decided at.packet decision.version decision.rule decision.action
     decision.how in
-    let end : List Item = end_of at decision onward ∷ [] in
+    let end : List Item = end_item at decision onward ∷ [] in
     let said : words_along at.packet before (decided_items at decision sends onward) words
     ≡ words_along at.packet (before ++ decided ∷ [] ++ sends) end (decided_words decision words) =
     ap (λ b. words_along at.packet (before ++ decided ∷ []) (sends ++ end)

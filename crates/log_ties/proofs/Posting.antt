@@ -6,7 +6,7 @@ use Rattle.std.proofs.lemmas.Bool.Decides.{nat_tests}
 use Rattle.std.proofs.lemmas.Option.{slice_get_within}
 use Rattle.bag.specs.Deliveries.{delivered, forgotten}
 use Rattle.bag.specs.Numbered.{numbered, with_changed}
-use Rattle.bag.specs.Posts.{Post, framed, frames_of, is_deliverable as is_deliverable_in, posted, remembered, with_delivered, with_forgotten, with_status}
+use Rattle.bag.specs.Posts.{Post, framed, frames_posted, is_deliverable as is_deliverable_in, posted, remembered, with_delivered, with_forgotten, with_status}
 use Rattle.bag.proofs.Numbered.{length_changed, numbered_changed, numbered_pushed}
 use Rattle.ctrl_msg.specs.declared.message.Message.{Message}
 use Rattle.journal.specs.declared.item.Item.{Item}
@@ -151,7 +151,7 @@ bag_sent before posts message bag =
 
 -- what was posted has a number up to their count
 pub within_posts : (posts : List Post) (n : ℕ) (fs : List (List ℕ))
-    → frames_of posts n ≡ Some fs → n ≤ length posts
+    → frames_posted posts n ≡ Some fs → n ≤ length posts
 within_posts posts zero fs is = omega arith
 within_posts posts (suc place) fs is = by_post (slice_get posts place) refl is
   where
@@ -162,9 +162,9 @@ within_posts posts (suc place) fs is = by_post (slice_get posts place) refl is
 
 pub some_within : (posts : List Post) (n : ℕ) → is_deliverable_in posts n ≡ true
     → n ≤ length posts
-some_within posts n there = by_frames (frames_of posts n) refl there
+some_within posts n there = by_frames (frames_posted posts n) refl there
   where
-    by_frames : (o : Option (List (List ℕ))) → frames_of posts n ≡ o → is_some o ≡ true
+    by_frames : (o : Option (List (List ℕ))) → frames_posted posts n ≡ o → is_some o ≡ true
         → n ≤ length posts
     by_frames None e none = absurd cc
     by_frames (Some fs) e some = within_posts posts n fs e

@@ -6,7 +6,7 @@ use Rattle.std.specs.Option.{IsSomeAnd}
 use Rattle.std.proofs.lemmas.List.Elements.{recursion_from_All}
 use Rattle.std.proofs.lemmas.List.{get_or-map, length-map}
 use Rattle.std.proofs.lemmas.Option.{slice_get-get_or}
-use Rattle.policy_rules.specs.Partitions.{AreNumbered}
+use Rattle.policy_rules.specs.Partitions.{ArePartsNumbered}
 use Rattle.policy_rules.specs.declared.rules.Partition.{Partition}
 use Rattle.switch_core.specs.Deciding.{no_part, own_part, part_numbered}
 use Rattle.switch_table.specs.Tables.{Placed, has_target, part_of, tables_of}
@@ -45,7 +45,7 @@ own_found s partition this (placed ∷ plan) all there =
 
 -- a partition of this number is the one at its place
 one_of_number : (plan : List Placed) (partition : ℕ) (placed : Placed)
-    → AreNumbered (map part_of plan) → slice_get plan partition ≡ Some placed
+    → ArePartsNumbered (map part_of plan) → slice_get plan partition ≡ Some placed
     → All (λ each. each.0.number ≡ partition → part_of each ≡ part_of placed) plan
 one_of_number plan partition placed numbers there k d within is =
     let each : Placed = get_or plan k d in
@@ -65,7 +65,7 @@ unwrapped None this is = absurd is
 unwrapped (Some part) this is = is
 
 pub own_numbered : (plan : List Placed) (s version partition : ℕ) (placed : Placed)
-    → AreNumbered (map part_of plan) → slice_get plan partition ≡ Some placed
+    → ArePartsNumbered (map part_of plan) → slice_get plan partition ≡ Some placed
     → placed.0.number ≡ partition → IsTrue (has_target s placed)
     → part_numbered (tables_of plan version s) partition ≡ part_of placed
 own_numbered plan s version partition placed numbers there number target =

@@ -10,7 +10,7 @@ use Rattle.update_machine.specs.Marks.{retired_mark}
 use Rattle.update_machine.specs.Ways.{targets_in, targets_of}
 use Rattle.update_machine.specs.Setting.{Setting}
 use Rattle.update_machine.proofs.CallerLemmas.{policies_keep}
-use Rattle.way_laws.specs.Words.{PacketWords, names, told_by, words_of}
+use Rattle.way_laws.specs.Words.{PacketWords, names, words_after, words_of}
 use Rattle.way_laws.proofs.Words.{words_grow}
 use Rattle.log_ties.specs.Travellers.{traveller_in, traveller_of}
 use Rattle.travelling.specs.declared.travelling.Traveller.{Traveller}
@@ -20,7 +20,7 @@ abbrev pub words_along : ℕ → List Item → List Item → PacketWords → Pac
 words_along i before [] words = words
 words_along i before (item ∷ items) words =
     words_along i (before ++ item ∷ []) items
-    (if names i item then told_by (retired_mark before) item words else words)
+    (if names i item then words_after (retired_mark before) item words else words)
 
 pub words_all : (i : ℕ) (before items : List Item)
     → words_of (before ++ items) i ≡ words_along i before items (words_of before i)

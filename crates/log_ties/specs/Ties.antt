@@ -25,7 +25,7 @@ use Rattle.update_machine.specs.Messages.{next_message}
 use Rattle.update_machine.specs.Packets.{next_packet}
 use Rattle.update_machine.specs.Pieces.{piece}
 use Rattle.update_machine.specs.Setting.{Setting, IsSetting}
-use Rattle.world_log.specs.Packets.{coming_in, entry, hop_items, hop_traveller}
+use Rattle.world_log.specs.Packets.{coming_in, entry, hop_written, hop_traveller}
 use Rattle.world_log.specs.Writing.{entered_items, entered_traveller}
 use Rattle.log_ties.specs.Bags.{IsBagOf}
 use Rattle.log_ties.specs.Travellers.{traveller_in}
@@ -78,7 +78,7 @@ pub record GoesOn (setting : Setting) (journal : List Item) (row i : ℕ) (t : T
     (ports : Ports) : Type 0 where
   pub may : MayHop setting journal t
   pub written : piece setting journal row (Hop i)
-      ≡ item.Row row (Hop i) ∷ hop_items (next_message journal)
+      ≡ item.Row row (Hop i) ∷ hop_written (next_message journal)
       (switch_of setting journal (here t.tunnel)) (near setting journal (here t.tunnel)) ports t
   pub goes : traveller_in setting (journal ++ piece setting journal row (Hop i)) i
       ≡ hop_traveller (switch_of setting journal (here t.tunnel))

@@ -13,7 +13,7 @@ use Rattle.journal.specs.declared.item.Item.{Item}
 use Rattle.journal.specs.declared.item.Item.TheVariants as item
 use Rattle.update_machine.specs.Boots.{said_to}
 use Rattle.update_machine.specs.Deliveries.{to_controller}
-use Rattle.update_machine.specs.Marks.{acked_stamp, members, next_retired, retired_mark, controller_heard, current_mark, first_of, known_boot, open_sent, said_to_controller, stamped_in}
+use Rattle.update_machine.specs.Marks.{acked_stamp, members, next_retired, retired_mark, controller_heard, current_mark, first_number, known_boot, open_sent, said_to_controller, stamped_in}
 use Rattle.update_machine.specs.Setting.{Setting}
 use Rattle.update_machine.specs.Settling.{to_switch}
 use Rattle.update_machine.specs.Versions.{stamp_in, stamp_of}
@@ -78,7 +78,7 @@ opened_on setting before next s boot version cause are opened =
         (omega arith, omega arith)
 
     by_opened : (o : Option ℕ) → opened_in before s boot ≡ o
-        → option_or o (first_of (open_sent s boot next)) ≡ Some version
+        → option_or o (first_number (open_sent s boot next)) ≡ Some version
         → (version ≤ current_mark (before ++ next ∷ []))
         × (boot ≤ known_boot (before ++ next ∷ []) s)
     by_opened (Some w) e opens = later (are.opened s boot version (e ∙ opens))

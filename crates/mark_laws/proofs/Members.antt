@@ -7,7 +7,7 @@ use Rattle.std.proofs.lemmas.Bool.Decides.{nat_tests}
 use Rattle.ctrl_msg.specs.declared.message.Message.{Message}
 use Rattle.journal.specs.declared.item.Item.{Item}
 use Rattle.journal.specs.declared.item.Item.TheVariants as item
-use Rattle.update_machine.specs.Marks.{MayRise, current_mark, first_of, hello_boot, is_member, is_over, known_boot, open_sent, open_version, opened_at, raises_known, retired_mark, said_to_controller}
+use Rattle.update_machine.specs.Marks.{MayRise, current_mark, first_number, hello_boot, is_member, is_over, known_boot, open_sent, open_version, opened_at, raises_known, retired_mark, said_to_controller}
 use Rattle.update_machine.specs.Setting.{Setting}
 use Rattle.boot_laws.specs.ItemCauses.{HasItemCause, IsFirstOpening, IsRightOpening, RetiresRightly}
 use Rattle.boot_laws.proofs.Grown.{opened_at_more, opens_by, current_more, known_more, opened_in, opened_is, opened_more, over_more, raised, retired_more}
@@ -23,7 +23,7 @@ pub opened_same : (before : List Item) (next : Item) (s : ℕ)
     → opened_at (before ++ next ∷ []) s ≡ opened_at before s
 opened_same before next s known none =
     opened_at_more before next s known
-    ∙ ap (λ xs. option_or (opened_at before s) (first_of xs)) none ∙ or_none (opened_at before s)
+    ∙ ap (λ xs. option_or (opened_at before s) (first_number xs)) none ∙ or_none (opened_at before s)
   where
     or_none : (o : Option ℕ) → option_or o None ≡ o
     or_none None = refl
@@ -141,11 +141,11 @@ sent_on setting Holds fact before n s message cause are is = by_opened (opened_a
     known = known_more before next s
 
     after : opened_at (before ++ next ∷ []) s
-        ≡ option_or (opened_at before s) (first_of (open_sent s boot next))
+        ≡ option_or (opened_at before s) (first_number (open_sent s boot next))
     after = opened_at_more before next s known
 
     by_new : (o : Option ℕ) → opened_at before s ≡ None
-        → first_of (open_sent s boot next) ≡ o → opened_at (before ++ next ∷ []) s ≡ o
+        → first_number (open_sent s boot next) ≡ o → opened_at (before ++ next ∷ []) s ≡ o
         → Holds (before ++ next ∷ []) s
     by_new None closed opens now =
         fact.none (before ++ next ∷ []) s (closed_no_member (before ++ next ∷ []) s now)
@@ -163,10 +163,10 @@ sent_on setting Holds fact before n s message cause are is = by_opened (opened_a
         (record {
           known = known;
           over = over_more before next s;
-          opened = after ∙ ap (λ o. option_or o (first_of (open_sent s boot next))) e ∙ sym e;
+          opened = after ∙ ap (λ o. option_or o (first_number (open_sent s boot next))) e ∙ sym e;
         }) (current_more before next) (retired_more before next) is
-    by_opened None e = by_new (first_of (open_sent s boot next)) e refl
-        (after ∙ ap (λ o. option_or o (first_of (open_sent s boot next))) e)
+    by_opened None e = by_new (first_number (open_sent s boot next)) e refl
+        (after ∙ ap (λ o. option_or o (first_number (open_sent s boot next))) e)
 
 delivered_on : (setting : Setting) (Holds : List Item → ℕ → Type 0) → MemberFact setting Holds
     → (before : List Item) (number s : ℕ) → StampsAreCurrent before → Holds before s

@@ -8,7 +8,7 @@ use Rattle.std.proofs.lemmas.List.{append-nil, append_assoc, length-take-le, map
 use Rattle.std.proofs.lemmas.Bool.Decides.{nat_tests}
 use Rattle.std.proofs.lemmas.List.Elements.{filter-append}
 use Rattle.policy_rules.specs.declared.packet.Leaving.{Leaving}
-use Rattle.meters.specs.Meters.{PortLeavings, holding, is_over, is_over_within, leavings_of, kept, IsNoted}
+use Rattle.meters.specs.Meters.{PortLeavings, holding, has_ended, is_over_within, leavings_of, kept, IsNoted}
 use Rattle.meters.specs.Seen.{Seen}
 use Rattle.meters.specs.declared.meter.Stay.TheVariants as stay
 
@@ -28,12 +28,12 @@ holding-append left more meter =
 
 is_over_within-cons : (one : Leaving) (more : List Leaving) (meter : Seen)
     → is_over_within (one ∷ more) meter
-    ≡ (is_over (holding (one ∷ []) meter) || is_over_within more (holding (one ∷ []) meter))
+    ≡ (has_ended (holding (one ∷ []) meter) || is_over_within more (holding (one ∷ []) meter))
 is_over_within-cons one more meter =
-    ap (λ rest. is_over (holding (one ∷ []) meter) || rest) (list_any-shift
-    (λ k. is_over (holding (take k (one ∷ more)) meter))
-    (λ k. is_over (holding (take k more) (holding (one ∷ []) meter)))
-    (λ k. rw add-one (ap is_over (holding-append (one ∷ []) (take k more) meter)))
+    ap (λ rest. has_ended (holding (one ∷ []) meter) || rest) (list_any-shift
+    (λ k. has_ended (holding (take k (one ∷ more)) meter))
+    (λ k. has_ended (holding (take k more) (holding (one ∷ []) meter)))
+    (λ k. rw add-one (ap has_ended (holding-append (one ∷ []) (take k more) meter)))
     1 (length more))
 
 is_over_within-append : (left more : List Leaving) (meter : Seen)
@@ -47,8 +47,8 @@ is_over_within-append (one ∷ left) more meter =
     let same : holding (one ∷ left) meter ≡ holding left now =
     holding-append (one ∷ []) left meter in
     is_over_within-cons one (left ++ more) meter
-    ∙ ap (λ rest. is_over now || rest) (is_over_within-append left more now)
-    ∙ sym (or_assoc (is_over now) (is_over_within left now) then)
+    ∙ ap (λ rest. has_ended now || rest) (is_over_within-append left more now)
+    ∙ sym (or_assoc (has_ended now) (is_over_within left now) then)
     ∙ ap (λ before. before || then) (sym (is_over_within-cons one left meter))
     ∙ ap (λ held. is_over_within (one ∷ left) meter || is_over_within more held) (sym same)
 
@@ -117,10 +117,10 @@ leavings_elsewhere port leaving meter apart =
     (different port meter.port apart)
 
 over_after_one : (leaving : Leaving) (old new : Seen) (over : Bool)
-    → new ≡ holding (leaving ∷ []) old → is_over new ≡ over
+    → new ≡ holding (leaving ∷ []) old → has_ended new ≡ over
     → is_over_within (leaving ∷ []) old ≡ (over || false)
 over_after_one leaving old new over is_new is_over_now =
-    ap (λ now. now || false) (ap is_over (sym is_new) ∙ is_over_now)
+    ap (λ now. now || false) (ap has_ended (sym is_new) ∙ is_over_now)
 
 pub kept-stay : (port : ℕ) (leaving : Leaving) (old new : Seen) → old.port ≡ port
     → IsNoted leaving old new stay.Stay → kept ((port, leaving) ∷ []) (old ∷ []) ≡ new ∷ []

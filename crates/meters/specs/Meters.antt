@@ -22,13 +22,13 @@ abbrev pub holding : List Leaving → Seen → Seen
 holding more meter = record meter { held = meter.held ++ more }
 
 -- its list is ended
-abbrev pub is_over : Seen → Bool
-is_over meter = meter.is_ended meter.held
+abbrev pub has_ended : Seen → Bool
+has_ended meter = meter.is_ended meter.held
 
 -- what a note of a leaving makes of a meter, by its answer
 abbrev pub IsNoted : Leaving → Seen → Seen → Stay → Type 0
-IsNoted leaving old new stay.Stay = (new ≡ holding (leaving ∷ []) old) × (is_over new ≡ false)
-IsNoted leaving old new stay.Leave = (new ≡ holding (leaving ∷ []) old) × (is_over new ≡ true)
+IsNoted leaving old new stay.Stay = (new ≡ holding (leaving ∷ []) old) × (has_ended new ≡ false)
+IsNoted leaving old new stay.Leave = (new ≡ holding (leaving ∷ []) old) × (has_ended new ≡ true)
 IsNoted leaving old new stay.NoMemory = new ≡ old
 
 -- leavings of all ports, in order, each with its port
@@ -42,7 +42,7 @@ leavings_of port left = map (λ one. one.1) (filter (λ one. one.0 == port) left
 -- its list, followed by the first k of these leavings, is ended for some k from 1
 abbrev pub is_over_within : List Leaving → Seen → Bool
 is_over_within more meter =
-    list_any (λ k. is_over (holding (take k more) meter)) (range_with_len 1 (length more))
+    list_any (λ k. has_ended (holding (take k more) meter)) (range_with_len 1 (length more))
 
 -- the meters that stay while packets leave, in order, each with all leavings of its port
 unfoldable pub kept : PortLeavings → List Seen → List Seen

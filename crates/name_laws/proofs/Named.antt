@@ -16,7 +16,7 @@ use Rattle.journal.specs.declared.item.Item.TheVariants as item
 use Rattle.update_machine.specs.Boots.{heard}
 use Rattle.update_machine.specs.Causes.{HaveCauses}
 use Rattle.update_machine.specs.Deliveries.{to_controller}
-use Rattle.update_machine.specs.Marks.{controller_heard, first_of, hello_boot, known_boot, open_sent, said_to_controller}
+use Rattle.update_machine.specs.Marks.{controller_heard, first_number, hello_boot, known_boot, open_sent, said_to_controller}
 use Rattle.update_machine.specs.Travels.{ingress_of, tells_ingress}
 use Rattle.update_machine.specs.Setting.{Setting}
 use Rattle.update_machine.specs.Settling.{to_switch}
@@ -37,7 +37,7 @@ use Rattle.mark_laws.proofs.Planned.{count_rises, right_planned}
 use Rattle.mark_laws.proofs.Told.{each_if, each_weaker}
 use Rattle.version_laws.proofs.Heard.{heard_on}
 use Rattle.version_laws.proofs.Planned.{IsPlanned, all_at_first, all_kept, own_tables}
-use Rattle.name_laws.specs.Named.{BodiesNameThere, IsAddressed, NamesThere, version_in}
+use Rattle.name_laws.specs.Named.{BodiesNameThere, IsAddressed, NamesOnlyThere, version_in}
 use Rattle.name_laws.proofs.Causes.{IsKnownSwitch, NamesRightly, SaysThere, pieces_name}
 
 -- ---- what is kept
@@ -48,7 +48,7 @@ IsThere journal version = (1 ≤ version) × (version ≤ version_count journal)
 
 -- what the controller was told by names that are there
 abbrev pub IsTold : Setting → List Item → Body → Type 0
-IsTold setting journal body = NamesThere setting journal (to_controller body)
+IsTold setting journal body = NamesOnlyThere setting journal (to_controller body)
 
 pub record AreNamed (setting : Setting) (journal : List Item) : Type 0 where
   pub planned : IsPlanned setting journal
@@ -57,9 +57,9 @@ pub record AreNamed (setting : Setting) (journal : List Item) : Type 0 where
   pub ingress : (i s : ℕ) → ingress_of journal i ≡ Some s → s < length setting.net.switches
   pub known : (s : ℕ) → 1 < known_boot journal s → s < length setting.net.switches
   pub sent : (n : ℕ) (message : Message) → message_of journal n ≡ Some message
-      → NamesThere setting journal message
+      → NamesOnlyThere setting journal message
   pub heard : (s : ℕ) → AllByRecursion
-      (λ body. NamesThere setting journal (to_switch s body)) (heard journal s)
+      (λ body. NamesOnlyThere setting journal (to_switch s body)) (heard journal s)
   pub told : AllByRecursion (IsTold setting journal) (controller_heard journal)
 
 -- each item has its causes, and names what is there
@@ -155,7 +155,7 @@ version_there setting before to body are right says = absurd says
 -- ---- items
 
 names_on : (setting : Setting) (before : List Item) (next : Item) (message : Message)
-    → NamesThere setting before message → NamesThere setting (before ++ next ∷ []) message
+    → NamesOnlyThere setting before message → NamesOnlyThere setting (before ++ next ∷ []) message
 names_on setting before next message names = record {
   addressed = names.addressed;
   version = IfSome_then (version_in message.body) names.version
@@ -165,7 +165,7 @@ names_on setting before next message names = record {
 sent_named : (setting : Setting) (before : List Item) (next : Item) (n : ℕ) (message : Message)
     → 1 ≤ length setting.net.switches → Named setting before next → AreNamed setting before
     → message_of (before ++ next ∷ []) n ≡ Some message
-    → NamesThere setting (before ++ next ∷ []) message
+    → NamesOnlyThere setting (before ++ next ∷ []) message
 sent_named setting before next n message some cause are is = elim
     (by_number before next n message is) [
       | inl new ↦
@@ -187,7 +187,7 @@ opened_named setting before next s boot version cause are opened =
     by_opened (opened_in before s boot) refl (sym (opened_more before next s boot) ∙ opened)
   where
     by_opened : (o : Option ℕ) → opened_in before s boot ≡ o
-        → option_or o (first_of (open_sent s boot next)) ≡ Some version → 1 ≤ version
+        → option_or o (first_number (open_sent s boot next)) ≡ Some version → 1 ≤ version
     by_opened (Some w) e opens = are.opened s boot version (e ∙ opens)
     by_opened None e opens =
         let new = opens_by next s boot version opens in
@@ -264,8 +264,8 @@ named_kept setting some before next cause are = record {
   ingress = λ i s is. ingress_named setting before next i s cause.second are is;
   known = λ s above. known_named setting before next s are above;
   sent = λ n message is. sent_named setting before next n message some cause are is;
-  heard = λ s. heard_on (λ body. NamesThere setting before (to_switch s body))
-      (λ body. NamesThere setting (before ++ next ∷ []) (to_switch s body)) before next s
+  heard = λ s. heard_on (λ body. NamesOnlyThere setting before (to_switch s body))
+      (λ body. NamesOnlyThere setting (before ++ next ∷ []) (to_switch s body)) before next s
       (λ body names. names_on setting before next (to_switch s body) names)
       (λ number body sent. are.sent number (to_switch s body) sent) (are.heard s);
   told = told_named setting before next are;
@@ -286,7 +286,7 @@ named_at_first setting = record {
   known = λ s above. absurd (omega (arith, above, start_laws.known s));
   sent = λ n message is.
       let none : None ≡ Some message = sym (start_laws.message n).message ∙ is in absurd cc;
-  heard = λ s. subst (AllByRecursion (λ body. NamesThere setting [] (to_switch s body)))
+  heard = λ s. subst (AllByRecursion (λ body. NamesOnlyThere setting [] (to_switch s body)))
       (sym (start_laws.heard s)) tt;
   told = subst (AllByRecursion (IsTold setting [])) (sym none_told) tt;
 }
@@ -298,7 +298,7 @@ named setting journal have net =
     journal have (named_at_first setting) in
     record {
       sent = are.sent;
-      heard = λ s. All-from_recursion (λ body. NamesThere setting journal (to_switch s body))
+      heard = λ s. All-from_recursion (λ body. NamesOnlyThere setting journal (to_switch s body))
           (heard journal s) (are.heard s);
       told = All-from_recursion (IsTold setting journal) (controller_heard journal) are.told;
     }

@@ -17,34 +17,34 @@ use Rattle.update_machine.specs.Settling.{to_switch}
 use Rattle.update_machine.specs.Versions.{version_count}
 use Rattle.update_machine.specs.Links.{message_of}
 use Rattle.update_machine.proofs.Examples.{open_net}
-use Rattle.name_laws.specs.Named.{BodiesNameThere, IsAddressed, NamesThere}
+use Rattle.name_laws.specs.Named.{BodiesNameThere, IsAddressed, NamesOnlyThere}
 
-to_second : NamesThere open_net [] (to_switch 1 (Stamp 1 1))
+to_second : NamesOnlyThere open_net [] (to_switch 1 (Stamp 1 1))
 unfolding version_count
 to_second = record { addressed = (omega arith, refl); version = (omega arith, omega arith) }
 
-of_second : NamesThere open_net [] (to_controller (Hello 1 7))
+of_second : NamesOnlyThere open_net [] (to_controller (Hello 1 7))
 of_second = record { addressed = omega arith; version = tt }
 
 -- the network has no third switch
-not_to_third : NamesThere open_net [] (to_switch 2 (Stamp 1 1)) → ⊥
+not_to_third : NamesOnlyThere open_net [] (to_switch 2 (Stamp 1 1)) → ⊥
 not_to_third names = absurd (omega (arith, names.addressed.0))
 
-not_of_third : NamesThere open_net [] (to_controller (Hello 2 1)) → ⊥
+not_of_third : NamesOnlyThere open_net [] (to_controller (Hello 2 1)) → ⊥
 not_of_third names = absurd (omega (arith, names.addressed))
 
 -- no switch tells the controller to open, and none is told who speaks
-not_told_to_open : NamesThere open_net [] (to_controller (OpenAt 1 1)) → ⊥
+not_told_to_open : NamesOnlyThere open_net [] (to_controller (OpenAt 1 1)) → ⊥
 not_told_to_open names = absurd names.addressed
 
-not_a_hello_to_switch : NamesThere open_net [] (to_switch 1 (Hello 0 1)) → ⊥
+not_a_hello_to_switch : NamesOnlyThere open_net [] (to_switch 1 (Hello 0 1)) → ⊥
 not_a_hello_to_switch names = cc names.addressed.1
 
 -- versions are counted from 1, and the second isn't there
-not_version_0 : NamesThere open_net [] (to_switch 1 (Stamp 1 0)) → ⊥
+not_version_0 : NamesOnlyThere open_net [] (to_switch 1 (Stamp 1 0)) → ⊥
 not_version_0 names = absurd (omega (arith, names.version.0))
 
-not_version_2 : NamesThere open_net [] (to_controller (Installed 1 1 2)) → ⊥
+not_version_2 : NamesOnlyThere open_net [] (to_controller (Installed 1 1 2)) → ⊥
 unfolding version_count
 not_version_2 names = absurd (omega (arith, names.version.1))
 
@@ -61,7 +61,7 @@ not_addressed_to_third addressed = absurd (omega (arith, addressed.0))
 abbrev stamped : List Item
 stamped = item.Sent 1 (to_switch 1 (Stamp 1 1)) ∷ item.Delivered 1 ∷ []
 
-its_names : NamesThere open_net stamped (to_switch 1 (Stamp 1 1))
+its_names : NamesOnlyThere open_net stamped (to_switch 1 (Stamp 1 1))
 unfolding version_count
 its_names = record { addressed = (omega arith, refl); version = (omega arith, omega arith) }
 
@@ -74,14 +74,14 @@ name_there = record {
 }
   where
     Names : ℕ → Body → Type 0
-    Names s body = NamesThere open_net stamped (to_switch s body)
+    Names s body = NamesOnlyThere open_net stamped (to_switch s body)
 
     by_number : (b : Bool) (message : Message)
         → (if b then Some (to_switch 1 (Stamp 1 1)) else None) ≡ Some message
-        → NamesThere open_net stamped message
+        → NamesOnlyThere open_net stamped message
     by_number true message is =
         let own : to_switch 1 (Stamp 1 1) ≡ message = cc in
-        subst (NamesThere open_net stamped) own its_names
+        subst (NamesOnlyThere open_net stamped) own its_names
     by_number false message is = absurd cc
 
     by_switch : (s : ℕ) (b : Bool) → (1 == s) ≡ b
@@ -97,7 +97,7 @@ unfolding message_of
 not_sent_to_third name = not_to_fresh_third (name.sent 1 (to_switch 2 (Stamp 1 1)) refl)
   where
     not_to_fresh_third :
-        NamesThere open_net (item.Sent 1 (to_switch 2 (Stamp 1 1)) ∷ [])
+        NamesOnlyThere open_net (item.Sent 1 (to_switch 2 (Stamp 1 1)) ∷ [])
         (to_switch 2 (Stamp 1 1)) → ⊥
     not_to_fresh_third names = absurd (omega (arith, names.addressed.0))
 

@@ -40,7 +40,7 @@ IsAddressed setting (receiver.Switch s) body =
 IsAddressed setting receiver.Controller body = IsOfSwitch setting (speaker body)
 
 -- and its version is there
-pub record NamesThere (setting : Setting) (journal : List Item) (message : Message)
+pub record NamesOnlyThere (setting : Setting) (journal : List Item) (message : Message)
     : Type 0 where
   pub addressed : IsAddressed setting message.to message.body
   pub version : IfSome (version_in message.body)
@@ -49,8 +49,8 @@ pub record NamesThere (setting : Setting) (journal : List Item) (message : Messa
 -- so it is with all that was sent, and all that was heard
 pub record BodiesNameThere (setting : Setting) (journal : List Item) : Type 0 where
   pub sent : (n : ℕ) (message : Message) → message_of journal n ≡ Some message
-      → NamesThere setting journal message
-  pub heard : (s : ℕ) → All (λ body. NamesThere setting journal (to_switch s body))
+      → NamesOnlyThere setting journal message
+  pub heard : (s : ℕ) → All (λ body. NamesOnlyThere setting journal (to_switch s body))
       (heard journal s)
-  pub told : All (λ body. NamesThere setting journal (to_controller body))
+  pub told : All (λ body. NamesOnlyThere setting journal (to_controller body))
       (controller_heard journal)

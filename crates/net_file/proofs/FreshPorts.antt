@@ -8,7 +8,7 @@ use Rattle.toml.specs.View.{view}
 use Rattle.toml.specs.declared.value.Value.{Value}
 use Rattle.std.proofs.lemmas.Bool.Decides.{nat_tests}
 use Rattle.net_file.specs.Joins.{has_port}
-use Rattle.net_file.specs.Reading.{are_distinct, are_new, array_in, port_of, ports_in}
+use Rattle.net_file.specs.Reading.{are_distinct, are_new, array_in, port_read, ports_in}
 use Rattle.net_file.specs.Refusals.{require}
 use Rattle.net_file.specs.declared.net.SwitchRow.{SwitchRow}
 use Rattle.net_file.specs.Owners.{have_port}
@@ -94,12 +94,12 @@ any_next mask p ports k = or_assoc (in_mask mask k) (nat_eq k p) (list_any (nat_
     ∙ ap (λ b. b || list_any (nat_eq k) ports) (sym (in_mask_with mask p k))
 
 -- the ports of the values from one on
-pub ports_more : (ds more : List Data) (d : Data) (p : ℕ) → ds ≡ d ∷ more → Some p ≡ port_of d
-    → filter_map port_of ds ≡ p ∷ filter_map port_of more
+pub ports_more : (ds more : List Data) (d : Data) (p : ℕ) → ds ≡ d ∷ more → Some p ≡ port_read d
+    → filter_map port_read ds ≡ p ∷ filter_map port_read more
 ports_more ds more d p split is = rw (split, ← is) refl
 
-pub ports_less : (ds more : List Data) (d : Data) → ds ≡ d ∷ more → None ≡ port_of d
-    → filter_map port_of ds ≡ filter_map port_of more
+pub ports_less : (ds more : List Data) (d : Data) → ds ≡ d ∷ more → None ≡ port_read d
+    → filter_map port_read ds ≡ filter_map port_read more
 ports_less ds more d split is = rw (split, ← is) refl
 
 pub have_port_push : (rows : List SwitchRow) (row : SwitchRow) (k : ℕ)
@@ -110,11 +110,11 @@ have_port_push rows row k = list_any-append (has_port k) rows (row ∷ [])
 -- what the checks of an array of ports say of its values
 pub ports_in_values : (d : Data) (vs : List Value) → array_in d ≡ Ok (map view vs)
     → ports_in d ≡ require (list_all (λ v. is_some (as_integer (view v))) vs) refusal.WrongType
-    (require (list_all (λ v. is_some (port_of (view v))) vs) refusal.Range
-    (Ok (filter_map port_of (map view vs))))
+    (require (list_all (λ v. is_some (port_read (view v))) vs) refusal.Range
+    (Ok (filter_map port_read (map view vs))))
 ports_in_values d vs e =
     rw (
       e,
       list_all-map (λ port. is_some (as_integer port)) view vs,
-      list_all-map (λ port. is_some (port_of port)) view vs,
+      list_all-map (λ port. is_some (port_read port)) view vs,
     ) refl

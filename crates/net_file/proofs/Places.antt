@@ -13,8 +13,8 @@ use Rattle.std.proofs.lemmas.Slice.Eq.{bytes_eq-Decides}
 use Rattle.net_file.specs.declared.net.SwitchRow.{SwitchRow}
 use Rattle.net_file.specs.declared.net.LinkRow.{LinkRow}
 use Rattle.net_file.specs.declared.net.Net.{Net}
-use Rattle.net_file.specs.Laws.{IsPlainByte, LinkLaws, NameLaws, PortLaws}
-use Rattle.net_file.specs.Net.{AreApart, IsLink, IsNet, IsSwitch, are_name_bytes, is_label, is_name, is_name_byte}
+use Rattle.net_file.specs.Laws.{IsPlainByte, NetLinkLaws, NameLaws, PortLaws}
+use Rattle.net_file.specs.Net.{AreApart, IsLink, IsNet, IsSwitchRow, are_name_bytes, is_label, is_name, is_name_byte}
 use Rattle.net_file.specs.Owners.{have_port, port_mask}
 use Rattle.net_file.specs.Joins.{are_linked, has_port, joins, owner_of}
 use Rattle.net_file.proofs.Masks.{in_mask, in_mask_of, in_mask_past, mask_of_small}
@@ -59,10 +59,10 @@ position_row test xs s d e =
 no_switch : SwitchRow
 no_switch = record { name = []; ports = 0; room = 0 }
 
-no_port : (port : ℕ) (row : SwitchRow) → IsSwitch row → 64 ≤ port → has_port port row ≡ false
+no_port : (port : ℕ) (row : SwitchRow) → IsSwitchRow row → 64 ≤ port → has_port port row ≡ false
 no_port port row sound past = in_mask_past row.ports port sound.ports past
 
-pub no_owner : (switches : List SwitchRow) (port : ℕ) → All IsSwitch switches → 64 ≤ port
+pub no_owner : (switches : List SwitchRow) (port : ℕ) → All IsSwitchRow switches → 64 ≤ port
     → owner_of switches port ≡ None
 no_owner switches port sound past = position_none (has_port port) switches
     (list_any_none (has_port port) switches (λ k d within. no_port port _ (sound k d within) past))
@@ -223,7 +223,7 @@ linked_below net s x sound linked =
     joined_below (length net.switches) s x link
     (subst (IsLink (length net.switches)) here (sound.links place link within)) joined
 
-pub links : LinkLaws
+pub links : NetLinkLaws
 links = record {
   both_ways = linked_turn;
   not_itself = λ net s sound. list_any_none (joins s s) net.links

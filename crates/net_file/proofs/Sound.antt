@@ -16,8 +16,8 @@ use Rattle.net_file.specs.declared.net.LinkRow.{LinkRow}
 use Rattle.net_file.specs.declared.net.Net.{Net}
 use Rattle.net_file.specs.Keys.{at_key, number_within, of_type, within}
 use Rattle.masks.specs.Masks.{mask_of}
-use Rattle.net_file.specs.Net.{AreApart, AreOther, IsLink, IsNet, IsSwitch, is_name}
-use Rattle.net_file.specs.Reading.{are_distinct, are_new, array_in, document_of, end_of, ends_in, link_array, link_of, link_with, name_in, net_in, net_of, number_in, ports_in, rows_from, setting_of, switch_array, switch_of, switch_with}
+use Rattle.net_file.specs.Net.{AreApart, AreOther, IsLink, IsNet, IsSwitchRow, is_name}
+use Rattle.net_file.specs.Reading.{are_distinct, are_new, array_in, document_of, end_read, ends_in, link_array, link_of, link_with, name_in, net_read, net_of, number_stated, ports_in, rows_read, setting_read, switch_array, switch_read, switch_with}
 use Rattle.net_file.specs.Refusals.{in_row, require, with_value}
 use Rattle.net_file.specs.Owners.{have_name, have_port, switch_number}
 use Rattle.net_file.specs.Joins.{are_linked, has_port, joins}
@@ -64,17 +64,17 @@ within_range : (low high : ℕ) (z : ℤ) (n : ℕ) → number_within low high z
 within_range low high (pos m) n e = in_range low high m n (nat_le low m && nat_le m high) refl e
 within_range low high (negsuc m) n e = not_ok refusal.Range n e
 
-number_range : (low high : ℕ) (d : Data) (n : ℕ) → number_in low high d ≡ Ok n → (low ≤ n)
+number_range : (low high : ℕ) (d : Data) (n : ℕ) → number_stated low high d ≡ Ok n → (low ≤ n)
     × (n ≤ high)
 number_range low high d n e =
     let (z, is, rest) = with_value_ok (of_type (as_integer d)) (number_within low high) n e in
     within_range low high z n rest
 
 setting_range : (table : Members) (key : List ℕ) (low high default n : ℕ) → low ≤ default
-    → default ≤ high → setting_of table key low high default ≡ Ok n → (low ≤ n) × (n ≤ high)
+    → default ≤ high → setting_read table key low high default ≡ Ok n → (low ≤ n) × (n ≤ high)
 setting_range table key low high default n from to e = at (get_member key table) e
   where
-    at : (o : Option Data) → option_map_or (number_in low high) o (Ok default) ≡ Ok n → (low ≤ n)
+    at : (o : Option Data) → option_map_or (number_stated low high) o (Ok default) ≡ Ok n → (low ≤ n)
         × (n ≤ high)
     at None e = let same = ok_value default n e in (rw (← same) from, rw (← same) to)
     at (Some d) e = number_range low high d n e
@@ -100,13 +100,13 @@ rows_kept : {X : Type 0} (P : List X → Type 0) (base : ℕ)
     → ((earlier : List X) (d : Data) (row : X) → P earlier → read earlier d ≡ Ok row
     → P (earlier ++ row ∷ []))
     → (earlier : List X) (ds : List Data) (rows : List X) → P earlier
-    → rows_from base read earlier ds ≡ Ok rows → P rows
+    → rows_read base read earlier ds ≡ Ok rows → P rows
 rows_kept P base read step earlier [] rows start e = subst P (ok_value earlier rows e) start
 rows_kept {X} P base read step earlier (d ∷ ds) rows start e =
     elim (read earlier d) as
     (λ (r : Result X NetRefusal). read earlier d ≡ r
     → with_value (in_row (base + (length earlier + 1)) r)
-    (λ row. rows_from base read (earlier ++ row ∷ []) ds) ≡ Ok rows → P rows) [
+    (λ row. rows_read base read (earlier ++ row ∷ []) ds) ≡ Ok rows → P rows) [
       | Ok row ↦ λ is h. rows_kept P base read step (earlier ++ row ∷ []) ds rows
           (step earlier d row start is) h
       | Err refusal ↦ λ is h. not_ok
@@ -115,13 +115,13 @@ rows_kept {X} P base read step earlier (d ∷ ds) rows start e =
 
 -- each value states one row
 rows_count : {X : Type 0} (base : ℕ) (read : List X → Data → Result X NetRefusal) (earlier : List X)
-    (ds : List Data) (rows : List X) → rows_from base read earlier ds ≡ Ok rows
+    (ds : List Data) (rows : List X) → rows_read base read earlier ds ≡ Ok rows
     → length rows ≡ length earlier + length ds
 rows_count base read earlier [] rows e = rw (← ok_value earlier rows e) (omega arith)
 rows_count {X} base read earlier (d ∷ ds) rows e =
     elim (read earlier d) as
     (λ (r : Result X NetRefusal). with_value (in_row (base + (length earlier + 1)) r)
-    (λ row. rows_from base read (earlier ++ row ∷ []) ds) ≡ Ok rows
+    (λ row. rows_read base read (earlier ++ row ∷ []) ds) ≡ Ok rows
     → length rows ≡ length earlier + length (d ∷ ds)) [
       | Ok row ↦ λ h. omega (
         arith,
@@ -136,7 +136,7 @@ rows_count {X} base read earlier (d ∷ ds) rows e =
 
 -- a switch that shares nothing with the earlier ones
 pub record IsNew (earlier : List SwitchRow) (row : SwitchRow) : Type 0 where
-  pub switch : IsSwitch row
+  pub switch : IsSwitchRow row
   pub name : have_name earlier row.name ≡ false
   pub ports : (port : ℕ) → has_port port row ≡ true → have_port earlier port ≡ false
 
@@ -169,7 +169,7 @@ switch_with_new earlier keys row e =
     let (name, named, e1) = with_value_ok
     (at_key name_in (Err refusal.MissingKey) keys (codes "name")) _ row e in
     let (ports, read, e2) = with_value_ok (at_key ports_in (Ok []) keys (codes "ports")) _ row e1 in
-    let (room, sized, e3) = with_value_ok (setting_of keys (codes "authority") 0 8192 0) _ row e2 in
+    let (room, sized, e3) = with_value_ok (setting_read keys (codes "authority") 0 8192 0) _ row e2 in
     let (other, e4) = require_ok (not (have_name earlier name)) refusal.DuplicateName _ row e3 in
     let (new, e5) = require_ok (are_new earlier ports) refusal.DuplicatePort _ row e4 in
     subst (IsNew earlier) (ok_value _ row e5) (record {
@@ -183,14 +183,14 @@ switch_with_new earlier keys row e =
       ports = λ port has. new_ports earlier ports port new has;
     })
 
-switch_new : (earlier : List SwitchRow) (d : Data) (row : SwitchRow) → switch_of earlier d ≡ Ok row
+switch_new : (earlier : List SwitchRow) (d : Data) (row : SwitchRow) → switch_read earlier d ≡ Ok row
     → IsNew earlier row
 switch_new earlier d row e =
     let (keys, is, rest) = with_value_ok (of_type (as_table d)) (switch_with earlier) row e in
     switch_with_new earlier keys row rest
 
 abbrev AreSwitches : List SwitchRow → Type 0
-AreSwitches rows = All IsSwitch rows × AllPairs AreApart rows
+AreSwitches rows = All IsSwitchRow rows × AllPairs AreApart rows
 
 none_passes : {X : Type 0} (test : X → Bool) (xs : List X) (i : ℕ) (d : X) → i < length xs
     → list_any test xs ≡ false → test (get_or xs i d) ≡ false
@@ -198,10 +198,10 @@ none_passes test xs i d within none = false_from_ne_true _
     (λ passes. both_ways _ none (list_any_at test xs i d within passes))
 
 switches_push : (earlier : List SwitchRow) (d : Data) (row : SwitchRow) → AreSwitches earlier
-    → switch_of earlier d ≡ Ok row → AreSwitches (earlier ++ row ∷ [])
+    → switch_read earlier d ≡ Ok row → AreSwitches (earlier ++ row ∷ [])
 switches_push earlier d row sound e =
     let new = switch_new earlier d row e in (
-      All-push IsSwitch earlier row sound.0 new.switch,
+      All-push IsSwitchRow earlier row sound.0 new.switch,
       all_pairs_push AreApart earlier row sound.1 (λ k x within. record {
         names = none_passes (λ other. bytes_eq other.name row.name) earlier k x within new.name;
         ports = λ port has. false_from_ne_true _
@@ -218,7 +218,7 @@ AreLinks count links = All (IsLink count) links × AllPairs AreOther links
 no_switch : SwitchRow
 no_switch = record { name = []; ports = 0; room = 0 }
 
-end_below : (switches : List SwitchRow) (name : List ℕ) (n : ℕ) → end_of switches name ≡ Ok n
+end_below : (switches : List SwitchRow) (name : List ℕ) (n : ℕ) → end_read switches name ≡ Ok n
     → n < length switches
 end_below switches name n e = at (switch_number switches name) refl e
   where
@@ -239,8 +239,8 @@ link_new switches earlier d link e =
     let (keys, is, e0) = with_value_ok (of_type (as_table d)) (link_with switches earlier) link e in
     let (ends, read, e1) = with_value_ok
     (at_key ends_in (Err refusal.MissingKey) keys (codes "ends")) _ link e0 in
-    let (one, first, e2) = with_value_ok (end_of switches ends.0) _ link e1 in
-    let (two, second, e3) = with_value_ok (end_of switches ends.1) _ link e2 in
+    let (one, first, e2) = with_value_ok (end_read switches ends.0) _ link e1 in
+    let (two, second, e3) = with_value_ok (end_read switches ends.1) _ link e2 in
     let (apart, e4) = require_ok (not (one == two)) refusal.SelfLink _ link e3 in
     let (other, e5) = require_ok (not (are_linked earlier one two)) refusal.DuplicateLink _ link
     e4 in
@@ -280,23 +280,23 @@ link_array_size table ds e =
     let (few, e2) = require_ok (nat_le (length read) 256) refusal.TooMany _ ds e1 in
     rw (← ok_value read ds e2) (leb-true (length read) 256 few)
 
-pub sound_net : (table : Members) (net : Net) → net_in table ≡ Ok net → IsNet net
+pub sound_net : (table : Members) (net : Net) → net_read table ≡ Ok net → IsNet net
 sound_net table net e =
     let (leaf_rules, a, e1) =
-    with_value_ok (in_row 0 (setting_of table (codes "leaf_rules") 1 8192 64)) _ net e in
-    let (backups, b, e2) = with_value_ok (in_row 0 (setting_of table (codes "backups") 0 3 0)) _ net
+    with_value_ok (in_row 0 (setting_read table (codes "leaf_rules") 1 8192 64)) _ net e in
+    let (backups, b, e2) = with_value_ok (in_row 0 (setting_read table (codes "backups") 0 3 0)) _ net
     e1 in
-    let (cache, c, e3) = with_value_ok (in_row 0 (setting_of table (codes "cache") 0 65536 256)) _
+    let (cache, c, e3) = with_value_ok (in_row 0 (setting_read table (codes "cache") 0 65536 256)) _
     net e2 in
     let (switch_values, d, e4) = with_value_ok (in_row 0 (switch_array table)) _ net e3 in
-    let (switches, f, e5) = with_value_ok (rows_from 0 switch_of [] switch_values) _ net e4 in
+    let (switches, f, e5) = with_value_ok (rows_read 0 switch_read [] switch_values) _ net e4 in
     let (link_values, g, e6) = with_value_ok (in_row 0 (link_array table)) _ net e5 in
-    let (links, h, e7) = with_value_ok (rows_from 100 (link_of switches) [] link_values) _ net e6 in
+    let (links, h, e7) = with_value_ok (rows_read 100 (link_of switches) [] link_values) _ net e6 in
     let rules = setting_range table (codes "leaf_rules") 1 8192 64 leaf_rules (omega arith)
     (omega arith) (in_row_ok 0 _ leaf_rules a) in
     let size = switch_array_size table switch_values (in_row_ok 0 _ switch_values d) in
-    let count = rows_count 0 switch_of [] switch_values switches f in
-    let sound = rows_kept AreSwitches 0 switch_of switches_push [] switch_values switches none_yet
+    let count = rows_count 0 switch_read [] switch_values switches f in
+    let sound = rows_kept AreSwitches 0 switch_read switches_push [] switch_values switches none_yet
     f in
     let sound_links = rows_kept (AreLinks (length switches)) 100 (link_of switches)
     (links_push switches) [] link_values links no_links_yet h in
@@ -328,13 +328,13 @@ sound_net table net e =
 
 -- a text with a document states what the document does
 pub net_of_document : (bytes : List ℕ) (table : Members) → document_of bytes ≡ Some table
-    → net_of bytes ≡ net_in table
+    → net_of bytes ≡ net_read table
 unfolding net_of
 net_of_document bytes table e = rw e refl
 
 pub stated : (bytes : List ℕ) (net : Net) → net_of bytes ≡ Ok net → IsNet net
 unfolding net_of
 stated bytes net e =
-    let (table, is, rest) = with_value_ok (in_row 0 (ok_or (document_of bytes) refusal.Toml)) net_in
+    let (table, is, rest) = with_value_ok (in_row 0 (ok_or (document_of bytes) refusal.Toml)) net_read
     net e in
     sound_net table net rest

@@ -4,18 +4,18 @@ use Rattle.toml.specs.Data.{Data}
 use Rattle.net_file.specs.declared.error.NetRefusal.{NetRefusal}
 use Rattle.net_file.specs.declared.error.NetError.{NetError}
 use Rattle.net_file.specs.declared.error.NetError.TheVariants as error
-use Rattle.net_file.specs.Refusals.{IsRefusal, Refusal, in_row, with_value}
-use Rattle.net_file.specs.Reading.{rows_from}
+use Rattle.net_file.specs.Refusals.{IsNetRefusal, Refusal, in_row, with_value}
+use Rattle.net_file.specs.Reading.{rows_read}
 
 -- the next value states a row
 pub next_row : {X : Type 0} (base : ℕ) (read : List X → Data → Result X NetRefusal)
     (earlier : List X) (d : Data) (ds : List Data) (row : X) → read earlier d ≡ Ok row
-    → rows_from base read earlier (d ∷ ds) ≡ rows_from base read (earlier ++ row ∷ []) ds
+    → rows_read base read earlier (d ∷ ds) ≡ rows_read base read (earlier ++ row ∷ []) ds
 next_row base read earlier d ds row e = rw e refl
 
 -- a refusal ends what follows it
 pub refused_with : {X Y : Type 0} (read : Result X Refusal) (next : X → Result Y Refusal)
-    (e : NetError) → IsRefusal read e → IsRefusal (with_value read next) e
+    (e : NetError) → IsNetRefusal read e → IsNetRefusal (with_value read next) e
 refused_with read next (error.Refused refusal row) h = rw h refl
 refused_with read next error.NoMemory h = tt
 
@@ -23,11 +23,11 @@ refused_with read next error.NoMemory h = tt
 pub refused_row : {X : Type 0} (base : ℕ) (read : List X → Data → Result X NetRefusal)
     (earlier : List X) (d : Data) (ds : List Data) (row : ℕ) (e : NetError)
     → base + (length earlier + 1) ≡ row
-    → IsRefusal (in_row row (read earlier d)) e → IsRefusal (rows_from base read earlier (d ∷ ds)) e
+    → IsNetRefusal (in_row row (read earlier d)) e → IsNetRefusal (rows_read base read earlier (d ∷ ds)) e
 refused_row base read earlier d ds row e same h =
     refused_with (in_row (base + (length earlier + 1)) (read earlier d))
-    (λ next. rows_from base read (earlier ++ next ∷ []) ds) e (rw same h)
+    (λ next. rows_read base read (earlier ++ next ∷ []) ds) e (rw same h)
 
-pub refused_same : {X : Type 0} (a b : Result X Refusal) (e : NetError) → a ≡ b → IsRefusal b e
-    → IsRefusal a e
+pub refused_same : {X : Type 0} (a b : Result X Refusal) (e : NetError) → a ≡ b → IsNetRefusal b e
+    → IsNetRefusal a e
 refused_same a b e same h = rw same h

@@ -46,7 +46,7 @@ pub record PortLaws : Type 0 where
 abbrev pub IsMask : ℕ → (ℕ → Bool) → Type 0
 IsMask mask test = (k : ℕ) → (bit_at mask k == 1) ≡ test k
 
-pub record LinkLaws : Type 0 where
+pub record NetLinkLaws : Type 0 where
   pub both_ways : (links : List LinkRow) (s x : ℕ) → are_linked links s x ≡ are_linked links x s
   pub not_itself : (net : Net) (s : ℕ) → IsNet net → are_linked net.links s s ≡ false
   pub below : (net : Net) (s x : ℕ) → IsNet net → are_linked net.links s x ≡ true

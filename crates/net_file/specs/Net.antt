@@ -29,7 +29,7 @@ is_name name = is_label name && not (bytes_eq name (codes "controller"))
 -- ---- networks
 
 -- a switch that can stand in a network
-pub record IsSwitch (row : SwitchRow) : Type 0 where
+pub record IsSwitchRow (row : SwitchRow) : Type 0 where
   pub name : IsTrue (is_name row.name)
   pub ports : row.ports < 2 ^ 64
   pub room : row.room ≤ 8192
@@ -53,7 +53,7 @@ AreOther a b = IsFalse (joins b.one b.two a)
 pub record IsNet (net : Net) : Type 0 where
   pub some_switch : 1 ≤ length net.switches
   pub few_switches : length net.switches ≤ 64
-  pub switches : All IsSwitch net.switches
+  pub switches : All IsSwitchRow net.switches
   pub apart : AllPairs AreApart net.switches
   pub few_links : length net.links ≤ 256
   pub links : All (IsLink (length net.switches)) net.links

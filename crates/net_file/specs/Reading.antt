@@ -18,8 +18,8 @@ use Rattle.net_file.specs.Joins.{are_linked}
 
 -- ---- kinds of values
 
-abbrev pub number_in : ℕ → ℕ → Data → Result ℕ NetRefusal
-number_in low high d = with_value (of_type (as_integer d)) (number_within low high)
+abbrev pub number_stated : ℕ → ℕ → Data → Result ℕ NetRefusal
+number_stated low high d = with_value (of_type (as_integer d)) (number_within low high)
 
 abbrev pub array_in : Data → Result (List Data) NetRefusal
 array_in d = with_value (of_type (as_array d)) (λ items. Ok (items_list items))
@@ -28,18 +28,18 @@ abbrev pub name_in : Data → Result (List ℕ) NetRefusal
 name_in d = with_value (of_type (as_str d)) (λ text. require (is_name text) refusal.Range (Ok text))
 
 -- a port of the array `ports`
-abbrev pub port_of : Data → Option ℕ
-port_of d = option_and_then (within 0 63) (as_integer d)
+abbrev pub port_read : Data → Option ℕ
+port_read d = option_and_then (within 0 63) (as_integer d)
 
 abbrev pub ports_of : List Data → List ℕ
-ports_of ds = filter_map port_of ds
+ports_of ds = filter_map port_read ds
 
 -- the ports of an array; each is looked at for its type before any for its range
 abbrev pub ports_in : Data → Result (List ℕ) NetRefusal
 ports_in d =
     with_value (array_in d) (λ ports.
     require (list_all (λ port. is_some (as_integer port)) ports) refusal.WrongType (
-    require (list_all (λ port. is_some (port_of port)) ports) refusal.Range (
+    require (list_all (λ port. is_some (port_read port)) ports) refusal.Range (
     Ok (ports_of ports))))
 
 -- exactly two texts
@@ -54,8 +54,8 @@ ends_in d = with_value (array_in d) (λ ends. of_type (texts_of ends))
 -- ---- settings
 
 -- a number of the document, or its default where the key is absent
-abbrev pub setting_of : Members → List ℕ → ℕ → ℕ → ℕ → Result ℕ NetRefusal
-setting_of table key low high default = at_key (number_in low high) (Ok default) table key
+abbrev pub setting_read : Members → List ℕ → ℕ → ℕ → ℕ → Result ℕ NetRefusal
+setting_read table key low high default = at_key (number_stated low high) (Ok default) table key
 
 -- ---- switches
 
@@ -91,13 +91,13 @@ abbrev pub switch_with : List SwitchRow → Members → Result SwitchRow NetRefu
 switch_with earlier keys =
     with_value (name_at keys) (λ name.
     with_value (ports_at keys) (λ ports.
-    with_value (setting_of keys (codes "authority") 0 8192 0) (λ room.
+    with_value (setting_read keys (codes "authority") 0 8192 0) (λ room.
     require (not (have_name earlier name)) refusal.DuplicateName (
     require (are_new earlier ports) refusal.DuplicatePort (
     Ok (record { name = name; ports = port_bits ports; room = room }))))))
 
-abbrev pub switch_of : List SwitchRow → Data → Result SwitchRow NetRefusal
-switch_of earlier d = with_value (of_type (as_table d)) (switch_with earlier)
+abbrev pub switch_read : List SwitchRow → Data → Result SwitchRow NetRefusal
+switch_read earlier d = with_value (of_type (as_table d)) (switch_with earlier)
 
 -- ---- links
 
@@ -108,15 +108,15 @@ link_array table =
     require (nat_le (length links) 256) refusal.TooMany (
     Ok links))
 
-abbrev pub end_of : List SwitchRow → List ℕ → Result ℕ NetRefusal
-end_of switches name = ok_or (switch_number switches name) refusal.UnknownName
+abbrev pub end_read : List SwitchRow → List ℕ → Result ℕ NetRefusal
+end_read switches name = ok_or (switch_number switches name) refusal.UnknownName
 
 -- the link that these keys state, after the earlier links
 abbrev pub link_with : List SwitchRow → List LinkRow → Members → Result LinkRow NetRefusal
 link_with switches earlier keys =
     with_value (at_key ends_in (Err refusal.MissingKey) keys (codes "ends")) (λ ends.
-    with_value (end_of switches ends.0) (λ one.
-    with_value (end_of switches ends.1) (λ two.
+    with_value (end_read switches ends.0) (λ one.
+    with_value (end_read switches ends.1) (λ two.
     require (not (one == two)) refusal.SelfLink (
     require (not (are_linked earlier one two)) refusal.DuplicateLink (
     Ok (record { one = one; two = two }))))))
@@ -128,27 +128,27 @@ link_of switches earlier d = with_value (of_type (as_table d)) (link_with switch
 
 -- the rows that values state, one after another behind the earlier ones; or the first refusal,
 -- whose row is base and the number of the value, counted from 1
-abbrev pub rows_from : {X : Type 0} → ℕ → (List X → Data → Result X NetRefusal) → List X → List Data
+abbrev pub rows_read : {X : Type 0} → ℕ → (List X → Data → Result X NetRefusal) → List X → List Data
     → Result (List X) Refusal
-rows_from base read earlier [] = Ok earlier
-rows_from base read earlier (d ∷ ds) =
+rows_read base read earlier [] = Ok earlier
+rows_read base read earlier (d ∷ ds) =
     with_value (in_row (base + (length earlier + 1)) (read earlier d))
-    (λ row. rows_from base read (earlier ++ row ∷ []) ds)
+    (λ row. rows_read base read (earlier ++ row ∷ []) ds)
 
-abbrev pub switches_in : List Data → Result (List SwitchRow) Refusal
-switches_in ds = rows_from 0 switch_of [] ds
+abbrev pub switches_read : List Data → Result (List SwitchRow) Refusal
+switches_read ds = rows_read 0 switch_read [] ds
 
 abbrev pub links_in : List SwitchRow → List Data → Result (List LinkRow) Refusal
-links_in switches ds = rows_from 100 (link_of switches) [] ds
+links_in switches ds = rows_read 100 (link_of switches) [] ds
 
 -- the network that a document states, or its first refusal
-abbrev pub net_in : Members → Result Net Refusal
-net_in table =
-    with_value (in_row 0 (setting_of table (codes "leaf_rules") 1 8192 64)) (λ leaf_rules.
-    with_value (in_row 0 (setting_of table (codes "backups") 0 3 0)) (λ backups.
-    with_value (in_row 0 (setting_of table (codes "cache") 0 65536 256)) (λ cache.
+abbrev pub net_read : Members → Result Net Refusal
+net_read table =
+    with_value (in_row 0 (setting_read table (codes "leaf_rules") 1 8192 64)) (λ leaf_rules.
+    with_value (in_row 0 (setting_read table (codes "backups") 0 3 0)) (λ backups.
+    with_value (in_row 0 (setting_read table (codes "cache") 0 65536 256)) (λ cache.
     with_value (in_row 0 (switch_array table)) (λ switch_values.
-    with_value (switches_in switch_values) (λ switches.
+    with_value (switches_read switch_values) (λ switches.
     with_value (in_row 0 (link_array table)) (λ link_values.
     with_value (links_in switches link_values) (λ links.
     Ok (record {
@@ -165,4 +165,4 @@ document_of bytes = if is_utf8 bytes then parse_document bytes else None
 
 -- the network that a text states, or its first refusal
 unfoldable pub net_of : List ℕ → Result Net Refusal
-net_of bytes = with_value (in_row 0 (ok_or (document_of bytes) refusal.Toml)) net_in
+net_of bytes = with_value (in_row 0 (ok_or (document_of bytes) refusal.Toml)) net_read

@@ -6,17 +6,17 @@ use Rattle.net_file.specs.declared.error.NetError.{NetError}
 use Rattle.net_file.specs.declared.error.NetError.TheVariants as error
 
 -- the numbers by which refusals are known outside
-abbrev pub code_of : NetRefusal → ℕ
-code_of refusal.Toml = 1
-code_of refusal.MissingKey = 2
-code_of refusal.WrongType = 3
-code_of refusal.Range = 4
-code_of refusal.UnknownName = 5
-code_of refusal.DuplicateName = 6
-code_of refusal.DuplicatePort = 7
-code_of refusal.SelfLink = 8
-code_of refusal.DuplicateLink = 9
-code_of refusal.TooMany = 10
+abbrev pub net_code : NetRefusal → ℕ
+net_code refusal.Toml = 1
+net_code refusal.MissingKey = 2
+net_code refusal.WrongType = 3
+net_code refusal.Range = 4
+net_code refusal.UnknownName = 5
+net_code refusal.DuplicateName = 6
+net_code refusal.DuplicatePort = 7
+net_code refusal.SelfLink = 8
+net_code refusal.DuplicateLink = 9
+net_code refusal.TooMany = 10
 
 -- what is wrong, and in which row: 0 for a key of the document, k for the k-th switch, 100 + k for
 -- the k-th link
@@ -39,6 +39,6 @@ in_row row (Ok value) = Ok value
 in_row row (Err refusal) = Err (record { refusal = refusal; row = row })
 
 -- the error is the refusal, or want of memory
-abbrev pub IsRefusal : {X : Type 0} → Result X Refusal → NetError → Type 0
-IsRefusal read (error.Refused refusal row) = read ≡ Err (record { refusal = refusal; row = row })
-IsRefusal read error.NoMemory = ⊤
+abbrev pub IsNetRefusal : {X : Type 0} → Result X Refusal → NetError → Type 0
+IsNetRefusal read (error.Refused refusal row) = read ≡ Err (record { refusal = refusal; row = row })
+IsNetRefusal read error.NoMemory = ⊤

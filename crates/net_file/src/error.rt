@@ -1,5 +1,5 @@
 ghost use Rattle.std.specs.Prelude.{◌≡◌};
-ghost use Rattle.net_file.specs.Refusals.{code_of};
+ghost use Rattle.net_file.specs.Refusals.{net_code};
 ghost use Rattle.net_file.specs.declared.error.NetError.TheVariants.{NoMemory, Refused};
 
 use std::alloc::{AllocError, AllocFailed};
@@ -33,7 +33,7 @@ pub enum NetRefusal {
 impl NetRefusal {
     /// The refusal's number, from 1 to 10 in the order of the variants.
     pub fn code(self) -> u32
-        ensures { result ≡ code_of self }
+        ensures { result ≡ net_code self }
     {
         self as u32
     }

@@ -2,7 +2,7 @@ ghost use Rattle.std.specs.Prelude.{◌≡◌, option_map, map, Ok, Err, IfOk, I
 ghost use Rattle.toml.specs.Data.{as_str, as_table, get_member};
 ghost use Rattle.toml.specs.View.{table_view, view};
 ghost use Rattle.net_file.specs.Keys.{of_type, within};
-ghost use Rattle.net_file.specs.Reading.{array_in, number_in, setting_of};
+ghost use Rattle.net_file.specs.Reading.{array_in, number_stated, setting_read};
 
 use crate::error::NetRefusal;
 use toml::{Table, Value};
@@ -26,7 +26,7 @@ pub fn within(low: u32, high: u32, number: i64) -> Option<u32>
 
 /// The number that a value must be, from low to high.
 pub fn number_in(low: u32, high: u32, value: &Value) -> Result<u32, NetRefusal>
-    ensures { result ≡ number_in low high (view value.now) }
+    ensures { result ≡ number_stated low high (view value.now) }
 {
     let number = value.as_integer().ok_or(NetRefusal::WrongType)?;
     within(low, high, number).ok_or(NetRefusal::Range)
@@ -40,7 +40,7 @@ pub fn setting_of(
     high: u32,
     default: u32,
 ) -> Result<u32, NetRefusal>
-    ensures { result ≡ setting_of (table_view table.now) key.now low high default }
+    ensures { result ≡ setting_read (table_view table.now) key.now low high default }
 {
     match value_at(table, key) {
         Some(value) => number_in(low, high, value),

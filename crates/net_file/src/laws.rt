@@ -1,5 +1,5 @@
 ghost use Rattle.std.specs.Prelude.{◌≡◌, ℕ, List, Ok};
-ghost use Rattle.net_file.specs.Laws.{LinkLaws, NameLaws, PortLaws};
+ghost use Rattle.net_file.specs.Laws.{NetLinkLaws, NameLaws, PortLaws};
 ghost use Rattle.net_file.specs.Net.{IsNet, solo_net};
 ghost use Rattle.net_file.specs.Reading.{net_of};
 ghost use Rattle.net_file.specs.declared.net.Net.{Net};
@@ -17,7 +17,7 @@ pub fn port_laws()
 
 /// Links go both ways, between two different switches of the network.
 pub fn link_laws()
-    ensures { LinkLaws }
+    ensures { NetLinkLaws }
 {}
 
 /// The network that a text states is sound, and so is the one of one switch.

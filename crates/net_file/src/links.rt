@@ -1,8 +1,8 @@
 ghost use Rattle.std.specs.Prelude.{◌≡◌, ◌≤◌, ◌<◌, ◌^◌, Ok, Err, [], IfOk, IfErr, length, map};
 ghost use Rattle.toml.specs.View.{table_view, view};
 ghost use Rattle.net_file.specs.Joins.{are_linked, joins};
-ghost use Rattle.net_file.specs.Reading.{end_of, ends_in, link_array, link_of, link_with, links_in};
-ghost use Rattle.net_file.specs.Refusals.{IsRefusal};
+ghost use Rattle.net_file.specs.Reading.{end_read, ends_in, link_array, link_of, link_with, links_in};
+ghost use Rattle.net_file.specs.Refusals.{IsNetRefusal};
 
 use crate::error::{NetError, NetRefusal};
 use crate::keys::{array_in, table_in, value_at};
@@ -50,7 +50,7 @@ fn ends_in(value: &Value) -> Result<(&str, &str), NetRefusal>
 // The number of the switch with this name.
 fn end_of(switches: &[SwitchRow], name: &str) -> Result<u32, NetRefusal>
     requires { length switches.now ≤ 64 }
-    ensures { result ≡ end_of switches.now name.now }
+    ensures { result ≡ end_read switches.now name.now }
 {
     number_in(switches, name.as_bytes()).ok_or(NetRefusal::UnknownName)
 }
@@ -111,7 +111,7 @@ pub fn read_links(
     requires few_links { length values.now ≤ 256 }
     ensures links { IfOk result (λ rows.
         links_in switches.now (map view values.now) ≡ Ok rows.items) }
-    ensures refused { IfErr result (IsRefusal (links_in switches.now (map view values.now))) }
+    ensures refused { IfErr result (IsNetRefusal (links_in switches.now (map view values.now))) }
 {
     let mut rows = Vec::new(alloc);
     let mut row = LINK_ROWS;

@@ -3,9 +3,9 @@ ghost use Rattle.std.specs.List.{list_all};
 ghost use Rattle.toml.specs.Data.{as_integer};
 ghost use Rattle.toml.specs.View.{table_view, view};
 ghost use Rattle.net_file.specs.Net.{are_name_bytes, is_label, is_name, is_name_byte};
-ghost use Rattle.net_file.specs.Reading.{are_new, name_at, port_bits, port_of, ports_at, ports_of, switch_array, switch_of, switch_with, switches_in};
-ghost use Rattle.net_file.specs.Refusals.{IsRefusal, in_row};
-ghost use Rattle.net_file.specs.Stated.{row_of};
+ghost use Rattle.net_file.specs.Reading.{are_new, name_at, port_bits, port_read, ports_at, ports_of, switch_array, switch_read, switch_with, switches_read};
+ghost use Rattle.net_file.specs.Refusals.{IsNetRefusal, in_row};
+ghost use Rattle.net_file.specs.Stated.{row_stated};
 ghost use Rattle.net_file.specs.Owners.{have_name, have_port};
 ghost use Rattle.net_file.specs.Laws.{IsMask};
 
@@ -96,7 +96,7 @@ fn read_name(keys: &Table) -> Result<&str, NetRefusal>
 
 // The port that a value is, if it is a number from 0 to 63.
 fn port_of(value: &Value) -> Option<u32>
-    ensures port { result ≡ port_of (view value.now) }
+    ensures port { result ≡ port_read (view value.now) }
     ensures small { IfSome result (λ port. port < 64) }
 {
     within(0, 63, value.as_integer()?)
@@ -111,7 +111,7 @@ fn are_integers(values: &[Value]) -> bool
 
 // Whether each value is a port.
 fn are_ports(values: &[Value]) -> bool
-    ensures { result ≡ list_all (λ value. is_some (port_of (view value))) values.now }
+    ensures { result ≡ list_all (λ value. is_some (port_read (view value))) values.now }
 {
     values.iter().all(|value| port_of(value).is_some())
 }
@@ -177,7 +177,7 @@ fn read_keys<'a>(
 ) -> Result<Stated<'a>, NetRefusal>
     requires { IsMask taken (have_port earlier.now) }
     ensures stated { IfOk result (λ stated.
-        switch_with earlier.now (table_view keys.now) ≡ Ok (row_of stated)) }
+        switch_with earlier.now (table_view keys.now) ≡ Ok (row_stated stated)) }
     ensures refused { IfErr result (λ refusal.
         switch_with earlier.now (table_view keys.now) ≡ Err refusal) }
 {
@@ -200,8 +200,8 @@ fn read_switch(
     row: u32,
 ) -> Result<SwitchRow, NetError>
     requires { IsMask taken (have_port earlier.now) }
-    ensures switch { IfOk result (λ switch. switch_of earlier.now (view value.now) ≡ Ok switch) }
-    ensures refused { IfErr result (IsRefusal (in_row row (switch_of earlier.now
+    ensures switch { IfOk result (λ switch. switch_read earlier.now (view value.now) ≡ Ok switch) }
+    ensures refused { IfErr result (IsNetRefusal (in_row row (switch_read earlier.now
         (view value.now)))) }
 {
     let keys = match table_in(value) {
@@ -223,8 +223,8 @@ fn read_switch(
 pub fn read_switches(alloc: Global, values: &[Value]) -> Result<Vec<SwitchRow>, NetError>
     requires { length values.now ≤ 64 }
     ensures few { IfOk result (λ rows. vec_len rows ≤ 64) }
-    ensures switches { IfOk result (λ rows. switches_in (map view values.now) ≡ Ok rows.items) }
-    ensures refused { IfErr result (IsRefusal (switches_in (map view values.now))) }
+    ensures switches { IfOk result (λ rows. switches_read (map view values.now) ≡ Ok rows.items) }
+    ensures refused { IfErr result (IsNetRefusal (switches_read (map view values.now))) }
 {
     let mut rows = Vec::new(alloc);
     let mut taken = 0;

@@ -28,10 +28,10 @@ use Rattle.cut_tree.specs.Narrow.{narrow, narrowed}
 use Rattle.cut_tree.specs.Nodes.{AreWords}
 use Rattle.cut_tree.specs.Shape.{Shape, End, Node, leaf_count, leaves_of}
 use Rattle.cut_tree.proofs.CallerLemmas.{narrow_few, narrow_first, tree_defined}
-use Rattle.policy_rules.specs.Partitions.{AreNumbered, AreSoundPartitions}
+use Rattle.policy_rules.specs.Partitions.{ArePartsNumbered, AreSoundPartitions}
 use Rattle.policy_rules.specs.Scan.{scan}
 use Rattle.policy_rules.specs.Placed.{is_in}
-use Rattle.partition.specs.Parts.{DecideAs, DecidesAs, numbered, numbered_from, parts_of, partitions_of}
+use Rattle.partition.specs.Parts.{DecideAs, DecidesAs, partition_numbered, numbered_from, parts_of, partitions_of}
 
 -- what becomes of a header by the first rule that holds it
 abbrev hit_at : ℕ → List Rule → Option Hit
@@ -143,7 +143,7 @@ unfolding numbered_from
 numbered_none number = refl
 
 pub numbered_more : (number : ℕ) (leaf : WordValue × List Rule)
-    (leaves : List (WordValue × List Rule)) → numbered_from number (leaf ∷ leaves) ≡ numbered
+    (leaves : List (WordValue × List Rule)) → numbered_from number (leaf ∷ leaves) ≡ partition_numbered
     (number, leaf) ∷ numbered_from (number + 1) leaves
 unfolding numbered_from
 numbered_more number leaf leaves = refl
@@ -154,11 +154,11 @@ numbered_count number [] header = ap (count_by (is_in header)) (numbered_none nu
 numbered_count number (leaf ∷ leaves) header =
     let parts = numbered_from (number + 1) leaves in
     let more : count_by (is_in header) (numbered_from number (leaf ∷ leaves)) ≡ count_by
-    (is_in header) (numbered (number, leaf) ∷ parts) = ap (count_by (is_in header))
+    (is_in header) (partition_numbered (number, leaf) ∷ parts) = ap (count_by (is_in header))
     (numbered_more number leaf leaves) in
-    let part : count_by (is_in header) (numbered (number, leaf) ∷ parts) ≡ cond
+    let part : count_by (is_in header) (partition_numbered (number, leaf) ∷ parts) ≡ cond
     (holds leaf.0 (number_of header)) 1 0 + count_by (is_in header) parts =
-    sum_by-cons (λ part. cond (is_in header part) 1 0) (numbered (number, leaf)) parts in
+    sum_by-cons (λ part. cond (is_in header part) 1 0) (partition_numbered (number, leaf)) parts in
     let front : leaves_at (number_of header) (leaf ∷ leaves) ≡ cond
     (holds leaf.0 (number_of header)) 1 0 + leaves_at (number_of header) leaves =
     sum_by-cons (λ (leaf : WordValue × List Rule). cond (holds leaf.0 (number_of header)) 1 0)
@@ -166,20 +166,20 @@ numbered_count number (leaf ∷ leaves) header =
     omega (arith, more, part, front, numbered_count (number + 1) leaves header)
 
 pub numbered_all : (P : Partition → Type 0) (Q : WordValue × List Rule → Type 0)
-    → ((number : ℕ) (leaf : WordValue × List Rule) → Q leaf → P (numbered (number, leaf)))
+    → ((number : ℕ) (leaf : WordValue × List Rule) → Q leaf → P (partition_numbered (number, leaf)))
     → (number : ℕ) (leaves : List (WordValue × List Rule)) → All Q leaves
     → All P (numbered_from number leaves)
 numbered_all P Q each number [] all = All-same P _ _ (numbered_none number) (All-nil P)
 numbered_all P Q each number (leaf ∷ leaves) all =
     All-same P _ _ (numbered_more number leaf leaves)
-    (All-cons P (numbered (number, leaf)) (numbered_from (number + 1) leaves)
+    (All-cons P (partition_numbered (number, leaf)) (numbered_from (number + 1) leaves)
     (each number leaf (All-head Q leaf leaves all))
     (numbered_all P Q each (number + 1) leaves (All-tail Q leaf leaves all)))
 
 pub numbered_length : (number : ℕ) (leaves : List (WordValue × List Rule))
     → length (numbered_from number leaves) ≡ length leaves
 unfolding numbered_from
-numbered_length number leaves = length-map (enumerate_from number leaves) numbered
+numbered_length number leaves = length-map (enumerate_from number leaves) partition_numbered
     ∙ length-enumerate_from number leaves
 
 pub numbered_append : (number : ℕ) (a b : List (WordValue × List Rule))
@@ -187,7 +187,7 @@ pub numbered_append : (number : ℕ) (a b : List (WordValue × List Rule))
 numbered_append number [] b = rw numbered_none (ap (λ n. numbered_from n b) (sym (add-zero number)))
 numbered_append number (leaf ∷ a) b =
     let later : number + 1 + length a ≡ number + length (leaf ∷ a) = omega arith in
-    numbered_more number leaf (a ++ b) ∙ ap (λ ps. numbered (number, leaf) ∷ ps)
+    numbered_more number leaf (a ++ b) ∙ ap (λ ps. partition_numbered (number, leaf) ∷ ps)
     (numbered_append (number + 1) a b
     ∙ ap (λ n. numbered_from (number + 1) a ++ numbered_from n b) later)
     ∙ ap (λ ps. ps ++ numbered_from (number + length (leaf ∷ a)) b)
@@ -219,7 +219,7 @@ parts_decide rules most tree is = record {
       (leaves_decide tree rules any_word most 0 is);
 }
 
-pub parts_numbered : (tree : Shape) → AreNumbered (parts_of tree)
+pub parts_numbered : (tree : Shape) → ArePartsNumbered (parts_of tree)
 parts_numbered tree = λ place d within. numbers_at 0 (leaves_of tree) place d
     (omega (arith, within, numbered_length 0 (leaves_of tree))) ∙ omega arith
 

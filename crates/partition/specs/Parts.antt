@@ -12,12 +12,12 @@ use Rattle.policy_rules.specs.declared.rules.Rule.{Rule}
 use Rattle.cut_tree.specs.DefinedTree.{tree_of}
 use Rattle.cut_tree.specs.Shape.{Shape, leaves_of}
 
-abbrev pub numbered : ℕ × (WordValue × List Rule) → Partition
-numbered (number, leaf) = record { number = number; region = leaf.0; rules = leaf.1 }
+abbrev pub partition_numbered : ℕ × (WordValue × List Rule) → Partition
+partition_numbered (number, leaf) = record { number = number; region = leaf.0; rules = leaf.1 }
 
 -- leaves as partitions with numbers from this one on
 unfoldable pub numbered_from : ℕ → List (WordValue × List Rule) → List Partition
-numbered_from number leaves = map numbered (enumerate_from number leaves)
+numbered_from number leaves = map partition_numbered (enumerate_from number leaves)
 
 -- the partitions of a tree: its leaves, low side before high side, numbered from 0
 abbrev pub parts_of : Shape → List Partition

@@ -8,7 +8,7 @@ use Rattle.std.proofs.lemmas.List.{append-nil, get_or_past, get_or-set_other, ge
 use Rattle.std.proofs.lemmas.List.Elements.{filter_agree}
 use Rattle.std.proofs.lemmas.List.Sums.{sum_by-cons, sum_by-append, sum_by_push}
 use Rattle.placement.specs.Order.{in_order}
-use Rattle.placement.specs.Placement.{is_earlier, targets_of, is_target, load_before, is_lighter, with_room, AreFirst, IsPlaced, IsPlacement, IsRefused, placed_from, placement_of, MeetsPlacement}
+use Rattle.placement.specs.Placement.{is_earlier, targets_placed, is_target, load_before, is_lighter, with_room, AreFirst, IsPlaced, IsPlacement, LacksRoom, placed_from, placement_of, MeetsPlacement}
 use Rattle.placement.proofs.OrderLemmas.{Rises, one_of, one_of-same, one_of-other, count, count-range-le, count-range_within, range-within, sum-in_order, length-in_order, rises-in_order, each_from_count}
 use Rattle.placement.proofs.FirstLemmas.{earlier_order, first_in_order, same_first, room_for_first}
 
@@ -113,7 +113,7 @@ earlier-within sizes o p earlier within =
 -- ---- loads
 
 loads_agree : (sizes : List ℕ) (P Q : List (List ℕ)) (p : ℕ)
-    → ((o : ℕ) → is_earlier sizes o p ≡ true → targets_of P o ≡ targets_of Q o)
+    → ((o : ℕ) → is_earlier sizes o p ≡ true → targets_placed P o ≡ targets_placed Q o)
     → load_before sizes P p ≡ load_before sizes Q p
 unfolding load_before
 loads_agree sizes P Q p same =
@@ -230,7 +230,7 @@ placed-set sizes rooms backups P p q chosen earlier placed =
     false≢true (sym ((earlier_order sizes).never p) ∙ subst (λ z. is_earlier sizes z p ≡ true)
     same earlier) in
     subst (λ load. AreFirst load rooms (get_or sizes q 0) (1 + backups)
-    (targets_of (set P p chosen) q)) (sym (loads-set sizes P p q chosen later))
+    (targets_placed (set P p chosen) q)) (sym (loads-set sizes P p q chosen later))
     (subst (AreFirst (load_before sizes P q) rooms (get_or sizes q 0) (1 + backups))
     (sym (get_or-set_other P p q chosen [] other)) placed)
 
@@ -243,7 +243,7 @@ placing_more sizes rooms backups P done p left chosen placing first =
     let within : p < length P = omega (arith, parts.within, placing.number) in
     let here : IsPlaced sizes rooms backups (set P p chosen) p =
     subst (λ load. AreFirst load rooms (get_or sizes p 0) (1 + backups)
-    (targets_of (set P p chosen) p))
+    (targets_placed (set P p chosen) p))
     (sym (loads-set sizes P p p chosen ((earlier_order sizes).never p)))
     (subst (AreFirst (load_before sizes P p) rooms (get_or sizes p 0) (1 + backups))
     (sym (get_or-set_same P p chosen [] within)) first) in
@@ -279,7 +279,7 @@ placing_all sizes rooms backups P done placing =
 pub placing_refused : (sizes rooms : List ℕ) (backups : ℕ) (P : List (List ℕ)) (done : List ℕ)
     (p : ℕ) (left : List ℕ) → Placing sizes rooms backups P done (p ∷ left)
     → length (with_room (load_before sizes P p) rooms (get_or sizes p 0)) < 1 + backups
-    → IsRefused sizes rooms backups p
+    → LacksRoom sizes rooms backups p
 placing_refused sizes rooms backups P done p left placing fewer =
     let parts = split_of sizes done p left placing.split in
     record {
@@ -360,7 +360,7 @@ loaded_more sizes rooms backups loads P done p left chosen more loaded first add
 pub loaded_refused : (sizes rooms : List ℕ) (backups : ℕ) (loads : List ℕ) (P : List (List ℕ))
     (done : List ℕ) (p : ℕ) (left : List ℕ) → Loaded sizes rooms backups loads P done (p ∷ left)
     → length (with_room (λ s. get_or loads s 0) rooms (get_or sizes p 0)) < 1 + backups
-    → IsRefused sizes rooms backups p
+    → LacksRoom sizes rooms backups p
 loaded_refused sizes rooms backups loads P done p left loaded fewer =
     placing_refused sizes rooms backups P done p left loaded.placing
     (subst (λ load. length (with_room load rooms (get_or sizes p 0)) < 1 + backups)
@@ -391,7 +391,7 @@ turns_meet sizes rooms backups (p ∷ left) done P placing =
     (ltb-false (length found) (1 + backups) many))))
   where
     by_case : (b : Bool) (placed : Result (List (List ℕ)) ℕ)
-        → (b ≡ true → IsRefused sizes rooms backups p)
+        → (b ≡ true → LacksRoom sizes rooms backups p)
         → (b ≡ false → MeetsPlacement sizes rooms backups placed)
         → MeetsPlacement sizes rooms backups (cond b (Err p) placed)
     by_case true placed refused meets = refused refl
@@ -409,14 +409,14 @@ placement_meets sizes rooms backups = turns_meet sizes rooms backups (turns size
 
 -- two placements give these partitions the same targets
 abbrev Agree : List (List ℕ) → List (List ℕ) → List ℕ → Type 0
-Agree P Q xs = AllByRecursion (λ o. targets_of P o ≡ targets_of Q o) xs
+Agree P Q xs = AllByRecursion (λ o. targets_placed P o ≡ targets_placed Q o) xs
 
 agree_next : (sizes rooms : List ℕ) (backups : ℕ) (P Q : List (List ℕ)) (done : List ℕ) (p : ℕ)
     (left : List ℕ) → turns sizes ≡ done ++ p ∷ left → Agree P Q done
     → load_before sizes P p ≡ load_before sizes Q p
 agree_next sizes rooms backups P Q done p left split agree =
     let parts = split_of sizes done p left split in
-    loads_agree sizes P Q p (λ o earlier. each_from_count (λ z. targets_of P z ≡ targets_of Q z) o
+    loads_agree sizes P Q p (λ o earlier. each_from_count (λ z. targets_placed P z ≡ targets_placed Q z) o
     done agree (parts.others o (earlier-within sizes o p earlier parts.within) earlier))
 
 agree_from : (sizes rooms : List ℕ) (backups : ℕ) (P Q : List (List ℕ)) (now done left : List ℕ)
@@ -428,13 +428,13 @@ agree_from sizes rooms backups P Q [] done left split agree p q = subst (Agree P
 agree_from sizes rooms backups P Q (x ∷ xs) done left split agree p q =
     let loads = agree_next sizes rooms backups P Q done x (xs ++ left) split agree in
     let here = same_first (load_before sizes Q x) rooms (get_or sizes x 0) (1 + backups)
-    (targets_of P x) (targets_of Q x)
-    (subst (λ load. AreFirst load rooms (get_or sizes x 0) (1 + backups) (targets_of P x)) loads
+    (targets_placed P x) (targets_placed Q x)
+    (subst (λ load. AreFirst load rooms (get_or sizes x 0) (1 + backups) (targets_placed P x)) loads
     p.0) q.0 in
     subst (Agree P Q) (append_assoc done (x ∷ []) xs)
     (agree_from sizes rooms backups P Q xs (done ++ x ∷ []) left
     (split ∙ sym (append_assoc done (x ∷ []) (xs ++ left)))
-    (each-append (λ o. targets_of P o ≡ targets_of Q o) done (x ∷ []) agree (here, tt)) p.1 q.1)
+    (each-append (λ o. targets_placed P o ≡ targets_placed Q o) done (x ∷ []) agree (here, tt)) p.1 q.1)
 
 each_within : (P : ℕ → Type 0) (sizes : List ℕ) → ((p : ℕ) → p < length sizes → P p) → (xs : List ℕ)
     → ((z : ℕ) → 0 < count z xs → z < length sizes) → AllByRecursion P xs
@@ -453,13 +453,13 @@ same_placement sizes rooms backups P Q p q =
     let agree = agree_from sizes rooms backups P Q (turns sizes) [] []
     (sym (append-nil (turns sizes))) tt (placed P p) (placed Q q) in
     same_lists P Q (omega (arith, p.number, q.number)) (λ k d within.
-    let here = each_from_count (λ z. targets_of P z ≡ targets_of Q z) k (turns sizes) agree
+    let here = each_from_count (λ z. targets_placed P z ≡ targets_placed Q z) k (turns sizes) agree
     (in_turns sizes k (omega (arith, p.number))) in
     get_or_default P k d [] within ∙ here
     ∙ get_or_default Q k [] d (omega (arith, p.number, q.number)))
 
 -- a partition that is refused has no targets in any placement of the earlier ones
-refused_clash : (sizes rooms : List ℕ) (backups p : ℕ) → IsRefused sizes rooms backups p
+refused_clash : (sizes rooms : List ℕ) (backups p : ℕ) → LacksRoom sizes rooms backups p
     → (Q : List (List ℕ)) → ((o : ℕ) → o < length sizes → is_earlier sizes o p ≡ true
     → IsPlaced sizes rooms backups Q o) → IsPlaced sizes rooms backups Q p → ⊥
 refused_clash sizes rooms backups p refused Q earlier placed =
@@ -473,7 +473,7 @@ refused_clash sizes rooms backups p refused Q earlier placed =
     (all refused.placement refused.earlier) (all Q earlier) in
     let loads = agree_next sizes rooms backups refused.placement Q cut.0 p cut.1 cut.2 agree in
     let room = room_for_first (load_before sizes Q p) rooms (get_or sizes p 0) (1 + backups)
-    (targets_of Q p) placed in
+    (targets_placed Q p) placed in
     let fewer = subst (λ load. length (with_room load rooms (get_or sizes p 0)) < 1 + backups) loads
     refused.fewer in
     omega (arith, room, fewer)
@@ -491,15 +491,15 @@ refused_clash sizes rooms backups p refused Q earlier placed =
           (λ z there. within z (omega (arith, sum_by-cons (one_of z) x xs))),
     )
 
-refused_before : (sizes rooms : List ℕ) (backups p q : ℕ) → IsRefused sizes rooms backups p
-    → IsRefused sizes rooms backups q → is_earlier sizes p q ≡ true → ⊥
+refused_before : (sizes rooms : List ℕ) (backups p q : ℕ) → LacksRoom sizes rooms backups p
+    → LacksRoom sizes rooms backups q → is_earlier sizes p q ≡ true → ⊥
 refused_before sizes rooms backups p q at_p at_q first =
     refused_clash sizes rooms backups p at_p at_q.placement
     (λ o within earlier. at_q.earlier o within
     ((earlier_order sizes).trans o p q earlier first)) (at_q.earlier p at_p.there first)
 
-same_refusal : (sizes rooms : List ℕ) (backups p q : ℕ) → IsRefused sizes rooms backups p
-    → IsRefused sizes rooms backups q → p ≡ q
+same_refusal : (sizes rooms : List ℕ) (backups p q : ℕ) → LacksRoom sizes rooms backups p
+    → LacksRoom sizes rooms backups q → p ≡ q
 same_refusal sizes rooms backups p q at_p at_q =
     elim (cases_eq p q) [
       | inl same ↦ same
@@ -512,7 +512,7 @@ same_refusal sizes rooms backups p q at_p at_q =
     ]
 
 placed_or_refused : (sizes rooms : List ℕ) (backups p : ℕ) (Q : List (List ℕ))
-    → IsPlacement sizes rooms backups Q → IsRefused sizes rooms backups p → ⊥
+    → IsPlacement sizes rooms backups Q → LacksRoom sizes rooms backups p → ⊥
 placed_or_refused sizes rooms backups p Q placement refused = refused_clash sizes rooms backups p
     refused Q (λ o within _. placement.placed o within) (placement.placed p refused.there)
 
@@ -526,7 +526,7 @@ placement_is sizes rooms backups Q placement = by_case (placement_of sizes rooms
     by_case (Ok P) meets = ap Ok (same_placement sizes rooms backups P Q meets placement)
     by_case (Err p) meets = absurd (placed_or_refused sizes rooms backups p Q placement meets)
 
-pub refusal_is : (sizes rooms : List ℕ) (backups p : ℕ) → IsRefused sizes rooms backups p
+pub refusal_is : (sizes rooms : List ℕ) (backups p : ℕ) → LacksRoom sizes rooms backups p
     → placement_of sizes rooms backups ≡ Err p
 refusal_is sizes rooms backups p refused = by_case (placement_of sizes rooms backups)
     (placement_meets sizes rooms backups)

@@ -16,11 +16,11 @@ is_earlier sizes a b =
     nat_lt (slice_index sizes b) (slice_index sizes a)
     || ((slice_index sizes b == slice_index sizes a) && nat_lt a b)
 
-abbrev pub targets_of : List (List ℕ) → ℕ → List ℕ
-targets_of placement partition = slice_index_or placement partition []
+abbrev pub targets_placed : List (List ℕ) → ℕ → List ℕ
+targets_placed placement partition = slice_index_or placement partition []
 
 abbrev pub is_target : List (List ℕ) → ℕ → ℕ → Bool
-is_target placement partition switch = list_any (nat_eq switch) (targets_of placement partition)
+is_target placement partition switch = list_any (nat_eq switch) (targets_placed placement partition)
 
 -- the load of a switch before a partition: the sum of the sizes of the earlier partitions whose
 -- targets contain it
@@ -60,7 +60,7 @@ pub record AreFirst (load : ℕ → ℕ) (rooms : List ℕ) (size count : ℕ) (
 abbrev pub IsPlaced : List ℕ → List ℕ → ℕ → List (List ℕ) → ℕ → Type 0
 IsPlaced sizes rooms backups placement partition =
     AreFirst (load_before sizes placement partition) rooms (slice_index sizes partition)
-    (1 + backups) (targets_of placement partition)
+    (1 + backups) (targets_placed placement partition)
 
 -- each partition has its targets
 pub record IsPlacement (sizes rooms : List ℕ) (backups : ℕ) (placement : List (List ℕ))
@@ -70,7 +70,7 @@ pub record IsPlacement (sizes rooms : List ℕ) (backups : ℕ) (placement : Lis
       → IsPlaced sizes rooms backups placement partition
 
 -- the earlier partitions have their targets, and for this one too few switches have room
-pub record IsRefused (sizes rooms : List ℕ) (backups : ℕ) (partition : ℕ) : Type 0 where
+pub record LacksRoom (sizes rooms : List ℕ) (backups : ℕ) (partition : ℕ) : Type 0 where
   pub there : partition < length sizes
   pub placement : List (List ℕ)
   pub earlier : (other : ℕ) → other < length sizes → IsTrue (is_earlier sizes other partition)
@@ -101,10 +101,10 @@ placement_of sizes rooms backups =
 -- the definition by turns meets the one by loads
 abbrev pub MeetsPlacement : List ℕ → List ℕ → ℕ → Result (List (List ℕ)) ℕ → Type 0
 MeetsPlacement sizes rooms backups answer =
-    MatchResult answer (IsPlacement sizes rooms backups) (IsRefused sizes rooms backups)
+    MatchResult answer (IsPlacement sizes rooms backups) (LacksRoom sizes rooms backups)
 
 -- why there is no placement, or memory ran out
 abbrev pub RefusesPlacement : List ℕ → List ℕ → ℕ → PlaceError → Type 0
 RefusesPlacement sizes rooms backups (NoRoom partition) =
-    (placement_of sizes rooms backups ≡ Err partition) × IsRefused sizes rooms backups partition
+    (placement_of sizes rooms backups ≡ Err partition) × LacksRoom sizes rooms backups partition
 RefusesPlacement sizes rooms backups NoMemory = ⊤

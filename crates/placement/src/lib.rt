@@ -10,7 +10,7 @@
 ghost use Rattle.std.specs.Prelude.{ℕ, ◌≡◌, ◌+◌, ◌<◌, ◌≤◌, ◌^◌, Ok, Err, List, length, slice_index, All, AllPairs, MatchOption, IfOk, IfErr, IsTrue, if◌then◌else◌, nat_eq, replicate};
 ghost use Rattle.std.specs.List.{list_any, range_with_len};
 ghost use Rattle.placement.specs.Order.{in_order};
-ghost use Rattle.placement.specs.Placement.{is_earlier, is_lighter, has_room, with_room, AreFirst, IsPlacement, IsRefused, MeetsPlacement, RefusesPlacement, placement_of};
+ghost use Rattle.placement.specs.Placement.{is_earlier, is_lighter, has_room, with_room, AreFirst, IsPlacement, LacksRoom, MeetsPlacement, RefusesPlacement, placement_of};
 ghost use Rattle.placement.specs.declared.PlaceError.TheVariants.{NoMemory};
 
 use policy_rules::Targets;
@@ -95,7 +95,7 @@ pub fn placement_laws()
         IsPlacement sizes rooms backups placement →
         placement_of sizes rooms backups ≡ Ok placement }
     ensures refused { (sizes rooms : List ℕ) (backups partition : ℕ) →
-        IsRefused sizes rooms backups partition → placement_of sizes rooms backups ≡ Err partition }
+        LacksRoom sizes rooms backups partition → placement_of sizes rooms backups ≡ Err partition }
 {}
 
 // The numbers of the partitions in the order of placing.

@@ -3,7 +3,7 @@ use Rattle.std.proofs.Common.{ℕ, zero, suc, ◌≡◌, ◌∙◌, ◌+◌, Lis
 use Rattle.std.specs.Prelude.{◌≢◌, Err}
 use Rattle.csv.specs.Records.{field_at}
 use Rattle.csv_records.specs.Texts.{field}
-use Rattle.policy_file.specs.Reading.{is_heading, row_of}
+use Rattle.policy_file.specs.Reading.{is_policy_heading, row_read}
 use Rattle.policy_file.specs.declared.error.PolicyRefusal.TheVariants as why
 
 abbrev pub seven_of : List (List ℕ) → List (List ℕ)
@@ -16,8 +16,8 @@ seven_fields (a ∷ b ∷ c ∷ d ∷ e ∷ f ∷ g ∷ []) seven = refl
 seven_fields _ seven = absurd (omega arith)
 
 pub is_heading-seven : (fields : List (List ℕ)) → length fields ≡ 7
-    → is_heading fields ≡ is_heading (seven_of fields)
-is_heading-seven fields seven = ap is_heading (seven_fields fields seven)
+    → is_policy_heading fields ≡ is_policy_heading (seven_of fields)
+is_heading-seven fields seven = ap is_policy_heading (seven_fields fields seven)
 
 -- a field past the first ones
 field_past : (fields : List (List ℕ)) (from place : ℕ) → field (drop from fields) place ≡ field
@@ -29,14 +29,14 @@ field_past (first ∷ fields) (suc from) place = field_past fields from place
     ∙ ap (field (first ∷ fields)) {x = suc (from + place)} {y = suc from + place} (omega arith)
 
 pub row_of-seven : (fields : List (List ℕ)) (from : ℕ) → length fields ≡ from + 7
-    → row_of (drop from fields) ≡ row_of
+    → row_read (drop from fields) ≡ row_read
     (field fields from ∷ field fields (from + 1) ∷ field fields (from + 2) ∷ field fields
     (from + 3) ∷ field fields (from + 4) ∷ field fields (from + 5) ∷ field fields
     (from + 6) ∷ [])
 row_of-seven fields from seven =
     let here : field (drop from fields) 0 ≡ field fields from = field_past fields from 0
     ∙ ap (field fields) (omega arith) in
-    ap row_of (seven_fields (drop from fields) (omega (arith, length-drop from fields)))
+    ap row_read (seven_fields (drop from fields) (omega (arith, length-drop from fields)))
     ∙ rw (
       here,
       field_past fields from 1,
@@ -48,11 +48,11 @@ row_of-seven fields from seven =
     ) refl
 
 pub row_of-other : (fields : List (List ℕ)) (from : ℕ) → length fields ≢ from + 7
-    → row_of (drop from fields) ≡ Err why.Width
+    → row_read (drop from fields) ≡ Err why.Width
 row_of-other fields from other = no_seven (drop from fields)
     (λ seven. other (omega (arith, length-drop from fields)))
   where
-    no_seven : (xs : List (List ℕ)) → length xs ≢ 7 → row_of xs ≡ Err why.Width
+    no_seven : (xs : List (List ℕ)) → length xs ≢ 7 → row_read xs ≡ Err why.Width
     no_seven (a ∷ b ∷ c ∷ d ∷ e ∷ f ∷ g ∷ []) other = absurd (other refl)
     no_seven _ other = refl
 

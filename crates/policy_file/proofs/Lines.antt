@@ -14,17 +14,17 @@ use Rattle.five_tuple.specs.Texts.{number_up_to, prefix_of, range_of, proto_of}
 use Rattle.policy_rules.specs.Policy.{HaveDistinctPriorities, action_text}
 use Rattle.policy_rules.specs.Read.{action_of}
 use Rattle.policy_rules.specs.declared.policy.Row.{Row}
-use Rattle.policy_file.specs.Printing.{line, policy_text, row_fields, rows_text}
-use Rattle.policy_file.specs.Reading.{IsReadUpTo, State, heading_fields, policy_of, row_of}
+use Rattle.policy_file.specs.Printing.{fields_line, policy_text, row_fields, rows_text}
+use Rattle.policy_file.specs.Reading.{IsReadUpTo, State, policy_heading, policy_of, row_read}
 use Rattle.policy_file.proofs.Plain.{ArePlain, IsPlain}
 use Rattle.policy_file.proofs.Rows.{all_read}
 use Rattle.csv_records.proofs.CallerLemmas.{over}
 
 -- one line more
 pub rows_text-more : (rows : List Row) (i : ℕ) (d : Row) → i < length rows
-    → rows_text (take (i + 1) rows) ≡ rows_text (take i rows) ++ line (row_fields (get_or rows i d))
+    → rows_text (take (i + 1) rows) ≡ rows_text (take i rows) ++ fields_line (row_fields (get_or rows i d))
 rows_text-more rows i d within =
-    ap rows_text (take_more rows i d within) ∙ flat_map-append (λ row. line (row_fields row))
+    ap rows_text (take_more rows i d within) ∙ flat_map-append (λ row. fields_line (row_fields row))
     (take i rows) (get_or rows i d ∷ [])
     ∙ ap (λ last. rows_text (take i rows) ++ last) (append-nil _)
 
@@ -40,13 +40,13 @@ plain_body field (next ∷ fields) plain = rw (plain_field field plain.0)
     (ap (λ rest. field ++ 44 ∷ rest) (plain_body next fields plain.1))
 
 plain_line : (x y : List ℕ) (fields : List (List ℕ)) → ArePlain (x ∷ y ∷ fields)
-    → row_text default_writer (x ∷ y ∷ fields) ≡ line (x ∷ y ∷ fields)
+    → row_text default_writer (x ∷ y ∷ fields) ≡ fields_line (x ∷ y ∷ fields)
 unfolding is_blank
 plain_line x y fields plain = ap (λ body. body ++ 10 ∷ []) (plain_body x (y ∷ fields) plain)
 
 -- the line of fields without quotes is one record
 one_record : (x y : List ℕ) (fields : List (List ℕ)) (tail : List ℕ) → ArePlain (x ∷ y ∷ fields)
-    → next_record default_config st.StartRecord [] [] (line (x ∷ y ∷ fields) ++ tail) ≡ Some
+    → next_record default_config st.StartRecord [] [] (fields_line (x ∷ y ∷ fields) ++ tail) ≡ Some
     (x ∷ y ∷ fields, st.StartRecord, tail)
 one_record x y fields tail plain =
     ap (λ text. next_record default_config st.StartRecord [] [] (text ++ tail))
@@ -68,12 +68,12 @@ lines_are_long (row ∷ rows) =
     let rest = lines_are_long rows in
     omega (
       arith,
-      length-append (line (row_fields row)) (rows_text rows),
+      length-append (fields_line (row_fields row)) (rows_text rows),
       length-append (join_with_byte 44 (row_fields row)) (10 ∷ []),
     )
 
 records_of_text : (rows : List Row) → AllByRecursion (λ row. ArePlain (row_fields row)) rows
-    → records default_config (policy_text rows) ≡ heading_fields ∷ map row_fields rows
+    → records default_config (policy_text rows) ≡ policy_heading ∷ map row_fields rows
 unfolding records_from
 records_of_text rows plain =
     let long = lines_are_long rows in
@@ -81,9 +81,9 @@ records_of_text rows plain =
     ap (records_next (records_from default_config (length (policy_text rows))))
     (one_record _ _ _ (rows_text rows)
     (refl, (refl, (refl, (refl, (refl, (refl, (refl, tt))))))))
-    ∙ ap (λ rest. heading_fields ∷ rest)
+    ∙ ap (λ rest. policy_heading ∷ rest)
     (records_of_lines rows (length (policy_text rows))
-    (omega (arith, length-append (line heading_fields) (rows_text rows))) plain)
+    (omega (arith, length-append (fields_line policy_heading) (rows_text rows))) plain)
     )
 
 -- a row's printed fields state the row
@@ -93,13 +93,13 @@ pub row_back : (row : Row) → number_up_to 4294967295 (decimal row.priority) �
     → range_of (range_text row.sport) ≡ Some row.sport → range_of (range_text row.dport) ≡ Some
     row.dport → proto_of (proto_text row.proto) ≡ Some row.proto
     → action_of (action_text row.action) ≡ Some row.action
-    → row_of (row_fields row) ≡ Ok row
+    → row_read (row_fields row) ≡ Ok row
 row_back row priority src dst sport dport proto action =
     rw (priority, src, dst, sport, dport, proto, action) refl
 
 pub policy_back : (rows : List Row) → HaveDistinctPriorities rows → length rows ≤ 2000
     → AllByRecursion (λ row. ArePlain (row_fields row)) rows
-    → AllByRecursion (λ row. row_of (row_fields row) ≡ Ok row) rows → policy_of (policy_text rows)
+    → AllByRecursion (λ row. row_read (row_fields row) ≡ Ok row) rows → policy_of (policy_text rows)
     ≡ Ok rows
 unfolding policy_of strip_bom
 policy_back rows distinct few plain back =
@@ -114,8 +114,8 @@ policy_back rows distinct few plain back =
     } in
     rw (records_of_text rows plain) (all_read (map row_fields rows) rows read distinct)
   where
-    states_back : (rows : List Row) → AllByRecursion (λ row. row_of (row_fields row) ≡ Ok row) rows
+    states_back : (rows : List Row) → AllByRecursion (λ row. row_read (row_fields row) ≡ Ok row) rows
         → State (map row_fields rows) rows
     states_back [] back = refl
-    states_back (row ∷ rows) back = ap (λ outcome. outcome ∷ map row_of (map row_fields rows))
+    states_back (row ∷ rows) back = ap (λ outcome. outcome ∷ map row_read (map row_fields rows))
         back.0 ∙ ap (λ outcomes. Ok row ∷ outcomes) (states_back rows back.1)

@@ -7,13 +7,13 @@ use Rattle.std.specs.Result.{result_ok}
 use Rattle.std.proofs.lemmas.Bool.{cases_lt, eq-eqb, ne_eqb}
 use Rattle.std.proofs.lemmas.List.{drop_all, drop_more, get_or-map, get_or-take, get_or_default, length-map, length-take, map-append, take-map, take-take, take_all, take_more}
 use Rattle.std.proofs.lemmas.List.Folds.{list_any_none}
-use Rattle.csv_records.specs.Texts.{TakesNext}
+use Rattle.csv_records.specs.Texts.{TakesRecord}
 use Rattle.policy_rules.specs.Policy.{HaveDistinctPriorities}
 use Rattle.policy_rules.specs.declared.policy.Row.{Row}
 use Rattle.policy_rules.specs.Repeats.{IsFirstRepeat, has_priority}
 use Rattle.policy_file.specs.declared.error.PolicyRefusal.{PolicyRefusal}
 use Rattle.policy_file.specs.declared.error.PolicyRefusal.TheVariants as why
-use Rattle.policy_file.specs.Reading.{IsReadUpTo, Refusal, State, first_some, is_heading, refusal_after, refusal_at, row_of, rows_of, rows_under_heading, states_priority}
+use Rattle.policy_file.specs.Reading.{IsReadUpTo, Refusal, State, first_some, is_policy_heading, refusal_after, refusal_at, row_read, rows_of, rows_under_heading, states_priority}
 
 -- ---- the first number that has something
 
@@ -44,38 +44,38 @@ abbrev Records : Type 0
 Records = List (List (List ℕ))
 
 pub state_push : (records : Records) (rows : List Row) (fields : List (List ℕ)) (row : Row)
-    → State records rows → row_of fields ≡ Ok row
+    → State records rows → row_read fields ≡ Ok row
     → State (records ++ fields ∷ []) (rows ++ row ∷ [])
 state_push records rows fields row stated is =
-    map-append row_of records (fields ∷ []) ∙ ap (λ xs. xs ++ row_of fields ∷ []) stated
+    map-append row_read records (fields ∷ []) ∙ ap (λ xs. xs ++ row_read fields ∷ []) stated
     ∙ ap (λ r. map fine rows ++ r ∷ []) is ∙ sym (map-append fine rows (row ∷ []))
 
 state_take : (records : Records) (rows : List Row) (k : ℕ) → State records rows
     → State (take k records) (take k rows)
-state_take records rows k stated = sym (take-map row_of k records) ∙ ap (take k) stated
+state_take records rows k stated = sym (take-map row_read k records) ∙ ap (take k) stated
     ∙ take-map fine k rows
 
 state_length : (records : Records) (rows : List Row) → State records rows
     → length records ≡ length rows
-state_length records rows stated = sym (length-map records row_of) ∙ ap length stated
+state_length records rows stated = sym (length-map records row_read) ∙ ap length stated
     ∙ length-map rows fine
 
 state_at : (records : Records) (rows : List Row) (k : ℕ) (d : Row) → State records rows
-    → k < length rows → row_of (get_or records k []) ≡ Ok (get_or rows k d)
+    → k < length rows → row_read (get_or records k []) ≡ Ok (get_or rows k d)
 state_at records rows k d stated within =
     let inside : k < length records = omega (arith, state_length records rows stated) in
-    sym (get_or-map row_of records k [] (fine d) inside) ∙ ap (λ xs. get_or xs k (fine d)) stated
+    sym (get_or-map row_read records k [] (fine d) inside) ∙ ap (λ xs. get_or xs k (fine d)) stated
     ∙ get_or-map fine rows k d (fine d) within
 
 stated_rows : (records : Records) (rows : List Row) → State records rows
-    → filter_map (λ fields. result_ok (row_of fields)) records ≡ rows
+    → filter_map (λ fields. result_ok (row_read fields)) records ≡ rows
 stated_rows records rows stated = outcomes records ∙ ap (filter_map result_ok) stated
     ∙ all_fine rows
   where
-    outcomes : (records : Records) → filter_map (λ fields. result_ok (row_of fields)) records
-        ≡ filter_map result_ok (map row_of records)
+    outcomes : (records : Records) → filter_map (λ fields. result_ok (row_read fields)) records
+        ≡ filter_map result_ok (map row_read records)
     outcomes [] = refl
-    outcomes (fields ∷ records) = ap (cons_option (result_ok (row_of fields))) (outcomes records)
+    outcomes (fields ∷ records) = ap (cons_option (result_ok (row_read fields))) (outcomes records)
 
     all_fine : (rows : List Row) → filter_map result_ok (map fine rows) ≡ rows
     all_fine [] = refl
@@ -92,9 +92,9 @@ same_priorities q records rows stated = outcomes records ∙ ap (list_any (has_s
     ∙ all_fine rows
   where
     outcomes : (records : Records) → list_any (states_priority q) records ≡ list_any (has_stated q)
-        (map row_of records)
+        (map row_read records)
     outcomes [] = refl
-    outcomes (fields ∷ records) = ap (λ b. has_stated q (row_of fields) || b) (outcomes records)
+    outcomes (fields ∷ records) = ap (λ b. has_stated q (row_read fields) || b) (outcomes records)
 
     all_fine : (rows : List Row) → list_any (has_stated q) (map fine rows) ≡ has_priority rows q
     all_fine [] = refl
@@ -118,9 +118,9 @@ refused_in records rows k d stated within few =
     let earlier : State (take k records) (take k rows) = subst (λ xs. State xs (take k rows))
     (take-take k n records (omega arith)) (state_take (take n records) rows k stated) in
     ap (λ b. cond b (Some why.TooManyRows)
-    (refusal_after (take k records) (row_of (get_or records k []))))
+    (refusal_after (take k records) (row_read (get_or records k []))))
     (ne_eqb k 2000 (λ full. absurd (omega arith)))
-    ∙ ap (λ fields. refusal_after (take k records) (row_of fields)) first
+    ∙ ap (λ fields. refusal_after (take k records) (row_read fields)) first
     ∙ ap (refusal_after (take k records)) (state_at (take n records) rows k d stated within)
     ∙ ap (λ b. cond b (Some why.SamePriority) None)
     (same_priorities row.priority (take k records) (take k rows) earlier)
@@ -158,7 +158,7 @@ refused_first : (records : Records) (p : ℕ) (refusal : PolicyRefusal) → p < 
     → rows_of records ≡ Err (at_row p refusal)
 refused_first records p refusal within is none =
     ap (λ first. option_map_or Err first
-    (Ok (filter_map (λ fields. result_ok (row_of fields)) records)))
+    (Ok (filter_map (λ fields. result_ok (row_read fields)) records)))
     (first_is (λ place. option_map (at_row place) (refusal_at records place)) (length records) p
     (at_row p refusal) within (ap (option_map (at_row p)) is)
     (λ k h. ap (option_map (at_row k)) (none k h)))
@@ -198,7 +198,7 @@ all_read records rows read distinct =
     let stated : State records rows = subst (λ xs. State xs rows)
     (take_all (length rows) records (omega arith)) read.stated in
     ap (λ first. option_map_or Err first
-    (Ok (filter_map (λ fields. result_ok (row_of fields)) records)))
+    (Ok (filter_map (λ fields. result_ok (row_read fields)) records)))
     (none_below (λ place. option_map (at_row place) (refusal_at records place)) (length records)
     (λ k h. ap (option_map (at_row k))
     (clean records rows (length rows) read.stated read.few (omega arith) (whole rows distinct) k
@@ -216,7 +216,7 @@ pub record IsNext (records : Records) (n : ℕ) (fields : List (List ℕ)) (afte
     pub here : get_or records n [] ≡ fields
 
 pub next_of : (records : Records) (n : ℕ) (fields : List (List ℕ)) (after left : Records)
-    (found : Bool) → found ≡ true → left ≡ drop n records → TakesNext left found fields after
+    (found : Bool) → found ≡ true → left ≡ drop n records → TakesRecord left found fields after
     → IsNext records n fields after
 next_of records n fields after left false is at takes = cc is
 next_of records n fields after left true is at takes =
@@ -238,7 +238,7 @@ next_of records n fields after left true is at takes =
 
 -- no record is left after the first n
 pub ends_at : (records : Records) (n : ℕ) (fields : List (List ℕ)) (after left : Records)
-    (found : Bool) → found ≡ false → left ≡ drop n records → TakesNext left found fields after
+    (found : Bool) → found ≡ false → left ≡ drop n records → TakesRecord left found fields after
     → n ≤ length records → length records ≡ n
 ends_at records n fields after left true is at takes most = cc is
 ends_at records n fields after left false is at takes most =
@@ -253,24 +253,24 @@ ends_at records n fields after left false is at takes most =
 -- the next record states no row
 pub refused_row : (records : Records) (n : ℕ) (fields : List (List ℕ)) (after : Records)
     (refusal : PolicyRefusal) → IsNext records n fields after → n < 2000
-    → row_of fields ≡ Err refusal → refusal_at records n ≡ Some refusal
+    → row_read fields ≡ Err refusal → refusal_at records n ≡ Some refusal
 refused_row records n fields after refusal next room is =
     ap (λ b. cond b (Some why.TooManyRows)
-    (refusal_after (take n records) (row_of (get_or records n []))))
+    (refusal_after (take n records) (row_read (get_or records n []))))
     (ne_eqb n 2000 (λ full. absurd (omega arith)))
-    ∙ ap (λ fields. refusal_after (take n records) (row_of fields)) next.here
+    ∙ ap (λ fields. refusal_after (take n records) (row_read fields)) next.here
     ∙ ap (refusal_after (take n records)) is
 
 -- there are too many
 pub too_many : (records : Records) (n : ℕ) → n ≡ 2000 → refusal_at records n ≡ Some why.TooManyRows
 too_many records n full =
     ap (λ b. cond b (Some why.TooManyRows)
-    (refusal_after (take n records) (row_of (get_or records n [])))) (eq-eqb n 2000 full)
+    (refusal_after (take n records) (row_read (get_or records n [])))) (eq-eqb n 2000 full)
 
 -- ---- the heading
 
 pub under_heading : (before after : Records) (fields : List (List ℕ)) (found : Bool) → found ≡ true
-    → TakesNext before found fields after → is_heading fields ≡ true
+    → TakesRecord before found fields after → is_policy_heading fields ≡ true
     → rows_under_heading before ≡ rows_of after
 under_heading before after fields false is takes heading = cc is
 under_heading before after fields true is takes heading = rw (takes, heading) refl

@@ -7,12 +7,12 @@ use Rattle.policy_rules.specs.declared.policy.Row.{Row}
 use Rattle.policy_file.specs.declared.ports.NoPort.{NoPort}
 
 -- the action names no port, or one of the mask
-abbrev pub has_port : ℕ → Action → Bool
-has_port ports Drop = true
-has_port ports (Out port) = bit_at ports port == 1
+abbrev pub names_port_of : ℕ → Action → Bool
+names_port_of ports Drop = true
+names_port_of ports (Out port) = bit_at ports port == 1
 
 -- the first row, counted from 1, whose action names a port outside the mask
 abbrev pub first_without_port : ℕ → List Row → Option NoPort
 first_without_port ports rows =
     option_map (λ place. record { row = place + 1 })
-    (position (λ row. not (has_port ports row.action)) rows)
+    (position (λ row. not (names_port_of ports row.action)) rows)

@@ -4,11 +4,11 @@ use Rattle.std.specs.List.{join_with_byte}
 use Rattle.five_tuple.specs.RowPrinting.{prefix_text, range_text, proto_text}
 use Rattle.policy_rules.specs.Policy.{action_text}
 use Rattle.policy_rules.specs.declared.policy.Row.{Row}
-use Rattle.policy_file.specs.Reading.{heading_fields}
+use Rattle.policy_file.specs.Reading.{policy_heading}
 
 -- a record's line: its fields joined by commas, and a line feed
-abbrev pub line : List (List ℕ) → List ℕ
-line fields = join_with_byte 44 fields ++ 10 ∷ []
+abbrev pub fields_line : List (List ℕ) → List ℕ
+fields_line fields = join_with_byte 44 fields ++ 10 ∷ []
 
 -- the printed forms of a row's fields
 abbrev pub row_fields : Row → List (List ℕ)
@@ -18,8 +18,8 @@ row_fields row =
 
 -- the lines of the rows
 abbrev pub rows_text : List Row → List ℕ
-rows_text rows = flat_map (λ row. line (row_fields row)) rows
+rows_text rows = flat_map (λ row. fields_line (row_fields row)) rows
 
 -- the heading's line, and then the rows'
 abbrev pub policy_text : List Row → List ℕ
-policy_text rows = line heading_fields ++ rows_text rows
+policy_text rows = fields_line policy_heading ++ rows_text rows

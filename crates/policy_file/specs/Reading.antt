@@ -14,31 +14,31 @@ use Rattle.policy_file.specs.declared.error.PolicyError.TheVariants as error
 use lib.Pointwise.{pointwise}
 
 -- the numbers by which refusals are known outside
-abbrev pub code_of : PolicyRefusal → ℕ
-code_of why.Heading = 1
-code_of why.Width = 2
-code_of why.Priority = 3
-code_of why.Src = 4
-code_of why.Dst = 5
-code_of why.Sport = 6
-code_of why.Dport = 7
-code_of why.Proto = 8
-code_of why.Action = 9
-code_of why.SamePriority = 10
-code_of why.TooManyRows = 11
+abbrev pub policy_code : PolicyRefusal → ℕ
+policy_code why.Heading = 1
+policy_code why.Width = 2
+policy_code why.Priority = 3
+policy_code why.Src = 4
+policy_code why.Dst = 5
+policy_code why.Sport = 6
+policy_code why.Dport = 7
+policy_code why.Proto = 8
+policy_code why.Action = 9
+policy_code why.SamePriority = 10
+policy_code why.TooManyRows = 11
 
 -- why a text is refused, and in which row, counted from 1; the heading is row 0
 pub record Refusal : Type 0 where
   pub refusal : PolicyRefusal
   pub row : ℕ
 
-abbrev pub heading_fields : List (List ℕ)
-heading_fields =
+abbrev pub policy_heading : List (List ℕ)
+policy_heading =
     codes "priority" ∷ codes "src" ∷ codes "dst" ∷ codes "sport" ∷ codes "dport" ∷ codes "proto"
     ∷ codes "action" ∷ []
 
-abbrev pub is_heading : List (List ℕ) → Bool
-is_heading fields = pointwise bytes_eq fields heading_fields
+abbrev pub is_policy_heading : List (List ℕ) → Bool
+is_policy_heading fields = pointwise bytes_eq fields policy_heading
 
 -- what follows from a field's value; or why there is none, where the text has none
 abbrev pub with_field : {X : Type 0} → Option X → PolicyRefusal → (X → Result Row PolicyRefusal)
@@ -47,8 +47,8 @@ with_field (Some value) refusal next = next value
 with_field None refusal next = Err refusal
 
 -- the row that the fields state, or the first refusal among them
-abbrev pub row_of : List (List ℕ) → Result Row PolicyRefusal
-row_of (priority ∷ src ∷ dst ∷ sport ∷ dport ∷ proto ∷ action ∷ []) =
+abbrev pub row_read : List (List ℕ) → Result Row PolicyRefusal
+row_read (priority ∷ src ∷ dst ∷ sport ∷ dport ∷ proto ∷ action ∷ []) =
     with_field (number_up_to 4294967295 priority) why.Priority (λ priority.
     with_field (prefix_of src) why.Src (λ src.
     with_field (prefix_of dst) why.Dst (λ dst.
@@ -65,12 +65,12 @@ row_of (priority ∷ src ∷ dst ∷ sport ∷ dport ∷ proto ∷ action ∷ []
       proto = proto;
       action = action;
     }))))))))
-row_of _ = Err why.Width
+row_read _ = Err why.Width
 
 -- the record states a row of this priority
 abbrev pub states_priority : ℕ → List (List ℕ) → Bool
 states_priority priority fields =
-    option_map_or (λ row. row.priority == priority) (result_ok (row_of fields)) false
+    option_map_or (λ row. row.priority == priority) (result_ok (row_read fields)) false
 
 -- why a record is refused after the earlier ones: it states no row, or one of an earlier row's
 -- priority
@@ -83,7 +83,7 @@ refusal_after earlier (Ok row) =
 abbrev pub refusal_at : List (List (List ℕ)) → ℕ → Option PolicyRefusal
 refusal_at records place =
     if place == 2000 then Some why.TooManyRows
-    else refusal_after (take place records) (row_of (slice_index_or records place []))
+    else refusal_after (take place records) (row_read (slice_index_or records place []))
 
 -- what the least of the numbers below n has that has something
 abbrev pub first_some : {X : Type 0} → (ℕ → Option X) → ℕ → Option X
@@ -103,31 +103,31 @@ first_refusal records = first_some (refused_at records) (length records)
 abbrev pub rows_of : List (List (List ℕ)) → Result (List Row) Refusal
 rows_of records =
     option_map_or Err (first_refusal records)
-    (Ok (filter_map (λ fields. result_ok (row_of fields)) records))
+    (Ok (filter_map (λ fields. result_ok (row_read fields)) records))
 
-abbrev pub no_heading : Result (List Row) Refusal
-no_heading = Err (record { refusal = why.Heading; row = 0 })
+abbrev pub no_policy_heading : Result (List Row) Refusal
+no_policy_heading = Err (record { refusal = why.Heading; row = 0 })
 
 -- the rows under the heading
 abbrev pub rows_under_heading : List (List (List ℕ)) → Result (List Row) Refusal
-rows_under_heading [] = no_heading
-rows_under_heading (first ∷ records) = if is_heading first then rows_of records else no_heading
+rows_under_heading [] = no_policy_heading
+rows_under_heading (first ∷ records) = if is_policy_heading first then rows_of records else no_policy_heading
 
 -- the policy that a text states
 unfoldable pub policy_of : List ℕ → Result (List Row) Refusal
 policy_of bytes = rows_under_heading (records_of bytes)
 
 -- a refusal, or want of memory
-abbrev pub IsRefusal : Result (List Row) Refusal → PolicyError → Type 0
-IsRefusal policy (error.Refused refusal row) =
+abbrev pub IsPolicyRefusal : Result (List Row) Refusal → PolicyError → Type 0
+IsPolicyRefusal policy (error.Refused refusal row) =
     policy ≡ Err (record { refusal = refusal; row = row })
-IsRefusal policy error.NoMemory = ⊤
+IsPolicyRefusal policy error.NoMemory = ⊤
 
 -- ---- rows that were read of records
 
 -- the records state these rows, one each
 abbrev pub State : List (List (List ℕ)) → List Row → Type 0
-State records rows = map row_of records ≡ map (λ row. Ok row) rows
+State records rows = map row_read records ≡ map (λ row. Ok row) rows
 
 -- the first records state these rows; then the records end, or the next is refused for this
 pub record IsReadUpTo (records : List (List (List ℕ))) (rows : List Row)

@@ -1,5 +1,5 @@
 ghost use Rattle.std.specs.Prelude.{◌≡◌};
-ghost use Rattle.policy_file.specs.Reading.{code_of};
+ghost use Rattle.policy_file.specs.Reading.{policy_code};
 ghost use Rattle.policy_file.specs.declared.error.PolicyError.TheVariants.{NoMemory};
 
 use std::alloc::{AllocError, AllocFailed};
@@ -35,7 +35,7 @@ pub enum PolicyRefusal {
 impl PolicyRefusal {
     /// The refusal's number, from 1 to 11 in the order of the variants.
     pub fn code(self) -> u32
-        ensures { result ≡ code_of self }
+        ensures { result ≡ policy_code self }
     {
         self as u32
     }

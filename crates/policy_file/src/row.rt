@@ -3,7 +3,7 @@ ghost use Rattle.csv.specs.Records.{fields_of};
 ghost use Rattle.csv_records.specs.Texts.{field};
 ghost use Rattle.five_tuple.specs.Texts.{number_up_to};
 ghost use Rattle.policy_rules.specs.Read.{HasSmallPort};
-ghost use Rattle.policy_file.specs.Reading.{is_heading, row_of};
+ghost use Rattle.policy_file.specs.Reading.{is_policy_heading, row_read};
 
 use crate::error::PolicyRefusal;
 use csv_records::{ByteRecord, field, has_text};
@@ -40,7 +40,7 @@ fn has_texts(fields: &ByteRecord, place: usize, one: &str, next: &str) -> bool
 /// Whether the record is the heading.
 #[tactic(auto, using(crate::proofs::Fields::sevens))]
 pub fn is_heading(fields: &ByteRecord) -> bool
-    ensures { result ≡ is_heading (fields_of fields.now) }
+    ensures { result ≡ is_policy_heading (fields_of fields.now) }
 {
     if fields.len() != WIDTH {
         return false;
@@ -65,7 +65,7 @@ fn read_priority(text: &[u8]) -> Option<u32>
 /// of its kind.
 #[tactic(auto, using(crate::proofs::Fields::sevens))]
 pub fn read_row(fields: &ByteRecord, from: usize) -> Result<Row, PolicyRefusal>
-    ensures row { result ≡ row_of (drop from (fields_of fields.now)) }
+    ensures row { result ≡ row_read (drop from (fields_of fields.now)) }
     ensures small_port { IfOk result (λ row. HasSmallPort row.action) }
 {
     if fields.len() < from || fields.len() - from != WIDTH {

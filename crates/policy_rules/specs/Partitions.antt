@@ -14,8 +14,8 @@ use Rattle.policy_rules.specs.declared.rules.Rule.{Rule}
 use Rattle.policy_rules.specs.Placed.{is_in}
 
 -- partitions that are numbered from 0
-abbrev pub AreNumbered : List Partition → Type 0
-AreNumbered parts =
+abbrev pub ArePartsNumbered : List Partition → Type 0
+ArePartsNumbered parts =
     (place : ℕ) (d : Partition) → place < length parts
     → (slice_index_or parts place d).number ≡ place
 
@@ -35,4 +35,4 @@ pub record AreSoundPartitions (rows : List Row) (parts : List Partition) : Type 
   pub decides : (header : Header) → IsHeader header
       → All (λ part. IsTrue (is_in header part)
       → option_map hit_of_rule (first_rule part.rules header) ≡ Some (scan rows header)) parts
-  pub numbers : AreNumbered parts
+  pub numbers : ArePartsNumbered parts

@@ -42,8 +42,8 @@ unfoldable pub ranked_from : ℕ → List (WordValue × Hit) → List Rule
 ranked_from rank entries = map ranked (enumerate_from rank entries)
 
 -- the new rules are the old ones and after them these entries, each ranked by its place
-abbrev pub Appends : List Rule → List Rule → List (WordValue × Hit) → Type 0
-Appends old new entries = new ≡ old ++ ranked_from (length old) entries
+abbrev pub AppendsRanked : List Rule → List Rule → List (WordValue × Hit) → Type 0
+AppendsRanked old new entries = new ≡ old ++ ranked_from (length old) entries
 
 -- the entries of rows, and last the default, whose word holds each header
 abbrev pub with_default : List Row → List (WordValue × Hit)

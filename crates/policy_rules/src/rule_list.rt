@@ -5,7 +5,7 @@ ghost use Rattle.five_tuple.specs.declared.header.Header.{Header};
 ghost use Rattle.policy_rules.specs.Policy.{IsPolicy, IsSoundRow};
 ghost use Rattle.policy_rules.specs.Rules.{first_rule};
 ghost use Rattle.policy_rules.specs.Words.{word_of_row};
-ghost use Rattle.policy_rules.specs.RuleList.{Appends, by_falling_priority, entries_of, ranked_from, with_default, with_hit, rules_of, word_total, RefusesRules, hit_of_rule, IsRuleList};
+ghost use Rattle.policy_rules.specs.RuleList.{AppendsRanked, by_falling_priority, entries_of, ranked_from, with_default, with_hit, rules_of, word_total, RefusesRules, hit_of_rule, IsRuleList};
 ghost use Rattle.policy_rules.specs.declared.rule_list.RulesError.TheVariants.{NoMemory};
 ghost use Rattle.policy_rules.specs.Scan.{scan};
 
@@ -104,7 +104,7 @@ fn list_rules(alloc: Global, rows: &[Row], room: usize) -> Result<Vec<Rule>, All
 fn push_row(rules: &mut Vec<Rule>, row: &Row) -> Result<(), AllocError>
     requires few { length rules.old.items ≤ 4096 }
     requires row { IsSoundRow row.now }
-    ensures { OnOk result (Appends rules.old.items rules.new.items (entries_of row.now)) }
+    ensures { OnOk result (AppendsRanked rules.old.items rules.new.items (entries_of row.now)) }
 {
     for source in row.sport.blocks() {
         push_words(rules, row, source)?;
@@ -117,7 +117,7 @@ fn push_words(rules: &mut Vec<Rule>, row: &Row, source: PortBlock) -> Result<(),
     requires few { length rules.old.items ≤ 4996 }
     requires row { IsSoundRow row.now }
     requires source { IsPortBlock source }
-    ensures { OnOk result (Appends rules.old.items rules.new.items
+    ensures { OnOk result (AppendsRanked rules.old.items rules.new.items
         (with_hit row.now (map (word_of_row row.now source) (cover_of row.now.dport)))) }
 {
     for destination in row.dport.blocks() {
@@ -128,7 +128,7 @@ fn push_words(rules: &mut Vec<Rule>, row: &Row, source: PortBlock) -> Result<(),
 
 fn push_rule(rules: &mut Vec<Rule>, word: Word, hit: Hit) -> Result<(), AllocError>
     requires { length rules.old.items < 2 ^ 32 }
-    ensures { OnOk result (Appends rules.old.items rules.new.items ((word, hit) ∷ [])) }
+    ensures { OnOk result (AppendsRanked rules.old.items rules.new.items ((word, hit) ∷ [])) }
 {
     let rank = rules.len() as u32;
     rules.push(Rule {

@@ -16,7 +16,7 @@ use Rattle.boot_laws.proofs.Sends.{each_append, each_kept}
 use Rattle.update_machine.specs.Quiet.{Sending, sendings, speaker}
 use Rattle.quiet_journals.specs.declared.life.Life.{Life}
 use Rattle.quiet_journals.specs.declared.pending.Pending.{Pending}
-use Rattle.quiet_journals.specs.Judging.{boot_after, concerned, has_mark, is_of_boot, is_old, is_said, is_same_receiver, let_go, life_in, matters_to, names, noted, party, says_again, says_as_much, speaks, waiting_after, waiting_of}
+use Rattle.quiet_journals.specs.Judging.{boot_after, concerned, has_mark, is_of_boot, is_old, is_said, is_same_receiver, let_go, life_in, matters_to, is_named, noted, party, says_again, says_as_much, speaks, waiting_after, waiting_of}
 use Rattle.quiet_journals.specs.Lanes.{AreLanes}
 use Rattle.quiet_journals.specs.Pending.{ArePending, IsAfter, IsPending}
 use Rattle.quiet_journals.proofs.Lives.{boot_at_first, boot_of_item, none_at_first, waiting_of_item}
@@ -56,9 +56,9 @@ says_party later earlier says =
 -- ---- each message that waits is of its switch
 
 abbrev AreOf : ℕ → List Message → Type 0
-AreOf s messages = AllByRecursion (λ message. names s (party message) ≡ true) messages
+AreOf s messages = AllByRecursion (λ message. is_named s (party message) ≡ true) messages
 
-let_go_other : (s : ℕ) (next : Message) (waiting : List Message) → names s (party next) ≡ false
+let_go_other : (s : ℕ) (next : Message) (waiting : List Message) → is_named s (party next) ≡ false
     → AreOf s waiting → let_go next waiting ≡ waiting
 let_go_other s next [] other of = refl
 let_go_other s next (message ∷ waiting) other of =
@@ -69,18 +69,18 @@ let_go_other s next (message ∷ waiting) other of =
         ≡ message ∷ waiting
     by_test true e rest =
         let clash : false ≡ true =
-        sym other ∙ ap (names s) (says_party next message e) ∙ of.0 in
+        sym other ∙ ap (is_named s) (says_party next message e) ∙ of.0 in
         absurd cc
     by_test false e rest = ap (λ ms. message ∷ ms) rest
 
 matters_of : (life : Life) (boot : ℕ) (message : Message) → matters_to life boot message ≡ true
-    → names life.switch (party message) ≡ true
+    → is_named life.switch (party message) ≡ true
 matters_of life boot message matter = by_receiver message.to message.body matter
   where
     by_speaker : (body : Body) (o : Option (ℕ × ℕ)) → speaker body ≡ o
         → (life.is_up && option_map_or (is_of_boot life) o false
         && not (is_old body life.current)) ≡ true
-        → names life.switch (option_map (λ (of : ℕ × ℕ). of.0) o) ≡ true
+        → is_named life.switch (option_map (λ (of : ℕ × ℕ). of.0) o) ≡ true
     by_speaker body None e matter =
         let clash : false ≡ true = (both life.is_up false (both _ _ matter).0).1 in
         absurd cc
@@ -89,14 +89,14 @@ matters_of life boot message matter = by_receiver message.to message.body matter
 
     by_receiver : (to : Receiver) (body : Body)
         → matters_to life boot (record { to = to; body = body }) ≡ true
-        → names life.switch (party (record { to = to; body = body })) ≡ true
+        → is_named life.switch (party (record { to = to; body = body })) ≡ true
     by_receiver (receiver.Switch s) body matter =
         let for = both _ _ (both _ _ matter).0 in
         (both _ _ (both _ _ for.0).0).1
     by_receiver receiver.Controller body matter = by_speaker body (speaker body) refl matter
 
 matters_not : (life : Life) (boot : ℕ) (message : Message)
-    → names life.switch (party message) ≡ false → matters_to life boot message ≡ false
+    → is_named life.switch (party message) ≡ false → matters_to life boot message ≡ false
 matters_not life boot message other = by_test (matters_to life boot message) refl
   where
     by_test : (b : Bool) → matters_to life boot message ≡ b → b ≡ false
@@ -106,20 +106,20 @@ matters_not life boot message other = by_test (matters_to life boot message) ref
         absurd cc
 
 noted_of : (s : ℕ) (m d : Bool) (next : Message) (waiting : List Message)
-    → (m ≡ true → names s (party next) ≡ true) → AreOf s waiting
+    → (m ≡ true → is_named s (party next) ≡ true) → AreOf s waiting
     → AreOf s (noted m d next waiting)
 noted_of s m d next waiting its of =
-    each_append (λ message. names s (party message) ≡ true)
+    each_append (λ message. is_named s (party message) ≡ true)
     (if m || d then let_go next waiting else waiting)
     (if m && not d && not (is_said next (let_go next waiting)) then next ∷ [] else [])
     (left (m || d)) (added m d (is_said next (let_go next waiting)) its)
   where
     left : (b : Bool) → AreOf s (if b then let_go next waiting else waiting)
-    left true = each_kept (λ message. names s (party message) ≡ true)
+    left true = each_kept (λ message. is_named s (party message) ≡ true)
         (λ earlier. not (says_again next earlier)) waiting of
     left false = of
 
-    added : (m d said : Bool) → (m ≡ true → names s (party next) ≡ true)
+    added : (m d said : Bool) → (m ≡ true → is_named s (party next) ≡ true)
         → AreOf s (if m && not d && not said then next ∷ [] else [])
     added true false false its = (its refl, tt)
     added true false true its = tt
@@ -138,13 +138,13 @@ waiting_of_its life marks waiting (next ∷ later) of =
 
 -- ---- an item that doesn't concern the switch
 
-boot_stays : (s boot : ℕ) (next : Item) → names s (concerned next) ≡ false
+boot_stays : (s boot : ℕ) (next : Item) → is_named s (concerned next) ≡ false
     → boot ≡ boot_after s next boot
 boot_stays s boot (item.Booted t of) other = rw other refl
 boot_stays s boot next other = refl
 
 waiting_stays : (life : Life) (marks : List Bool) (boot : ℕ) (next : Item)
-    (waiting : List Message) → names life.switch (concerned next) ≡ false
+    (waiting : List Message) → is_named life.switch (concerned next) ≡ false
     → AreOf life.switch waiting → waiting ≡ waiting_after life marks boot next waiting
 waiting_stays life marks boot (item.Sent number message) waiting other of =
     by_tests (matters_to life boot message) (has_mark marks number)
@@ -180,7 +180,7 @@ pending_of_item journal marks items i s next row after within is was now = recor
 
 pending_of_other : (journal : List Item) (marks : List Bool) (items : List Item) (i s : ℕ)
     (next : Item) (row : Pending) → i < length items → next ≡ get_or items i next
-    → IsPending journal marks (take i items) s row → names s (concerned next) ≡ false
+    → IsPending journal marks (take i items) s row → is_named s (concerned next) ≡ false
     → IsPending journal marks (take (i + 1) items) s row
 pending_of_other journal marks items i s next row within is was other = record {
   life = was.life;
@@ -201,18 +201,18 @@ pending_of_other journal marks items i s next row within is was other = record {
 pub pending_more : (journal : List Item) (marks : List Bool) (items : List Item) (i : ℕ)
     (next : Item) (rows after : List Pending) → i < length items → next ≡ get_or items i next
     → ArePending journal marks (take i items) rows → length after ≡ length rows
-    → ((s : ℕ) (d : Pending) → s < length rows → names s (concerned next) ≡ true
+    → ((s : ℕ) (d : Pending) → s < length rows → is_named s (concerned next) ≡ true
     → IsAfter marks next (get_or rows s d) (get_or after s d))
-    → ((s : ℕ) (d : Pending) → names s (concerned next) ≡ false
+    → ((s : ℕ) (d : Pending) → is_named s (concerned next) ≡ false
     → get_or after s d ≡ get_or rows s d)
     → ArePending journal marks (take (i + 1) items) after
 pending_more journal marks items i next rows after within is was count one others s d there =
-    by_test (names s (concerned next)) refl
+    by_test (is_named s (concerned next)) refl
   where
     here : s < length rows
     here = subst (λ n. s < n) count there
 
-    by_test : (b : Bool) → names s (concerned next) ≡ b
+    by_test : (b : Bool) → is_named s (concerned next) ≡ b
         → IsPending journal marks (take (i + 1) items) s (get_or after s d)
     by_test true e =
         pending_of_item journal marks items i s next (get_or rows s d) (get_or after s d) within

@@ -20,8 +20,8 @@ use Rattle.quiet_journals.specs.declared.life.Life.{Life}
 -- ---- marks of delivered messages
 
 -- the places up to this one are there, and this one alone has a new mark
-abbrev pub AreMarked : ℕ → List Bool → List Bool → Type 0
-AreMarked number before after = (n : ℕ)
+abbrev pub MarksOneMore : ℕ → List Bool → List Bool → Type 0
+MarksOneMore number before after = (n : ℕ)
     → slice_index_or after n false ≡ (number == n || slice_index_or before n false)
 
 -- ---- the life of a switch
@@ -165,8 +165,8 @@ concerned (item.Sent number message) = party message
 concerned (item.Booted s boot) = Some s
 concerned item = None
 
-abbrev pub names : ℕ → Option ℕ → Bool
-names s who = option_map_or (λ t. t == s) who false
+abbrev pub is_named : ℕ → Option ℕ → Bool
+is_named s who = option_map_or (λ t. t == s) who false
 
 -- ---- which switches are settled
 

@@ -1,7 +1,7 @@
 //! Which messages were delivered, by their numbers.
 ghost use Rattle.std.specs.Prelude.{ℕ, ◌≡◌, ◌||◌, false, IfOk, OnOk, slice_index_or};
 ghost use Rattle.update_machine.specs.Messages.{is_delivery, was_delivered};
-ghost use Rattle.quiet_journals.specs.Judging.{AreMarked};
+ghost use Rattle.quiet_journals.specs.Judging.{MarksOneMore};
 
 use journal::Item;
 use std::alloc::{AllocError, Global};
@@ -31,7 +31,7 @@ fn take_item(marks: &mut Vec<bool>, item: &Item) -> Result<(), AllocError>
 
 // The message of this number was delivered.
 fn mark(marks: &mut Vec<bool>, number: usize) -> Result<(), AllocError>
-    ensures { OnOk result (AreMarked number marks.old.items marks.new.items) }
+    ensures { OnOk result (MarksOneMore number marks.old.items marks.new.items) }
 {
     while marks.len() <= number {
         marks.push(false)?;

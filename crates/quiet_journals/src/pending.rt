@@ -1,6 +1,6 @@
 //! What is pending of each switch, found in one pass over a journal for all of them.
 ghost use Rattle.std.specs.Prelude.{ℕ, ◌≡◌, ◌<◌, ◌==◌, ◌&&◌, Bool, true, false, not, List, [], get_or, length, IfOk, OnOk};
-ghost use Rattle.quiet_journals.specs.Judging.{concerned, is_missed, names, party, speaks};
+ghost use Rattle.quiet_journals.specs.Judging.{concerned, is_missed, is_named, party, speaks};
 ghost use Rattle.quiet_journals.specs.Lanes.{are_empty};
 ghost use Rattle.quiet_journals.specs.Pending.{ArePending, IsAfter, IsPending};
 ghost use Rattle.quiet_journals.specs.declared.pending.Pending.{Pending};
@@ -80,9 +80,9 @@ fn at_first(alloc: Global, items: &[Item], count: u32) -> Result<Vec<Pending>, A
 fn take_item(rows: &mut Vec<Pending>, item: &Item, delivered: &[bool]) -> Result<(), AllocError>
     ensures count { OnOk result (length rows.new.items ≡ length rows.old.items) }
     ensures concerned { OnOk result ((s : ℕ) (d : Pending) → s < length rows.old.items
-        → names s (concerned item.now) ≡ true
+        → is_named s (concerned item.now) ≡ true
         → IsAfter delivered.now item.now (get_or rows.old.items s d) (get_or rows.new.items s d)) }
-    ensures others { OnOk result ((s : ℕ) (d : Pending) → names s (concerned item.now) ≡ false
+    ensures others { OnOk result ((s : ℕ) (d : Pending) → is_named s (concerned item.now) ≡ false
         → get_or rows.new.items s d ≡ get_or rows.old.items s d) }
 {
     match concerned(item) {

@@ -18,7 +18,7 @@ use Rattle.update_machine.specs.Adverts.{advert_known, adverts_known, held_adver
 use Rattle.update_machine.specs.Boots.{boot_of, heard, is_up}
 use Rattle.update_machine.specs.Causes.{HaveCauses}
 use Rattle.update_machine.specs.Concerns.{concerns_links}
-use Rattle.update_machine.specs.Deliveries.{advert_to, has_changed, link_changes, told_by, told_over, switches_in}
+use Rattle.update_machine.specs.Deliveries.{advert_to, has_changed, link_changes, messages_of, messages_over, switches_in}
 use Rattle.update_machine.specs.LinkMasks.{near, adverts_begun, adverts_heard}
 use Rattle.update_machine.specs.Messages.{sends}
 use Rattle.update_machine.specs.Setting.{Setting, switches_of}
@@ -321,7 +321,7 @@ record TellsAsNew (messages : List Message) (to : ℕ) (than : Advert) : Type 0 
 
 over_tells : (setting : Setting) (before now : List Item) (s neighbour : ℕ) (a : Advert)
     → s < 64 → IsOwed setting before now s neighbour a
-    → TellsAsNew (told_over setting before now s neighbour) neighbour a
+    → TellsAsNew (messages_over setting before now s neighbour) neighbour a
 over_tells setting before now s neighbour a small owed =
     by_old (has (near setting before s) neighbour) refl owed.which owed.had
   where
@@ -370,7 +370,7 @@ pay_links setting before now net have = record {
 }
   where
     messages : List Message
-    messages = flat_map (told_by setting before now)
+    messages = flat_map (messages_of setting before now)
         (filter (has_changed setting before now) (switches_of setting))
 
     after : List Item
@@ -390,12 +390,12 @@ pay_links setting before now net have = record {
           advert = tells.advert;
           as_new = tells.as_new;
           had = inr (sends_tell now messages neighbour tells.advert
-              (in_flat_map (told_by setting before now) s (advert_to neighbour tells.advert)
+              (in_flat_map (messages_of setting before now) s (advert_to neighbour tells.advert)
               (filter (has_changed setting before now) (switches_of setting))
               (in_filter (has_changed setting before now) s (switches_of setting)
               (in_range s 0 (length setting.net.switches) (omega arith) (omega (arith, ends.one)))
               owed.changed)
-              (in_flat_map (told_over setting before now s) neighbour
+              (in_flat_map (messages_over setting before now s) neighbour
               (advert_to neighbour tells.advert) (switches_in setting (near setting now s))
               (in_filter (has (near setting now s)) neighbour (switches_of setting)
               (in_range neighbour 0 (length setting.net.switches) (omega arith)

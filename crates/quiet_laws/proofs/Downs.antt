@@ -15,7 +15,7 @@ use Rattle.update_machine.specs.Boots.{boot_of, heard, is_up, said_to}
 use Rattle.update_machine.specs.Causes.{HaveCauses}
 use Rattle.update_machine.specs.Deliveries.{to_controller}
 use Rattle.update_machine.specs.Folds.{all_given, last_told}
-use Rattle.update_machine.specs.Marks.{controller_heard, first_of, has_acked, installed_in, is_over, known_boot, open_sent, opened_at, raises_known, said_to_controller}
+use Rattle.update_machine.specs.Marks.{controller_heard, first_number, has_acked, installed_in, is_over, known_boot, open_sent, opened_at, raises_known, said_to_controller}
 use Rattle.update_machine.specs.Quiet.{Sending, is_waited_for, sendings, tells_waited_for}
 use Rattle.update_machine.specs.Setting.{Setting}
 use Rattle.update_machine.specs.Settling.{to_switch}
@@ -143,7 +143,7 @@ openings_on before next are s boot version opened =
     by_opened (opened_in before s boot) refl (sym (opened_more before next s boot) ∙ opened)
   where
     by_opened : (o : Option ℕ) → opened_in before s boot ≡ o
-        → option_or o (first_of (open_sent s boot next)) ≡ Some version
+        → option_or o (first_number (open_sent s boot next)) ≡ Some version
         → (boot ≡ 1) ⊎ IsSent (before ++ next ∷ []) (to_switch s (OpenAt boot version))
     by_opened (Some w) e is = elim (are.openings s boot version (e ∙ is)) [
       | inl first ↦ inl first
@@ -428,7 +428,7 @@ acked_sent journal s version told closed any =
     boot = known_boot journal s
 
     by_first : (b : Bool)
-        → (if b then Some 1 else first_of (all_given (open_sent s boot) journal)) ≡ None
+        → (if b then Some 1 else first_number (all_given (open_sent s boot) journal)) ≡ None
         → IsTrue (list_any (nat_eq version) ((if b then 1 ∷ [] else [])
         ++ filter_map (installed_in s boot) (controller_heard journal)))
         → IsSent journal (to_controller (Installed s boot version))
@@ -455,8 +455,8 @@ closed_on setting before (item.Delivered number) cause are s idle =
         ∙ are.closed s (idle_delivered before number s e idle)
 closed_on setting before (item.Sent n message) cause are s idle =
     opened_at_more before next s (known_more before next s)
-    ∙ ap (λ o. option_or o (first_of (open_sent s boot next))) closed
-    ∙ by_new (first_of (open_sent s boot next)) refl
+    ∙ ap (λ o. option_or o (first_number (open_sent s boot next))) closed
+    ∙ by_new (first_number (open_sent s boot next)) refl
   where
     next : Item
     next = item.Sent n message
@@ -470,8 +470,8 @@ closed_on setting before (item.Sent n message) cause are s idle =
     closed : opened_at before s ≡ None
     closed = are.closed s was
 
-    by_new : (o : Option ℕ) → first_of (open_sent s boot next) ≡ o
-        → first_of (open_sent s boot next) ≡ None
+    by_new : (o : Option ℕ) → first_number (open_sent s boot next) ≡ o
+        → first_number (open_sent s boot next) ≡ None
     by_new None e = e
     by_new (Some w) e =
         let new = opens_by next s boot w e in

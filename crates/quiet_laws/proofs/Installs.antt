@@ -33,7 +33,7 @@ use Rattle.boot_laws.proofs.Facts.{AreKept, Both, fact_on, have_both}
 use Rattle.boot_laws.proofs.Grown.{count_more, current_more, known_more, message_more, over_more, raised}
 use Rattle.boot_laws.proofs.Sends.{each, each_map}
 use Rattle.boot_laws.proofs.SwitchBlocks.{settling_settles}
-use Rattle.settle_laws.specs.Steps.{is_for_controller}
+use Rattle.settle_laws.specs.Steps.{asks_controller}
 use Rattle.settle_laws.proofs.Ends.{told_is}
 use Rattle.settle_laws.proofs.Leaves.{leaves_keep}
 use Rattle.settle_laws.proofs.Others.{ReopensAlone, installs_reopen, others_keep, sends_leave}
@@ -581,7 +581,7 @@ confirm_installs setting s here have = by_up (is_up here s)
 -- ---- steps
 
 told_installs : (setting : Setting) (before : List Item) (row : ℕ) (step : Step)
-    → IsTrue (is_for_controller before step) → let here = before ++ item.Row row step ∷ [] in
+    → IsTrue (asks_controller before step) → let here = before ++ item.Row row step ∷ [] in
     HaveInstalls setting (λ s. ⊥) (version_count here) here
     → let after = here ++ step_items setting before step here in
     HaveInstalls setting (λ s. ⊥) (version_count after) after
@@ -601,7 +601,7 @@ told_installs setting before row (Confirm s) is =
 told_installs setting before row step is = absurd cc
 
 other_installs : (setting : Setting) (before : List Item) (row : ℕ) (step : Step)
-    → IsFalse (is_for_controller before step)
+    → IsFalse (asks_controller before step)
     → HaveInstalls setting (λ s. ⊥) (version_count before) before
     → let after = before ++ piece setting before row step in
     HaveInstalls setting (λ s. ⊥) (version_count after) after
@@ -618,7 +618,7 @@ pub piece_installs : (setting : Setting) (before : List Item) (row : ℕ) (step 
     → let after = before ++ piece setting before row step in
     HaveInstalls setting (λ s. ⊥) (version_count after) after
 unfolding piece
-piece_installs setting before row step have = by_kind (is_for_controller before step) refl
+piece_installs setting before row step have = by_kind (asks_controller before step) refl
   where
     next : Item
     next = item.Row row step
@@ -630,7 +630,7 @@ piece_installs setting before row step have = by_kind (is_for_controller before 
     begun = subst (λ m. HaveInstalls setting (λ s. ⊥) m here) (sym (count_more before next))
         (row_installs setting (version_count before) before row step have)
 
-    by_kind : (b : Bool) → is_for_controller before step ≡ b
+    by_kind : (b : Bool) → asks_controller before step ≡ b
         → let after = before ++ put (next ∷ []) (step_items setting before step) before in
         HaveInstalls setting (λ s. ⊥) (version_count after) after
     by_kind false e = other_installs setting before row step e have

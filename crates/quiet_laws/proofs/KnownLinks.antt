@@ -7,7 +7,7 @@ use Rattle.std.proofs.lemmas.Bool.Decides.{nat_tests}
 use Rattle.std.proofs.lemmas.List.{get_or-map, get_or_past, length-map}
 use Rattle.std.proofs.lemmas.List.Elements.{All-from_recursion}
 use Rattle.failover.specs.Adverts.{held}
-use Rattle.failover.specs.Links.{is_link, neighbours_told, told_links, has_link, AreJoined, IsReachable, Leads}
+use Rattle.failover.specs.Links.{is_link, neighbours_named, named_links, has_link, AreJoined, IsReachable, Leads}
 use Rattle.failover.specs.declared.advert.Advert.{Advert}
 use Rattle.failover.proofs.Searching.{length-known_links, straight_path}
 use Rattle.masks.specs.Masks.{has}
@@ -28,31 +28,31 @@ use Rattle.quiet_laws.proofs.Near.{ends_serve, near_both}
 -- ---- what a switch is told of one that it reaches
 
 told_row : (adverts : List (Option Advert)) (one : ℕ)
-    → get_or (map neighbours_told adverts) one 0 ≡ neighbours_told (held adverts one)
+    → get_or (map neighbours_named adverts) one 0 ≡ neighbours_named (held adverts one)
 told_row adverts one = elim (cases_lt one (length adverts)) [
-  | inl within ↦ get_or-map neighbours_told adverts one None 0 within
+  | inl within ↦ get_or-map neighbours_named adverts one None 0 within
   | inr past ↦
-      get_or_past (map neighbours_told adverts) one 0
-      (omega (arith, past, length-map adverts neighbours_told))
-      ∙ ap neighbours_told (sym (get_or_past adverts one None past))
+      get_or_past (map neighbours_named adverts) one 0
+      (omega (arith, past, length-map adverts neighbours_named))
+      ∙ ap neighbours_named (sym (get_or_past adverts one None past))
 ]
 
 row_known : (setting : Setting) (journal : List Item) (s z : ℕ) → s < 64
     → HoldsOwn setting journal s z
-    → slice_index (told_links (adverts_known setting journal s) s (near setting journal s)) z
+    → slice_index (named_links (adverts_known setting journal s) s (near setting journal s)) z
     ≡ near setting journal z
-unfolding told_links own_advert
+unfolding named_links own_advert
 row_known setting journal s z small holds = by_place (cases_eq z s) holds
   where
     rows : List ℕ
-    rows = map neighbours_told (adverts_known setting journal s)
+    rows = map neighbours_named (adverts_known setting journal s)
 
     within : s < length rows
     within = omega (
       arith,
       small,
       known_places setting journal s,
-      length-map (adverts_known setting journal s) neighbours_told,
+      length-map (adverts_known setting journal s) neighbours_named,
     )
 
     by_place : (z ≡ s) ⊎ (z ≢ s) → HoldsOwn setting journal s z
@@ -65,7 +65,7 @@ row_known setting journal s z small holds = by_place (cases_eq z s) holds
     by_place (inr apart) (inr known) =
         get_or-set_other rows s z (near setting journal s) 0 apart
         ∙ told_row (adverts_known setting journal s) z
-        ∙ ap neighbours_told known
+        ∙ ap neighbours_named known
 
 -- ---- known links
 
@@ -95,7 +95,7 @@ known_usable : (setting : Setting) (journal : List Item) → AreQuiet setting jo
 unfolding is_link
 known_usable setting journal are s one other down is reaches small fits joined =
     let rows : List ℕ =
-    told_links (adverts_known setting journal s) s (near setting journal s) in
+    named_links (adverts_known setting journal s) s (near setting journal s) in
     let told : is_link rows down one other ≡ true =
     sym (has_known_link setting journal s down one other small fits) ∙ joined in
     let named : has (slice_index rows one) other ≡ true = second _ _ _ _ told in
@@ -115,7 +115,7 @@ usable_known setting journal are s one other down is reaches unusable linked =
     (has_link down one other) apart named back (unusable one other linked)
   where
     rows : List ℕ
-    rows = told_links (adverts_known setting journal s) s (near setting journal s)
+    rows = named_links (adverts_known setting journal s) s (near setting journal s)
 
     s_small : s < 64
     s_small = small_of setting are.net s is.there

@@ -16,7 +16,7 @@ use Rattle.update_machine.specs.Causes.{HaveCauses}
 use Rattle.update_machine.specs.Concerns.{is_message_to_controller}
 use Rattle.update_machine.specs.Deliveries.{after_hello, controller_items, delivery_items, is_new_boot}
 use Rattle.update_machine.specs.Laws.{ControllerKeeps}
-use Rattle.update_machine.specs.Marks.{controller_heard, current_mark, first_of, hello_boot, is_member, is_over, known_boot, members, next_current, open_sent, opened_at, raises_known, said_to_controller}
+use Rattle.update_machine.specs.Marks.{controller_heard, current_mark, first_number, hello_boot, is_member, is_over, known_boot, members, next_current, open_sent, opened_at, raises_known, said_to_controller}
 use Rattle.update_machine.specs.Messages.{is_deliverable, sends}
 use Rattle.update_machine.specs.Moves.{in_turn, put}
 use Rattle.update_machine.specs.Pieces.{confirm_items, deliver_items, nothing, piece, step_items, update_code, update_items}
@@ -32,7 +32,7 @@ use Rattle.boot_laws.proofs.Sends.{each, each_map}
 use Rattle.boot_laws.proofs.Serving.{member_parts}
 use Rattle.mark_laws.proofs.Current.{StampsAreCurrent, current_kept}
 use Rattle.mark_laws.proofs.Members.{LeavesMember, member_was, opened_same}
-use Rattle.settle_laws.specs.Steps.{is_for_controller}
+use Rattle.settle_laws.specs.Steps.{asks_controller}
 use Rattle.settle_laws.proofs.Ends.{told_is}
 use Rattle.settle_laws.proofs.Leaves.{leaves_keep}
 use Rattle.settle_laws.proofs.Others.{ReopensAlone, others_keep, sends_leave}
@@ -103,11 +103,11 @@ stamped_sent setting before n s message cause is = by_opened (opened_at before s
     known = known_more before next s
 
     after : opened_at (before ++ next ∷ []) s
-        ≡ option_or (opened_at before s) (first_of (open_sent s boot next))
+        ≡ option_or (opened_at before s) (first_number (open_sent s boot next))
     after = opened_at_more before next s known
 
     by_new : (o : Option ℕ) → opened_at before s ≡ None
-        → first_of (open_sent s boot next) ≡ o → opened_at (before ++ next ∷ []) s ≡ o
+        → first_number (open_sent s boot next) ≡ o → opened_at (before ++ next ∷ []) s ≡ o
         → IsStamped (before ++ next ∷ []) s
     by_new None closed opens now = λ member.
         let parts = member_parts (before ++ next ∷ []) s member in
@@ -127,10 +127,10 @@ stamped_sent setting before n s message cause is = by_opened (opened_at before s
         (record {
           known = known;
           over = over_more before next s;
-          opened = after ∙ ap (λ o. option_or o (first_of (open_sent s boot next))) e ∙ sym e;
+          opened = after ∙ ap (λ o. option_or o (first_number (open_sent s boot next))) e ∙ sym e;
         }) (current_more before next) is
-    by_opened None e = by_new (first_of (open_sent s boot next)) e refl
-        (after ∙ ap (λ o. option_or o (first_of (open_sent s boot next))) e)
+    by_opened None e = by_new (first_number (open_sent s boot next)) e refl
+        (after ∙ ap (λ o. option_or o (first_number (open_sent s boot next))) e)
 
 -- an item that opens none, and ends and raises no boot
 stamped_still : (before : List Item) (next : Item) (s : ℕ)
@@ -478,7 +478,7 @@ confirm_stamps setting s here have = by_up (is_up here s)
         (record { each = λ t there. stamped_over here s t (have.each t there) }))
 
 told_stamps : (setting : Setting) (before here : List Item) (step : Step)
-    → IsTrue (is_for_controller before step) → StampsAreCurrent here → HaveStamps setting here
+    → IsTrue (asks_controller before step) → StampsAreCurrent here → HaveStamps setting here
     → HaveStamps setting (here ++ step_items setting before step here)
 told_stamps setting before here (Deliver number) is are have =
     deliver_stamps setting before here number are is have
@@ -490,7 +490,7 @@ pub piece_stamps : (setting : Setting) (before : List Item) (row : ℕ) (step : 
     → StampsAreCurrent before → HaveStamps setting before
     → HaveStamps setting (before ++ piece setting before row step)
 unfolding piece
-piece_stamps setting before row step are have = by_kind (is_for_controller before step) refl
+piece_stamps setting before row step are have = by_kind (asks_controller before step) refl
   where
     next : Item
     next = item.Row row step
@@ -502,7 +502,7 @@ piece_stamps setting before row step are have = by_kind (is_for_controller befor
     begun = still_stamps setting before next (λ s. known_more before next s)
         (λ s. over_more before next s) (λ s. refl) (current_more before next) have
 
-    by_kind : (b : Bool) → is_for_controller before step ≡ b → HaveStamps setting
+    by_kind : (b : Bool) → asks_controller before step ≡ b → HaveStamps setting
         (before ++ put (next ∷ []) (step_items setting before step) before)
     by_kind false e =
         stamps_keep setting before _ (others_keep setting before row step e) have

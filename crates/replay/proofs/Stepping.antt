@@ -10,7 +10,7 @@ use Rattle.update_machine.specs.Pieces.{piece}
 use Rattle.update_machine.specs.Setting.{Setting}
 use Rattle.update_machine.proofs.CallerLemmas.{after_append, rooms_append}
 use Rattle.world_log.specs.Writing.{IsPart}
-use Rattle.replay.specs.Playing.{Begins, Happens, StopsWithin, next_step}
+use Rattle.replay.specs.Playing.{BeginsEvent, Happens, StopsWithin, next_step}
 
 abbrev pub is_some_step : List StepOfRow → Bool
 is_some_step [] = false
@@ -119,7 +119,7 @@ took_next setting row event is_begun start here after step took is room written 
 -- whole steps begin the event too
 pub begins_whole : (setting : Setting) (row : ℕ) (event : Event) (is_begun : Bool)
     (start here : List Item) → Took setting row event is_begun start here
-    → Begins setting row event start here
+    → BeginsEvent setting row event start here
 begins_whole setting row event is_begun start here took = record {
   steps = took.steps;
   first = took.first;
@@ -148,7 +148,7 @@ stops_next setting row event is_begun start here step took is full = record {
 pub begins_next : (setting : Setting) (row : ℕ) (event : Event) (is_begun : Bool)
     (start here after : List Item) (step : Step) → Took setting row event is_begun start here
     → next_step event is_begun here ≡ Some step
-    → IsPart here (piece setting here row step) after → Begins setting row event start after
+    → IsPart here (piece setting here row step) after → BeginsEvent setting row event start after
 begins_next setting row event is_begun start here after step took is part = record {
   steps = took.steps ++ one row step ∷ [];
   first = with_next setting row event is_begun start here step took is;

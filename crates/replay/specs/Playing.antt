@@ -49,7 +49,7 @@ pub record StopsWithin (setting : Setting) (row : ℕ) (event : Event) (before a
   pub full : IsFull after
 
 -- behind this journal, the event of the row took first steps, and items of the last one may lack
-pub record Begins (setting : Setting) (row : ℕ) (event : Event) (before after : List Item)
+pub record BeginsEvent (setting : Setting) (row : ℕ) (event : Event) (before after : List Item)
     : Type 0 where
   pub steps : List StepOfRow
   pub first : AreFirstStepsOf setting row event before steps
@@ -66,9 +66,9 @@ error_of why.NoMemory = replayed.NoMemory
 error_of error = replayed.Plan error
 
 -- why there is no first plan, or memory ran out
-abbrev pub IsRefusal : Result (List Placed) NoPlan → ReplayError → Type 0
-IsRefusal plan (replayed.Plan (why.TooManyWords words)) = plan ≡ Err (no_plan.TooManyWords words)
-IsRefusal plan (replayed.Plan why.TooManyLeaves) = plan ≡ Err no_plan.TooManyLeaves
-IsRefusal plan (replayed.Plan (why.NoRoom partition)) = plan ≡ Err (no_plan.NoRoom partition)
-IsRefusal plan (replayed.Plan why.NoMemory) = ⊥
-IsRefusal plan replayed.NoMemory = ⊤
+abbrev pub IsPlanRefusal : Result (List Placed) NoPlan → ReplayError → Type 0
+IsPlanRefusal plan (replayed.Plan (why.TooManyWords words)) = plan ≡ Err (no_plan.TooManyWords words)
+IsPlanRefusal plan (replayed.Plan why.TooManyLeaves) = plan ≡ Err no_plan.TooManyLeaves
+IsPlanRefusal plan (replayed.Plan (why.NoRoom partition)) = plan ≡ Err (no_plan.NoRoom partition)
+IsPlanRefusal plan (replayed.Plan why.NoMemory) = ⊥
+IsPlanRefusal plan replayed.NoMemory = ⊤

@@ -2,7 +2,7 @@ ghost use Rattle.std.specs.Prelude.{◌≡◌, ◌+◌, ◌≤◌, false, length
 ghost use Rattle.steps.specs.Steps.{IsEvent, max_events};
 ghost use Rattle.world.specs.declared.error.StepError.TheVariants.{Full};
 ghost use Rattle.replay.specs.Leavings.{KeepUp};
-ghost use Rattle.replay.specs.Playing.{Begins, Happens, StopsWithin, brought_in, next_step};
+ghost use Rattle.replay.specs.Playing.{BeginsEvent, Happens, StopsWithin, brought_in, next_step};
 ghost use Rattle.world.specs.State.{setting_at};
 
 use crate::noting::note_left;
@@ -38,7 +38,7 @@ pub fn take_steps<M: Meter>(
         world.new.journal) }
     ensures stops { IsErrOf result Full → StopsWithin (setting_at world.old) row event.now
         world.old.journal world.new.journal }
-    ensures part { OnErr result (Begins (setting_at world.old) row event.now world.old.journal
+    ensures part { OnErr result (BeginsEvent (setting_at world.old) row event.now world.old.journal
         world.new.journal) }
     ensures kept { OnOk result (KeepUp world.old.journal world.new.journal
         (map M.seen board.old) (map M.seen board.new)) }

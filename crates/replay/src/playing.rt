@@ -9,7 +9,7 @@ ghost use Rattle.update_machine.specs.Full.{IsPlay};
 ghost use Rattle.update_machine.specs.Setting.{setting_of, NamesOwnPort};
 ghost use Rattle.world.specs.State.{IsBegun, setting_at};
 ghost use Rattle.replay.specs.Leavings.{left_in};
-ghost use Rattle.replay.specs.Playing.{IsRefusal};
+ghost use Rattle.replay.specs.Playing.{IsPlanRefusal};
 
 use crate::error::ReplayError;
 use crate::event_steps::take_steps;
@@ -61,7 +61,7 @@ pub fn replay<M: Meter>(
     ensures planned { OnOk result
         (IsOk (plan_of (slice_index_or policies.items 0 []) net.now)) }
     ensures refused { IfErr result
-        (IsRefusal (plan_of (slice_index_or policies.items 0 []) net.now)) }
+        (IsPlanRefusal (plan_of (slice_index_or policies.items 0 []) net.now)) }
 {
     let world = World::begin(alloc, net, policies)?;
     world.tied();

@@ -24,9 +24,9 @@ use Rattle.steps.specs.declared.step.Event.TheVariants.{One, Flush, Drain}
 use Rattle.steps.specs.declared.step.Step.{Step}
 use Rattle.steps.specs.declared.step.Step.TheVariants as step
 use Rattle.schedule.specs.Kinds.{kind_of}
-use Rattle.schedule.specs.Reading.{AreSound, events_in, events_of, events_under_heading, no_heading, refused_row, refusals_from}
+use Rattle.schedule.specs.Reading.{AreSoundEvents, events_in, events_of, events_under_heading, no_schedule_heading, refused_row, refusals_from}
 use Rattle.schedule.specs.Refusals.{Refusal}
-use Rattle.schedule.specs.Rows.{event_of, event_with, file_in, header_in, is_heading, link_in, number_in, switch_in}
+use Rattle.schedule.specs.Rows.{event_of, event_with, file_in, header_read, is_schedule_heading, link_in, number_read, switch_in}
 use Rattle.schedule.specs.declared.error.ScheduleRefusal.{ScheduleRefusal}
 use Rattle.schedule.specs.declared.error.ScheduleRefusal.TheVariants as why
 use Rattle.schedule.specs.declared.kind.Kind.{Kind}
@@ -61,7 +61,7 @@ switch_sound net name switch is =
     (position-Some (λ (row : SwitchRow). bytes_eq row.name name) net.switches switch no_switch
     (some_of (switch_number net.switches name) why.Switch switch is)).0
 
-number_sound : (text : List ℕ) (n : ℕ) → number_in text ≡ Ok n → n ≤ 999999999
+number_sound : (text : List ℕ) (n : ℕ) → number_read text ≡ Ok n → n ≤ 999999999
 number_sound text n is = number_bound 999999999 text n
     (some_of (number_up_to 999999999 text) why.Number n is)
 
@@ -99,7 +99,7 @@ link_sound net one two link is =
     subst (λ t. HasLink net link.one t) second (subst (λ t. HasLink net t x) first linked)
 
 header_sound : (src dst sport dport proto : List ℕ) (header : Header)
-    → header_in src dst sport dport proto ≡ Ok header → IsHeader header
+    → header_read src dst sport dport proto ≡ Ok header → IsHeader header
 header_sound src dst sport dport proto header is =
     packed (packet_fields_of src dst sport dport proto) (header_bound src dst sport dport proto)
     header is
@@ -133,8 +133,8 @@ module _ (net : Net) (files : ℕ) where
 
   one_number : (text : List ℕ) (make : ℕ → Step)
       → ((n : ℕ) → n ≤ 999999999 → IsStep net files (make n))
-      → Sound (with_value (number_in text) (λ n. Ok (One (make n))))
-  one_number text make sound = follows (number_in text) (λ n. Ok (One (make n)))
+      → Sound (with_value (number_read text) (λ n. Ok (One (make n))))
+  one_number text make sound = follows (number_read text) (λ n. Ok (One (make n)))
       (λ n is. gives (One (make n)) (sound n (number_sound text n is)))
 
   one_switch : (name : List ℕ) (make : ℕ → Step)
@@ -152,9 +152,9 @@ module _ (net : Net) (files : ℕ) where
   with_sound : (k : Kind) (fields : List (List ℕ)) → Sound (event_with net files k fields)
   with_sound kind.Packet (switch ∷ src ∷ dst ∷ sport ∷ dport ∷ proto ∷ []) =
       follows (switch_in net switch)
-      (λ s. with_value (header_in src dst sport dport proto)
+      (λ s. with_value (header_read src dst sport dport proto)
       (λ header. Ok (One (step.Packet s header)))) (λ s is.
-      follows (header_in src dst sport dport proto)
+      follows (header_read src dst sport dport proto)
       (λ header. Ok (One (step.Packet s header))) (λ header has.
       gives (One (step.Packet s header))
       (switch_sound net switch s is, header_sound src dst sport dport proto header has)))
@@ -164,7 +164,7 @@ module _ (net : Net) (files : ℕ) where
   with_sound kind.Forget (message ∷ []) = one_number message (λ n. step.Forget n) (λ n h. h)
   with_sound kind.Expire (switch ∷ place ∷ []) =
       follows (switch_in net switch)
-      (λ s. with_value (number_in place) (λ n. Ok (One (step.Expire s n)))) (λ s is.
+      (λ s. with_value (number_read place) (λ n. Ok (One (step.Expire s n)))) (λ s is.
       one_number place (λ n. step.Expire s n) (λ n h. (switch_sound net switch s is, h)))
   with_sound kind.Update (file ∷ []) = follows (file_in files file)
       (λ n. Ok (One (step.Update n)))
@@ -241,14 +241,14 @@ module _ (net : Net) (files : ℕ) where
   first_of (refusal ∷ refusals) events read is = cc is
 
   all_sound : (records : List (List (List ℕ))) (events : List Event) → events_of net files records
-      ≡ Ok events → AreSound net files events
+      ≡ Ok events → AreSoundEvents net files events
   all_sound records events is =
       let (none, same) = first_of (refusals_from net files 1 records) (events_in net files records)
       events is in
       let few = few_rows 1 records none (omega arith) in
       let most : length (events_in net files records) ≤ 100000 =
       omega (arith, few, as_many records) in
-      subst (AreSound net files) same
+      subst (AreSoundEvents net files) same
       (record {
         steps = All-from_recursion (IsEvent net files) (events_in net files records)
             (rows_sound records);
@@ -256,11 +256,11 @@ module _ (net : Net) (files : ℕ) where
       })
 
   pub text_sound : (records : List (List (List ℕ))) (events : List Event)
-      → events_under_heading net files records ≡ Ok events → AreSound net files events
+      → events_under_heading net files records ≡ Ok events → AreSoundEvents net files events
   text_sound [] events is = cc is
-  text_sound (first ∷ records) events is = under (is_heading first) is
+  text_sound (first ∷ records) events is = under (is_schedule_heading first) is
     where
-      under : (b : Bool) → cond b (events_of net files records) no_heading ≡ Ok events
-          → AreSound net files events
+      under : (b : Bool) → cond b (events_of net files records) no_schedule_heading ≡ Ok events
+          → AreSoundEvents net files events
       under true is = all_sound records events is
       under false is = cc is

@@ -8,7 +8,7 @@ use Rattle.net_file.specs.declared.net.Net.{Net}
 use Rattle.steps.specs.Steps.{IsEvent, max_events}
 use Rattle.steps.specs.declared.step.Event.{Event}
 use Rattle.schedule.specs.Refusals.{Refusal}
-use Rattle.schedule.specs.Rows.{event_of, is_heading}
+use Rattle.schedule.specs.Rows.{event_of, is_schedule_heading}
 use Rattle.schedule.specs.declared.error.ScheduleError.{ScheduleError}
 use Rattle.schedule.specs.declared.error.ScheduleError.TheVariants as error
 use Rattle.schedule.specs.declared.error.ScheduleRefusal.{ScheduleRefusal}
@@ -40,33 +40,33 @@ events_of net files records =
     option_map_or Err (slice_get (refusals_from net files 1 records) 0)
     (Ok (events_in net files records))
 
-abbrev pub no_heading : Result (List Event) Refusal
-no_heading = Err (record { refusal = why.Heading; row = 0 })
+abbrev pub no_schedule_heading : Result (List Event) Refusal
+no_schedule_heading = Err (record { refusal = why.Heading; row = 0 })
 
 -- the events under the heading
 abbrev pub events_under_heading : Net → ℕ → List (List (List ℕ))
     → Result (List Event) Refusal
-events_under_heading net files [] = no_heading
+events_under_heading net files [] = no_schedule_heading
 events_under_heading net files (first ∷ records) =
-    if is_heading first then events_of net files records else no_heading
+    if is_schedule_heading first then events_of net files records else no_schedule_heading
 
 -- the events that a text states
 unfoldable pub schedule_of : Net → ℕ → List ℕ → Result (List Event) Refusal
 schedule_of net files bytes = events_under_heading net files (records_of bytes)
 
 -- a refusal, or want of memory
-abbrev pub IsRefusal : Result (List Event) Refusal → ScheduleError → Type 0
-IsRefusal events (error.Refused refusal row) =
+abbrev pub IsScheduleRefusal : Result (List Event) Refusal → ScheduleError → Type 0
+IsScheduleRefusal events (error.Refused refusal row) =
     events ≡ Err (record { refusal = refusal; row = row })
-IsRefusal events error.NoMemory = ⊤
+IsScheduleRefusal events error.NoMemory = ⊤
 
 -- ---- laws
 
 -- what is true of the events of any text
-pub record AreSound (net : Net) (files : ℕ) (events : List Event) : Type 0 where
+pub record AreSoundEvents (net : Net) (files : ℕ) (events : List Event) : Type 0 where
   pub steps : All (IsEvent net files) events
   pub few : length events ≤ max_events
 
 pub record ScheduleLaws : Type 0 where
   pub sound : (net : Net) (files : ℕ) (bytes : List ℕ) (events : List Event)
-      → schedule_of net files bytes ≡ Ok events → AreSound net files events
+      → schedule_of net files bytes ≡ Ok events → AreSoundEvents net files events

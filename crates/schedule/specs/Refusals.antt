@@ -4,16 +4,16 @@ use Rattle.schedule.specs.declared.error.ScheduleRefusal.{ScheduleRefusal}
 use Rattle.schedule.specs.declared.error.ScheduleRefusal.TheVariants as why
 
 -- the numbers by which refusals are known outside
-abbrev pub code_of : ScheduleRefusal → ℕ
-code_of why.Heading = 1
-code_of why.Width = 2
-code_of why.Kind = 3
-code_of why.Switch = 4
-code_of why.Number = 5
-code_of why.Address = 6
-code_of why.File = 7
-code_of why.TooManyRows = 8
-code_of why.NoLink = 9
+abbrev pub schedule_code : ScheduleRefusal → ℕ
+schedule_code why.Heading = 1
+schedule_code why.Width = 2
+schedule_code why.Kind = 3
+schedule_code why.Switch = 4
+schedule_code why.Number = 5
+schedule_code why.Address = 6
+schedule_code why.File = 7
+schedule_code why.TooManyRows = 8
+schedule_code why.NoLink = 9
 
 -- why a text is refused, and in which row, counted from 1; the heading is row 0
 pub record Refusal : Type 0 where

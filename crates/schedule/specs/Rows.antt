@@ -20,11 +20,11 @@ use Rattle.schedule.specs.declared.kind.Kind.{Kind}
 use Rattle.schedule.specs.declared.kind.Kind.TheVariants as kind
 use lib.Pointwise.{pointwise}
 
-abbrev pub heading_fields : List (List ℕ)
-heading_fields = codes "event" ∷ codes "arguments" ∷ []
+abbrev pub schedule_heading : List (List ℕ)
+schedule_heading = codes "event" ∷ codes "arguments" ∷ []
 
-abbrev pub is_heading : List (List ℕ) → Bool
-is_heading fields = pointwise bytes_eq fields heading_fields
+abbrev pub is_schedule_heading : List (List ℕ) → Bool
+is_schedule_heading fields = pointwise bytes_eq fields schedule_heading
 
 -- ---- fields
 
@@ -33,8 +33,8 @@ abbrev pub switch_in : Net → List ℕ → Result ℕ ScheduleRefusal
 switch_in net name = ok_or (switch_number net.switches name) why.Switch
 
 -- the number of a packet, a message or a place
-abbrev pub number_in : List ℕ → Result ℕ ScheduleRefusal
-number_in text = ok_or (number_up_to max_number text) why.Number
+abbrev pub number_read : List ℕ → Result ℕ ScheduleRefusal
+number_read text = ok_or (number_up_to max_number text) why.Number
 
 -- a policy file, from 1
 abbrev pub file_in : ℕ → List ℕ → Result ℕ ScheduleRefusal
@@ -50,9 +50,9 @@ link_in net one two =
     require (are_linked net.links one two) why.NoLink (Ok (record { one = one; two = two }))))
 
 -- two addresses, two ports and a protocol, none of them `any`
-abbrev pub header_in : List ℕ → List ℕ → List ℕ → List ℕ → List ℕ
+abbrev pub header_read : List ℕ → List ℕ → List ℕ → List ℕ → List ℕ
     → Result Header ScheduleRefusal
-header_in src dst sport dport proto =
+header_read src dst sport dport proto =
     ok_or (option_map header_of (packet_fields_of src dst sport dport proto)) why.Address
 
 -- ---- rows
@@ -61,19 +61,19 @@ header_in src dst sport dport proto =
 abbrev pub event_with : Net → ℕ → Kind → List (List ℕ) → Result Event ScheduleRefusal
 event_with net files kind.Packet (switch ∷ src ∷ dst ∷ sport ∷ dport ∷ proto ∷ []) =
     with_value (switch_in net switch) (λ switch.
-    with_value (header_in src dst sport dport proto) (λ header.
+    with_value (header_read src dst sport dport proto) (λ header.
     Ok (One (step.Packet switch header))))
 event_with net files kind.Hop (packet ∷ []) =
-    with_value (number_in packet) (λ packet. Ok (One (step.Hop packet)))
+    with_value (number_read packet) (λ packet. Ok (One (step.Hop packet)))
 event_with net files kind.Lose (packet ∷ []) =
-    with_value (number_in packet) (λ packet. Ok (One (step.Lose packet)))
+    with_value (number_read packet) (λ packet. Ok (One (step.Lose packet)))
 event_with net files kind.Deliver (message ∷ []) =
-    with_value (number_in message) (λ message. Ok (One (step.Deliver message)))
+    with_value (number_read message) (λ message. Ok (One (step.Deliver message)))
 event_with net files kind.Forget (message ∷ []) =
-    with_value (number_in message) (λ message. Ok (One (step.Forget message)))
+    with_value (number_read message) (λ message. Ok (One (step.Forget message)))
 event_with net files kind.Expire (switch ∷ place ∷ []) =
     with_value (switch_in net switch) (λ switch.
-    with_value (number_in place) (λ place. Ok (One (step.Expire switch place))))
+    with_value (number_read place) (λ place. Ok (One (step.Expire switch place))))
 event_with net files kind.Update (file ∷ []) =
     with_value (file_in files file) (λ file. Ok (One (step.Update file)))
 event_with net files kind.LinkDown (one ∷ two ∷ []) =

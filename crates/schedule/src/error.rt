@@ -1,5 +1,5 @@
 ghost use Rattle.std.specs.Prelude.{◌≡◌, ◌≤◌};
-ghost use Rattle.schedule.specs.Refusals.{code_of};
+ghost use Rattle.schedule.specs.Refusals.{schedule_code};
 ghost use Rattle.schedule.specs.declared.error.ScheduleError.TheVariants.{NoMemory};
 
 use std::alloc::{AllocError, AllocFailed};
@@ -31,7 +31,7 @@ pub enum ScheduleRefusal {
 impl ScheduleRefusal {
     /// The refusal's number, from 1 to 9 in the order of the variants.
     pub fn code(self) -> u32
-        ensures code { result ≡ code_of self }
+        ensures code { result ≡ schedule_code self }
         ensures some { 1 ≤ result }
         ensures most { result ≤ 9 }
     {

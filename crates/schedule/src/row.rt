@@ -2,7 +2,7 @@ ghost use Rattle.std.specs.Prelude.{◌≡◌, [], ◌∷◌, drop, length};
 ghost use Rattle.csv.specs.Records.{fields_of};
 ghost use Rattle.net_file.specs.Net.{IsNet};
 ghost use Rattle.net_file.specs.Joins.{are_linked};
-ghost use Rattle.schedule.specs.Rows.{event_of, event_with, file_in, header_in, is_heading, link_in, number_in, switch_in};
+ghost use Rattle.schedule.specs.Rows.{event_of, event_with, file_in, header_read, is_schedule_heading, link_in, number_read, switch_in};
 
 use crate::error::ScheduleRefusal;
 use crate::kind::{Kind, read_kind};
@@ -14,7 +14,7 @@ use steps::{Event, MAX_NUMBER, Step};
 /// Whether the record is the heading.
 #[tactic(auto, using(crate::proofs::Fields::heading))]
 pub fn is_heading(fields: &ByteRecord) -> bool
-    ensures { result ≡ is_heading (fields_of fields.now) }
+    ensures { result ≡ is_schedule_heading (fields_of fields.now) }
 {
     if fields.len() != 2 {
         return false;
@@ -32,7 +32,7 @@ fn read_switch(net: &Net, text: &[u8]) -> Result<u32, ScheduleRefusal>
 
 // The packet, message or place that the text names.
 fn read_number(text: &[u8]) -> Result<u32, ScheduleRefusal>
-    ensures { result ≡ number_in text.now }
+    ensures { result ≡ number_read text.now }
 {
     match five_tuple::read_number(text, u64::from(MAX_NUMBER)) {
         Some(number) => Ok(number as u32),
@@ -79,7 +79,7 @@ fn read_header(
     dport: &[u8],
     proto: &[u8],
 ) -> Result<Header, ScheduleRefusal>
-    ensures { result ≡ header_in src.now dst.now sport.now dport.now proto.now }
+    ensures { result ≡ header_read src.now dst.now sport.now dport.now proto.now }
 {
     match read_fields(src, dst, sport, dport, proto) {
         Some(fields) => Ok(Header::pack(&fields)),

@@ -18,7 +18,7 @@ use Rattle.net_file.specs.Owners.{links_of}
 use Rattle.net_file.proofs.Masks.{in_mask_of, in_mask_past, mask_of_small}
 use Rattle.journal.specs.declared.item.Item.{Item}
 use Rattle.update_machine.specs.Adverts.{adverts_known, held_adverts, own_advert}
-use Rattle.update_machine.specs.Deliveries.{advert_to, has_changed, told_by, told_over}
+use Rattle.update_machine.specs.Deliveries.{advert_to, has_changed, messages_of, messages_over}
 use Rattle.update_machine.specs.Links.{is_usable}
 use Rattle.update_machine.specs.Setting.{Setting, switches_of}
 use Rattle.update_machine.specs.LinkMasks.{near, usable_links}
@@ -157,7 +157,7 @@ held_few setting journal s =
     )
 
 over_few : (setting : Setting) (before now : List Item) (s k : ℕ)
-    → cond (has (near setting now s) k) (length (told_over setting before now s k)) 0
+    → cond (has (near setting now s) k) (length (messages_over setting before now s k)) 0
     ≤ once (has (near setting now s) k) + 63 * once (is_new setting before now s k)
 over_few setting before now s k =
     by_links (has (near setting now s) k) (has (near setting before s) k)
@@ -190,7 +190,7 @@ constant_few setting net b =
 -- what a switch tells: one advert over each link that can be used, and 63 more over each new one
 by_few : (setting : Setting) (before now : List Item) (t s : ℕ) → IsNet setting.net
     → ChangesAt before now t
-    → length (told_by setting before now s)
+    → length (messages_of setting before now s)
     ≤ sum_by (λ k. once (has (near setting now s) k)) (switches_of setting)
     + 63 * (64 * once (t == s) + 1)
 by_few setting before now t s net changes =
@@ -198,11 +198,11 @@ by_few setting before now t s net changes =
     let fresh : ℕ → ℕ = λ k. once (is_new setting before now s k) in
     omega (
       arith,
-      length-flat_map (told_over setting before now s)
+      length-flat_map (messages_over setting before now s)
           (filter (has (near setting now s)) all),
-      sum_filter (λ k. length (told_over setting before now s k)) (has (near setting now s)) all,
+      sum_filter (λ k. length (messages_over setting before now s k)) (has (near setting now s)) all,
       sum_by-le-sum_by
-          (λ k. cond (has (near setting now s) k) (length (told_over setting before now s k)) 0)
+          (λ k. cond (has (near setting now s) k) (length (messages_over setting before now s k)) 0)
           (λ k. once (has (near setting now s) k) + 63 * fresh k) all
           (λ k. over_few setting before now s k),
       sum_plus (λ k. once (has (near setting now s) k)) (λ k. 63 * fresh k) all,
@@ -219,7 +219,7 @@ by_few setting before now t s net changes =
 -- what the switches tell whose links changed
 abbrev pub all_told : Setting → List Item → List Item → List Message
 all_told setting before now =
-    flat_map (told_by setting before now)
+    flat_map (messages_of setting before now)
     (filter (has_changed setting before now) (switches_of setting))
 
 pairs_near : (setting : Setting) (now : List Item) → IsNet setting.net
@@ -255,10 +255,10 @@ changes_few setting before now t net changes =
     let more : ℕ → ℕ = λ s. 64 * once (t == s) + 1 in
     omega (
       arith,
-      length-flat_map (told_by setting before now)
+      length-flat_map (messages_of setting before now)
           (filter (has_changed setting before now) all),
-      sum_some (λ s. length (told_by setting before now s)) (has_changed setting before now) all,
-      sum_by-le-sum_by (λ s. length (told_by setting before now s))
+      sum_some (λ s. length (messages_of setting before now s)) (has_changed setting before now) all,
+      sum_by-le-sum_by (λ s. length (messages_of setting before now s))
           (λ s. row s + 63 * more s) all (λ s. by_few setting before now t s net changes),
       sum_plus row (λ s. 63 * more s) all,
       sum_times 63 more all,

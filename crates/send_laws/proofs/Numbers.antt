@@ -23,7 +23,7 @@ use Rattle.update_machine.specs.Answers.{StepOfRow, after_steps}
 use Rattle.update_machine.specs.Boots.{boot_of, is_up}
 use Rattle.update_machine.specs.Causes.{HaveCauses}
 use Rattle.update_machine.specs.Concerns.{NoneConcern, concerns_links}
-use Rattle.update_machine.specs.Deliveries.{advert_to, has_changed, link_changes, told_by, told_over}
+use Rattle.update_machine.specs.Deliveries.{advert_to, has_changed, link_changes, messages_of, messages_over}
 use Rattle.update_machine.specs.Laws.{LinksKeep}
 use Rattle.update_machine.specs.LinkMasks.{near, usable_links}
 use Rattle.update_machine.specs.Messages.{is_sending}
@@ -217,7 +217,7 @@ holds_own setting now s small told =
 
 over_some : (setting : Setting) (before now : List Item) (s k : ℕ)
     → 1 ≤ length (held_adverts setting now s)
-    → 1 ≤ length (told_over setting before now s k)
+    → 1 ≤ length (messages_over setting before now s k)
 over_some setting before now s k holds = by_link (has (near setting before s) k)
   where
     by_link : (old : Bool) → 1 ≤ length {A = Message} (elim old [
@@ -262,13 +262,13 @@ tells_some setting before now s net there up changed told some =
     let small : s < 64 = omega (arith, there, net.few_switches) in
     omega (
       arith,
-      length-flat_map (told_by setting before now)
+      length-flat_map (messages_of setting before now)
           (filter (has_changed setting before now) (switches_of setting)),
-      at_least (λ x. length (told_by setting before now x)) (has_changed setting before now)
+      at_least (λ x. length (messages_of setting before now x)) (has_changed setting before now)
           count s there changes,
-      length-flat_map (told_over setting before now s)
+      length-flat_map (messages_over setting before now s)
           (filter (has (near setting now s)) (switches_of setting)),
-      at_least (λ x. length (told_over setting before now s x)) (has (near setting now s))
+      at_least (λ x. length (messages_over setting before now s x)) (has (near setting now s))
           count k neighbour.1 neighbour.2,
       over_some setting before now s k (holds_own setting now s small told),
     )

@@ -33,7 +33,7 @@ use Rattle.boot_laws.proofs.Pieces.{pieces_have}
 use Rattle.boot_laws.proofs.Sends.{each}
 use Rattle.mark_laws.proofs.Current.{current_at_first, next_below}
 use Rattle.mark_laws.proofs.Marks.{bounded}
-use Rattle.settle_laws.specs.Steps.{is_for_controller}
+use Rattle.settle_laws.specs.Steps.{asks_controller}
 use Rattle.settle_laws.proofs.Behind.{behind}
 use Rattle.settle_laws.proofs.Leaves.{leaves_keep}
 use Rattle.settle_laws.proofs.Others.{Leave, installs_reopen, others_keep, sends_leave}
@@ -199,7 +199,7 @@ confirm_settled setting s here settled = by_up (is_up here s)
 -- ---- steps
 
 told_settled : (setting : Setting) (before here : List Item) (step : Step)
-    → IsTrue (is_for_controller before step) → AreSettled setting here
+    → IsTrue (asks_controller before step) → AreSettled setting here
     → AreCaused setting (here ++ step_items setting before step here)
     → AreSettled setting (here ++ step_items setting before step here)
 told_settled setting before here (Deliver number) is settled =
@@ -214,7 +214,7 @@ step_settled : (setting : Setting) (before : List Item) (row : ℕ) (step : Step
     → AreSettled setting (before ++ piece setting before row step)
 unfolding piece
 step_settled setting before row step settled =
-    by_kind (is_for_controller before step) refl
+    by_kind (asks_controller before step) refl
   where
     next : Item
     next = item.Row row step
@@ -222,7 +222,7 @@ step_settled setting before row step settled =
     here : List Item
     here = before ++ next ∷ []
 
-    by_kind : (b : Bool) → is_for_controller before step ≡ b
+    by_kind : (b : Bool) → asks_controller before step ≡ b
         → AreCaused setting (before ++ put (next ∷ []) (step_items setting before step) before)
         → AreSettled setting (before ++ put (next ∷ []) (step_items setting before step) before)
     by_kind false e = λ have.

@@ -12,7 +12,7 @@ use Rattle.journal.specs.declared.item.Item.TheVariants as item
 use Rattle.update_machine.specs.Causes.{HaveCauses}
 use Rattle.update_machine.specs.Concerns.{is_message_to_controller}
 use Rattle.update_machine.specs.Laws.{ControllerKeeps}
-use Rattle.update_machine.specs.Marks.{acked_stamp, controller_heard, first_of, is_member, is_over, known_boot, open_sent, opened_at}
+use Rattle.update_machine.specs.Marks.{acked_stamp, controller_heard, first_number, is_member, is_over, known_boot, open_sent, opened_at}
 use Rattle.update_machine.specs.Settling.{to_switch}
 use Rattle.update_machine.proofs.CallerLemmas.{controller_keeps}
 use Rattle.boot_laws.proofs.Facts.{fact_on}
@@ -59,7 +59,7 @@ reopened before n s boot version opened t =
     next = item.Sent n (to_switch s (OpenAt boot version))
 
     by_switch : (b : Bool) → (s == t) ≡ b → opened_at before t ≡ None
-        → first_of (if b then (if boot == known_boot before t then version ∷ [] else []) else [])
+        → first_number (if b then (if boot == known_boot before t then version ∷ [] else []) else [])
         ≡ None
     by_switch true e closed =
         let same : opened_at before s ≡ None = ap (opened_at before) (eqb-true s t e) ∙ closed in
@@ -68,7 +68,7 @@ reopened before n s boot version opened t =
     by_switch false e closed = refl
 
     by_opened : (o : Option ℕ) → opened_at before t ≡ o
-        → option_or (opened_at before t) (first_of (open_sent t (known_boot before t) next))
+        → option_or (opened_at before t) (first_number (open_sent t (known_boot before t) next))
         ≡ opened_at before t
     by_opened (Some w) e = rw e refl
     by_opened None e = rw e (by_switch (s == t) refl e)

@@ -34,7 +34,7 @@ use Rattle.boot_laws.proofs.Grown.{known_more, message_more}
 use Rattle.boot_laws.proofs.Sends.{each, each_append, each_flat_map, each_map}
 use Rattle.boot_laws.proofs.Serving.{member_parts, still_opened}
 use Rattle.boot_laws.proofs.Traffic.{IsBetween, IsTraffic, Traffic, expire_traffic, forget_traffic, hop_traffic, links_traffic, lose_traffic, lost_traffic, packet_has, passed_traffic}
-use Rattle.settle_laws.specs.Steps.{is_for_controller}
+use Rattle.settle_laws.specs.Steps.{asks_controller}
 use Rattle.settle_laws.proofs.Leaves.{LeavesController, OpensNone, leaves_keep}
 
 abbrev pub Leave : List Item → List Item → Type 0
@@ -293,7 +293,7 @@ resend_leaves setting s journal =
 -- ---- steps
 
 step_leaves : (setting : Setting) (before : List Item) (row : ℕ) (step : Step)
-    → IsFalse (is_for_controller before step)
+    → IsFalse (asks_controller before step)
     → let here = before ++ item.Row row step ∷ [] in
     Leave here (step_items setting before step here)
 step_leaves setting before row (Packet s header) none =
@@ -318,7 +318,7 @@ step_leaves setting before row (Confirm s) none = absurd cc
 step_leaves setting before row (Resend s) none = resend_leaves setting s _
 
 pub others_keep : (setting : Setting) (journal : List Item) (row : ℕ) (step : Step)
-    → IsFalse (is_for_controller journal step)
+    → IsFalse (asks_controller journal step)
     → ControllerKeeps journal (journal ++ piece setting journal row step)
 unfolding piece
 others_keep setting journal row step none =

@@ -11,7 +11,7 @@ use Rattle.journal.specs.declared.item.Item.{Item}
 use Rattle.journal.specs.declared.item.Item.TheVariants as item
 use Rattle.update_machine.specs.Causes.{HaveCauses}
 use Rattle.update_machine.specs.Laws.{ControllerKeeps}
-use Rattle.update_machine.specs.Marks.{AreSettled, acked_stamp, all_acked, controller_heard, current_mark, first_of, has_acked, is_joining, is_member, is_over, known_boot, least, members, next_current, next_retired, open_sent, opened_at, retired_mark}
+use Rattle.update_machine.specs.Marks.{AreSettled, acked_stamp, all_acked, controller_heard, current_mark, first_number, has_acked, is_joining, is_member, is_over, known_boot, least, members, next_current, next_retired, open_sent, opened_at, retired_mark}
 use Rattle.update_machine.specs.Messages.{next_message, sends, sent_from}
 use Rattle.update_machine.specs.Moves.{in_turn, put}
 use Rattle.update_machine.specs.Setting.{Setting, switches_of}
@@ -261,8 +261,8 @@ opens_now : (base journal : List Item) (s n version : ℕ) → known_boot journa
     → IsTrue (is_some (opened_at (journal ++ item.Sent n (open_for base version s) ∷ []) s))
 opens_now base journal s n version same =
     let next : Item = item.Sent n (open_for base version s) in
-    let opens : first_of (open_sent s (known_boot journal s) next) ≡ Some version =
-    ap (λ b. first_of (open_sent s b next)) same ∙ own_opening s (known_boot base s) version n in
+    let opens : first_number (open_sent s (known_boot journal s) next) ≡ Some version =
+    ap (λ b. first_number (open_sent s b next)) same ∙ own_opening s (known_boot base s) version n in
     rw (opened_at_more journal next s (known_more journal next s), opens)
     (or_some (opened_at journal s) version)
 

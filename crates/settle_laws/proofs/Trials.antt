@@ -13,7 +13,7 @@ use Rattle.update_machine.specs.Settling.{to_switch}
 use Rattle.update_machine.specs.Versions.{version_count}
 use Rattle.update_machine.proofs.Examples.{open_net}
 use Rattle.settle_laws.specs.Rises.{RisesRightly}
-use Rattle.settle_laws.specs.Steps.{is_for_controller}
+use Rattle.settle_laws.specs.Steps.{asks_controller}
 
 abbrev second : Tables
 second = record { version = 2; parts = []; auth = [] }
@@ -24,22 +24,22 @@ answered =
     ∷ item.Sent 2 (to_controller (Installed 0 1 2)) ∷ []
 
 -- the acknowledgement is for the controller, the tables are not, nor is a message that wasn't sent
-its_answer : is_for_controller answered (step.Deliver 2) ≡ true
+its_answer : asks_controller answered (step.Deliver 2) ≡ true
 unfolding message_of
 its_answer = refl
 
-not_its_tables : is_for_controller answered (step.Deliver 1) ≡ false
+not_its_tables : asks_controller answered (step.Deliver 1) ≡ false
 unfolding message_of
 not_its_tables = refl
 
-not_unsent : is_for_controller answered (step.Deliver 3) ≡ false
+not_unsent : asks_controller answered (step.Deliver 3) ≡ false
 unfolding message_of
 not_unsent = refl
 
-an_update : is_for_controller answered (step.Update 1) ≡ true
+an_update : asks_controller answered (step.Update 1) ≡ true
 an_update = refl
 
-not_a_crash : is_for_controller answered (step.Crash 0) ≡ false
+not_a_crash : asks_controller answered (step.Crash 0) ≡ false
 not_a_crash = refl
 
 -- ---- rises of the current mark

@@ -5,8 +5,8 @@ use Rattle.steps.specs.declared.step.Step.{Step}
 use Rattle.steps.specs.declared.step.Step.TheVariants.{Deliver, Update, Confirm}
 use Rattle.update_machine.specs.Concerns.{is_message_to_controller}
 
-abbrev pub is_for_controller : List Item → Step → Bool
-is_for_controller before (Deliver number) = is_message_to_controller before number
-is_for_controller before (Update file) = true
-is_for_controller before (Confirm s) = true
-is_for_controller before _ = false
+abbrev pub asks_controller : List Item → Step → Bool
+asks_controller before (Deliver number) = is_message_to_controller before number
+asks_controller before (Update file) = true
+asks_controller before (Confirm s) = true
+asks_controller before _ = false

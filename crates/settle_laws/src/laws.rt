@@ -9,7 +9,7 @@ ghost use Rattle.update_machine.specs.Pieces.{piece};
 ghost use Rattle.update_machine.specs.Setting.{Setting};
 ghost use Rattle.boot_laws.specs.Always.{HoldsAlways, HoldsAtEnds};
 ghost use Rattle.settle_laws.specs.Rises.{RisesRightly};
-ghost use Rattle.settle_laws.specs.Steps.{is_for_controller};
+ghost use Rattle.settle_laws.specs.Steps.{asks_controller};
 
 /// The current mark rises only to a version that is there, and only where each member acknowledged
 /// every version above the old mark up to it.
@@ -28,7 +28,7 @@ pub fn retired_stays_behind()
 /// update, and the confirmation that a switch is over.
 pub fn other_steps_leave_controller()
     ensures { (setting : Setting) (journal : List Item) (row : ℕ) (step : Step)
-        → IsFalse (is_for_controller journal step)
+        → IsFalse (asks_controller journal step)
         → ControllerKeeps journal (journal ++ piece setting journal row step) }
 {}
 

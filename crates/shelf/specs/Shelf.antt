@@ -51,15 +51,15 @@ HasLongerFile files name limit =
     IsSomeAnd (file_named files name) (λ content. limit < length content)
 
 -- the answer is neither a fault nor want of memory
-abbrev pub IsServed : {T : Type 0} → Result T ShelfError → Type 0
-IsServed (Err Failed) = ⊥
-IsServed (Err NoMemory) = ⊥
-IsServed _ = ⊤
+abbrev pub IsNoFault : {T : Type 0} → Result T ShelfError → Type 0
+IsNoFault (Err Failed) = ⊥
+IsNoFault (Err NoMemory) = ⊥
+IsNoFault _ = ⊤
 
 -- the answer is a fault
-abbrev pub is_fault : {T : Type 0} → Result T ShelfError → Bool
-is_fault (Err Failed) = true
-is_fault _ = false
+abbrev pub is_read_fault : {T : Type 0} → Result T ShelfError → Bool
+is_read_fault (Err Failed) = true
+is_read_fault _ = false
 
 -- the answer is an error, and not want of memory
 abbrev pub is_refusal : {T : Type 0} → Result T ShelfError → Bool

@@ -33,10 +33,10 @@ pub record IsAfterWrite (bytes : List ℕ) (takes_memory : Bool) (old new : Sink
   pub no_memory : IsErrOf result NoMemory → IsTrue takes_memory
 
 -- the answer is a fault, or an Ok of nothing for a piece that has bytes
-abbrev pub is_fault : List ℕ → Result ℕ SinkError → Bool
-is_fault piece (Ok taken) = (taken == 0) && not (length piece == 0)
-is_fault piece (Err Failed) = true
-is_fault piece (Err NoMemory) = false
+abbrev pub is_write_fault : List ℕ → Result ℕ SinkError → Bool
+is_write_fault piece (Ok taken) = (taken == 0) && not (length piece == 0)
+is_write_fault piece (Err Failed) = true
+is_write_fault piece (Err NoMemory) = false
 
 -- bytes, the most that one call takes, and the calls that are to fail
 pub record ScriptedBytes : Type 0 where

@@ -3,7 +3,7 @@ ghost use Rattle.std.specs.Prelude.{◌≡◌, ◌≤◌, ◌↔◌, IfOk, IsErr
 ghost use Rattle.std.specs.Option.{ForSome, ForNone, option_copied};
 ghost use Rattle.std.specs.Str.{bytes_eq};
 ghost use Rattle.shelf.specs.Sink.{Rose, counted};
-ghost use Rattle.shelf.specs.Shelf.{ShelfState, HasFile, LacksFile, HasLongerFile, IsServed, files_of, is_fault};
+ghost use Rattle.shelf.specs.Shelf.{ShelfState, HasFile, LacksFile, HasLongerFile, IsNoFault, files_of, is_read_fault};
 ghost use Rattle.shelf.specs.declared.source.ShelfError.TheVariants.{NoMemory};
 
 use std::alloc::{AllocError, Global};
@@ -56,9 +56,9 @@ pub trait Shelf {
             ForSome (state self.old).files (λ files.
             HasFile files name.now limit content.items)) }
         ensures missing { ForSome (state self.old).files (λ files.
-            IsServed result → (IsErrOf result ShelfError.Missing ↔ LacksFile files name.now)) }
+            IsNoFault result → (IsErrOf result ShelfError.Missing ↔ LacksFile files name.now)) }
         ensures too_long { ForSome (state self.old).files (λ files.
-            IsServed result
+            IsNoFault result
             → (IsErrOf result ShelfError.TooLong ↔ HasLongerFile files name.now limit)) }
 
         // Where they aren't, the count does.
@@ -86,7 +86,7 @@ pub(crate) fn copy_named(
     name: &str,
     limit: u64,
 ) -> Result<Vec<u8>, ShelfError>
-    ensures no_fault { is_fault result ≡ false }
+    ensures no_fault { is_read_fault result ≡ false }
     ensures content { IfOk result (λ content.
         HasFile (files_of files.now) name.now limit content.items) }
     ensures missing { IsErrOf result ShelfError.Missing

@@ -9,11 +9,11 @@ use Rattle.net_file.specs.Net.{IsNet, name_of}
 use Rattle.net_file.specs.declared.net.Net.{Net}
 use Rattle.policy_rules.specs.declared.rules.Partition.{Partition}
 use Rattle.policy_rules.specs.declared.rules.Rule.{Rule}
-use Rattle.show_text.specs.Text.{line, part_text, region_text, row_line, rule_text_of, targets_text}
+use Rattle.show_text.specs.Text.{with_line_feed, part_text, region_text, row_line, rule_text_of, targets_text}
 use Rattle.switch_table.specs.declared.tables.PartRow.{PartRow}
 use Rattle.ternary.specs.Word.{WordValue}
 
-fits : {m : ℕ} {text : List ℕ} → IsWithin m text → m < 2048 → length (line text) ≤ 2048
+fits : {m : ℕ} {text : List ℕ} → IsWithin m text → m < 2048 → length (with_line_feed text) ≤ 2048
 fits is small =
     let ended = widened (with_word is (10 ∷ [])) 2048 (omega (arith, small)) in ended.size
 
@@ -23,14 +23,14 @@ count n small = record {
 }
 
 pub rule_fits : (rule : Rule) → IsNumber rule.rank → IsRule rule.rule → IsAction rule.action
-    → length (line (rule_text_of rule)) ≤ 2048
+    → length (with_line_feed (rule_text_of rule)) ≤ 2048
 rule_fits rule rank name action = fits
     (row_of (with_word (row_of (with_word (row_of (with_word (row_of (all_of (codes "  rank "))
     (number rule.rank rank)) (codes " rule ")) (rule_within rule.rule name)) (codes " word "))
     (word_within rule.word)) (codes " ")) (action_within rule.action action)) (omega arith)
 
 pub count_fits : (word : List ℕ) (n : ℕ) → length word ≤ 100 → n < 2 ^ 64
-    → length (line (word ++ decimal n)) ≤ 2048
+    → length (with_line_feed (word ++ decimal n)) ≤ 2048
 count_fits word n short small =
     let before : IsWithin 100 word = record { size = short } in
     fits (row_of before (count n small)) (omega arith)
@@ -47,7 +47,7 @@ part_within part n rules =
     (count (length part.rules) rules)
 
 pub part_fits : (part : Partition) → part.number < 2 ^ 64 → length part.rules < 2 ^ 64
-    → length (line (part_text part)) ≤ 2048
+    → length (with_line_feed (part_text part)) ≤ 2048
 part_fits part n rules = fits (part_within part n rules) (omega arith)
 
 module _ (laws : NameLaws) (net : Net) (sound : IsNet net) where
@@ -58,7 +58,7 @@ module _ (laws : NameLaws) (net : Net) (sound : IsNet net) where
       (omega (arith, few))
 
   pub switch_fits : (s version : ℕ) → version < 2 ^ 32
-      → length (line (codes "switch " ++ name_of net s ++ codes " version " ++ decimal version))
+      → length (with_line_feed (codes "switch " ++ name_of net s ++ codes " version " ++ decimal version))
       ≤ 2048
   switch_fits s version small = fits
       (row_of (with_word (row_of (all_of (codes "switch ")) (name_within laws net sound s))
@@ -66,7 +66,7 @@ module _ (laws : NameLaws) (net : Net) (sound : IsNet net) where
 
   pub placed_fits : (part : Partition) (targets : List ℕ) → part.number < 2 ^ 64
       → length part.rules < 2 ^ 64 → length targets ≤ 4
-      → length (line (part_text part ++ targets_text net targets)) ≤ 2048
+      → length (with_line_feed (part_text part ++ targets_text net targets)) ≤ 2048
   placed_fits part targets n rules few = fits
       (row_of (part_within part n rules) (targets_within targets few)) (omega arith)
 

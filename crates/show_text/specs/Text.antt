@@ -14,8 +14,8 @@ use Rattle.switch_table.specs.declared.tables.Tables.{Tables}
 use Rattle.ternary.specs.Word.{WordValue, word_text}
 
 -- a line, with the line feed that ends it
-abbrev pub line : List ℕ → List ℕ
-line text = text ++ 10 ∷ []
+abbrev pub with_line_feed : List ℕ → List ℕ
+with_line_feed text = text ++ 10 ∷ []
 
 -- the names of the targets, each behind a blank
 abbrev pub targets_text : Net → List ℕ → List ℕ
@@ -36,47 +36,47 @@ rule_text_of rule =
     ++ codes " word " ++ word_text rule.word ++ codes " " ++ action_text rule.action
 
 abbrev pub rule_lines : List Rule → List ℕ
-rule_lines rules = flat_map (λ rule. line (rule_text_of rule)) rules
+rule_lines rules = flat_map (λ rule. with_line_feed (rule_text_of rule)) rules
 
 -- ---- a plan
 
 -- a partition with its targets, and its rules
 abbrev pub placed_lines : Net → Placed → List ℕ
 placed_lines net placed =
-    line (part_text placed.0 ++ targets_text net placed.1) ++ rule_lines placed.0.rules
+    with_line_feed (part_text placed.0 ++ targets_text net placed.1) ++ rule_lines placed.0.rules
 
 -- a plan of a policy: how many words its rows have, how many partitions there are, and each of them
 abbrev pub compile_text : List Row → List Placed → Net → List ℕ
 compile_text rows plan net =
-    line (codes "words " ++ decimal (word_total rows))
-    ++ line (codes "partitions " ++ decimal (length plan))
+    with_line_feed (codes "words " ++ decimal (word_total rows))
+    ++ with_line_feed (codes "partitions " ++ decimal (length plan))
     ++ flat_map (placed_lines net) plan
 
 -- ---- the tables of a switch
 
 -- one of its own partitions, and its rules
 abbrev pub own_lines : Partition → List ℕ
-own_lines part = line (part_text part) ++ rule_lines part.rules
+own_lines part = with_line_feed (part_text part) ++ rule_lines part.rules
 
 -- the partition rule of a region
 abbrev pub row_line : Net → ℕ × PartRow → List ℕ
 row_line net (number, row) =
-    line (region_text number row.region ++ targets_text net row.targets)
+    with_line_feed (region_text number row.region ++ targets_text net row.targets)
 
 -- the switch's own partitions
 unfoldable pub authority_text : List Partition → List ℕ
-authority_text parts = line (codes "authority " ++ decimal (length parts)) ++ flat_map own_lines
+authority_text parts = with_line_feed (codes "authority " ++ decimal (length parts)) ++ flat_map own_lines
     parts
 
 -- the partition rules of all regions
 unfoldable pub regions_text : Net → List PartRow → List ℕ
 regions_text net rows =
-    line (codes "partitions " ++ decimal (length rows))
+    with_line_feed (codes "partitions " ++ decimal (length rows))
     ++ flat_map (row_line net) (enumerate_from 0 rows)
 
 -- the switch and the version, its own partitions, and the partition rules of all regions
 abbrev pub table_text : ℕ → Tables → Net → List ℕ
 table_text s tables net =
-    line (codes "switch " ++ name_of net s ++ codes " version " ++ decimal tables.version)
+    with_line_feed (codes "switch " ++ name_of net s ++ codes " version " ++ decimal tables.version)
     ++ authority_text tables.auth
     ++ regions_text net tables.parts

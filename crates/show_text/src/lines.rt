@@ -1,6 +1,6 @@
 ghost use Rattle.std.specs.Prelude.{◌≡◌, ◌≤◌, ◌<◌, ◌^◌, ◌++◌, OnOk, length};
 ghost use Rattle.line_fields.specs.Sizes.{IsAction, IsNumber, IsRule};
-ghost use Rattle.show_text.specs.Text.{line, part_text, region_text, rule_lines, rule_text_of, targets_text};
+ghost use Rattle.show_text.specs.Text.{with_line_feed, part_text, region_text, rule_lines, rule_text_of, targets_text};
 ghost use Rattle.text_line.specs.Pushes.{pushed};
 
 use line_fields::{Line, push_action, push_names, push_rule, push_word};
@@ -60,7 +60,7 @@ fn push_rule_text(entry: &mut Line, rule: &Rule)
 // Makes the line that of a rule.
 #[tactic(auto, using(text_line::proofs::CallerLemmas::pushed_append, text_line::proofs::CallerLemmas::pushed_whole, crate::proofs::Sizes::rule_fits))]
 fn set_rule(entry: &mut Line, rule: &Rule)
-    ensures { entry.new ≡ line (rule_text_of rule.now) }
+    ensures { entry.new ≡ with_line_feed (rule_text_of rule.now) }
 {
     entry.clear();
     push_rule_text(entry, rule);

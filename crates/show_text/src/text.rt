@@ -2,7 +2,7 @@ ghost use Rattle.std.specs.Prelude.{◌≡◌, ◌≤◌, ◌++◌, IfOk, OnOk, 
 ghost use Rattle.std.specs.List.{flat_map, enumerate_from};
 ghost use Rattle.net_file.specs.Net.{IsNet, name_of};
 ghost use Rattle.switch_table.specs.Tables.{tables_of};
-ghost use Rattle.show_text.specs.Text.{authority_text, compile_text, line, own_lines, part_text, placed_lines, regions_text, row_line, table_text, targets_text};
+ghost use Rattle.show_text.specs.Text.{authority_text, compile_text, with_line_feed, own_lines, part_text, placed_lines, regions_text, row_line, table_text, targets_text};
 
 use crate::lines::{add_rules, push_part, push_region, push_targets};
 use controller::{Plan, tables_of};
@@ -67,7 +67,7 @@ fn text_of_tables(alloc: Global, net: &Net, s: u32, tables: &Tables) -> Result<V
 fn set_switch(entry: &mut Line, net: &Net, s: u32, version: u32)
     requires { IsNet net.now }
     ensures { entry.new
-        ≡ line (codes "switch " ++ name_of net.now s ++ codes " version " ++ decimal version) }
+        ≡ with_line_feed (codes "switch " ++ name_of net.now s ++ codes " version " ++ decimal version) }
 {
     name_laws();
     entry.clear();
@@ -82,7 +82,7 @@ fn set_switch(entry: &mut Line, net: &Net, s: u32, version: u32)
 #[tactic(auto, using(text_line::proofs::CallerLemmas::pushed_append, text_line::proofs::CallerLemmas::pushed_whole, crate::proofs::Sizes::count_fits))]
 fn set_count(entry: &mut Line, word: &str, count: u64)
     requires { length word.now ≤ 100 }
-    ensures { entry.new ≡ line (word.now ++ decimal count) }
+    ensures { entry.new ≡ with_line_feed (word.now ++ decimal count) }
 {
     entry.clear();
     entry.push(word);
@@ -92,7 +92,7 @@ fn set_count(entry: &mut Line, word: &str, count: u64)
 
 fn add_count(text: &mut Vec<u8>, entry: &mut Line, word: &str, count: u64) -> Result<(), AllocError>
     requires { length word.now ≤ 100 }
-    ensures { OnOk result (text.new.items ≡ text.old.items ++ line (word.now ++ decimal count)) }
+    ensures { OnOk result (text.new.items ≡ text.old.items ++ with_line_feed (word.now ++ decimal count)) }
 {
     set_count(entry, word, count);
     text.extend_from_slice(entry.bytes())
@@ -102,7 +102,7 @@ fn add_count(text: &mut Vec<u8>, entry: &mut Line, word: &str, count: u64) -> Re
 #[tactic(auto, using(text_line::proofs::CallerLemmas::pushed_append, text_line::proofs::CallerLemmas::pushed_whole, crate::proofs::Sizes::placed_fits))]
 fn set_placed(entry: &mut Line, net: &Net, part: &Partition, targets: &Targets)
     requires { IsNet net.now }
-    ensures { entry.new ≡ line (part_text part.now ++ targets_text net.now targets.now) }
+    ensures { entry.new ≡ with_line_feed (part_text part.now ++ targets_text net.now targets.now) }
 {
     name_laws();
     entry.clear();
@@ -159,7 +159,7 @@ fn add_regions(
 // Makes the line that of a partition.
 #[tactic(auto, using(text_line::proofs::CallerLemmas::pushed_append, text_line::proofs::CallerLemmas::pushed_whole, crate::proofs::Sizes::part_fits))]
 fn set_part(entry: &mut Line, part: &Partition)
-    ensures { entry.new ≡ line (part_text part.now) }
+    ensures { entry.new ≡ with_line_feed (part_text part.now) }
 {
     entry.clear();
     push_part(entry, part);

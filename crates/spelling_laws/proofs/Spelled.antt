@@ -6,7 +6,7 @@ use Rattle.ctrl_msg.specs.declared.message.Receiver.{Receiver}
 use Rattle.ctrl_msg.specs.declared.message.Receiver.TheVariants as receiver
 use Rattle.switch_table.specs.declared.tables.Tables.{Tables}
 use Rattle.wire.specs.Fields.{n4, tables}
-use Rattle.wire.specs.Messages.{AreShort, install, message}
+use Rattle.wire.specs.Messages.{AreShort, install_form, message}
 use Rattle.wire.proofs.Framing.{length_n4}
 use Rattle.std.proofs.lemmas.List.{length-append}
 use Rattle.frame_laws.specs.Feeding.{HasShortSpelling}
@@ -32,7 +32,7 @@ use Rattle.spelling_laws.proofs.Planned.{short, small}
 
 tables_short : (to : Receiver) (boot : ℕ) (t : Tables) → AreSmall t
     → length (message.spell (record { to = to; body = Install boot t })) < 2 ^ 40
-unfolding install
+unfolding install_form
 tables_short to boot t are =
     omega (
       arith,

@@ -8,7 +8,7 @@ use Rattle.policy_rules.specs.declared.packet.Leg.TheVariants.{Seek, Exit}
 use Rattle.policy_rules.specs.declared.rules.Partition.{Partition}
 use Rattle.tunnel.specs.Tunnel.{TunnelValue}
 use Rattle.switch_table.specs.declared.tables.Tables.{Tables}
-use Rattle.switch_core.specs.AnswerLaws.{IsAnswer, IsArriving, IsDecidedIn, IsEntry, IsReady}
+use Rattle.switch_core.specs.AnswerLaws.{IsRightAnswer, IsArriving, IsDecidedIn, IsEntry, IsReady}
 use Rattle.switch_core.specs.Answering.{IsAtAuthority, arrived, arrived_on, decided_in, entered, looked_up, packet_of}
 use Rattle.switch_core.specs.Deciding.{IsFirstHit, first_place, no_part, own_part, part_numbered}
 use Rattle.switch_core.specs.Ends.{Site}
@@ -110,7 +110,7 @@ none_held (Some tables) is = cc
 pub arrive_anew : (s : SwitchValue) (site : Site) (t : TunnelValue) (version partition : ℕ) →
     IsArriving s t → t.leg ≡ Seek version partition → IsFalse (holds_version s version) →
     (answer : Answer) × (arrived s site t ≡ arrival.Answered answer)
-    × IsAnswer s site (packet_of t) answer
+    × IsRightAnswer s site (packet_of t) answer
 arrive_anew s site t version partition arriving leg gone = (
   looked_up s site (packet_of t),
   arrived_by s site t version partition None leg (none_held (held_tables s version) gone),

@@ -25,7 +25,7 @@ use Rattle.switch_table.specs.declared.search.Found.{Found}
 use Rattle.switch_table.specs.declared.search.Found.TheVariants.{Cached, Authority, Redirect}
 use Rattle.switch_table.specs.declared.tables.Tables.{Tables}
 use Rattle.ctrl_msg.specs.declared.message.Body.{Body}
-use Rattle.switch_core.specs.AnswerLaws.{IsAnswer, IsArriving, IsByOwnRule, IsDecidedIn, IsDecision, IsReady, lookup_at, route_from, rule_to_cache, setting_out}
+use Rattle.switch_core.specs.AnswerLaws.{IsRightAnswer, IsArriving, IsByOwnRule, IsDecidedIn, IsDecision, IsReady, lookup_by_stamp, route_known, rule_to_cache, setting_out}
 use Rattle.switch_core.specs.Answering.{arrived, entered, looked_up, packet_of}
 use Rattle.switch_core.specs.Deciding.{by_entry, by_rule, own_part}
 use Rattle.switch_core.specs.Ends.{Site, cause_of, next_of}
@@ -44,7 +44,7 @@ use Rattle.switch_core.proofs.Arrivals.{arrive_anew, arrive_held, arrive_out, en
 
 -- what a lookup finds in the cache is the first entry of the stamp's version
 cache_hit : (s : SwitchValue) (header : Header) (entry : CacheEntry) → IsReady s header →
-    lookup_at s header ≡ Cached entry →
+    lookup_by_stamp s header ≡ Cached entry →
     first_entry s.stamp (number_of header) s.cache.entries ≡ Some entry
 cache_hit s header entry ready is =
     let tables = stamp_tables s in
@@ -117,8 +117,8 @@ by_own s site packet version partition tables answer held by =
     is_carried body false is = cc
 
 by_lookup : (s : SwitchValue) (site : Site) (packet : Packet) (answer : Answer) →
-    IsReady s packet.header → IsAnswer s site packet answer → IsSourced s site packet answer
-by_lookup s site packet answer ready law = by_found (lookup_at s packet.header) refl
+    IsReady s packet.header → IsRightAnswer s site packet answer → IsSourced s site packet answer
+by_lookup s site packet answer ready law = by_found (lookup_by_stamp s packet.header) refl
   where
     by_way : (leg : Leg) (targets : List ℕ) (route : Option (List ℕ)) →
         MatchOption route (answer ≡ Stuck (cause_of s site.near packet.down leg targets) leg)
@@ -127,7 +127,7 @@ by_lookup s site packet answer ready law = by_found (lookup_at s packet.header) 
     by_way leg targets None is = subst (IsSourced s site packet) (sym is) tt
     by_way leg targets (Some route) is = subst (IsSourced s site packet) (sym is) tt
 
-    by_found : (found : Found) → lookup_at s packet.header ≡ found →
+    by_found : (found : Found) → lookup_by_stamp s packet.header ≡ found →
         IsSourced s site packet answer
     by_found (Cached cached) is = subst (IsSourced s site packet) (sym (law.cached cached is))
         (by_cache s site packet cached (cache_hit s packet.header cached ready is))
@@ -135,7 +135,7 @@ by_lookup s site packet answer ready law = by_found (lookup_at s packet.header) 
         by_own s site packet s.stamp partition (stamp_tables s) answer
         (stamp_held s ready.stamped) (law.authority partition place is).0
     by_found (Redirect partition targets) is =
-        by_way (SeekLeg s.stamp partition) targets (route_from s site.near packet targets)
+        by_way (SeekLeg s.stamp partition) targets (route_known s site.near packet targets)
         (law.redirect partition targets is)
 
 pub decided_on_entry : (s : SwitchValue) (site : Site) (packet : Packet) (decision : Decision)

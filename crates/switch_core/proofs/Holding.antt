@@ -7,7 +7,7 @@ use Rattle.failover.specs.declared.advert.Advert.{Advert}
 use Rattle.failover.specs.Adverts.{after_hearing, is_news}
 use Rattle.failover.proofs.Adverts.{after_no_news}
 use Rattle.switch_table.specs.declared.tables.Tables.{Tables}
-use Rattle.switch_core.specs.Hearing.{collected_to, informed, installed, is_news_to, raised_to}
+use Rattle.switch_core.specs.Hearing.{collected_to, informed, installed, is_news_here, raised_to}
 use Rattle.switch_core.specs.State.{SwitchValue, held_tables, holds_version}
 
 -- ---- tables
@@ -106,7 +106,7 @@ stamp_once_raised s version = grind (arith, nat_tests)
 pub database_once_informed : (s : SwitchValue) (advert : Advert) →
     (informed s advert).database
     ≡ cond (advert.origin == s.number) s.database (after_hearing s.database advert)
-unfolding informed is_news_to
+unfolding informed is_news_here
 database_once_informed s advert =
     by_tests (advert.origin == s.number) (is_news s.database advert) refl
   where

@@ -10,7 +10,7 @@ use Rattle.policy_rules.specs.declared.policy.Action.{Action}
 use Rattle.policy_rules.specs.declared.policy.Action.TheVariants.{Drop, Out as OutBy}
 use Rattle.net_file.specs.Owners.{port_owner}
 use Rattle.tunnel.specs.Tunnel.{TunnelValue}
-use Rattle.switch_core.specs.AnswerLaws.{route_from, setting_out}
+use Rattle.switch_core.specs.AnswerLaws.{route_known, setting_out}
 use Rattle.switch_core.specs.Ends.{Site, cause_of, exit_by, leave_by, next_of, set_out}
 use Rattle.switch_core.specs.State.{SwitchValue}
 use Rattle.switch_core.specs.declared.answers.Next.{Next}
@@ -102,7 +102,7 @@ next_out s site packet (OutBy by) port = (
 pub next_exit : (s : SwitchValue) (site : Site) (packet : Packet) (action : Action)
     (port owner : ℕ) → action ≡ OutBy port →
     port_owner site.ports port ≡ Some owner → owner ≢ s.number →
-    MatchOption (route_from s site.near packet (owner ∷ []))
+    MatchOption (route_known s site.near packet (owner ∷ []))
     (next_of s site packet action ≡ Stuck NoRoute)
     (λ route. next_of s site packet action
     ≡ Exit (setting_out packet (ExitLeg port) (owner ∷ []) route))
@@ -112,7 +112,7 @@ next_exit s site packet action port owner by has other =
     ≡ exit_by (set_out s site.near packet (ExitLeg port) (owner ∷ [])) =
     ap (next_of s site packet) by ∙ ap (leave_by s site.near packet port) has
     ∙ leaves_for s site.near packet port owner other in
-    either_way (route_from s site.near packet (owner ∷ []))
+    either_way (route_known s site.near packet (owner ∷ []))
     (λ none. is ∙ ap exit_by none) (λ way some. is ∙ ap exit_by some)
     (sets_out s site.near packet (ExitLeg port) (owner ∷ []))
 

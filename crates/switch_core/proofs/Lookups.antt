@@ -22,9 +22,9 @@ use Rattle.switch_table.specs.declared.cache.CacheEntry.{CacheEntry}
 use Rattle.switch_table.specs.declared.search.Found.{Found}
 use Rattle.switch_table.specs.declared.search.Found.TheVariants.{Cached, Authority, Redirect}
 use Rattle.switch_table.specs.declared.tables.Tables.{Tables}
-use Rattle.switch_core.specs.AnswerLaws.{IsAnswer, IsDecidedIn, IsReady, OwnRule, lookup_at, route_from, setting_out}
+use Rattle.switch_core.specs.AnswerLaws.{IsRightAnswer, IsDecidedIn, IsReady, OwnRule, lookup_by_stamp, route_known, setting_out}
 use Rattle.switch_core.specs.Answering.{IsUncached, answer_by, decided_at, entered, incoming, looked_up, seek_by}
-use Rattle.switch_core.specs.Deciding.{IsFirstHit, IsFound, by_entry, by_rule, cache_rule, no_part, no_rule, own_part, part_numbered, rule_in}
+use Rattle.switch_core.specs.Deciding.{IsFirstHit, IsFound, by_entry, by_rule, rule_for_cache, no_part, no_rule, own_part, part_numbered, rule_in}
 use Rattle.switch_core.specs.Ends.{Site, cause_of, next_of, set_out}
 use Rattle.switch_core.specs.State.{IsSwitch, SwitchValue, held_tables, holds_version, no_tables, serves, stamp_tables}
 use Rattle.switch_core.specs.declared.answers.Answer.{Answer}
@@ -74,7 +74,7 @@ hit_of : (s : SwitchValue) (site : Site) (packet : Packet) (version : ℕ) (tabl
     IsFirstHit packet.header part place →
     IsHitIn s site packet version tables number place
     (decided_at s site packet version part place)
-unfolding decided_at cache_rule
+unfolding decided_at rule_for_cache
 hit_of s site packet version tables number place part is hit =
     let test = is_held (number_of packet.header) in
     let within = (position-Some test part.rules place no_rule hit.first).0 in
@@ -119,11 +119,11 @@ either_way None left right h = left h
 either_way (Some way) left right h = right way h
 
 pub sets_out : (s : SwitchValue) (near : ℕ) (packet : Packet) (leg : Leg) (targets : List ℕ) →
-    MatchOption (route_from s near packet targets)
+    MatchOption (route_known s near packet targets)
     (set_out s near packet leg targets ≡ Err (cause_of s near packet.down leg targets))
     (λ route. set_out s near packet leg targets ≡ Ok (setting_out packet leg targets route))
 unfolding set_out
-sets_out s near packet leg targets = by_route (route_from s near packet targets)
+sets_out s near packet leg targets = by_route (route_known s near packet targets)
   where
     by_route : (route : Option (List ℕ)) →
         MatchOption route
@@ -138,25 +138,25 @@ sets_out s near packet leg targets = by_route (route_from s near packet targets)
 -- ---- a lookup
 
 looked_up_by : (s : SwitchValue) (site : Site) (packet : Packet) (found : Found) →
-    lookup_at s packet.header ≡ found →
+    lookup_by_stamp s packet.header ≡ found →
     looked_up s site packet ≡ answer_by s site packet (stamp_tables s) found
 unfolding looked_up
 looked_up_by s site packet found is = ap (answer_by s site packet (stamp_tables s)) is
 
 lookup_cached : (s : SwitchValue) (site : Site) (packet : Packet) (cached : CacheEntry) →
-    lookup_at s packet.header ≡ Cached cached →
+    lookup_by_stamp s packet.header ≡ Cached cached →
     looked_up s site packet ≡ Decided (by_entry cached) None (next_of s site packet cached.action)
 unfolding answer_by
 lookup_cached s site packet cached is = looked_up_by s site packet (Cached cached) is
 
 lookup_authority : (s : SwitchValue) (site : Site) (packet : Packet) (partition place : ℕ) →
-    IsReady s packet.header → lookup_at s packet.header ≡ Authority partition place →
+    IsReady s packet.header → lookup_by_stamp s packet.header ≡ Authority partition place →
     IsHitIn s site packet s.stamp (stamp_tables s) partition place (looked_up s site packet)
 unfolding answer_by
 lookup_authority s site packet partition place ready found =
     let tables = stamp_tables s in
     let sound = sound_held s s.stamp tables ready.switch (stamp_held s ready.stamped) in
-    let is_found : IsFound tables packet.header (lookup_at s packet.header) =
+    let is_found : IsFound tables packet.header (lookup_by_stamp s packet.header) =
     lookup_is_found s.cache.entries tables packet.header sound ready.is_header in
     let hit = hit_in s site packet tables.version tables partition place (rw found at is_found) in
     subst (IsHitIn s site packet s.stamp tables partition place)
@@ -167,9 +167,9 @@ lookup_authority s site packet partition place ready found =
 
 lookup_redirect : (s : SwitchValue) (site : Site) (packet : Packet) (partition : ℕ)
     (targets : List ℕ) → IsReady s packet.header →
-    lookup_at s packet.header ≡ Redirect partition targets →
+    lookup_by_stamp s packet.header ≡ Redirect partition targets →
     (let leg = SeekLeg s.stamp partition in
-    MatchOption (route_from s site.near packet targets)
+    MatchOption (route_known s site.near packet targets)
     (looked_up s site packet ≡ Stuck (cause_of s site.near packet.down leg targets) leg)
     (λ route. looked_up s site packet ≡ Seek (setting_out packet leg targets route)))
 unfolding answer_by
@@ -180,13 +180,13 @@ lookup_redirect s site packet partition targets ready found =
     let is : looked_up s site packet ≡ by_leg s.stamp =
     looked_up_by s site packet (Redirect partition targets) found
     ∙ ap by_leg (stamp_version s ready.stamped) in
-    either_way (route_from s site.near packet targets)
+    either_way (route_known s site.near packet targets)
     (λ none. is ∙ ap (seek_by leg) none)
     (λ way some. is ∙ ap (seek_by leg) some)
     (sets_out s site.near packet leg targets)
 
 pub lookup_is : (s : SwitchValue) (site : Site) (packet : Packet) → IsReady s packet.header →
-    IsAnswer s site packet (looked_up s site packet)
+    IsRightAnswer s site packet (looked_up s site packet)
 lookup_is s site packet ready = record {
   cached = lookup_cached s site packet;
   authority = λ partition place. lookup_authority s site packet partition place ready;
@@ -197,8 +197,8 @@ lookup_is s site packet ready = record {
 
 pub lookup_uncached : (s : SwitchValue) (site : Site) (packet : Packet) →
     packet.ingress ≡ s.number → IsUncached (entry.Answered (looked_up s site packet))
-unfolding looked_up answer_by decided_at cache_rule
-lookup_uncached s site packet here = by_found (lookup_at s packet.header)
+unfolding looked_up answer_by decided_at rule_for_cache
+lookup_uncached s site packet here = by_found (lookup_by_stamp s packet.header)
   where
     by_way : (leg : Leg) (way : Result TunnelValue Cause) →
         IsUncached (entry.Answered (seek_by leg way))

@@ -10,7 +10,7 @@ use Rattle.policy_rules.specs.declared.packet.Cause.{Cause}
 use Rattle.masks.proofs.CallerLemmas.{has-zero}
 use Rattle.failover.proofs.Rows.{has_known}
 use Rattle.failover.proofs.Searching.{known_route_is_route}
-use Rattle.failover.specs.Links.{is_link, known_links, neighbours_told, told_links, IsPath}
+use Rattle.failover.specs.Links.{is_link, known_links, neighbours_named, named_links, IsPath}
 use Rattle.masks.specs.Masks.{has}
 use Rattle.failover.specs.Paths.{IsRoute}
 use Rattle.failover.specs.Routes.{route_of}
@@ -19,14 +19,14 @@ use Rattle.tunnel.specs.Moves.{here, marked_down, next, on_route, route_from_her
 use Rattle.tunnel.specs.Tunnel.{TunnelValue}
 use Rattle.switch_core.specs.AnswerLaws.{IsSamePacket, down_with, way_around}
 use Rattle.switch_core.specs.Ends.{cause_of}
-use Rattle.switch_core.specs.Moving.{Moved, found_down, hopped, hopped_to, moved, moved_along, rerouted}
+use Rattle.switch_core.specs.Moving.{Moved, link_found_down, hopped, hopped_to, moved, moved_along, rerouted_here}
 use Rattle.switch_core.specs.State.{SwitchValue}
 use Rattle.switch_core.specs.declared.answers.HopEnd.TheVariants.{Arrive, Move, Stuck}
 
 -- ---- a link that is found down
 
 pub down_is : (near : ℕ) (t : TunnelValue) (other : ℕ) →
-    (found_down near (next t) ≡ Some other) ↔ ((next t ≡ Some other) × IsFalse (has near other))
+    (link_found_down near (next t) ≡ Some other) ↔ ((next t ≡ Some other) × IsFalse (has near other))
 down_is near t other = by_next (next t)
   where
     by_test : (after : ℕ) (test : Bool) → has near after ≡ test →
@@ -42,7 +42,7 @@ down_is near t other = by_next (next t)
       λ both. both.0,
     )
 
-    by_next : (after : Option ℕ) → (found_down near after ≡ Some other)
+    by_next : (after : Option ℕ) → (link_found_down near after ≡ Some other)
         ↔ ((after ≡ Some other) × IsFalse (has near other))
     by_next None = (λ found. absurd (cc), λ both. absurd (cc (both.0)))
     by_next (Some after) = by_test after (has near after) refl
@@ -53,7 +53,7 @@ pub hop_arrives : (s : SwitchValue) (near : ℕ) (t : TunnelValue) → next t �
     hopped s near t ≡ record { end = Arrive; tunnel = t }
 unfolding hopped
 hop_arrives s near t none =
-    ap (λ (after : Option ℕ). hopped_to s near t (found_down near after)) none
+    ap (λ (after : Option ℕ). hopped_to s near t (link_found_down near after)) none
     ∙ ap (moved t) none
 
 pub hop_moves : (s : SwitchValue) (near : ℕ) (t : TunnelValue) (other : ℕ) →
@@ -61,21 +61,21 @@ pub hop_moves : (s : SwitchValue) (near : ℕ) (t : TunnelValue) (other : ℕ) �
     hopped s near t ≡ record { end = Move other; tunnel = record t { place = t.place + 1 } }
 unfolding hopped
 hop_moves s near t other is usable =
-    ap (λ (after : Option ℕ). hopped_to s near t (found_down near after)) is
+    ap (λ (after : Option ℕ). hopped_to s near t (link_found_down near after)) is
     ∙ ap (λ (test : Bool). hopped_to s near t (cond test None (Some other))) usable
     ∙ ap (moved t) is
 
 -- along the way around a link
 hop_around : (s : SwitchValue) (near : ℕ) (t : TunnelValue) (other : ℕ)
-    (way : Option (List ℕ)) → found_down near (next t) ≡ Some other →
+    (way : Option (List ℕ)) → link_found_down near (next t) ≡ Some other →
     way_around s near t other ≡ way →
     hopped s near t ≡ moved_along s near (marked_down t other) way
-unfolding hopped rerouted
+unfolding hopped rerouted_here
 hop_around s near t other way found is =
     ap (hopped_to s near t) found ∙ ap (moved_along s near (marked_down t other)) is
 
 pub hop_stuck : (s : SwitchValue) (near : ℕ) (t : TunnelValue) (other : ℕ) →
-    found_down near (next t) ≡ Some other → way_around s near t other ≡ None →
+    link_found_down near (next t) ≡ Some other → way_around s near t other ≡ None →
     hopped s near t ≡ record {
       end = Stuck (cause_of s near (down_with t other) t.leg t.targets);
       tunnel = record t { down = down_with t other };
@@ -95,7 +95,7 @@ IsTurned s near t other way second = MatchOption second
     })
 
 pub hop_turns : (s : SwitchValue) (near : ℕ) (t : TunnelValue) (other : ℕ) (way : List ℕ) →
-    found_down near (next t) ≡ Some other → way_around s near t other ≡ Some way →
+    link_found_down near (next t) ≡ Some other → way_around s near t other ≡ Some way →
     IsTurned s near t other way (slice_get way 1)
 hop_turns s near t other way found some =
     by_second (slice_get way 1) (hop_around s near t other (Some way) found some)
@@ -124,8 +124,8 @@ each_hop : (s : SwitchValue) (near : ℕ) (t : TunnelValue) (P : Moved → Type 
     ((on : TunnelValue) → IsSamePacket t on → P (moved on (next on))) →
     ((other : ℕ) (cause : Cause) → P (record { end = Stuck cause; tunnel = marked_down t other })) →
     P (hopped s near t)
-unfolding hopped rerouted
-each_hop s near t P moves stuck = by_found (found_down near (next t))
+unfolding hopped rerouted_here
+each_hop s near t P moves stuck = by_found (link_found_down near (next t))
   where
     by_way : (other : ℕ) (way : Option (List ℕ)) →
         P (moved_along s near (marked_down t other) way)
@@ -208,10 +208,10 @@ path_of links from (target ∷ targets) way route = elim route [
 
 -- a switch that knows a link of its own sees it as usable
 seen : (adverts : List (Option Advert)) (at near other : ℕ) →
-    has (slice_index (told_links adverts at near) at) other ≡ true → IsTrue (has near other)
-unfolding told_links
+    has (slice_index (named_links adverts at near) at) other ≡ true → IsTrue (has near other)
+unfolding named_links
 seen adverts at near other is =
-    let rows = map neighbours_told adverts in
+    let rows = map neighbours_named adverts in
     elim (cases_lt at (length rows)) [
       | inl below ↦ ap (λ (row : ℕ). has row other)
           (sym (get_or-set_same rows at near 0 below)) ∙ is
@@ -244,8 +244,8 @@ way_is_usable adverts from near down targets way second is next =
 
 pub hop_usable : (s : SwitchValue) (near : ℕ) (t : TunnelValue) (other : ℕ) →
     (hopped s near t).end ≡ Move other → IsTrue (has near other)
-unfolding hopped rerouted
-hop_usable s near t other = by_found (found_down near (next t)) refl
+unfolding hopped rerouted_here
+hop_usable s near t other = by_found (link_found_down near (next t)) refl
   where
     no_switch : Option ℕ
     no_switch = None
@@ -255,7 +255,7 @@ hop_usable s near t other = by_found (found_down near (next t)) refl
     by_usable after true usable none same = ap (has near) (sym same) ∙ usable
     by_usable after false usable none same = absurd (cc)
 
-    by_next : (after : Option ℕ) → found_down near after ≡ no_switch →
+    by_next : (after : Option ℕ) → link_found_down near after ≡ no_switch →
         (moved t after).end ≡ Move other → IsTrue (has near other)
     by_next None none end = absurd (cc)
     by_next (Some after) none end =
@@ -276,7 +276,7 @@ hop_usable s near t other = by_found (found_down near (next t)) refl
         way_is_usable s.database (here t) near (down_with t from) t.targets way second is next)
         end
 
-    by_found : (found : Option ℕ) → found_down near (next t) ≡ found →
+    by_found : (found : Option ℕ) → link_found_down near (next t) ≡ found →
         (hopped_to s near t found).end ≡ Move other → IsTrue (has near other)
     by_found None none end = by_next (next t) none end
     by_found (Some from) found end = by_way from (way_around s near t from) refl end

@@ -21,11 +21,11 @@ use Rattle.switch_table.specs.declared.search.Found.{Found}
 use Rattle.switch_table.specs.declared.search.Found.TheVariants.{Cached, Authority, Redirect}
 use Rattle.switch_table.specs.declared.tables.Tables.{Tables}
 use Rattle.ctrl_msg.specs.declared.message.Body.TheVariants.{CacheRule}
-use Rattle.switch_core.specs.AnswerLaws.{IsAnswer, IsArrival, IsArriving, IsDecidedIn, IsEntry, IsHop, IsReady, IsWayOn, OwnRule, down_with, lookup_at, route_from, setting_out, way_around}
+use Rattle.switch_core.specs.AnswerLaws.{IsRightAnswer, IsArrival, IsArriving, IsDecidedIn, IsEntry, IsHop, IsReady, IsWayOn, OwnRule, down_with, lookup_by_stamp, route_known, setting_out, way_around}
 use Rattle.switch_core.specs.Answering.{arrived, entered, looked_up, packet_of}
 use Rattle.switch_core.specs.Deciding.{by_rule, own_part}
 use Rattle.switch_core.specs.Ends.{Site, cause_of, next_of}
-use Rattle.switch_core.specs.Moving.{Moved, found_down, hopped}
+use Rattle.switch_core.specs.Moving.{Moved, link_found_down, hopped}
 use Rattle.switch_core.specs.State.{SwitchValue, held_tables, serves, stamp_tables}
 use Rattle.switch_core.specs.declared.answers.Answer.{Answer}
 use Rattle.switch_core.specs.declared.answers.Answer.TheVariants.{Decided, Seek, Stuck}
@@ -89,23 +89,23 @@ same_decided s site packet version partition tables answer other one two =
     ∙ sym two.answered
 
 same_answer : (s : SwitchValue) (site : Site) (packet : Packet) (answer other : Answer) →
-    IsAnswer s site packet answer → IsAnswer s site packet other → answer ≡ other
-same_answer s site packet answer other one two = by_found (lookup_at s packet.header) refl
+    IsRightAnswer s site packet answer → IsRightAnswer s site packet other → answer ≡ other
+same_answer s site packet answer other one two = by_found (lookup_by_stamp s packet.header) refl
   where
-    by_found : (found : Found) → lookup_at s packet.header ≡ found → answer ≡ other
+    by_found : (found : Found) → lookup_by_stamp s packet.header ≡ found → answer ≡ other
     by_found (Cached cached) is = one.cached cached is ∙ sym (two.cached cached is)
     by_found (Authority partition place) is =
         same_decided s site packet s.stamp partition (stamp_tables s) answer other
         (one.authority partition place is).0 (two.authority partition place is).0
     by_found (Redirect partition targets) is =
         let leg = SeekLeg s.stamp partition in
-        same_of (route_from s site.near packet targets) answer other
+        same_of (route_known s site.near packet targets) answer other
         (Stuck (cause_of s site.near packet.down leg targets) leg)
         (λ (route : List ℕ). Seek (setting_out packet leg targets route))
         (one.redirect partition targets is) (two.redirect partition targets is)
 
 pub one_answer : (s : SwitchValue) (site : Site) (packet : Packet) (answer : Answer) →
-    IsReady s packet.header → IsAnswer s site packet answer → answer ≡ looked_up s site packet
+    IsReady s packet.header → IsRightAnswer s site packet answer → answer ≡ looked_up s site packet
 one_answer s site packet answer ready law =
     same_answer s site packet answer _ law (lookup_is s site packet ready)
 
@@ -171,7 +171,7 @@ one_way_on s site packet action way law = by_action action refl
         by_test false is =
             let other : owner ≢ s.number = λ same. (let test = eq-eqb owner s.number same in
             cc) in
-            same_of (route_from s site.near packet (owner ∷ [])) way
+            same_of (route_known s site.near packet (owner ∷ [])) way
             (next_of s site packet action) (goes.Stuck NoRoute)
             (λ (route : List ℕ). goes.Exit
             (setting_out packet (ExitLeg port) (owner ∷ []) route))
@@ -188,7 +188,7 @@ pub one_hop : (s : SwitchValue) (near : ℕ) (t : TunnelValue) (after : Moved) �
     IsHop s near t after → after ≡ hopped s near t
 one_hop s near t after law = by_next (next t) refl
   where
-    by_way : (other : ℕ) → found_down near (next t) ≡ Some other → (way : Option (List ℕ)) →
+    by_way : (other : ℕ) → link_found_down near (next t) ≡ Some other → (way : Option (List ℕ)) →
         way_around s near t other ≡ way → after ≡ hopped s near t
     by_way other found None is =
         law.stuck other found is ∙ sym (hop_stuck s near t other found is)

@@ -7,7 +7,7 @@ use Rattle.std.proofs.lemmas.List.{get_or_past, get_or-replicate}
 use Rattle.failover.specs.declared.advert.Advert.{Advert}
 use Rattle.failover.specs.Adverts.{held, is_newer, is_news, after_hearing, no_adverts}
 use Rattle.failover.proofs.Adverts.{held_others}
-use Rattle.switch_core.specs.Hearing.{is_news_to}
+use Rattle.switch_core.specs.Hearing.{is_news_here}
 use Rattle.switch_core.specs.State.{HasOwnUpTo, SwitchValue, own_advert}
 
 -- ---- by the numbers alone
@@ -70,9 +70,9 @@ own_others adverts advert number boot seq other own held_one is =
     own held_one (sym (held_others adverts advert number other) ∙ is)
 
 -- news is of another switch
-pub news_is_of_another : (s : SwitchValue) (advert : Advert) → is_news_to s advert ≡ true →
+pub news_is_of_another : (s : SwitchValue) (advert : Advert) → is_news_here s advert ≡ true →
     s.number ≢ advert.origin
-unfolding is_news_to
+unfolding is_news_here
 news_is_of_another s advert news same =
     by_number s.number advert.origin _ news same
   where

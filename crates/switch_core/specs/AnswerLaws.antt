@@ -36,7 +36,7 @@ use Rattle.ctrl_msg.specs.declared.message.Body.TheVariants.{CacheRule}
 use Rattle.switch_core.specs.Answering.{IsAtAuthority, arrived, entered, looked_up, packet_of}
 use Rattle.switch_core.specs.Deciding.{IsFirstHit, by_entry, by_rule, own_part}
 use Rattle.switch_core.specs.Ends.{Site, cause_of, next_of}
-use Rattle.switch_core.specs.Moving.{Moved, found_down, hopped}
+use Rattle.switch_core.specs.Moving.{Moved, link_found_down, hopped}
 use Rattle.switch_core.specs.State.{IsSwitch, SwitchValue, held_tables, holds_version, serves, stamp_tables}
 use Rattle.switch_core.specs.declared.answers.Answer.{Answer}
 use Rattle.switch_core.specs.declared.answers.Answer.TheVariants.{Decided, Seek, Stuck}
@@ -66,8 +66,8 @@ pub record IsArriving (s : SwitchValue) (t : TunnelValue) : Type 0 where
   pub authority : IsAtAuthority s t.header t.leg
 
 -- what the cache and the tables of the stamp say of a header
-abbrev pub lookup_at : SwitchValue → Header → Found
-lookup_at s header = lookup_of s.cache.entries (stamp_tables s) header
+abbrev pub lookup_by_stamp : SwitchValue → Header → Found
+lookup_by_stamp s header = lookup_of s.cache.entries (stamp_tables s) header
 
 -- a rule of one of the tables' own partitions: the first there to hold a header of its region
 pub record OwnRule (tables : Tables) (header : Header) : Type 0 where
@@ -81,8 +81,8 @@ pub record OwnRule (tables : Tables) (header : Header) : Type 0 where
 
 -- the route to the first of these targets that the switch reaches, by the links that it knows, less
 -- those that the packet found down
-abbrev pub route_from : SwitchValue → ℕ → Packet → List ℕ → Option (List ℕ)
-route_from s near packet targets = route_of s.database s.number targets near packet.down
+abbrev pub route_known : SwitchValue → ℕ → Packet → List ℕ → Option (List ℕ)
+route_known s near packet targets = route_of s.database s.number targets near packet.down
 
 -- the packet at the beginning of a route, on its leg to these targets, with the links that it found
 -- down
@@ -137,23 +137,23 @@ pub record IsDecidedIn (s : SwitchValue) (site : Site) (packet : Packet)
   pub answered : answer ≡ decided_by s site packet version own
 
 -- a switch that is ready looks a packet up under its stamp
-pub record IsAnswer (s : SwitchValue) (site : Site) (packet : Packet)
+pub record IsRightAnswer (s : SwitchValue) (site : Site) (packet : Packet)
     (answer : Answer) : Type 0 where
   -- a cached rule decides with its version, its rule and its action
-  pub cached : (entry : CacheEntry) → lookup_at s packet.header ≡ Cached entry →
+  pub cached : (entry : CacheEntry) → lookup_by_stamp s packet.header ≡ Cached entry →
       answer ≡ Decided (by_entry entry) None (next_of s site packet entry.action)
   -- an authority rule decides with the stamp's version: the first of its partition to hold the
   -- header
   pub authority : (partition place : ℕ) →
-      lookup_at s packet.header ≡ Authority partition place →
+      lookup_by_stamp s packet.header ≡ Authority partition place →
       (by : IsDecidedIn s site packet s.stamp (stamp_tables s) partition answer)
       × (by.own.place ≡ place)
   -- a partition rule sends it to exactly its targets, and it is stuck on that leg exactly where no
   -- route leads to them
   pub redirect : (partition : ℕ) (targets : List ℕ) →
-      lookup_at s packet.header ≡ Redirect partition targets →
+      lookup_by_stamp s packet.header ≡ Redirect partition targets →
       (let leg = SeekLeg s.stamp partition in
-      MatchOption (route_from s site.near packet targets)
+      MatchOption (route_known s site.near packet targets)
       (answer ≡ Stuck (cause_of s site.near packet.down leg targets) leg)
       (λ route. answer ≡ Seek (setting_out packet leg targets route)))
 
@@ -161,9 +161,9 @@ pub record IsAnswer (s : SwitchValue) (site : Site) (packet : Packet)
 pub record LookupLaws : Type 0 where
   pub is : (s : SwitchValue) (site : Site) (packet : Packet) →
       IsReady s packet.header →
-      IsAnswer s site packet (looked_up s site packet)
+      IsRightAnswer s site packet (looked_up s site packet)
   pub only : (s : SwitchValue) (site : Site) (packet : Packet)
-      (answer : Answer) → IsReady s packet.header → IsAnswer s site packet answer →
+      (answer : Answer) → IsReady s packet.header → IsRightAnswer s site packet answer →
       answer ≡ looked_up s site packet
 
 -- ---- a packet comes in
@@ -175,7 +175,7 @@ pub record IsEntry (s : SwitchValue) (site : Site) (packet : Packet)
   -- otherwise it is looked up
   pub answered : IsReady s packet.header →
       (answer : Answer) × (entered ≡ entry.Answered answer)
-      × IsAnswer s site packet answer
+      × IsRightAnswer s site packet answer
 
 -- the answer of `enter` is one, and the only one
 pub record EnterLaws : Type 0 where
@@ -198,7 +198,7 @@ pub record IsWayOn (s : SwitchValue) (site : Site) (packet : Packet) (action : A
   -- there
   pub exit : (port owner : ℕ) → action ≡ OutBy port →
       port_owner site.ports port ≡ Some owner → owner ≢ s.number →
-      MatchOption (route_from s site.near packet (owner ∷ [])) (way ≡ goes.Stuck NoRoute)
+      MatchOption (route_known s site.near packet (owner ∷ [])) (way ≡ goes.Stuck NoRoute)
       (λ route. way ≡ goes.Exit (setting_out packet (ExitLeg port) (owner ∷ []) route))
   -- no route leads to a port that no switch has
   pub no_owner : (port : ℕ) → action ≡ OutBy port → port_owner site.ports port ≡ None →
@@ -228,7 +228,7 @@ pub record IsArrival (s : SwitchValue) (site : Site) (t : TunnelValue)
   pub anew : (version partition : ℕ) →
       IsArriving s t → t.leg ≡ SeekLeg version partition → IsFalse (holds_version s version) →
       (answer : Answer) × (arrived ≡ arrival.Answered answer)
-      × IsAnswer s site (packet_of t) answer
+      × IsRightAnswer s site (packet_of t) answer
 
 -- the answer of `arrive` is one, and the only one
 pub record ArriveLaws : Type 0 where
@@ -296,7 +296,7 @@ way_around s near t other = route_of s.database (here t) t.targets near (down_wi
 
 pub record IsHop (s : SwitchValue) (near : ℕ) (t : TunnelValue) (after : Moved) : Type 0 where
   -- a link is found down exactly where it leads to the next switch of the route, and isn't usable
-  pub found : (other : ℕ) → (found_down near (next t) ≡ Some other)
+  pub found : (other : ℕ) → (link_found_down near (next t) ≡ Some other)
       ↔ ((next t ≡ Some other) × IsFalse (has near other))
   -- at the end of its route the packet arrives
   pub arrives : next t ≡ None → after ≡ record { end = hop.Arrive; tunnel = t }
@@ -305,7 +305,7 @@ pub record IsHop (s : SwitchValue) (near : ℕ) (t : TunnelValue) (after : Moved
       after ≡ record { end = hop.Move other; tunnel = record t { place = t.place + 1 } }
   -- a link that is found down joins the others, and where no way leads around them the packet is
   -- stuck
-  pub stuck : (other : ℕ) → found_down near (next t) ≡ Some other →
+  pub stuck : (other : ℕ) → link_found_down near (next t) ≡ Some other →
       way_around s near t other ≡ None →
       after ≡ record {
         end = hop.Stuck (cause_of s near (down_with t other) t.leg t.targets);
@@ -313,7 +313,7 @@ pub record IsHop (s : SwitchValue) (near : ℕ) (t : TunnelValue) (after : Moved
       }
   -- otherwise it takes that way: it has arrived where the way ends here, and moves to its second
   -- switch where it doesn't
-  pub turns : (other : ℕ) (way : List ℕ) → found_down near (next t) ≡ Some other →
+  pub turns : (other : ℕ) (way : List ℕ) → link_found_down near (next t) ≡ Some other →
       way_around s near t other ≡ Some way →
       MatchOption (slice_get way 1)
       (after ≡ record {

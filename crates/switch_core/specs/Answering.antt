@@ -23,7 +23,7 @@ use Rattle.switch_core.specs.declared.answers.Arrived.TheVariants as arrival
 use Rattle.switch_core.specs.declared.answers.Entered.{Entered}
 use Rattle.switch_core.specs.declared.answers.Entered.TheVariants as entry
 use Rattle.switch_core.specs.declared.packet.Packet.{Packet}
-use Rattle.switch_core.specs.Deciding.{by_entry, by_rule, cache_rule, first_place, own_part, part_numbered, rule_in}
+use Rattle.switch_core.specs.Deciding.{by_entry, by_rule, rule_for_cache, first_place, own_part, part_numbered, rule_in}
 use Rattle.switch_core.specs.Ends.{Site, next_of, set_out}
 use Rattle.switch_core.specs.State.{SwitchValue, held_tables, holds_version, serves, stamp_tables}
 
@@ -34,7 +34,7 @@ unfoldable pub decided_at : SwitchValue → Site → Packet → ℕ → Partitio
 decided_at s site packet version part place =
     let rule = rule_in part place in
     Decided (by_rule s.number version part.number rule)
-    (cache_rule s.number packet version part place)
+    (rule_for_cache s.number packet version part place)
     (next_of s site packet rule.action)
 
 -- on a leg, where there is a route to its targets

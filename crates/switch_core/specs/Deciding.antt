@@ -84,8 +84,8 @@ packet_with number header ingress down = record {
 }
 
 -- the cache rule of a decision by the rule at a place: none for a packet that entered here
-unfoldable pub cache_rule : ℕ → Packet → ℕ → Partition → ℕ → Option Body
-cache_rule switch packet version part place =
+unfoldable pub rule_for_cache : ℕ → Packet → ℕ → Partition → ℕ → Option Body
+rule_for_cache switch packet version part place =
     let rule = rule_in part place in
     let word = widen (number_of packet.header) part.region part.rules place in
     if packet.ingress == switch then None else Some (CacheRule version word rule.rule rule.action)

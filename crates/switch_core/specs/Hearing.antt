@@ -44,8 +44,8 @@ raised_to s version = if nat_lt s.stamp version
     then record s { stamp = version; cache = raised version s.cache }
     else s
 
-abbrev pub opened_at : SwitchValue → ℕ → SwitchValue
-opened_at s version = record (raised_to s version) { is_open = true }
+abbrev pub opened_with : SwitchValue → ℕ → SwitchValue
+opened_with s version = record (raised_to s version) { is_open = true }
 
 -- its collect mark is at least this version, and the tables up to the mark are gone
 unfoldable pub collected_to : SwitchValue → ℕ → SwitchValue
@@ -59,18 +59,18 @@ abbrev pub learnt : SwitchValue → CacheEntry → SwitchValue
 learnt s entry = record s { cache = accepted s.stamp entry s.cache }
 
 -- the advert is of another switch, and none of that switch is held or this one is newer
-unfoldable pub is_news_to : SwitchValue → Advert → Bool
-is_news_to s advert = not (advert.origin == s.number) && is_news s.database advert
+unfoldable pub is_news_here : SwitchValue → Advert → Bool
+is_news_here s advert = not (advert.origin == s.number) && is_news s.database advert
 
 unfoldable pub informed : SwitchValue → Advert → SwitchValue
-informed s advert = if is_news_to s advert
+informed s advert = if is_news_here s advert
     then record s { database = after_hearing s.database advert }
     else s
 
 -- once it obeyed the message of this number
 abbrev pub after_body : SwitchValue → ℕ → Body → SwitchValue
 after_body s number (Install boot tables) = installed s tables
-after_body s number (OpenAt boot version) = opened_at s version
+after_body s number (OpenAt boot version) = opened_with s version
 after_body s number (Stamp boot version) = raised_to s version
 after_body s number (Collect boot version) = collected_to s version
 after_body s number (CacheRule version word rule action) = learnt s (record {
@@ -88,8 +88,8 @@ heard s number body = if obeys s body then after_body s number body else s
 
 -- ---- what it sends
 
-abbrev pub to_controller : Body → Message
-to_controller body = record { to = Controller; body = body }
+abbrev pub tell_controller : Body → Message
+tell_controller body = record { to = Controller; body = body }
 
 -- to each neighbour, ascending
 unfoldable pub flood : ℕ → Body → List Message
@@ -98,10 +98,10 @@ flood near body = map (λ other. record { to = Switch other; body = body })
 
 abbrev pub replies_to : SwitchValue → ℕ → Body → List Message
 replies_to s near (Install boot tables) =
-    to_controller (Installed s.number s.boot tables.version) ∷ []
-replies_to s near (Stamp boot version) = to_controller (Stamped s.number s.boot version) ∷ []
+    tell_controller (Installed s.number s.boot tables.version) ∷ []
+replies_to s near (Stamp boot version) = tell_controller (Stamped s.number s.boot version) ∷ []
 replies_to s near (Advertise advert) =
-    if is_news_to s advert then flood near (Advertise advert) else []
+    if is_news_here s advert then flood near (Advertise advert) else []
 replies_to s near _ = []
 
 unfoldable pub replies : SwitchValue → ℕ → Body → List Message

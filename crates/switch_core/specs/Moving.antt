@@ -28,21 +28,21 @@ moved_along s near t None = record {
 moved_along s near t (Some route) = moved (on_route t route) (next (on_route t route))
 
 -- the switch takes a new route for the packet, by its usable links and what it knows of others
-unfoldable pub rerouted : SwitchValue → ℕ → TunnelValue → Moved
-rerouted s near t = moved_along s near t (route_from_here t s.database near)
+unfoldable pub rerouted_here : SwitchValue → ℕ → TunnelValue → Moved
+rerouted_here s near t = moved_along s near t (route_from_here t s.database near)
 
 -- the link to the next switch that is found down: one that isn't usable
-abbrev pub found_down : ℕ → Option ℕ → Option ℕ
-found_down near None = None
-found_down near (Some other) = if has near other then None else Some other
+abbrev pub link_found_down : ℕ → Option ℕ → Option ℕ
+link_found_down near None = None
+link_found_down near (Some other) = if has near other then None else Some other
 
 -- a link that is found down is marked, and the packet takes a new route; otherwise it goes on
 abbrev pub hopped_to : SwitchValue → ℕ → TunnelValue → Option ℕ → Moved
 hopped_to s near t None = moved t (next t)
-hopped_to s near t (Some other) = rerouted s near (marked_down t other)
+hopped_to s near t (Some other) = rerouted_here s near (marked_down t other)
 
 unfoldable pub hopped : SwitchValue → ℕ → TunnelValue → Moved
-hopped s near t = hopped_to s near t (found_down near (next t))
+hopped s near t = hopped_to s near t (link_found_down near (next t))
 
 -- a packet with this next switch finds no link down
 abbrev pub is_free : ℕ → Option ℕ → Bool

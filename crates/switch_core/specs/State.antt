@@ -30,8 +30,8 @@ pub record SwitchValue : Type 0 where
   -- how many packet calls it answered
   pub handled : ℕ
 
-abbrev pub value_of : Inside → SwitchValue
-value_of s = record {
+abbrev pub switch_value : Inside → SwitchValue
+switch_value s = record {
   number = s.number;
   boot = s.boot;
   is_up = s.is_up;

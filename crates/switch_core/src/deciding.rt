@@ -3,7 +3,7 @@ ghost use Rattle.std.specs.Option.{option_copied};
 ghost use Rattle.five_tuple.specs.Header.{IsHeader};
 ghost use Rattle.switch_table.specs.Lookup.{lookup_of};
 ghost use Rattle.switch_table.specs.Tables.{AreSoundTables};
-ghost use Rattle.switch_core.specs.Deciding.{IsFirstHit, IsFound, by_entry, by_rule, cache_rule, own_part, packet_with, rule_in};
+ghost use Rattle.switch_core.specs.Deciding.{IsFirstHit, IsFound, by_entry, by_rule, rule_for_cache, own_part, packet_with, rule_in};
 
 use crate::answers::Decision;
 use crate::kept::KeptTables;
@@ -74,7 +74,7 @@ pub fn rule_in(part: &Partition, place: u32) -> &Rule
 }
 
 /// The rule for the cache of the switch where the packet entered, unless it is this one.
-#[tactic(auto, unfolding(crate::specs::Deciding::cache_rule))]
+#[tactic(auto, unfolding(crate::specs::Deciding::rule_for_cache))]
 pub fn cache_rule(
     switch: u32,
     header: &Header,
@@ -85,7 +85,7 @@ pub fn cache_rule(
 ) -> Option<Body>
     requires { IsFirstHit header.now part.now place }
     ensures { (number : ℕ) (down : List ℕ) → result
-        ≡ cache_rule switch (packet_with number header.now ingress down) version part.now place }
+        ≡ rule_for_cache switch (packet_with number header.now ingress down) version part.now place }
 {
     if ingress == switch {
         return None;

@@ -1,7 +1,7 @@
 ghost use Rattle.std.specs.Prelude.{◌≡◌, ◌<◌, OnErr, OnOk, IfOk, IsTrue};
 ghost use Rattle.switch_table.specs.Tables.{AreSoundTables};
 ghost use Rattle.ctrl_msg.specs.declared.message.Body.TheVariants.{Advertise};
-ghost use Rattle.switch_core.specs.Hearing.{IsSoundBody, collected_to, flood, heard, informed, installed, is_news_to, learnt, obeys, opened, opened_at, opened_by, raised_to, replies, replies_to, to_controller};
+ghost use Rattle.switch_core.specs.Hearing.{IsSoundBody, collected_to, flood, heard, informed, installed, is_news_here, learnt, obeys, opened, opened_with, opened_by, raised_to, replies, replies_to, tell_controller};
 
 use crate::answers::{Heard, Replies};
 use crate::kept::KeptTables;
@@ -131,7 +131,7 @@ impl Switch {
 
     // Serves from now on, under at least this version.
     fn open_at(&mut self, version: u32)
-        ensures { self.new ≡ opened_at self.old version }
+        ensures { self.new ≡ opened_with self.old version }
     {
         self.raise(version);
         self.is_open = true;
@@ -177,9 +177,9 @@ impl Switch {
     }
 
     // Whether the advert is of another switch, and newer than the one of it that is held, if any.
-    #[tactic(auto, unfolding(crate::specs::Hearing::is_news_to, failover::specs::Adverts::is_news))]
+    #[tactic(auto, unfolding(crate::specs::Hearing::is_news_here, failover::specs::Adverts::is_news))]
     fn is_news(&self, advert: &Advert) -> bool
-        ensures { result ≡ is_news_to self.now advert.now }
+        ensures { result ≡ is_news_here self.now advert.now }
     {
         advert.origin < 64
             && advert.origin != self.number
@@ -192,7 +192,7 @@ impl Switch {
 
 // A message for the controller.
 fn to_controller(body: Body) -> Message
-    ensures { result ≡ to_controller body }
+    ensures { result ≡ tell_controller body }
 {
     Message {
         to: Receiver::Controller,

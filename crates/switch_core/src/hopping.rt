@@ -1,6 +1,6 @@
 ghost use Rattle.std.specs.Prelude.{◌≡◌, ◌<◌, IfSome, if◌then◌else◌};
 ghost use Rattle.tunnel.specs.Moves.{next};
-ghost use Rattle.switch_core.specs.Moving.{found_down, hopped, is_free, rerouted};
+ghost use Rattle.switch_core.specs.Moving.{link_found_down, hopped, is_free, rerouted_here};
 ghost use Rattle.switch_core.specs.State.{counted};
 
 use crate::answers::{Hop, HopEnd};
@@ -16,7 +16,7 @@ impl Switch {
     /// `near` has a bit for each switch to which there is a usable link.
     #[tactic(auto, unfolding(crate::specs::Moving::hopped))]
     pub fn hop(&mut self, t: &mut Tunnel, near: u64) -> Hop
-        ensures found { result.found ≡ found_down near (next t.old) }
+        ensures found { result.found ≡ link_found_down near (next t.old) }
         ensures end { result.end ≡ (hopped self.old near t.old).end }
         ensures tunnel { t.new ≡ (hopped self.old near t.old).tunnel }
         ensures after { self.new ≡ counted self.old }
@@ -62,10 +62,10 @@ impl Switch {
     }
 
     // Along a new route, once a link was found down.
-    #[tactic(auto, unfolding(crate::specs::Moving::rerouted))]
+    #[tactic(auto, unfolding(crate::specs::Moving::rerouted_here))]
     fn reroute(&self, near: u64, t: &mut Tunnel) -> HopEnd
-        ensures end { result ≡ (rerouted self.now near t.old).end }
-        ensures tunnel { t.new ≡ (rerouted self.now near t.old).tunnel }
+        ensures end { result ≡ (rerouted_here self.now near t.old).end }
+        ensures tunnel { t.new ≡ (rerouted_here self.now near t.old).tunnel }
     {
         if !t.reroute(&self.database, near) {
             return HopEnd::Stuck(self.cause(near, &t.down, &t.leg, &t.targets));

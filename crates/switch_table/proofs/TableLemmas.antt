@@ -14,7 +14,7 @@ use Rattle.five_tuple.specs.Header.{IsHeader, number_of}
 use Rattle.five_tuple.specs.declared.header.Header.{Header}
 use Rattle.ternary.proofs.CallerLemmas.{covers_held}
 use Rattle.policy_rules.proofs.CallerLemmas.{find-position}
-use Rattle.policy_rules.specs.Partitions.{AreNumbered, AreSoundPartitions, LastCovers}
+use Rattle.policy_rules.specs.Partitions.{ArePartsNumbered, AreSoundPartitions, LastCovers}
 use Rattle.policy_rules.specs.Scan.{scan}
 use Rattle.policy_rules.specs.RuleList.{hit_of_rule}
 use Rattle.policy_rules.specs.Rules.{first_rule, is_held}
@@ -23,7 +23,7 @@ use Rattle.policy_rules.specs.declared.rules.Partition.{Partition}
 use Rattle.policy_rules.specs.declared.rules.Rule.{Rule}
 use Rattle.policy_rules.specs.Placed.{is_in}
 use Rattle.switch_table.specs.Tables.{AreSoundTables, DecidesAll, Placed, part_of, row_of, row_has, has_target, tables_of}
-use Rattle.switch_table.specs.Lookup.{AllDecide, Decides, Leads, authority_of, redirect_of, lookup_in, plan_lookup, table_lookup}
+use Rattle.switch_table.specs.Lookup.{AllDecide, FindsFirstMatch, LeadsToFirstMatch, authority_of, redirect_of, lookup_in, plan_lookup, table_lookup}
 use Rattle.switch_table.specs.declared.tables.PartRow.{PartRow}
 use Rattle.switch_table.specs.declared.tables.Tables.{Tables}
 use Rattle.switch_table.specs.declared.search.Found.{Found}
@@ -166,7 +166,7 @@ at_header rows plan header sound is =
     )
 
 -- a partition of a plan stands at the place of its number
-numbered_at : (plan : List Placed) (placed : Placed) → AreNumbered (map part_of plan)
+numbered_at : (plan : List Placed) (placed : Placed) → ArePartsNumbered (map part_of plan)
     → Contains plan placed → slice_get plan placed.0.number ≡ Some placed
 numbered_at plan placed numbers (k, within, is) =
     let len : length (map part_of plan) ≡ length plan = length-map _ _ in
@@ -177,8 +177,8 @@ numbered_at plan placed numbers (k, within, is) =
 
 -- the place of the first rule leads to that rule
 place_leads : (rows : List Row) (plan : List Placed) (header : Header) (placed : Placed)
-    → AreNumbered (map part_of plan) → IsAt rows plan header placed
-    → Decides rows (map part_of plan) header (authority_of header (part_of placed))
+    → ArePartsNumbered (map part_of plan) → IsAt rows plan header placed
+    → FindsFirstMatch rows (map part_of plan) header (authority_of header (part_of placed))
 place_leads rows plan header placed numbers at =
     let here : slice_get (map part_of plan) placed.0.number ≡ Some (part_of placed) =
     slice_get-map part_of plan placed.0.number
@@ -232,19 +232,19 @@ row_targets rows plan header placed at =
 pub tables_lead : (rows : List Row) (plan : List Placed) (version switch : ℕ) (header : Header)
     → AreSoundPartitions rows (map part_of plan) → All (λ placed. 0 < length placed.1) plan
     → IsHeader header
-    → Leads rows plan version header (table_lookup (tables_of plan version switch) header)
+    → LeadsToFirstMatch rows plan version header (table_lookup (tables_of plan version switch) header)
 tables_lead rows plan version switch header sound some is =
     let here = at_header rows plan header sound is in
     let placed = here.0 in
     let at = here.1 in
     let decides = place_leads rows plan header placed sound.numbers at in
-    let there : (s : ℕ) → list_any (eqb s) placed.1 ≡ true → Decides rows (map part_of plan) header
+    let there : (s : ℕ) → list_any (eqb s) placed.1 ≡ true → FindsFirstMatch rows (map part_of plan) header
     (table_lookup (tables_of plan version s) header) = λ s target.
-    subst (Decides rows (map part_of plan) header)
+    subst (FindsFirstMatch rows (map part_of plan) header)
     (sym (lookup_at rows plan version s header placed sound is at
     ∙ ap (λ b. cond b (authority_of header (part_of placed))
     (redirect_of header (map row_of plan))) target)) decides in
-    subst (Leads rows plan version header)
+    subst (LeadsToFirstMatch rows plan version header)
     (sym (lookup_at rows plan version switch header placed sound is at))
     (by_case placed (has_target switch placed) decides
     (subst (AllDecide rows plan version header) (sym (row_targets rows plan header placed at))
@@ -266,10 +266,10 @@ tables_lead rows plan version switch header sound some is =
       eq-eqb (get_or targets k d) (get_or targets k d) refl,
     )
 
-    by_case : (placed : Placed) (b : Bool) → Decides rows (map part_of plan) header
+    by_case : (placed : Placed) (b : Bool) → FindsFirstMatch rows (map part_of plan) header
         (authority_of header (part_of placed))
-        → Leads rows plan version header (redirect_of header (map row_of plan))
-        → Leads rows plan version header
+        → LeadsToFirstMatch rows plan version header (redirect_of header (map row_of plan))
+        → LeadsToFirstMatch rows plan version header
         (cond b (authority_of header (part_of placed)) (redirect_of header (map row_of plan)))
     by_case placed true own others = own
     by_case placed false own others = others
@@ -289,7 +289,7 @@ position-map test f xs =
 
 -- the row that holds a header stands at the number of the partition that does, and has its targets
 redirect_there : (rows : List Row) (plan : List Placed) (header : Header) (placed : Placed) →
-    AreNumbered (map part_of plan) → IsAt rows plan header placed →
+    ArePartsNumbered (map part_of plan) → IsAt rows plan header placed →
     redirect_of header (map row_of plan) ≡ Redirect placed.0.number placed.1
 redirect_there rows plan header placed numbers at =
     let place : unwrap_or (position (row_has header) (map row_of plan)) 0 ≡ placed.0.number =
@@ -346,7 +346,7 @@ pairs-map R f (x ∷ xs) pairs = λ i j d less within.
     rw (get_or-map f (x ∷ xs) i x d (omega arith), get_or-map f (x ∷ xs) j x d (omega arith))
     (pairs i j x less (omega arith))
 
-numbers_differ : (plan : List Placed) → AreNumbered (map part_of plan)
+numbers_differ : (plan : List Placed) → ArePartsNumbered (map part_of plan)
     → AllPairs (λ a b. a.0.number ≢ b.0.number) plan
 numbers_differ plan numbers = λ i j d less within same.
     let len : length (map part_of plan) ≡ length plan = length-map _ _ in

@@ -64,23 +64,23 @@ rule_at parts partition place =
     option_and_then (λ part. slice_get part.rules place) (slice_get parts partition)
 
 -- an authority rule decides the header as the policy's first match does
-abbrev pub Decides : List Row → List Partition → Header → Found → Type 0
-Decides rows parts header (Authority partition place) =
+abbrev pub FindsFirstMatch : List Row → List Partition → Header → Found → Type 0
+FindsFirstMatch rows parts header (Authority partition place) =
     option_map hit_of_rule (rule_at parts partition place) ≡ Some (scan rows header)
-Decides rows parts header _ = ⊥
+FindsFirstMatch rows parts header _ = ⊥
 
 -- there are targets, and the tables of each of them decide the header
 pub record AllDecide (rows : List Row) (plan : List Placed) (version : ℕ) (header : Header)
     (targets : List ℕ) : Type 0 where
   pub some : 0 < length targets
-  pub each : All (λ switch. Decides rows (map part_of plan) header
+  pub each : All (λ switch. FindsFirstMatch rows (map part_of plan) header
       (table_lookup (tables_of plan version switch) header)) targets
 
 -- the tables decide the header, or send it to targets that all do
-abbrev pub Leads : List Row → List Placed → ℕ → Header → Found → Type 0
-Leads rows plan version header (Redirect partition targets) =
+abbrev pub LeadsToFirstMatch : List Row → List Placed → ℕ → Header → Found → Type 0
+LeadsToFirstMatch rows plan version header (Redirect partition targets) =
     AllDecide rows plan version header targets
-Leads rows plan version header found = Decides rows (map part_of plan) header found
+LeadsToFirstMatch rows plan version header found = FindsFirstMatch rows (map part_of plan) header found
 
 pub record TablesLaws : Type 0 where
   -- the authority rules of sound tables decide each header of their regions
@@ -95,7 +95,7 @@ pub record TablesLaws : Type 0 where
   pub leads : (rows : List Row) (plan : List Placed) (version switch : ℕ) (header : Header)
       → AreSoundPartitions rows (map part_of plan) → All (λ placed. 0 < length placed.1) plan
       → IsHeader header
-      → Leads rows plan version header (table_lookup (tables_of plan version switch) header)
+      → LeadsToFirstMatch rows plan version header (table_lookup (tables_of plan version switch) header)
   -- .. and say what the plan says: the number of the partition that holds the header, and its rule
   -- or its targets
   pub planned : (rows : List Row) (plan : List Placed) (version switch : ℕ) (header : Header) →

@@ -11,7 +11,7 @@ use Rattle.ctrl_msg.specs.declared.message.Body.{Body}
 use Rattle.ctrl_msg.specs.declared.message.Body.TheVariants.{Install}
 use Rattle.five_tuple.specs.declared.header.Header.{Header}
 use Rattle.partition.specs.Plan.{IsPlan}
-use Rattle.policy_rules.specs.Partitions.{AreNumbered}
+use Rattle.policy_rules.specs.Partitions.{ArePartsNumbered}
 use Rattle.policy_rules.specs.declared.packet.Leg.{Leg}
 use Rattle.policy_rules.specs.declared.packet.Leg.TheVariants.{Seek, Exit}
 use Rattle.policy_rules.specs.declared.policy.Row.{Row}
@@ -138,7 +138,7 @@ own_found s partition header (placed ∷ plan) all there =
 
 -- a partition of this number is the one at its place
 one_of_number : (plan : List Placed) (partition : ℕ) (placed : Placed) (header : Header)
-    → AreNumbered (map part_of plan) → slice_get plan partition ≡ Some placed
+    → ArePartsNumbered (map part_of plan) → slice_get plan partition ≡ Some placed
     → IsTrue (is_in header (part_of placed))
     → All (λ each. each.0.number ≡ partition → IsTrue (is_in header (part_of each))) plan
 one_of_number plan partition placed header numbers there holds k d within is =

@@ -17,7 +17,7 @@ use Rattle.policy_rules.proofs.CallerLemmas.{filter_more}
 use Rattle.journal.specs.declared.item.Item.{Item}
 use Rattle.journal.specs.declared.item.Item.TheVariants as item
 use Rattle.steps.specs.declared.step.Step.TheVariants.{Deliver}
-use Rattle.switch_core.specs.Hearing.{flood, heard as hears, is_news_to as is_news_at, opened, opened_by, replies, replies_to}
+use Rattle.switch_core.specs.Hearing.{flood, heard as hears, is_news_here as is_news_at, opened, opened_by, replies, replies_to}
 use Rattle.switch_core.specs.Life.{next_advert}
 use Rattle.switch_core.specs.State.{SwitchValue}
 use Rattle.switch_core.proofs.SwitchLaws.{heard_keeps}
@@ -36,7 +36,7 @@ use Rattle.update_machine.specs.Links.{serves, message_of}
 use Rattle.update_machine.proofs.CallerLemmas.{last_told_append, links_keep}
 use Rattle.boot_laws.proofs.Grown.{heard_more, message_more}
 use Rattle.mark_laws.proofs.Told.{each_weaker}
-use Rattle.name_laws.specs.Named.{BodiesNameThere, NamesThere}
+use Rattle.name_laws.specs.Named.{BodiesNameThere, NamesOnlyThere}
 use Rattle.advert_laws.proofs.NetLinks.{near_linked}
 use Rattle.switch_ties.specs.Hearing.{HearTies, IsSentTo, delivering}
 use Rattle.switch_ties.specs.Links.{relinked}
@@ -50,16 +50,16 @@ use Rattle.switch_ties.proofs.Words.{Words, advert_of, boot_shown, by_words, num
 -- ---- versions that messages name
 
 versioned : (setting : Setting) (journal : List Item) (s : ℕ) (body : Body)
-    → NamesThere setting journal (to_switch s body) → IsVersioned body
+    → NamesOnlyThere setting journal (to_switch s body) → IsVersioned body
 versioned setting journal s (Install boot tables) names = names.version.0
 versioned setting journal s _ names = tt
 
 all_versioned : (setting : Setting) (journal : List Item) (s : ℕ) → BodiesNameThere setting journal
     → AreVersioned (heard journal s)
 all_versioned setting journal s names =
-    each_weaker (λ body. NamesThere setting journal (to_switch s body)) IsVersioned
+    each_weaker (λ body. NamesOnlyThere setting journal (to_switch s body)) IsVersioned
     (versioned setting journal s) (heard journal s)
-    (recursion_from_All (λ body. NamesThere setting journal (to_switch s body)) (heard journal s)
+    (recursion_from_All (λ body. NamesOnlyThere setting journal (to_switch s body)) (heard journal s)
     (names.heard s))
 
 -- ---- within the step

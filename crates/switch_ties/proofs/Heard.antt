@@ -11,7 +11,7 @@ use Rattle.ctrl_msg.specs.Kinds.{is_for_controller}
 use Rattle.failover.specs.Adverts.{after_hearing}
 use Rattle.journal.specs.declared.item.Item.{Item}
 use Rattle.journal.specs.declared.item.Item.TheVariants as item
-use Rattle.switch_core.specs.Hearing.{after_body, collected_to, heard as hears, informed, installed, is_news_to, obeys, opened, opened_by, raised_to, replies_to}
+use Rattle.switch_core.specs.Hearing.{after_body, collected_to, heard as hears, informed, installed, is_news_here, obeys, opened, opened_by, raised_to, replies_to}
 use Rattle.switch_core.specs.State.{SwitchValue, holds_version}
 use Rattle.switch_table.specs.Cache.{raised}
 use Rattle.switch_table.specs.declared.tables.Tables.{Tables}
@@ -166,7 +166,7 @@ kept_by switch n (Stamp boot version) shut = by_test (nat_lt switch.stamp versio
     } else switch).is_open ≡ switch.is_open
     by_test true = refl
     by_test false = refl
-kept_by switch n (Advertise advert) shut = by_test (is_news_to switch advert)
+kept_by switch n (Advertise advert) shut = by_test (is_news_here switch advert)
   where
     by_test : (b : Bool) → (if b then record switch {
       database = after_hearing switch.database advert;

@@ -12,7 +12,7 @@ use Rattle.ctrl_msg.specs.declared.message.Body.{Body}
 use Rattle.ctrl_msg.specs.declared.message.Body.TheVariants.{Install, OpenAt, Stamp, Collect, CacheRule, Advertise, Hello, Installed, Stamped}
 use Rattle.failover.specs.Adverts.{after_hearing, held, is_news, is_newer}
 use Rattle.failover.specs.declared.advert.Advert.{Advert}
-use Rattle.switch_core.specs.Hearing.{after_body, collected_to, informed, installed, is_news_to, raised_to}
+use Rattle.switch_core.specs.Hearing.{after_body, collected_to, informed, installed, is_news_here, raised_to}
 use Rattle.switch_core.specs.State.{SwitchValue}
 use Rattle.switch_table.specs.Cache.{raised}
 use Rattle.switch_table.specs.declared.tables.Tables.{Tables}
@@ -186,7 +186,7 @@ hears_advert : (s : ℕ) (w : Words) (stamp collected : ℕ) (tables : List Tabl
     → filled s w stamp collected tables
     (option_map_or (after_hearing others) (other_advert s (Advertise advert)) others)
     ≡ informed (filled s w stamp collected tables others) advert
-unfolding informed is_news_to
+unfolding informed is_news_here
 hears_advert s w stamp collected tables others advert = by_origin (advert.origin == s) refl
   where
     switch : SwitchValue

@@ -12,10 +12,10 @@ use Rattle.journal.specs.declared.item.Item.TheVariants as item
 use Rattle.steps.specs.declared.step.Step.{Step}
 use Rattle.switch_core.specs.Life.{near_changed, next_advert}
 use Rattle.switch_table.specs.declared.tables.Tables.{Tables}
-use Rattle.update_machine.specs.Adverts.{has_change, held_adverts, own_advert, own_if_told, own_seq}
+use Rattle.update_machine.specs.Adverts.{has_change, held_adverts, own_advert, own_if_sent, own_seq}
 use Rattle.update_machine.specs.Boots.{boot_of, is_up}
 use Rattle.update_machine.specs.Concerns.{NoneConcern, concerns_calls, concerns_known}
-use Rattle.update_machine.specs.Deliveries.{advert_to, has_changed, told_by, switches_in}
+use Rattle.update_machine.specs.Deliveries.{advert_to, has_changed, messages_of, switches_in}
 use Rattle.update_machine.specs.Handled.{handled_count}
 use Rattle.update_machine.specs.LinkMasks.{near}
 use Rattle.update_machine.specs.Messages.{next_message, sends, sent_from}
@@ -103,14 +103,14 @@ pub relinks : (s : ℕ) (w : Words) (stamp mark : ℕ) (tables : List Tables)
     else filled s w stamp mark tables others)
 relinks s w stamp mark tables others links true same =
     let own : Advert = told_by_words s (record w { seq = w.seq + 1; links = links }) in
-    let told : own_if_told own ≡ Some own =
+    let told : own_if_sent own ≡ Some own =
     ap (λ b. if b then None else Some own) (is_told w.seq) in
     ap (λ adverts. record (filled s w stamp mark tables others) {
       seq = w.seq + 1;
       database = adverts;
     })
     (ap (set others s) told
-    ∙ sym (set_twice others s (own_if_told (told_by_words s w)) (Some own)))
+    ∙ sym (set_twice others s (own_if_sent (told_by_words s w)) (Some own)))
 relinks s w stamp mark tables others links false same = elim (same refl) [
   | inl links_same ↦ as_before (w.seq + 0) (omega arith) links_same
   | inr none ↦ untold (w.seq + 0) (omega (arith, none)) none
@@ -201,7 +201,7 @@ unfolding held_adverts switch_of
 held_is setting journal s = refl
 
 told_is : (setting : Setting) (before now : List Item) (s : ℕ)
-    → told_by setting before now s
+    → messages_of setting before now s
     ≡ tells setting (near setting before s) (near setting now s) (own_advert setting now s)
     (switch_of setting now s)
 told_is setting before now s =

@@ -26,7 +26,7 @@ use Rattle.switch_ties.specs.Asked.{CanRestart}
 use Rattle.switch_ties.specs.Calls.{AreInStep}
 use Rattle.switch_ties.specs.Life.{message_at}
 use Rattle.switch_ties.specs.Links.{LeavesSwitch}
-use Rattle.switch_ties.specs.SwitchOf.{collected_of, held_tables, switch_of}
+use Rattle.switch_ties.specs.SwitchOf.{collected_of, tables_kept, switch_of}
 
 -- switch a is told this
 abbrev told : ℕ → Body → List Item
@@ -41,7 +41,7 @@ install version = Install 1 (tables_of plan_p version 0)
 abbrev installed : List Item
 installed = told 1 (install 3) ++ told 2 (install 2) ++ told 3 (install 3)
 
-in_order : map (λ tables. tables.version) (held_tables open_net installed 0) ≡ 1 ∷ 3 ∷ 2 ∷ []
+in_order : map (λ tables. tables.version) (tables_kept open_net installed 0) ≡ 1 ∷ 3 ∷ 2 ∷ []
 unfolding holds_version heard is_up boot_of message_of plan_at file_of
 in_order = refl
 
@@ -53,14 +53,14 @@ mark_2 : collected_of collected 0 ≡ 2
 unfolding heard is_up boot_of message_of
 mark_2 = refl
 
-third_is_left : map (λ tables. tables.version) (held_tables open_net collected 0) ≡ 3 ∷ []
+third_is_left : map (λ tables. tables.version) (tables_kept open_net collected 0) ≡ 3 ∷ []
 unfolding holds_version heard is_up boot_of message_of plan_at file_of
 third_is_left = refl
 
 -- tables of another boot aren't kept, nor those that came to another switch
 not_of_boot_2 :
     map (λ tables. tables.version)
-    (held_tables open_net (told 1 (Install 2 (tables_of plan_p 2 0))) 0)
+    (tables_kept open_net (told 1 (Install 2 (tables_of plan_p 2 0))) 0)
     ≡ 1 ∷ []
 unfolding holds_version heard is_up boot_of message_of plan_at file_of
 not_of_boot_2 = refl

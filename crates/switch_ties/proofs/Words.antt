@@ -10,7 +10,7 @@ use Rattle.journal.specs.declared.item.Item.{Item}
 use Rattle.switch_core.specs.State.{SwitchValue}
 use Rattle.switch_table.specs.Cache.{CacheValue}
 use Rattle.switch_table.specs.declared.tables.Tables.{Tables}
-use Rattle.update_machine.specs.Adverts.{adverts_known, own_advert, own_if_told, own_seq}
+use Rattle.update_machine.specs.Adverts.{adverts_known, own_advert, own_if_sent, own_seq}
 use Rattle.update_machine.specs.Boots.{boot_of, heard, is_up}
 use Rattle.update_machine.specs.Caches.{cache_of}
 use Rattle.update_machine.specs.Handled.{handled_count}
@@ -89,7 +89,7 @@ filled s w stamp collected tables others = record {
   collected = collected;
   tables = tables;
   cache = w.cache;
-  database = slice_set others s (own_if_told (told_by_words s w));
+  database = slice_set others s (own_if_sent (told_by_words s w));
   seq = w.seq;
   handled = w.handled;
 }

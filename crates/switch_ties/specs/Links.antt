@@ -13,7 +13,7 @@ use Rattle.switch_core.specs.Life.{near_changed, next_advert}
 use Rattle.switch_core.specs.State.{SwitchValue}
 use Rattle.update_machine.specs.Adverts.{held_adverts, own_advert}
 use Rattle.update_machine.specs.Concerns.{NoneConcern, concerns_calls, concerns_known, concerns_switch}
-use Rattle.update_machine.specs.Deliveries.{advert_to, has_changed, told_by, switches_in}
+use Rattle.update_machine.specs.Deliveries.{advert_to, has_changed, messages_of, switches_in}
 use Rattle.update_machine.specs.LinkMasks.{near}
 use Rattle.update_machine.specs.Messages.{sends}
 use Rattle.update_machine.specs.Setting.{Setting}
@@ -64,7 +64,7 @@ pub record LinkTies : Type 0 where
   pub held : (setting : Setting) (journal : List Item) (s : ℕ) →
       held_adverts setting journal s ≡ all_held (switch_of setting journal s)
   pub told : (setting : Setting) (before now : List Item) (s : ℕ) →
-      told_by setting before now s
+      messages_of setting before now s
       ≡ tells setting (near setting before s) (near setting now s) (own_advert setting now s)
       (switch_of setting now s)
   -- messages that are sent leave it

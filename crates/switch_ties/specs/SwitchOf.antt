@@ -38,8 +38,8 @@ with_tables all tables =
     if list_any (λ other. other.version == tables.version) all then all else all ++ tables ∷ []
 
 -- the tables of the versions that the switch holds, in the order in which they came
-abbrev pub held_tables : Setting → List Item → ℕ → List Tables
-held_tables setting journal s =
+abbrev pub tables_kept : Setting → List Item → ℕ → List Tables
+tables_kept setting journal s =
     filter (λ tables. holds_version journal s tables.version)
     (fold with_tables (tables_begun setting journal s) (filter_map tables_in (heard journal s)))
 
@@ -52,7 +52,7 @@ switch_of setting journal s = record {
   is_open = serves journal s;
   stamp = stamp_of journal s;
   collected = collected_of journal s;
-  tables = held_tables setting journal s;
+  tables = tables_kept setting journal s;
   cache = cache_of setting journal s;
   database = adverts_known setting journal s;
   seq = own_seq setting journal s;

@@ -27,17 +27,17 @@ use Rattle.switch_table.specs.declared.search.Found.TheVariants.{Authority, Redi
 use Rattle.switch_table.specs.declared.tables.PartRow.{PartRow}
 use Rattle.switch_table.specs.declared.tables.Tables.{Tables}
 use Rattle.switch_table.proofs.TableLemmas.{count_by-map, find-there, row_at}
-use Rattle.table_tree.specs.Regions.{AreNodeSpots, has, side_of, spots_from, spots_of}
+use Rattle.table_tree.specs.Regions.{AreNodeSpots, has, spots_of_side, spots_from, spots_of}
 use Rattle.table_tree.specs.Ruling.{RegionTree, part_tree, rule_shape, rule_tree, seen_tree}
 use Rattle.table_tree.specs.declared.rule_tree.RuleTree.{RuleTree}
-use Rattle.table_tree.specs.Finding.{Shape, Place, Sides, AreTreesOf, CutsHeaderBits, IsEnd, IsFinderTree, IsGrown, IsTreeOf, place_at, shape_of}
+use Rattle.table_tree.specs.Finding.{SpotShape, Place, Sides, AreTreesOf, CutsHeaderBits, IsEnd, IsFinderTree, IsGrown, IsSpotTreeOf, place_at, spot_shape_of}
 use Rattle.table_tree.specs.declared.node.Spot.{Spot}
 use Rattle.table_tree.specs.declared.trees.Trees.{Trees}
 use Rattle.table_tree.proofs.NodeLemmas.{count-cons, cut_is_free, found_from_count, half_node, never_stuck, root_node, several_spots, side_finds, spot_at, spots_count, weight}
 
 -- ---- the cut bit
 
-pub cuts_bits : (tree : Shape) (spots : List Spot) (region : WordValue) → IsTreeOf spots region tree
+pub cuts_bits : (tree : SpotShape) (spots : List Spot) (region : WordValue) → IsSpotTreeOf spots region tree
     → CutsHeaderBits tree
 cuts_bits (Place place) spots region is = tt
 cuts_bits (Sides bit low high) spots region is = (
@@ -59,8 +59,8 @@ end_is (first ∷ []) spot place one is same = record {
 end_is (first ∷ second ∷ rest) spot place one is same = absurd (omega (arith, one))
 
 -- a tree that is grown of regions that meet a region of the header space is theirs
-pub grown_tree : HoldsLaws → MeetLaws → (tree : Shape) (spots : List Spot) (region : WordValue)
-    → AreNodeSpots spots region → IsGrown spots region tree → IsTreeOf spots region tree
+pub grown_tree : HoldsLaws → MeetLaws → (tree : SpotShape) (spots : List Spot) (region : WordValue)
+    → AreNodeSpots spots region → IsGrown spots region tree → IsSpotTreeOf spots region tree
 grown_tree holds_laws meet_laws (Place place) spots region node (inl end) = end
 grown_tree holds_laws meet_laws (Place place) spots region node (inr stuck) =
     absurd (stuck.not_one (never_stuck holds_laws meet_laws spots region node stuck.none))
@@ -75,9 +75,9 @@ grown_tree holds_laws meet_laws (Sides bit low high) spots region node is =
 -- that of the rows of sound tables is a finder's
 pub finder_tree : HeaderLaws → HoldsLaws → MeetLaws → (tables : Tables) (trees : Trees)
     → AreSoundTables tables → AreTreesOf tables.parts tables.auth trees
-    → IsFinderTree tables.parts (shape_of trees.tree)
+    → IsFinderTree tables.parts (spot_shape_of trees.tree)
 finder_tree header_laws holds_laws meet_laws tables trees sound are =
-    grown_tree holds_laws meet_laws (shape_of trees.tree) (spots_of tables.parts) any_word
+    grown_tree holds_laws meet_laws (spot_shape_of trees.tree) (spots_of tables.parts) any_word
     (root_node header_laws tables.parts sound.one are.words) are.tree
 
 -- ---- down the tree
@@ -92,17 +92,17 @@ in_half region bit number one free held is =
     ∙ eq-eqb (bit_at number bit) (from_bool one) is
 
 -- the bits of a header lead to the place of the region that has it
-pub leads : (tree : Shape) (spots : List Spot) (region : WordValue) (number : ℕ) (spot : Spot)
-    → IsTreeOf spots region tree → IsTrue (holds region number)
+pub leads : (tree : SpotShape) (spots : List Spot) (region : WordValue) (number : ℕ) (spot : Spot)
+    → IsSpotTreeOf spots region tree → IsTrue (holds region number)
     → find (has number) spots ≡ Some spot → place_at number tree ≡ spot.place
 leads (Place place) spots region number spot is held found =
     sym (All-contains (λ (s : Spot). s.place ≡ place) spots spot is.there
     (find-there (has number) spots spot found).0)
 leads (Sides bit low high) spots region number spot is held found =
     by_case (bit_at number bit == 1) refl
-    (λ inside. leads high (side_of spots region bit true) (fix_of region bit true) number spot
+    (λ inside. leads high (spots_of_side spots region bit true) (fix_of region bit true) number spot
     is.3 inside (side_finds spots region bit number true inside ∙ found))
-    (λ inside. leads low (side_of spots region bit false) (fix_of region bit false) number spot
+    (λ inside. leads low (spots_of_side spots region bit false) (fix_of region bit false) number spot
     is.2 inside (side_finds spots region bit number false inside ∙ found))
   where
     by_case : (b : Bool) → (bit_at number bit == 1) ≡ b
@@ -147,8 +147,8 @@ spot_place place number (row ∷ rows) spot found =
         (omega (arith, later.0), omega (arith, later.1))
 
 -- the tree of the rows leads each header to the first row that holds it
-pub leads_to_row : (rows : List PartRow) (tree : Shape) (header : Header)
-    → IsTreeOf (spots_of rows) any_word tree → count_by (row_has header) rows ≡ 1
+pub leads_to_row : (rows : List PartRow) (tree : SpotShape) (header : Header)
+    → IsSpotTreeOf (spots_of rows) any_word tree → count_by (row_has header) rows ≡ 1
     → position (row_has header) rows ≡ Some (place_at (number_of header) tree)
 leads_to_row rows tree header is one =
     by_case (find (has (number_of header)) (spots_of rows)) refl
@@ -420,13 +420,13 @@ row_decides tables header place d sound is at none =
 -- ---- as the lookup reads them
 
 pub place_is : (tables : Tables) (trees read : Trees) (header : Header) (number place : ℕ)
-    → AreSoundTables tables → IsFinderTree tables.parts (shape_of trees.tree) → read ≡ trees
-    → IsHeader header → number ≡ number_of header → place ≡ place_at number (shape_of read.tree)
+    → AreSoundTables tables → IsFinderTree tables.parts (spot_shape_of trees.tree) → read ≡ trees
+    → IsHeader header → number ≡ number_of header → place ≡ place_at number (spot_shape_of read.tree)
     → position (row_has header) tables.parts ≡ Some place
 place_is tables trees read header number place sound is there header_is same at =
-    leads_to_row tables.parts (shape_of trees.tree) header is (sound.one header header_is)
-    ∙ ap (λ n. Some (place_at n (shape_of trees.tree))) (sym same)
-    ∙ ap (λ (t : Trees). Some (place_at number (shape_of t.tree))) (sym there) ∙ ap Some (sym at)
+    leads_to_row tables.parts (spot_shape_of trees.tree) header is (sound.one header header_is)
+    ∙ ap (λ n. Some (place_at n (spot_shape_of trees.tree))) (sym same)
+    ∙ ap (λ (t : Trees). Some (place_at number (spot_shape_of t.tree))) (sym there) ∙ ap Some (sym at)
 
 pub place_within : (header : Header) (rows : List PartRow) (place : ℕ)
     → position (row_has header) rows ≡ Some place → place < length rows

@@ -21,7 +21,7 @@ use Rattle.switch_table.specs.declared.tables.PartRow.{PartRow}
 use Rattle.cut_tree.specs.Cuts.{IsFreeBit}
 use Rattle.cut_tree.specs.DefinedTree.{free_count}
 use Rattle.table_tree.specs.Cutting.{NoneFree}
-use Rattle.table_tree.specs.Regions.{AreNodeSpots, AreRegions, IsCutBit, has, meets_region, side_of, some_fix, spots_from, spots_of}
+use Rattle.table_tree.specs.Regions.{AreNodeSpots, AreRegions, IsCutBit, has, spot_meets, spots_of_side, some_fix, spots_from, spots_of}
 use Rattle.table_tree.specs.declared.node.Spot.{Spot}
 
 -- ---- lists
@@ -88,10 +88,10 @@ spots_count place number (row ∷ rows) =
       spots_count (place + 1) number rows,
     )
 
-pub any_meets : (spots : List Spot) → All (λ spot. IsTrue (meets_region any_word spot)) spots
-any_meets [] = All-nil (λ (spot : Spot). IsTrue (meets_region any_word spot))
+pub any_meets : (spots : List Spot) → All (λ spot. IsTrue (spot_meets any_word spot)) spots
+any_meets [] = All-nil (λ (spot : Spot). IsTrue (spot_meets any_word spot))
 any_meets (spot ∷ spots) =
-    All-cons (λ (s : Spot). IsTrue (meets_region any_word s)) spot spots
+    All-cons (λ (s : Spot). IsTrue (spot_meets any_word s)) spot spots
     (meets_cover any_word spot.region (any_covers spot.region)) (any_meets spots)
 
 pub root_node : HeaderLaws → (rows : List PartRow)
@@ -141,24 +141,24 @@ half_holds region bit number one free held =
 -- on a side, the one that has a header of the half is that of the node
 pub side_finds : (spots : List Spot) (region : WordValue) (bit number : ℕ) (one : Bool)
     → IsTrue (holds (fix_of region bit one) number)
-    → find (has number) (side_of spots region bit one) ≡ find (has number) spots
+    → find (has number) (spots_of_side spots region bit one) ≡ find (has number) spots
 side_finds spots region bit number one held =
-    find_kept (has number) (meets_region (fix_of region bit one)) spots
+    find_kept (has number) (spot_meets (fix_of region bit one)) spots
     (λ spot has_it. held_meets spot.region (fix_of region bit one) number has_it held)
 
 pub half_node : (spots : List Spot) (region : WordValue) (bit : ℕ) (one : Bool)
     → AreNodeSpots spots region → IsFreeBit region bit
-    → AreNodeSpots (side_of spots region bit one) (fix_of region bit one)
+    → AreNodeSpots (spots_of_side spots region bit one) (fix_of region bit one)
 half_node spots region bit one node free =
     let half = fix_of region bit one in
     record {
       whole = fix_word region bit one node.whole free.bound;
-      words = All-filter (meets_region half) (λ (spot : Spot). IsWord spot.region) spots node.words;
-      meet = filter_passes (meets_region half) spots;
+      words = All-filter (spot_meets half) (λ (spot : Spot). IsWord spot.region) spots node.words;
+      meet = filter_passes (spot_meets half) spots;
       one = λ number small. omega (
         arith,
         node.one number small,
-        count-filter (has number) (meets_region half) spots,
+        count-filter (has number) (spot_meets half) spots,
       );
       held = λ number small inside. subst (λ found. IsSome found)
           (sym (side_finds spots region bit number one inside))
@@ -211,7 +211,7 @@ never_stuck holds_laws meet_laws [] region node none =
 never_stuck holds_laws meet_laws (a ∷ []) region node none = refl
 never_stuck holds_laws meet_laws (a ∷ b ∷ rest) region node none =
     let P : Spot → Type 0 = λ s. IsWord s.region in
-    let Q : Spot → Type 0 = λ s. IsTrue (meets_region region s) in
+    let Q : Spot → Type 0 = λ s. IsTrue (spot_meets region s) in
     let a_word = All-head P a (b ∷ rest) node.words in
     let b_word = All-head P b rest (All-tail P a (b ∷ rest) node.words) in
     let a_meets = All-head Q a (b ∷ rest) node.meet in

@@ -19,7 +19,7 @@ use Rattle.cut_tree.specs.declared.choice.Cost.{Cost}
 use Rattle.cut_tree.proofs.CallerLemmas.{narrow_first}
 use Rattle.cut_tree.proofs.CutLemmas.{least_cuts}
 use Rattle.cut_tree.proofs.NarrowLemmas.{met_joined, narrow_apart, narrow_covered, narrow_more, narrow_none}
-use Rattle.table_tree.specs.Ruling.{CutsRuleBits, RuleShape, Places, Sides, held_at, if_pays, parted, paying_cut, pays, placed_from, places_at, rule_tree, tree_within}
+use Rattle.table_tree.specs.Ruling.{CutsRuleBits, RuleShape, Places, Sides, is_held_at, if_pays, parted, paying_cut, pays, ranked_by_place, places_at, rule_tree, rule_tree_within}
 use Rattle.table_tree.proofs.FindLemmas.{find_agree, in_half}
 
 abbrev pub rank_of : Rule → ℕ
@@ -29,24 +29,24 @@ rank_of rule = rule.rank
 
 pub within_end : (cuts : ℕ) (rules : List Rule) (region : WordValue)
     → None ≡ paying_cut cuts rules region
-    → Places (map rank_of rules) ≡ tree_within cuts rules region
-unfolding tree_within
+    → Places (map rank_of rules) ≡ rule_tree_within cuts rules region
+unfolding rule_tree_within
 within_end zero rules region none = refl
-within_end (suc cuts) rules region none = ap (parted (tree_within cuts) rules region) none
+within_end (suc cuts) rules region none = ap (parted (rule_tree_within cuts) rules region) none
 
 pub within_cut : (cuts : ℕ) (rules : List Rule) (region : WordValue) (cost : Cost)
     (low high : List Rule) (lower higher : WordValue) (a b : RuleShape) → 0 < cuts
     → Some cost ≡ paying_cut cuts rules region → low ≡ side_of rules region cost.bit false
     → lower ≡ fix_of region cost.bit false → high ≡ side_of rules region cost.bit true
-    → higher ≡ fix_of region cost.bit true → a ≡ tree_within (cuts - 1) low lower
-    → b ≡ tree_within (cuts - 1) high higher
-    → Sides cost.bit a b ≡ tree_within cuts rules region
-unfolding tree_within
+    → higher ≡ fix_of region cost.bit true → a ≡ rule_tree_within (cuts - 1) low lower
+    → b ≡ rule_tree_within (cuts - 1) high higher
+    → Sides cost.bit a b ≡ rule_tree_within cuts rules region
+unfolding rule_tree_within
 within_cut zero rules region cost low high lower higher a b some is l lr h hr p q =
     absurd (omega arith)
 within_cut (suc cuts) rules region cost low high lower higher a b some is l lr h hr p q =
     let less : suc cuts - 1 ≡ cuts = omega arith in
-    rw (p, q, less, l, lr, h, hr) (ap (parted (tree_within cuts) rules region) is)
+    rw (p, q, less, l, lr, h, hr) (ap (parted (rule_tree_within cuts) rules region) is)
 
 -- ---- the cut of a node
 
@@ -112,16 +112,16 @@ paying_free rules region count cost is = by_least (least_below 104 rules region)
         by_test false none = absurd (cc)
 
 pub cuts_header : (cuts : ℕ) (rules : List Rule) (region : WordValue)
-    → CutsRuleBits (tree_within cuts rules region)
-unfolding tree_within
+    → CutsRuleBits (rule_tree_within cuts rules region)
+unfolding rule_tree_within
 cuts_header zero rules region = tt
 cuts_header (suc cuts) rules region = by_cut (paying_cut (suc cuts) rules region) refl
     (λ bit one. cuts_header cuts (side_of rules region bit one) (fix_of region bit one))
   where
     by_cut : (cut : Option Cost) → paying_cut (suc cuts) rules region ≡ cut
         → ((bit : ℕ) (one : Bool) → CutsRuleBits
-        (tree_within cuts (side_of rules region bit one) (fix_of region bit one)))
-        → CutsRuleBits (parted (tree_within cuts) rules region cut)
+        (rule_tree_within cuts (side_of rules region bit one) (fix_of region bit one)))
+        → CutsRuleBits (parted (rule_tree_within cuts) rules region cut)
     by_cut None none sides = tt
     by_cut (Some cost) is sides = (
       (paying_free rules region (length rules) cost is).bound,
@@ -133,7 +133,7 @@ cuts_header (suc cuts) rules region = by_cut (paying_cut (suc cuts) rules region
 
 -- the rule at the rank holds the header where the rule does
 abbrev pub Agrees : List Rule → ℕ → Rule → Type 0
-Agrees rules number rule = held_at rules number rule.rank ≡ holds rule.word number
+Agrees rules number rule = is_held_at rules number rule.rank ≡ holds rule.word number
 
 narrow_keeps : (P : Rule → Type 0) (rules : List Rule) (region : WordValue)
     → ((rule : Rule) → meets rule.word region ≡ true → P rule → P (narrowed region rule))
@@ -190,19 +190,19 @@ first_kept rules region number inside =
 -- ---- down the tree
 
 end_finds : (list rules : List Rule) (number : ℕ) → All (Agrees list number) rules
-    → find (held_at list number) (map rank_of rules) ≡ option_map rank_of
+    → find (is_held_at list number) (map rank_of rules) ≡ option_map rank_of
     (find (is_held number) rules)
 end_finds list rules number all =
-    find-map (held_at list number) rank_of rules
+    find-map (is_held_at list number) rank_of rules
     ∙ ap (option_map rank_of)
-    (find_agree (λ (rule : Rule). held_at list number rule.rank) (is_held number) rules all)
+    (find_agree (λ (rule : Rule). is_held_at list number rule.rank) (is_held number) rules all)
 
 -- the bits of a header lead to the place of the first rule that holds it
 leads : (cuts : ℕ) (list rules : List Rule) (region : WordValue) (number : ℕ)
     → IsTrue (holds region number) → All (Agrees list number) rules
-    → find (held_at list number) (places_at number (tree_within cuts rules region))
+    → find (is_held_at list number) (places_at number (rule_tree_within cuts rules region))
     ≡ option_map rank_of (find (is_held number) rules)
-unfolding tree_within
+unfolding rule_tree_within
 leads zero list rules region number inside all = end_finds list rules number all
 leads (suc cuts) list rules region number inside all =
     by_cut (paying_cut (suc cuts) rules region) refl
@@ -213,21 +213,21 @@ leads (suc cuts) list rules region number inside all =
   where
     by_cut : (cut : Option Cost) → paying_cut (suc cuts) rules region ≡ cut
         → ((bit : ℕ) (one : Bool) → IsTrue (holds (fix_of region bit one) number)
-        → find (held_at list number) (places_at number
-        (tree_within cuts (side_of rules region bit one) (fix_of region bit one)))
+        → find (is_held_at list number) (places_at number
+        (rule_tree_within cuts (side_of rules region bit one) (fix_of region bit one)))
         ≡ option_map rank_of (find (is_held number) rules))
-        → find (held_at list number) (places_at number (parted (tree_within cuts) rules region cut))
+        → find (is_held_at list number) (places_at number (parted (rule_tree_within cuts) rules region cut))
         ≡ option_map rank_of (find (is_held number) rules)
     by_cut None none down = end_finds list rules number all
     by_cut (Some cost) is down = by_bit (paying_free rules region (length rules) cost is)
         (bit_at number cost.bit == 1) refl
       where
         by_bit : IsFreeBit region cost.bit → (b : Bool) → (bit_at number cost.bit == 1) ≡ b
-            → find (held_at list number)
+            → find (is_held_at list number)
             (cond b
-            (places_at number (tree_within cuts (side_of rules region cost.bit true)
+            (places_at number (rule_tree_within cuts (side_of rules region cost.bit true)
             (fix_of region cost.bit true)))
-            (places_at number (tree_within cuts (side_of rules region cost.bit false)
+            (places_at number (rule_tree_within cuts (side_of rules region cost.bit false)
             (fix_of region cost.bit false))))
             ≡ option_map rank_of (find (is_held number) rules)
         by_bit free true set = down cost.bit true
@@ -244,25 +244,25 @@ leads (suc cuts) list rules region number inside all =
 -- ---- the root
 
 pub length_placed : (place : ℕ) (rules : List Rule)
-    → length (placed_from place rules) ≡ length rules
+    → length (ranked_by_place place rules) ≡ length rules
 length_placed place [] = refl
 length_placed place (rule ∷ rules) = ap suc (length_placed (place + 1) rules)
 
 placed_agrees : (list : List Rule) (number place : ℕ) (rules : List Rule)
     → ((i : ℕ) → slice_get list (place + i) ≡ slice_get rules i)
-    → All (Agrees list number) (placed_from place rules)
+    → All (Agrees list number) (ranked_by_place place rules)
 placed_agrees list number place [] same = All-nil (Agrees list number)
 placed_agrees list number place (rule ∷ rules) same =
     let here : place + 0 ≡ place = omega arith in
     let at : slice_get list place ≡ Some rule = sym (ap (slice_get list) here) ∙ same 0 in
-    All-cons (Agrees list number) (record rule { rank = place }) (placed_from (place + 1) rules)
+    All-cons (Agrees list number) (record rule { rank = place }) (ranked_by_place (place + 1) rules)
     (ap (λ found. option_map_or (λ (r : Rule). holds r.word number) found false) at)
     (placed_agrees list number (place + 1) rules
     (λ i. let next : place + 1 + i ≡ place + suc i = omega arith in
     ap (slice_get list) next ∙ same (suc i)))
 
 placed_position : (number place : ℕ) (rules : List Rule)
-    → option_map rank_of (find (is_held number) (placed_from place rules))
+    → option_map rank_of (find (is_held number) (ranked_by_place place rules))
     ≡ cond (nat_lt (position_or_len (is_held number) rules) (length rules))
     (Some (place + position_or_len (is_held number) rules)) None
 placed_position number place [] = refl
@@ -270,11 +270,11 @@ placed_position number place (rule ∷ rules) =
     by_case (holds rule.word number) (placed_position number (place + 1) rules)
   where
     by_case : (b : Bool)
-        → option_map rank_of (find (is_held number) (placed_from (place + 1) rules))
+        → option_map rank_of (find (is_held number) (ranked_by_place (place + 1) rules))
         ≡ cond (nat_lt (position_or_len (is_held number) rules) (length rules))
         (Some (place + 1 + position_or_len (is_held number) rules)) None
         → option_map rank_of (cond b (Some (record rule { rank = place }))
-        (find (is_held number) (placed_from (place + 1) rules)))
+        (find (is_held number) (ranked_by_place (place + 1) rules)))
         ≡ cond (nat_lt (cond (not b) (1 + position_or_len (is_held number) rules) 0)
         (suc (length rules)))
         (Some (place + cond (not b) (1 + position_or_len (is_held number) rules) 0)) None
@@ -298,11 +298,11 @@ placed_position number place (rule ∷ rules) =
 -- the tree of a list leads each header of the region to the first of its rules that holds it
 pub tree_first : (list : List Rule) (region : WordValue) (number : ℕ)
     → IsTrue (holds region number)
-    → find (held_at list number) (places_at number (rule_tree list region))
+    → find (is_held_at list number) (places_at number (rule_tree list region))
     ≡ position (is_held number) list
 unfolding rule_tree
 tree_first list region number inside =
-    let placed = placed_from 0 list in
+    let placed = ranked_by_place 0 list in
     let agree = placed_agrees list number 0 list (λ i. ap (slice_get list) (none_more i)) in
     leads 12 list (narrow placed region) region number inside
     (side_agrees list placed region number inside agree)
@@ -316,15 +316,15 @@ tree_first list region number inside =
 
 pub root_cuts : (list : List Rule) (region : WordValue) → CutsRuleBits (rule_tree list region)
 unfolding rule_tree
-root_cuts list region = cuts_header 12 (narrow (placed_from 0 list) region) region
+root_cuts list region = cuts_header 12 (narrow (ranked_by_place 0 list) region) region
 
 -- as `first` reads it
 pub first_is : (list : List Rule) (region : WordValue) (shape : RuleShape) (number h : ℕ)
     (places : List ℕ) (found : Option ℕ) → shape ≡ rule_tree list region
     → IsTrue (holds region h) → number ≡ h → places ≡ places_at number shape
-    → found ≡ find (held_at list number) places → found ≡ position (is_held h) list
+    → found ≡ find (is_held_at list number) places → found ≡ position (is_held h) list
 first_is list region shape number h places found built inside same at is =
     is
-    ∙ ap (find (held_at list number)) (at ∙ ap (places_at number) built)
+    ∙ ap (find (is_held_at list number)) (at ∙ ap (places_at number) built)
     ∙ tree_first list region number (subst (λ n. IsTrue (holds region n)) (sym same) inside)
     ∙ ap (λ n. position (is_held n) list) same

@@ -10,7 +10,7 @@ use Rattle.switch_table.specs.declared.tables.PartRow.{PartRow}
 use Rattle.switch_table.specs.declared.tables.Tables.{Tables}
 use Rattle.policy_rules.specs.declared.rules.Partition.{Partition}
 use Rattle.table_tree.specs.Cutting.{NoneFree}
-use Rattle.table_tree.specs.Regions.{AreRegions, IsCutBit, side_of, some_fix, spots_of}
+use Rattle.table_tree.specs.Regions.{AreRegions, IsCutBit, spots_of_side, some_fix, spots_of}
 use Rattle.table_tree.specs.Ruling.{part_tree, seen_tree}
 use Rattle.table_tree.specs.declared.rule_tree.RuleTree.{RuleTree}
 use Rattle.table_tree.specs.declared.node.Spot.{Spot}
@@ -19,22 +19,22 @@ use Rattle.table_tree.specs.declared.trees.Trees.{Trees}
 
 -- a tree apart from the memory that holds it: a place of the partition rules, or a cut of a bit with
 -- the side of its zeros and that of its ones
-pub data Shape : Type 0 where
-  Place : ℕ → Shape
-  Sides : ℕ → Shape → Shape → Shape
+pub data SpotShape : Type 0 where
+  Place : ℕ → SpotShape
+  Sides : ℕ → SpotShape → SpotShape → SpotShape
 
-abbrev pub shape_of : Tree → Shape
-shape_of (At place) = Place place
-shape_of (Cut' bit p low q high) = Sides bit (shape_of low) (shape_of high)
+abbrev pub spot_shape_of : Tree → SpotShape
+spot_shape_of (At place) = Place place
+spot_shape_of (Cut' bit p low q high) = Sides bit (spot_shape_of low) (spot_shape_of high)
 
 -- where the bits of a header number lead
-abbrev pub place_at : ℕ → Shape → ℕ
+abbrev pub place_at : ℕ → SpotShape → ℕ
 place_at number (Place place) = place
 place_at number (Sides bit low high) =
     if bit_at number bit == 1 then place_at number high else place_at number low
 
 -- each cut is at a bit of a header number
-abbrev pub CutsHeaderBits : Shape → Type 0
+abbrev pub CutsHeaderBits : SpotShape → Type 0
 CutsHeaderBits (Place place) = ⊤
 CutsHeaderBits (Sides bit low high) = (bit < 104) × CutsHeaderBits low × CutsHeaderBits high
 
@@ -44,12 +44,12 @@ pub record IsEnd (spots : List Spot) (place : ℕ) : Type 0 where
   pub there : All (λ spot. spot.place ≡ place) spots
 
 -- the tree of these regions within a region: more than one are parted at their cut bit
-abbrev pub IsTreeOf : List Spot → WordValue → Shape → Type 0
-IsTreeOf spots region (Place place) = IsEnd spots place
-IsTreeOf spots region (Sides bit low high) =
+abbrev pub IsSpotTreeOf : List Spot → WordValue → SpotShape → Type 0
+IsSpotTreeOf spots region (Place place) = IsEnd spots place
+IsSpotTreeOf spots region (Sides bit low high) =
     (1 < length spots) × IsCutBit spots region bit
-    × IsTreeOf (side_of spots region bit false) (fix_of region bit false) low
-    × IsTreeOf (side_of spots region bit true) (fix_of region bit true) high
+    × IsSpotTreeOf (spots_of_side spots region bit false) (fix_of region bit false) low
+    × IsSpotTreeOf (spots_of_side spots region bit true) (fix_of region bit true) high
 
 -- there is not just one region left, and none of these fixes a bit that is free
 pub record IsStuck (spots : List Spot) (region : WordValue) : Type 0 where
@@ -57,21 +57,21 @@ pub record IsStuck (spots : List Spot) (region : WordValue) : Type 0 where
   pub none : NoneFree region (some_fix spots)
 
 -- a tree that is grown in the same way of regions of any kind, some of which can't be parted
-abbrev pub IsGrown : List Spot → WordValue → Shape → Type 0
+abbrev pub IsGrown : List Spot → WordValue → SpotShape → Type 0
 IsGrown spots region (Place place) = IsEnd spots place ⊎ IsStuck spots region
 IsGrown spots region (Sides bit low high) =
     (length spots ≢ 1) × IsCutBit spots region bit
-    × IsGrown (side_of spots region bit false) (fix_of region bit false) low
-    × IsGrown (side_of spots region bit true) (fix_of region bit true) high
+    × IsGrown (spots_of_side spots region bit false) (fix_of region bit false) low
+    × IsGrown (spots_of_side spots region bit true) (fix_of region bit true) high
 
 -- the tree of the partition rules
-abbrev pub IsFinderTree : List PartRow → Shape → Type 0
-IsFinderTree rows tree = IsTreeOf (spots_of rows) any_word tree
+abbrev pub IsFinderTree : List PartRow → SpotShape → Type 0
+IsFinderTree rows tree = IsSpotTreeOf (spots_of rows) any_word tree
 
 -- the trees that are grown of these partition rules and authority partitions
 pub record AreTreesOf (rows : List PartRow) (parts : List Partition) (trees : Trees) : Type 0 where
   pub words : AreRegions (spots_of rows)
-  pub tree : IsGrown (spots_of rows) any_word (shape_of trees.tree)
+  pub tree : IsGrown (spots_of rows) any_word (spot_shape_of trees.tree)
   pub rules : map seen_tree trees.rule_trees.items ≡ map part_tree parts
 
 -- the tables of a finder, and its tree
@@ -82,5 +82,5 @@ pub record FinderValue : Type 0 where
 -- the tables are sound, the tree is theirs, and these are the trees of the authority partitions
 pub record IsFinder (finder : FinderValue) (rule_trees : List RuleTree) : Type 0 where
   pub sound : AreSoundTables finder.tables
-  pub tree : IsFinderTree finder.tables.parts (shape_of finder.tree)
+  pub tree : IsFinderTree finder.tables.parts (spot_shape_of finder.tree)
   pub rules : map seen_tree rule_trees ≡ map part_tree finder.tables.auth

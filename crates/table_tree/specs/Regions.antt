@@ -20,13 +20,13 @@ spots_of rows = spots_from 0 rows
 abbrev pub has : ℕ → Spot → Bool
 has number spot = holds spot.region number
 
-abbrev pub meets_region : WordValue → Spot → Bool
-meets_region region spot = meets spot.region region
+abbrev pub spot_meets : WordValue → Spot → Bool
+spot_meets region spot = meets spot.region region
 
 -- those that meet the half of the region in which the bit is 1, or 0: a region that doesn't fix the
 -- bit is on both sides
-abbrev pub side_of : List Spot → WordValue → ℕ → Bool → List Spot
-side_of spots region bit one = filter (meets_region (fix_of region bit one)) spots
+abbrev pub spots_of_side : List Spot → WordValue → ℕ → Bool → List Spot
+spots_of_side spots region bit one = filter (spot_meets (fix_of region bit one)) spots
 
 -- every one of the regions fixes the bit
 abbrev pub all_fix : List Spot → ℕ → Bool
@@ -52,7 +52,7 @@ AreRegions spots = All (λ spot. IsWord spot.region) spots
 pub record AreNodeSpots (spots : List Spot) (region : WordValue) : Type 0 where
   pub whole : IsWord region
   pub words : AreRegions spots
-  pub meet : All (λ spot. IsTrue (meets_region region spot)) spots
+  pub meet : All (λ spot. IsTrue (spot_meets region spot)) spots
   pub one : (number : ℕ) → number < 2 ^ 104 → count_by (has number) spots ≤ 1
   pub held : (number : ℕ) → number < 2 ^ 104 → IsTrue (holds region number)
       → IsSome (find (has number) spots)

@@ -36,16 +36,16 @@ CutsRuleBits (Places places) = ⊤
 CutsRuleBits (Sides bit low high) = (bit < 104) × CutsRuleBits low × CutsRuleBits high
 
 -- there is a rule at the place that holds the number
-abbrev pub held_at : List Rule → ℕ → ℕ → Bool
-held_at rules number place =
+abbrev pub is_held_at : List Rule → ℕ → ℕ → Bool
+is_held_at rules number place =
     option_map_or (λ (rule : Rule). holds rule.word number) (slice_get rules place) false
 
 -- ---- the defined tree
 
 -- the rules, each with its place in the list, from this one on, as its rank
-abbrev pub placed_from : ℕ → List Rule → List Rule
-placed_from place [] = []
-placed_from place (rule ∷ rules) = record rule { rank = place } ∷ placed_from (place + 1) rules
+abbrev pub ranked_by_place : ℕ → List Rule → List Rule
+ranked_by_place place [] = []
+ranked_by_place place (rule ∷ rules) = record rule { rank = place } ∷ ranked_by_place (place + 1) rules
 
 -- a node of so many rules is worth this cut: it has more than 16, the larger side has fewer, and
 -- both together have at most five quarters of them
@@ -71,14 +71,14 @@ parted grow rules region (Some cost) =
     (grow (side_of rules region cost.bit true) (fix_of region cost.bit true))
 
 -- the tree of the rules of a region, with at most so many cuts one below another
-unfoldable pub tree_within : ℕ → List Rule → WordValue → RuleShape
-tree_within zero rules region = parted (λ rs r. Places []) rules region None
-tree_within (suc cuts) rules region =
-    parted (tree_within cuts) rules region (paying_cut (suc cuts) rules region)
+unfoldable pub rule_tree_within : ℕ → List Rule → WordValue → RuleShape
+rule_tree_within zero rules region = parted (λ rs r. Places []) rules region None
+rule_tree_within (suc cuts) rules region =
+    parted (rule_tree_within cuts) rules region (paying_cut (suc cuts) rules region)
 
 -- the tree of a list of rules in a region: at most 12 cuts one below another
 unfoldable pub rule_tree : List Rule → WordValue → RuleShape
-rule_tree rules region = tree_within 12 (narrow (placed_from 0 rules) region) region
+rule_tree rules region = rule_tree_within 12 (narrow (ranked_by_place 0 rules) region) region
 
 -- a region with its tree
 pub record RegionTree : Type 0 where

@@ -6,7 +6,7 @@ ghost use Rattle.policy_rules.specs.Rules.{is_held};
 ghost use Rattle.switch_table.specs.Cache.{first_entry};
 ghost use Rattle.switch_table.specs.Lookup.{lookup_of, table_lookup};
 ghost use Rattle.switch_table.specs.Tables.{AreSoundTables};
-ghost use Rattle.table_tree.specs.Finding.{AreTreesOf, IsFinderTree, shape_of};
+ghost use Rattle.table_tree.specs.Finding.{AreTreesOf, IsFinderTree, spot_shape_of};
 
 use crate::tree::Tree;
 use crate::trees::Trees;
@@ -51,7 +51,7 @@ impl Finder {
     pub fn build(alloc: Global, tables: Rc<Tables>) -> Result<Finder, AllocError>
         requires { AreSoundTables tables.value }
         ensures tables { IfOk result (λ finder. finder.tables ≡ tables.value) }
-        ensures tree { IfOk result (λ finder. IsFinderTree tables.value.parts (shape_of finder.tree)) }
+        ensures tree { IfOk result (λ finder. IsFinderTree tables.value.parts (spot_shape_of finder.tree)) }
     {
         let trees = Trees::grow(alloc, tables.parts.items(), tables.auth.items())?;
         let trees = Rc::new(alloc, trees)?;
@@ -63,7 +63,7 @@ impl Finder {
         requires sound { AreSoundTables tables.value }
         requires trees { AreTreesOf tables.value.parts tables.value.auth trees.value }
         ensures tables { result.tables ≡ tables.value }
-        ensures tree { IsFinderTree tables.value.parts (shape_of result.tree) }
+        ensures tree { IsFinderTree tables.value.parts (spot_shape_of result.tree) }
     {
         header_laws();
         holds_laws();

@@ -1,7 +1,7 @@
 ghost use Rattle.std.specs.Prelude.{Bool, ◌≡◌, ◌^◌, ◌<◌, IfOk, filter, length};
 ghost use Rattle.ternary.specs.Meets.{any_word, fix_of, meets};
 ghost use Rattle.cut_tree.specs.Cuts.{IsFreeBit};
-ghost use Rattle.table_tree.specs.Regions.{AreRegions, meets_region, side_of, spots_of};
+ghost use Rattle.table_tree.specs.Regions.{AreRegions, spot_meets, spots_of_side, spots_of};
 
 use std::alloc::{AllocError, Global};
 use switch_table::PartRow;
@@ -40,7 +40,7 @@ impl Node {
     pub fn half(&self, alloc: Global, bit: u32, one: bool) -> Result<Node, AllocError>
         requires { IsFreeBit self.now.region bit }
         ensures spots { IfOk result (λ half.
-            half.spots.items ≡ side_of self.now.spots.items self.now.region bit one) }
+            half.spots.items ≡ spots_of_side self.now.spots.items self.now.region bit one) }
         ensures region { IfOk result (λ half. half.region ≡ fix_of self.now.region bit one) }
     {
         let region = self.region.fix(bit, one);
@@ -70,7 +70,7 @@ fn numbered(alloc: Global, rows: &[PartRow]) -> Result<Vec<Spot>, AllocError>
 // Those whose regions meet this one.
 #[tactic(auto, using(crate::proofs::NodeLemmas::kept_same))]
 fn meeting(alloc: Global, spots: &[Spot], region: &Word) -> Result<Vec<Spot>, AllocError>
-    ensures { IfOk result (λ kept. kept.items ≡ filter (meets_region region.now) spots.now) }
+    ensures { IfOk result (λ kept. kept.items ≡ filter (spot_meets region.now) spots.now) }
 {
     let mut kept = Vec::with_capacity(alloc, spots.len())?;
     for spot in spots {

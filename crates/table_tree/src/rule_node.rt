@@ -1,7 +1,7 @@
 ghost use Rattle.std.specs.Prelude.{◌≡◌, ◌<◌, IfOk, IfSome, map};
 ghost use Rattle.policy_rules.specs.declared.rules.Rule.{Rule};
 ghost use Rattle.cut_tree.specs.Cuts.{IsFreeBit};
-ghost use Rattle.table_tree.specs.Ruling.{CutsRuleBits, paying_cut, places_at, rule_shape, tree_within};
+ghost use Rattle.table_tree.specs.Ruling.{CutsRuleBits, paying_cut, places_at, rule_shape, rule_tree_within};
 
 use cut_tree::{Cost, Node};
 use policy_rules::Rule;
@@ -47,7 +47,7 @@ impl RuleNode {
 /// The tree of a node with at most so many cuts one below another.
 pub fn grow(alloc: Global, node: Node, cuts: u32) -> Result<RuleNode, AllocError>
     ensures { IfOk result (λ tree.
-        rule_shape tree ≡ tree_within cuts node.rules.items node.region) }
+        rule_shape tree ≡ rule_tree_within cuts node.rules.items node.region) }
 {
     let Some(cost) = paying_cut(&node, cuts) else {
         let places = places_of(alloc, &node.rules)?;

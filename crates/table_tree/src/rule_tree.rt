@@ -4,7 +4,7 @@ ghost use Rattle.five_tuple.specs.Header.{number_of};
 ghost use Rattle.ternary.specs.Word.{holds};
 ghost use Rattle.policy_rules.specs.Rules.{is_held};
 ghost use Rattle.cut_tree.specs.Nodes.{AreWords};
-ghost use Rattle.table_tree.specs.Ruling.{held_at, placed_from, rule_shape, rule_tree};
+ghost use Rattle.table_tree.specs.Ruling.{is_held_at, ranked_by_place, rule_shape, rule_tree};
 
 use crate::rule_node::{RuleNode, grow};
 use cut_tree::Node;
@@ -66,14 +66,14 @@ impl RuleTree {
 
 // The first of the places whose rule holds the number.
 fn first_of<'a>(places: &'a [u32], rules: &[Rule], number: u128) -> Option<&'a u32>
-    ensures { option_copied result ≡ find (held_at rules.now number) places.now }
+    ensures { option_copied result ≡ find (is_held_at rules.now number) places.now }
 {
     places.iter().find(|place| holds_at(rules, **place, number))
 }
 
 // Whether there is a rule at the place that holds the number.
 fn holds_at(rules: &[Rule], place: u32, number: u128) -> bool
-    ensures { result ≡ held_at rules.now number place }
+    ensures { result ≡ is_held_at rules.now number place }
 {
     match rules.get(place as usize) {
         Some(rule) => rule.word.holds(number),
@@ -84,7 +84,7 @@ fn holds_at(rules: &[Rule], place: u32, number: u128) -> bool
 // The rules, each with its place as its rank.
 fn placed(alloc: Global, rules: &[Rule]) -> Result<Vec<Rule>, AllocError>
     requires { length rules.now < 2 ^ 32 }
-    ensures rules { IfOk result (λ placed. placed.items ≡ placed_from 0 rules.now) }
+    ensures rules { IfOk result (λ placed. placed.items ≡ ranked_by_place 0 rules.now) }
     ensures words { IfOk result (λ placed. AreWords placed.items) }
 {
     let mut placed = Vec::with_capacity(alloc, rules.len())?;

@@ -4,7 +4,7 @@ use Rattle.std.specs.List.{range_with_len}
 use Rattle.failover.specs.Links.{no_links}
 use Rattle.five_tuple.specs.declared.header.Header.{Header}
 use Rattle.policy_rules.specs.declared.packet.Leg.{Leg}
-use Rattle.tunnel.specs.Moves.{begun, here}
+use Rattle.tunnel.specs.Moves.{tunnel_begun, here}
 use Rattle.tunnel.specs.Tunnel.{TunnelValue}
 use Rattle.travelling.specs.Marks.{is_marked}
 use Rattle.travelling.specs.declared.kept.Kept.TheInside.{Inside}
@@ -74,7 +74,7 @@ standing_at switch traveller = record {
 -- at the beginning of this route on its leg
 abbrev pub begun_at : Standing → Leg → List ℕ → List ℕ → TunnelValue
 begun_at at leg targets route =
-    begun at.packet at.header at.ingress leg targets route at.down
+    tunnel_begun at.packet at.header at.ingress leg targets route at.down
 
 -- without a set of links it found none down
 abbrev pub standing_kept : standing.Inside → Standing

@@ -8,8 +8,8 @@ use Rattle.failover.specs.Routes.{route_of}
 use Rattle.tunnel.specs.Tunnel.{TunnelValue}
 
 -- at the beginning of its route
-abbrev pub begun : ℕ → Header → ℕ → Leg → List ℕ → List ℕ → List ℕ → TunnelValue
-begun packet header ingress leg targets route down =
+abbrev pub tunnel_begun : ℕ → Header → ℕ → Leg → List ℕ → List ℕ → List ℕ → TunnelValue
+tunnel_begun packet header ingress leg targets route down =
     record {
       packet = packet;
       header = header;
@@ -46,6 +46,6 @@ abbrev pub on_route : TunnelValue → List ℕ → TunnelValue
 on_route t route = record t { route = route; place = 0 }
 
 -- it takes the new route if there is one, and stays on its old route otherwise
-abbrev pub rerouted : TunnelValue → Option (List ℕ) → TunnelValue
-rerouted t None = t
-rerouted t (Some route) = on_route t route
+abbrev pub put_on_route : TunnelValue → Option (List ℕ) → TunnelValue
+put_on_route t None = t
+put_on_route t (Some route) = on_route t route

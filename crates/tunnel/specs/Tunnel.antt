@@ -17,8 +17,8 @@ pub record TunnelValue : Type 0 where
   pub place : ℕ
   pub down : List ℕ
 
-abbrev pub value_of : Inside → TunnelValue
-value_of t = record {
+abbrev pub tunnel_value : Inside → TunnelValue
+tunnel_value t = record {
   packet = t.packet;
   header = t.header;
   ingress = t.ingress;

@@ -1,5 +1,5 @@
 ghost use Rattle.std.specs.Prelude.{◌≡◌, ◌≢◌, ◌<◌, ◌+◌, ◌↔◌, length, is_some, slice_get, IfSome, IsSome};
-ghost use Rattle.tunnel.specs.Moves.{begun, here, next, advanced, marked_down, route_from_here, rerouted};
+ghost use Rattle.tunnel.specs.Moves.{tunnel_begun, here, next, advanced, marked_down, route_from_here, put_on_route};
 
 use failover::{Database, DownSet, Route};
 use five_tuple::Header;
@@ -52,7 +52,7 @@ impl Tunnel {
         route: Route,
         down: DownSet,
     ) -> Tunnel
-        ensures { result ≡ begun packet header ingress leg targets route down }
+        ensures { result ≡ tunnel_begun packet header ingress leg targets route down }
     {
         let _ = route.items();
         Tunnel {
@@ -109,7 +109,7 @@ impl Tunnel {
     /// none; nothing changes then.
     pub fn reroute(&mut self, base: &Database, near: u64) -> bool
         ensures found { result ≡ is_some (route_from_here self.old base.now near) }
-        ensures after { self.new ≡ rerouted self.old (route_from_here self.old base.now near) }
+        ensures after { self.new ≡ put_on_route self.old (route_from_here self.old base.now near) }
     {
         match base.route(self.here(), &self.targets, near, &self.down) {
             None => false,

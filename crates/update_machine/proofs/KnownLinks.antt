@@ -5,7 +5,7 @@ use Rattle.std.specs.List.{AllByRecursion}
 use Rattle.std.proofs.lemmas.List.{map-set}
 use Rattle.std.proofs.lemmas.Bool.Decides.{nat_tests}
 use Rattle.failover.specs.Adverts.{after_hearing, after_hearing_all, first_adverts, held, no_adverts}
-use Rattle.failover.specs.Links.{is_link, known_links, link_row, neighbours_told, told_links, IsPath, IsReachable, Leads}
+use Rattle.failover.specs.Links.{is_link, known_links, links_at, neighbours_named, named_links, IsPath, IsReachable, Leads}
 use Rattle.failover.specs.Paths.{IsIsolated, IsRoute}
 use Rattle.failover.specs.declared.advert.Advert.{Advert}
 use Rattle.failover.specs.Newest.{AreByOrigin, IsNewest}
@@ -19,7 +19,7 @@ use Rattle.net_file.specs.Owners.{links_of}
 use Rattle.policy_rules.specs.declared.packet.Leg.TheVariants.{Exit}
 use Rattle.policy_rules.specs.declared.policy.Action.TheVariants.{Out}
 use Rattle.journal.specs.declared.item.Item.{Item}
-use Rattle.update_machine.specs.Adverts.{advert_known, adverts_known, is_cut_off, own_advert, own_if_told, route_from}
+use Rattle.update_machine.specs.Adverts.{advert_known, adverts_known, is_cut_off, own_advert, own_if_sent, route_from}
 use Rattle.update_machine.specs.Boots.{is_in_first_boot}
 use Rattle.update_machine.specs.Laws.{KnownLinkLaws}
 use Rattle.update_machine.specs.LinkMasks.{near, adverts_begun, adverts_heard, adverts_of_others, links_known}
@@ -53,7 +53,7 @@ pub known_places : (setting : Setting) (journal : List Item) (s : ℕ)
     → length (adverts_known setting journal s) ≡ 64
 unfolding adverts_known
 known_places setting journal s =
-    length-set (adverts_of_others setting journal s) s (own_if_told (own_advert setting journal s))
+    length-set (adverts_of_others setting journal s) s (own_if_sent (own_advert setting journal s))
     ∙ (heard_by_origin setting journal s).places
 
 newest_known : (setting : Setting) (journal : List Item) (s origin : ℕ) → origin ≢ s → origin < 64 →
@@ -64,18 +64,18 @@ newest_known setting journal s origin other small =
     subst (IsNewest origin (option_to_list (held (adverts_begun setting journal s) origin)
     ++ adverts_heard journal s))
     (sym (get_or-set_other (adverts_of_others setting journal s) s origin
-    (own_if_told (own_advert setting journal s)) None other))
+    (own_if_sent (own_advert setting journal s)) None other))
     (held_newest (adverts_begun setting journal s) (adverts_heard journal s) origin
     (begun_by_origin setting journal s) small)
 
 own_known : (setting : Setting) (journal : List Item) (s : ℕ) → s < 64
-    → advert_known setting journal s s ≡ own_if_told (own_advert setting journal s)
+    → advert_known setting journal s s ≡ own_if_sent (own_advert setting journal s)
 unfolding adverts_known
 own_known setting journal s small =
     let there : s < length (adverts_of_others setting journal s) =
     subst (λ n. s < n) (sym (heard_by_origin setting journal s).places) small in
     get_or-set_same (adverts_of_others setting journal s) s
-    (own_if_told (own_advert setting journal s)) None there
+    (own_if_sent (own_advert setting journal s)) None there
 
 -- ---- its own advert tells it nothing of its own links
 
@@ -87,18 +87,18 @@ set_twice (x ∷ xs) (suc i) a b = ap (λ rest. x ∷ rest) (set_twice xs i a b)
 links_are : (setting : Setting) (journal : List Item) (s : ℕ) (down : List ℕ)
     → links_known setting journal s down
     ≡ known_links (adverts_known setting journal s) s (near setting journal s) down
-unfolding adverts_known known_links told_links
+unfolding adverts_known known_links named_links
 links_are setting journal s down =
     let others : List (Option Advert) = adverts_of_others setting journal s in
-    let own : Option Advert = own_if_told (own_advert setting journal s) in
-    ap (λ rows. map (link_row rows down) switches)
-    (sym (set_twice (map neighbours_told others) s (neighbours_told own) (near setting journal s))
-    ∙ ap (λ rows. set rows s (near setting journal s)) (sym (map-set neighbours_told others s own)))
+    let own : Option Advert = own_if_sent (own_advert setting journal s) in
+    ap (λ rows. map (links_at rows down) switches)
+    (sym (set_twice (map neighbours_named others) s (neighbours_named own) (near setting journal s))
+    ∙ ap (λ rows. set rows s (near setting journal s)) (sym (map-set neighbours_named others s own)))
 
 pub has_known_link : (setting : Setting) (journal : List Item) (s : ℕ) (down : List ℕ)
     (one other : ℕ) → one < 64 → other < 64
     → has (slice_index (links_known setting journal s down) one) other
-    ≡ is_link (told_links (adverts_known setting journal s) s (near setting journal s)) down one
+    ≡ is_link (named_links (adverts_known setting journal s) s (near setting journal s)) down one
     other
 has_known_link setting journal s down one other one_small other_small =
     ap (λ links. has (slice_index links one) other) (links_are setting journal s down)

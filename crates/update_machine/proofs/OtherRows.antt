@@ -29,7 +29,7 @@ use Rattle.update_machine.specs.Ways.{route_in, route_place, next_switch, found_
 use Rattle.update_machine.specs.LinkMasks.{near}
 use Rattle.masks.specs.Masks.{has, mask_where, mask_of, switches, least_in}
 use Rattle.failover.specs.Adverts.{is_news, after_hearing, first_adverts}
-use Rattle.failover.specs.Links.{told_links, is_link, known_links, has_link, with_link}
+use Rattle.failover.specs.Links.{named_links, is_link, known_links, has_link, with_link}
 use Rattle.failover.specs.Routes.{wider, ball, nearer, onward, links_away, route_to, first_route, route_of}
 use Rattle.failover.specs.Isolated.{names, is_isolated}
 use Rattle.ternary.specs.Word.{holds}
@@ -57,7 +57,7 @@ unfolding own_seq own_advert adverts_known held_adverts route_from is_cut_off bo
     resend_items piece sendings current_items open_items retired_items settling installs_to
     installs_to_all resent_by_controller steps_in present_step version_count file_of plan_at
     stamp_of holds_version has mask_where mask_of switches least_in is_news after_hearing first_adverts
-    names told_links is_link known_links is_isolated wider ball nearer onward links_away route_to
+    names named_links is_link known_links is_isolated wider ball nearer onward links_away route_to
     first_route route_of has_link with_link holds meets meet_of covers_of is_fixed_of free_of
     is_apart is_independent widen widened same_key lib.Count.count_trailing_zeros
 resend_rows = refl
@@ -88,7 +88,7 @@ unfolding own_seq own_advert adverts_known held_adverts route_from is_cut_off bo
     resend_items piece sendings current_items open_items retired_items settling installs_to
     installs_to_all resent_by_controller steps_in present_step version_count file_of plan_at
     stamp_of holds_version has mask_where mask_of switches least_in is_news after_hearing first_adverts
-    names told_links is_link known_links is_isolated wider ball nearer onward links_away route_to
+    names named_links is_link known_links is_isolated wider ball nearer onward links_away route_to
     first_route route_of has_link with_link holds meets meet_of covers_of is_fixed_of free_of
     is_apart is_independent widen widened same_key lib.Count.count_trailing_zeros
 nothing_rows = refl

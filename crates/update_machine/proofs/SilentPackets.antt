@@ -7,7 +7,7 @@ use Rattle.journal.specs.declared.item.Item.{Item}
 use Rattle.journal.specs.declared.item.Item.TheVariants as item
 use Rattle.update_machine.specs.Concerns.{NoneConcern, concerns_packet}
 use Rattle.update_machine.specs.Laws.{PacketKeeps}
-use Rattle.update_machine.specs.Packets.{decision_of, header_in, standing, tells_decision, tells_header, tells_place}
+use Rattle.update_machine.specs.Packets.{decision_of, header_in, standing, tells_decision, tells_header, tells_standing}
 use Rattle.update_machine.specs.Travels.{changes_leg, ingress_of, leg_of, tells_ingress, tells_travelling, travels}
 use Rattle.update_machine.specs.Ways.{changes_found, changes_hops, found_down, next_switch, route_in, route_place, tells_route}
 use Rattle.update_machine.proofs.Silent.{folded_stays, last_stays}
@@ -23,7 +23,7 @@ ingress_silent i before (item.Entered packet switch header) apart = rw apart ref
 ingress_silent i before _ apart = refl
 
 place_silent : (i : ℕ) (before : List Item) (item : Item) → IsFalse (concerns_packet i before item)
-    → tells_place i item ≡ None
+    → tells_standing i item ≡ None
 place_silent i before (item.Entered packet switch header) apart = rw apart refl
 place_silent i before (item.Hopped packet switch) apart = rw apart refl
 place_silent i before _ apart = refl
@@ -83,7 +83,7 @@ ingress_stays i before items none = last_stays (tells_ingress i) (concerns_packe
 place_stays : (i : ℕ) (before items : List Item) → NoneConcern (concerns_packet i) before items
     → standing (before ++ items) i ≡ standing before i
 unfolding standing
-place_stays i before items none = last_stays (tells_place i) (concerns_packet i) (place_silent i)
+place_stays i before items none = last_stays (tells_standing i) (concerns_packet i) (place_silent i)
     before items none
 
 travels_stays : (i : ℕ) (before items : List Item) → NoneConcern (concerns_packet i) before items

@@ -41,13 +41,13 @@ own_advert setting journal s = record {
 -- ---- what a switch knows
 
 -- its own advert, if it told one in its boot
-abbrev pub own_if_told : Advert → Option Advert
-own_if_told advert = if advert.seq == 0 then None else Some advert
+abbrev pub own_if_sent : Advert → Option Advert
+own_if_sent advert = if advert.seq == 0 then None else Some advert
 
 -- for each origin the newest advert that the switch knows, and its own at its own place
 unfoldable pub adverts_known : Setting → List Item → ℕ → List (Option Advert)
 adverts_known setting journal s =
-    slice_set (adverts_of_others setting journal s) s (own_if_told (own_advert setting journal s))
+    slice_set (adverts_of_others setting journal s) s (own_if_sent (own_advert setting journal s))
 
 abbrev pub advert_known : Setting → List Item → ℕ → ℕ → Option Advert
 advert_known setting journal s origin = held (adverts_known setting journal s) origin

@@ -38,21 +38,21 @@ has_changed setting before journal s =
 
 -- what the switch tells a neighbour: all adverts that it holds over a link that became usable, its
 -- own alone over another one
-abbrev pub told_over : Setting → List Item → List Item → ℕ → ℕ → List Message
-told_over setting before journal s neighbour = elim (has (near setting before s) neighbour) [
+abbrev pub messages_over : Setting → List Item → List Item → ℕ → ℕ → List Message
+messages_over setting before journal s neighbour = elim (has (near setting before s) neighbour) [
   | true ↦ advert_to neighbour (own_advert setting journal s) ∷ []
   | false ↦ map (advert_to neighbour) (held_adverts setting journal s)
 ]
 
-abbrev pub told_by : Setting → List Item → List Item → ℕ → List Message
-told_by setting before journal s =
-    flat_map (told_over setting before journal s) (switches_in setting (near setting journal s))
+abbrev pub messages_of : Setting → List Item → List Item → ℕ → List Message
+messages_of setting before journal s =
+    flat_map (messages_over setting before journal s) (switches_in setting (near setting journal s))
 
 -- each switch whose links changed tells its neighbours, all by ascending number
 unfoldable pub link_changes : Setting → List Item → List Item → List Item
 link_changes setting before journal =
     sends journal
-    (flat_map (told_by setting before journal)
+    (flat_map (messages_of setting before journal)
     (filter (has_changed setting before journal) (switches_of setting)))
 
 -- ---- at a switch

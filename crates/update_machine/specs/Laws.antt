@@ -11,7 +11,7 @@ use Rattle.policy_rules.specs.declared.packet.Leg.TheVariants.{Exit}
 use Rattle.policy_rules.specs.declared.policy.Action.TheVariants.{Out}
 use Rattle.switch_table.specs.Lookup.{table_lookup}
 use Rattle.journal.specs.declared.item.Item.{Item}
-use Rattle.update_machine.specs.Adverts.{advert_known, adverts_known, held_adverts, is_cut_off, own_advert, own_if_told, own_seq, route_from}
+use Rattle.update_machine.specs.Adverts.{advert_known, adverts_known, held_adverts, is_cut_off, own_advert, own_if_sent, own_seq, route_from}
 use Rattle.update_machine.specs.Boots.{boot_of, heard, is_up}
 use Rattle.update_machine.specs.Caches.{cache_of, lookup_at}
 use Rattle.update_machine.specs.Concerns.{NoneConcern, concerns_calls, concerns_controller, concerns_known, concerns_links, concerns_lookups, concerns_message, concerns_messages, concerns_packet, concerns_packets, concerns_policies, concerns_steps, concerns_switch, concerns_waiting}
@@ -211,7 +211,7 @@ pub record KnownLinkLaws : Type 0 where
       (advert_known setting journal s origin)
   -- of itself what it told last, if it told something in its boot
   pub own : (setting : Setting) (journal : List Item) (s : ℕ) → s < 64 →
-      advert_known setting journal s s ≡ own_if_told (own_advert setting journal s)
+      advert_known setting journal s s ≡ own_if_sent (own_advert setting journal s)
   -- its route is a shortest one over the links that it knows, and of those the least, to the first
   -- target that it reaches; there is none exactly where it reaches no target
   pub route : (setting : Setting) (journal : List Item) (s : ℕ) (targets down : List ℕ) →

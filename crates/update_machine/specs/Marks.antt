@@ -70,15 +70,15 @@ open_sent s boot (item.Sent number message) =
 open_sent s boot _ = []
 
 -- the first of these, if there is one
-abbrev pub first_of : List ℕ → Option ℕ
-first_of [] = None
-first_of (x ∷ xs) = Some x
+abbrev pub first_number : List ℕ → Option ℕ
+first_number [] = None
+first_number (x ∷ xs) = Some x
 
 -- the version at which the switch was opened in its known boot: 1 in boot 1
 unfoldable pub opened_at : List Item → ℕ → Option ℕ
 opened_at journal s = if known_boot journal s == 1
     then Some 1
-    else first_of (all_given (open_sent s (known_boot journal s)) journal)
+    else first_number (all_given (open_sent s (known_boot journal s)) journal)
 
 abbrev pub open_version : List Item → ℕ → ℕ
 open_version journal s = unwrap_or (opened_at journal s) 0

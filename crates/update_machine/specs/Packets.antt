@@ -28,14 +28,14 @@ tells_header i _ = None
 unfoldable pub header_in : List Item → ℕ → Option Header
 header_in journal i = last_told (tells_header i) journal
 
-abbrev pub tells_place : ℕ → Item → Option ℕ
-tells_place i (item.Entered packet switch header) = if packet == i then Some switch else None
-tells_place i (item.Hopped packet switch) = if packet == i then Some switch else None
-tells_place i _ = None
+abbrev pub tells_standing : ℕ → Item → Option ℕ
+tells_standing i (item.Entered packet switch header) = if packet == i then Some switch else None
+tells_standing i (item.Hopped packet switch) = if packet == i then Some switch else None
+tells_standing i _ = None
 
 -- the switch where it stands: that of its last `Entered` or `Hopped`
 unfoldable pub standing : List Item → ℕ → Option ℕ
-standing journal i = last_told (tells_place i) journal
+standing journal i = last_told (tells_standing i) journal
 
 -- ---- its decision
 

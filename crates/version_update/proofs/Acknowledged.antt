@@ -6,7 +6,7 @@ use Rattle.std.proofs.lemmas.Nat.Bits.{bit_at-zero, bit_at_above, bit_at_or, bit
 use Rattle.std.proofs.lemmas.Bool.{cases_eq, eq-eqb, ne_eqb}
 use Rattle.version_update.specs.declared.record.Phase.TheVariants.{Joining}
 use Rattle.version_update.specs.declared.record.SwitchRecord.{SwitchRecord}
-use Rattle.version_update.specs.Record.{has_acked, first_record, IsSoundRecord, takes_hello, after_hello, takes_installed, after_installed}
+use Rattle.version_update.specs.Record.{has_acked, first_record, IsSoundRecord, takes_hello, hello_recorded, takes_installed, after_installed}
 
 pub first_acked : (version : ℕ) → 1 ≤ version → has_acked first_record version ≡ eqb version 1
 first_acked version low = elim (cases_eq version 1) [
@@ -17,7 +17,7 @@ first_acked version low = elim (cases_eq version 1) [
 ]
 
 pub hello_acked : (boot version : ℕ) (known : SwitchRecord) → IsTrue (takes_hello boot known)
-    → has_acked (after_hello boot known) version ≡ false
+    → has_acked (hello_recorded boot known) version ≡ false
 hello_acked boot version known taken =
     ap (λ t. has_acked (cond t
     (record { boot = boot; phase = Joining; acked = 0; open_version = 0; acked_stamp = 0 })

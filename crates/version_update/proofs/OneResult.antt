@@ -10,9 +10,9 @@ use Rattle.std.proofs.lemmas.List.Elements.{All-head, All-tail, All-cons, All-ni
 use Rattle.version_update.specs.declared.record.Phase.TheVariants.{Member}
 use Rattle.version_update.specs.declared.record.SwitchRecord.{SwitchRecord}
 use Rattle.version_update.specs.declared.marks.Settled.{Settled}
-use Rattle.version_update.specs.Record.{is_member, opens_at, opened_at}
-use Rattle.version_update.specs.Marks.{MarksValue, stamps, least_of, AreSettled}
-use Rattle.version_update.specs.Settling.{Names, raised, RisesTo, Tells, Settles}
+use Rattle.version_update.specs.Record.{is_member, opens_at, opened_record}
+use Rattle.version_update.specs.Marks.{MarksValue, stamps, least_of, AreMarksSettled}
+use Rattle.version_update.specs.Settling.{Names, rises_to, RisesTo, Tells, Settles}
 use Rattle.version_update.specs.Laws.{nothing_rose, IsLeast}
 
 -- ---- one result
@@ -39,7 +39,7 @@ one_result before a b x y left right =
     let current : a.current ≡ b.current = one_current before a.current b.current left.current
     right.current in
     let switches : a.switches ≡ b.switches = left.switches
-    ∙ ap (λ c. map (opened_at c) before.switches) current ∙ sym right.switches in
+    ∙ ap (λ c. map (opened_record c) before.switches) current ∙ sym right.switches in
     let allowed = ap (λ c. unwrap_or (least_of (stamps a.switches)) c - 1) current
     ∙ ap (λ (l : List SwitchRecord). unwrap_or (least_of (stamps l)) b.current - 1) switches in
     let retired : a.retired ≡ b.retired = left.retired ∙ allowed ∙ sym right.retired in
@@ -78,7 +78,7 @@ one_answer before a b x y left right taken =
 
 -- ---- settled marks
 
-raised_none : (n : ℕ) → raised n n ≡ None
+raised_none : (n : ℕ) → rises_to n n ≡ None
 raised_none n = rw (le-ltb n n (omega arith)) refl
 
 names_none : (n : ℕ) (passes : SwitchRecord → Bool) (switches : List SwitchRecord)
@@ -91,17 +91,17 @@ names_none n passes switches s = bit_at-zero s ∙ by_option (slice_get switches
     by_option (Some known) = rw (le-ltb n n (omega arith)) refl
 
 all_stay : (current : ℕ) (switches : List SwitchRecord)
-    → All (λ known. IsFalse (opens_at current known)) switches → switches ≡ map (opened_at current)
+    → All (λ known. IsFalse (opens_at current known)) switches → switches ≡ map (opened_record current)
     switches
 all_stay current [] closed = refl
 all_stay current (known ∷ more) closed =
     let here = All-head (λ known. IsFalse (opens_at current known)) known more closed in
     let rest = all_stay current more
     (All-tail (λ known. IsFalse (opens_at current known)) known more closed) in
-    let same : known ≡ opened_at current known =
+    let same : known ≡ opened_record current known =
     ap (λ b. cond b (record known
     { phase = Member; open_version = current; acked_stamp = current }) known) (sym here) in
-    ap (λ l. known ∷ l) rest ∙ ap (λ (k : SwitchRecord). k ∷ map (opened_at current) more) same
+    ap (λ l. known ∷ l) rest ∙ ap (λ (k : SwitchRecord). k ∷ map (opened_record current) more) same
 
 none_named : (current : ℕ) (switches : List SwitchRecord)
     → All (λ known. IsFalse (opens_at current known)) switches → Names 0 (opens_at current) switches
@@ -115,7 +115,7 @@ none_named current switches closed s = bit_at-zero s ∙ at_place switches s clo
     at_place (known ∷ more) (suc k) shut =
         at_place more k (All-tail (λ known. IsFalse (opens_at current known)) known more shut)
 
-pub settled_stay : (marks : MarksValue) (taken : Bool) → AreSettled marks
+pub settled_stay : (marks : MarksValue) (taken : Bool) → AreMarksSettled marks
     → Settles marks marks (nothing_rose taken)
 settled_stay marks taken settled = record {
   count = refl;

@@ -7,21 +7,21 @@ use Rattle.std.proofs.lemmas.List.Elements.{All-map, All-replicate}
 use Rattle.version_update.specs.declared.record.Phase.{Phase}
 use Rattle.version_update.specs.declared.record.Phase.TheVariants.{Joining, Member, Over}
 use Rattle.version_update.specs.declared.record.SwitchRecord.{SwitchRecord}
-use Rattle.version_update.specs.Record.{first_record, is_member, is_joining, has_acked, takes_installed, after_installed, IsSoundRecord, opens_at, opened_at}
+use Rattle.version_update.specs.Record.{first_record, is_member, is_joining, has_acked, takes_installed, after_installed, IsSoundRecord, opens_at, opened_record}
 use Rattle.std.specs.Int.Bits.{bit_or}
 use Rattle.std.proofs.lemmas.Nat.{or_lt}
 use Rattle.std.proofs.Math.Pow.{pow-lt}
 use Rattle.version_update.proofs.Stamps.{least_stamp-version}
-use Rattle.version_update.specs.Marks.{MarksValue, first_marks, members, all_acked, retired_of, AreBounded, AreSettled}
+use Rattle.version_update.specs.Marks.{MarksValue, first_marks, member_records, all_have_acked, retired_of, AreBounded, AreMarksSettled}
 use Rattle.version_update.specs.Settling.{RisesTo}
 
 -- a member stays as it is
 member_stays : (current : ℕ) (known : SwitchRecord) → is_member known.phase ≡ true
-    → opened_at current known ≡ known
+    → opened_record current known ≡ known
 member_stays current known member = by_phase known.phase refl member
   where
     by_phase : (phase : Phase) → known.phase ≡ phase → is_member phase ≡ true
-        → opened_at current known ≡ known
+        → opened_record current known ≡ known
     by_phase Member is _ = ap
         (λ p. cond (is_joining p && has_acked known current)
         (record known { phase = Member; open_version = current; acked_stamp = current }) known) is
@@ -30,7 +30,7 @@ member_stays current known member = by_phase known.phase refl member
 
 -- no switch opens twice
 opens_once : (current : ℕ) (known : SwitchRecord)
-    → IsFalse (opens_at current (opened_at current known))
+    → IsFalse (opens_at current (opened_record current known))
 opens_once current known = by_test (opens_at current known) refl
   where
     by_test : (opens : Bool) → opens_at current known ≡ opens
@@ -41,12 +41,12 @@ opens_once current known = by_test (opens_at current known) refl
     by_test false is = is
 
 pub none_opens : (current : ℕ) (switches : List SwitchRecord)
-    → All (λ known. IsFalse (opens_at current known)) (map (opened_at current) switches)
+    → All (λ known. IsFalse (opens_at current known)) (map (opened_record current) switches)
 none_opens current switches = All-map (λ known. IsFalse (opens_at current known))
-    (opened_at current) switches (λ k d within. opens_once current _)
+    (opened_record current) switches (λ k d within. opens_once current _)
 
 opened_at-sound : (count current : ℕ) (known : SwitchRecord) → 1 ≤ current → current ≤ count
-    → IsSoundRecord count known → IsSoundRecord count (opened_at current known)
+    → IsSoundRecord count known → IsSoundRecord count (opened_record current known)
 opened_at-sound count current known low high sound = by_test (opens_at current known)
   where
     by_test : (opens : Bool)
@@ -84,9 +84,9 @@ first-bounded number some few =
 
 -- bounds are kept
 pub opened-bounded : (marks : MarksValue) → AreBounded marks
-    → AreBounded (record marks { switches = map (opened_at marks.current) marks.switches })
+    → AreBounded (record marks { switches = map (opened_record marks.current) marks.switches })
 opened-bounded marks bounds =
-    let len : length (map (opened_at marks.current) marks.switches) ≡ length marks.switches =
+    let len : length (map (opened_record marks.current) marks.switches) ≡ length marks.switches =
     simp length-map in
     record {
       first = bounds.first;
@@ -94,7 +94,7 @@ opened-bounded marks bounds =
       versions = bounds.versions;
       some = omega (arith, len, bounds.some);
       switches = omega (arith, len, bounds.switches);
-      records = All-map (IsSoundRecord marks.count) (opened_at marks.current) marks.switches
+      records = All-map (IsSoundRecord marks.count) (opened_record marks.current) marks.switches
           (λ k d within. opened_at-sound marks.count marks.current _ bounds.first bounds.last
           (bounds.records k d within));
     }
@@ -105,66 +105,66 @@ and_parts false b e = cc
 
 -- what each member acknowledged after the opening, each member did before it
 all_acked-opened : (version current : ℕ) (switches : List SwitchRecord)
-    → IsTrue (all_acked version (map (opened_at current) switches))
-    → IsTrue (all_acked version switches)
+    → IsTrue (all_have_acked version (map (opened_record current) switches))
+    → IsTrue (all_have_acked version switches)
 all_acked-opened version current [] all = refl
 all_acked-opened version current (known ∷ more) all = by_phase (is_member known.phase) refl
     (all_acked-opened version current more)
   where
     tail_of : (k : SwitchRecord) (member : Bool) → list_all (λ k. has_acked k version)
-        (cond member (k ∷ members (map (opened_at current) more))
-        (members (map (opened_at current) more))) ≡ true → list_all (λ k. has_acked k version)
-        (members (map (opened_at current) more)) ≡ true
+        (cond member (k ∷ member_records (map (opened_record current) more))
+        (member_records (map (opened_record current) more))) ≡ true → list_all (λ k. has_acked k version)
+        (member_records (map (opened_record current) more)) ≡ true
     tail_of k true e = (and_parts _ _ e).1
     tail_of k false e = e
 
     by_phase : (member : Bool) → is_member known.phase ≡ member
-        → (IsTrue (all_acked version (map (opened_at current) more))
-        → IsTrue (all_acked version more))
+        → (IsTrue (all_have_acked version (map (opened_record current) more))
+        → IsTrue (all_have_acked version more))
         → IsTrue (list_all (λ k. has_acked k version)
-        (cond member (known ∷ members more) (members more)))
+        (cond member (known ∷ member_records more) (member_records more)))
     by_phase true is rest =
         let same = subst (λ (k : SwitchRecord). list_all (λ k. has_acked k version)
-        (cond (is_member k.phase) (k ∷ members (map (opened_at current) more))
-        (members (map (opened_at current) more))) ≡ true) (member_stays current known is) all in
+        (cond (is_member k.phase) (k ∷ member_records (map (opened_record current) more))
+        (member_records (map (opened_record current) more))) ≡ true) (member_stays current known is) all in
         let both = subst (λ (b : Bool). list_all (λ k. has_acked k version)
-        (cond b (known ∷ members (map (opened_at current) more))
-        (members (map (opened_at current) more))) ≡ true) is same in
+        (cond b (known ∷ member_records (map (opened_record current) more))
+        (member_records (map (opened_record current) more))) ≡ true) is same in
         let parts = and_parts (has_acked known version) _ both in
-        ap (λ b. b && list_all (λ k. has_acked k version) (members more)) parts.0 ∙ rest parts.1
+        ap (λ b. b && list_all (λ k. has_acked k version) (member_records more)) parts.0 ∙ rest parts.1
     by_phase false is rest =
-        rest (tail_of (opened_at current known) (is_member (opened_at current known).phase) all)
+        rest (tail_of (opened_record current known) (is_member (opened_record current known).phase) all)
 
 pub stopped-opened : (version current : ℕ) (switches : List SwitchRecord)
-    → IsFalse (all_acked version switches)
-    → IsFalse (all_acked version (map (opened_at current) switches))
+    → IsFalse (all_have_acked version switches)
+    → IsFalse (all_have_acked version (map (opened_record current) switches))
 stopped-opened version current switches lacks =
-    by_test (all_acked version (map (opened_at current) switches)) refl
+    by_test (all_have_acked version (map (opened_record current) switches)) refl
   where
-    by_test : (acked : Bool) → all_acked version (map (opened_at current) switches) ≡ acked
+    by_test : (acked : Bool) → all_have_acked version (map (opened_record current) switches) ≡ acked
         → acked ≡ false
     by_test true is = let all = all_acked-opened version current switches is in cc
     by_test false is = refl
 
 -- the marks after current rose, the joining switches opened and retired was set
 pub settled_by : (before mid last : MarksValue) (current retired : ℕ) → RisesTo before current
-    → mid ≡ record before { current = current; switches = map (opened_at current) before.switches }
+    → mid ≡ record before { current = current; switches = map (opened_record current) before.switches }
     → last ≡ mid → retired ≡ retired_of mid → retired < mid.count
     → AreBounded (record last { retired = retired })
-    → AreSettled (record last { retired = retired })
+    → AreMarksSettled (record last { retired = retired })
 settled_by before mid last current retired rises opened same is_retired live bounds =
     by_marks last (same ∙ opened) bounds
   where
     by_marks : (marks : MarksValue)
         → marks ≡ record before {
           current = current;
-          switches = map (opened_at current)
+          switches = map (opened_record current)
               before.switches;
         } → AreBounded (record marks { retired = retired })
-        → AreSettled (record marks { retired = retired })
+        → AreMarksSettled (record marks { retired = retired })
     by_marks marks e bounded =
         subst (λ (m : MarksValue). AreBounded (record m { retired = retired })
-        → AreSettled (record m { retired = retired })) (sym e)
+        → AreMarksSettled (record m { retired = retired })) (sym e)
         (λ b. record {
           bounds = b;
           stopped = λ more. stopped-opened (current + 1) current before.switches
@@ -176,7 +176,7 @@ settled_by before mid last current retired rises opened same is_retired live bou
         bounded
 
 -- at the start
-pub first-settled : (number : ℕ) → 1 ≤ number → number ≤ 64 → AreSettled (first_marks number)
+pub first-settled : (number : ℕ) → 1 ≤ number → number ≤ 64 → AreMarksSettled (first_marks number)
 first-settled number some few =
     let bounds = first-bounded number some few in
     let least = least_stamp-version 1 1 (replicate number first_record) (omega arith) (omega arith)

@@ -5,7 +5,7 @@ use Rattle.std.specs.List.{fold}
 use Rattle.std.proofs.lemmas.List.Elements.{All-nil, All-cons, All-head, All-tail}
 use Rattle.version_update.specs.declared.record.SwitchRecord.{SwitchRecord}
 use Rattle.version_update.specs.Record.{is_member, IsSoundRecord}
-use Rattle.version_update.specs.Marks.{members, stamps, least_of}
+use Rattle.version_update.specs.Marks.{member_records, stamps, least_of}
 
 -- from 1 to count
 abbrev IsVersion : ℕ → ℕ → Type 0
@@ -38,7 +38,7 @@ stamps-versions count (known ∷ more) sound = by_phase (is_member known.phase) 
     by_phase : (member : Bool) → is_member known.phase ≡ member
         → All (IsVersion count) (stamps more)
         → All (IsVersion count) (map (λ k. k.acked_stamp)
-        (cond member (known ∷ members more) (members more)))
+        (cond member (known ∷ member_records more) (member_records more)))
     by_phase true is rest =
         let low = here.open_version is in
         let high = here.acked_stamp is in

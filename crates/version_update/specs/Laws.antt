@@ -4,8 +4,8 @@ use Rattle.std.specs.Prelude.{ℕ, ◌≡◌, ◌<◌, ◌≤◌, Bool, false, �
 use Rattle.std.specs.Int.{bit_at}
 use Rattle.version_update.specs.declared.record.SwitchRecord.{SwitchRecord}
 use Rattle.version_update.specs.declared.marks.Settled.{Settled}
-use Rattle.version_update.specs.Record.{has_acked, first_record, IsSoundRecord, takes_hello, after_hello, takes_installed, after_installed}
-use Rattle.version_update.specs.Marks.{MarksValue, least_of, AreSettled}
+use Rattle.version_update.specs.Record.{has_acked, first_record, IsSoundRecord, takes_hello, hello_recorded, takes_installed, after_installed}
+use Rattle.version_update.specs.Marks.{MarksValue, least_of, AreMarksSettled}
 use Rattle.version_update.specs.Settling.{Names, Settles}
 
 -- nothing rose, and nobody is told
@@ -29,7 +29,7 @@ pub record SettlingLaws : Type 0 where
   pub one_answer : (before a b : MarksValue) (x y : Settled) → Settles before a x
       → Settles before b y → x.taken ≡ y.taken → x ≡ y
   -- settled marks stay as they are
-  pub idle : (marks : MarksValue) (taken : Bool) → AreSettled marks
+  pub idle : (marks : MarksValue) (taken : Bool) → AreMarksSettled marks
       → Settles marks marks (nothing_rose taken)
   -- a mask names switches that there are, and that pass
   pub named : (mask s : ℕ) (passes : SwitchRecord → Bool) (switches : List SwitchRecord)
@@ -41,7 +41,7 @@ pub record RecordLaws : Type 0 where
   -- a version is acknowledged at the start, or by a message that was taken
   pub first : (version : ℕ) → 1 ≤ version → has_acked first_record version ≡ (version == 1)
   pub hello : (boot version : ℕ) (known : SwitchRecord) → IsTrue (takes_hello boot known)
-      → has_acked (after_hello boot known) version ≡ false
+      → has_acked (hello_recorded boot known) version ≡ false
   pub installed : (boot version other : ℕ) (known : SwitchRecord) → 1 ≤ version → 1 ≤ other →
       has_acked (after_installed boot version known) other
       ≡ (has_acked known other || (takes_installed boot known && other == version))

@@ -3,7 +3,7 @@
 use Rattle.std.specs.Prelude.{ℕ, ◌≡◌, ◌+◌, ◌-◌, ◌<◌, ◌≤◌, Bool, IsFalse, Option, unwrap_or, List, map, filter, replicate, length, min, All, slice_index_or, slice_set}
 use Rattle.std.specs.List.{list_all, reduce}
 use Rattle.version_update.specs.declared.record.SwitchRecord.{SwitchRecord}
-use Rattle.version_update.specs.Record.{is_member, has_acked, first_record, no_switch, IsSoundRecord, opens_at}
+use Rattle.version_update.specs.Record.{is_member, has_acked, first_record, unknown_switch, IsSoundRecord, opens_at}
 
 -- the versions are 1 to count; those up to retired are retired; each switch is known at its number
 pub record MarksValue : Type 0 where
@@ -25,7 +25,7 @@ first_marks number = record {
 -- ---- switches
 
 abbrev pub record_of : MarksValue → ℕ → SwitchRecord
-record_of marks s = slice_index_or marks.switches s no_switch
+record_of marks s = slice_index_or marks.switches s unknown_switch
 
 -- the marks with this change of what is known of switch s
 abbrev pub at_switch : ℕ → (SwitchRecord → SwitchRecord) → MarksValue → MarksValue
@@ -37,16 +37,16 @@ abbrev pub with_version : MarksValue → MarksValue
 with_version marks = record marks { count = marks.count + 1 }
 
 -- those that are members
-abbrev pub members : List SwitchRecord → List SwitchRecord
-members switches = filter (λ known. is_member known.phase) switches
+abbrev pub member_records : List SwitchRecord → List SwitchRecord
+member_records switches = filter (λ known. is_member known.phase) switches
 
 -- each member acknowledged the version
-abbrev pub all_acked : ℕ → List SwitchRecord → Bool
-all_acked version switches = list_all (λ known. has_acked known version) (members switches)
+abbrev pub all_have_acked : ℕ → List SwitchRecord → Bool
+all_have_acked version switches = list_all (λ known. has_acked known version) (member_records switches)
 
 -- the stamps that the members acknowledged
 abbrev pub stamps : List SwitchRecord → List ℕ
-stamps switches = map (λ known. known.acked_stamp) (members switches)
+stamps switches = map (λ known. known.acked_stamp) (member_records switches)
 
 -- ---- the rule of the marks
 
@@ -68,14 +68,14 @@ pub record AreBounded (marks : MarksValue) : Type 0 where
   pub records : All (IsSoundRecord marks.count) marks.switches
 
 -- current can't rise, no joining switch can open, and retired is as far as the members allow
-pub record AreSettled (marks : MarksValue) : Type 0 where
+pub record AreMarksSettled (marks : MarksValue) : Type 0 where
   pub bounds : AreBounded marks
-  pub stopped : marks.current < marks.count → IsFalse (all_acked (marks.current + 1) marks.switches)
+  pub stopped : marks.current < marks.count → IsFalse (all_have_acked (marks.current + 1) marks.switches)
   pub opened : All (λ known. IsFalse (opens_at marks.current known)) marks.switches
   pub retired : marks.retired ≡ retired_of marks
   pub live : marks.retired < marks.count
 
 -- settled still, and of the same switches
 pub record StaySettled (old new : MarksValue) : Type 0 where
-  pub settled : AreSettled new
+  pub settled : AreMarksSettled new
   pub switches : length new.switches ≡ length old.switches

@@ -33,8 +33,8 @@ abbrev pub first_record : SwitchRecord
 first_record = record { boot = 1; phase = Member; acked = 1; open_version = 1; acked_stamp = 1 }
 
 -- what is read where there is no switch
-abbrev pub no_switch : SwitchRecord
-no_switch = record { boot = 0; phase = Over; acked = 0; open_version = 0; acked_stamp = 0 }
+abbrev pub unknown_switch : SwitchRecord
+unknown_switch = record { boot = 0; phase = Over; acked = 0; open_version = 0; acked_stamp = 0 }
 
 -- it speaks of the versions 1 to count alone, and what a member acknowledged is at least what it
 -- was opened at
@@ -50,8 +50,8 @@ pub record IsSoundRecord (count : ℕ) (known : SwitchRecord) : Type 0 where
 abbrev pub takes_hello : ℕ → SwitchRecord → Bool
 takes_hello boot known = nat_lt known.boot boot
 
-abbrev pub after_hello : ℕ → SwitchRecord → SwitchRecord
-after_hello boot known = if takes_hello boot known then
+abbrev pub hello_recorded : ℕ → SwitchRecord → SwitchRecord
+hello_recorded boot known = if takes_hello boot known then
     record { boot = boot; phase = Joining; acked = 0; open_version = 0; acked_stamp = 0 } else known
 
 -- a version is installed in the known boot of a switch that is not over
@@ -80,6 +80,6 @@ after_over known = record known { phase = Over }
 abbrev pub opens_at : ℕ → SwitchRecord → Bool
 opens_at current known = is_joining known.phase && has_acked known current
 
-abbrev pub opened_at : ℕ → SwitchRecord → SwitchRecord
-opened_at current known = if opens_at current known then record known
+abbrev pub opened_record : ℕ → SwitchRecord → SwitchRecord
+opened_record current known = if opens_at current known then record known
     { phase = Member; open_version = current; acked_stamp = current } else known

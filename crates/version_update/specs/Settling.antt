@@ -4,12 +4,12 @@ use Rattle.std.specs.Option.{option_map_or}
 use Rattle.std.specs.Int.{bit_at, from_bool}
 use Rattle.version_update.specs.declared.record.SwitchRecord.{SwitchRecord}
 use Rattle.version_update.specs.declared.marks.Settled.{Settled}
-use Rattle.version_update.specs.Record.{is_member, opens_at, opened_at}
-use Rattle.version_update.specs.Marks.{MarksValue, all_acked, retired_of}
+use Rattle.version_update.specs.Record.{is_member, opens_at, opened_record}
+use Rattle.version_update.specs.Marks.{MarksValue, all_have_acked, retired_of}
 
 -- the new number where it rose
-abbrev pub raised : ℕ → ℕ → Option ℕ
-raised old new = if nat_lt old new then Some new else None
+abbrev pub rises_to : ℕ → ℕ → Option ℕ
+rises_to old new = if nat_lt old new then Some new else None
 
 -- bit s of the mask is 1 exactly where there is a switch s that passes
 abbrev pub Names : ℕ → (SwitchRecord → Bool) → List SwitchRecord → Type 0
@@ -18,12 +18,12 @@ Names mask passes switches = (s : ℕ)
 
 -- what rose, and the switches that are to be told
 pub record Tells (before after : MarksValue) (answer : Settled) : Type 0 where
-  pub current : answer.current ≡ raised before.current after.current
+  pub current : answer.current ≡ rises_to before.current after.current
   -- a new current version is told to the members from before
   pub stamps : Names answer.stamps
       (λ known. nat_lt before.current after.current && is_member known.phase) before.switches
   pub opens : Names answer.opens (opens_at after.current) before.switches
-  pub retired : answer.retired ≡ raised before.retired after.retired
+  pub retired : answer.retired ≡ rises_to before.retired after.retired
   -- a newly retired version is told to all members
   pub collects : Names answer.collects
       (λ known. nat_lt before.retired after.retired && is_member known.phase) after.switches
@@ -34,14 +34,14 @@ pub record RisesTo (marks : MarksValue) (current : ℕ) : Type 0 where
   pub rises : marks.current ≤ current
   pub bound : current ≤ marks.count
   pub acknowledged : (version : ℕ) → marks.current < version → version ≤ current
-      → IsTrue (all_acked version marks.switches)
-  pub stopped : current < marks.count → IsFalse (all_acked (current + 1) marks.switches)
+      → IsTrue (all_have_acked version marks.switches)
+  pub stopped : current < marks.count → IsFalse (all_have_acked (current + 1) marks.switches)
 
 -- current rises; then the joining switches open that acknowledged it; then retired is as far as the
 -- members allow
 pub record Settles (before after : MarksValue) (answer : Settled) : Type 0 where
   pub count : after.count ≡ before.count
   pub current : RisesTo before after.current
-  pub switches : after.switches ≡ map (opened_at after.current) before.switches
+  pub switches : after.switches ≡ map (opened_record after.current) before.switches
   pub retired : after.retired ≡ retired_of after
   pub tells : Tells before after answer

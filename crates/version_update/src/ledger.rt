@@ -1,7 +1,7 @@
 ghost use Rattle.std.specs.Prelude.{ℕ, ◌≡◌, ◌+◌, ◌<◌, ◌≤◌, length, map, replicate, slice_set};
-ghost use Rattle.version_update.specs.Record.{first_record, IsSoundRecord, opens_at, opened_at};
+ghost use Rattle.version_update.specs.Record.{first_record, IsSoundRecord, opens_at, opened_record};
 ghost use Rattle.version_update.specs.Marks.{first_marks, record_of, AreBounded, StaySettled, retired_of};
-ghost use Rattle.version_update.specs.Settling.{Names, raised, RisesTo, Settles};
+ghost use Rattle.version_update.specs.Settling.{Names, rises_to, RisesTo, Settles};
 
 use crate::marks::Settled;
 use crate::record::SwitchRecord;
@@ -148,7 +148,7 @@ impl Ledger {
 
     fn open_joining(&mut self) -> u64
         ensures opened { self.new
-            ≡ record self.old { switches = map (opened_at self.old.current) self.old.switches } }
+            ≡ record self.old { switches = map (opened_record self.old.current) self.old.switches } }
         ensures opens { Names result (opens_at self.old.current) self.old.switches }
     {
         let number = self.number;
@@ -173,7 +173,7 @@ fn first_records() -> [SwitchRecord; MOST_SWITCHES]
 
 // The new number, where it rose.
 fn raised(old: u32, new: u32) -> Option<u32>
-    ensures { result ≡ raised old new }
+    ensures { result ≡ rises_to old new }
 {
     (old < new).then_some(new)
 }

@@ -1,6 +1,6 @@
 ghost use Rattle.std.specs.Prelude.{ℕ, ◌≡◌, ◌≢◌, ◌+◌, ◌-◌, ◌<◌, ◌≤◌, ◌↔◌, length, IsTrue, IfOk, OnErr, Err};
-ghost use Rattle.version_update.specs.Record.{is_member, has_acked, takes_hello, after_hello, takes_installed, after_installed, takes_stamped, after_stamped, after_over};
-ghost use Rattle.version_update.specs.Marks.{first_marks, record_of, at_switch, with_version, AreSettled, StaySettled};
+ghost use Rattle.version_update.specs.Record.{is_member, has_acked, takes_hello, hello_recorded, takes_installed, after_installed, takes_stamped, after_stamped, after_over};
+ghost use Rattle.version_update.specs.Marks.{first_marks, record_of, at_switch, with_version, AreMarksSettled, StaySettled};
 ghost use Rattle.version_update.specs.Settling.{Settles};
 ghost use Rattle.version_update.specs.declared.marks.SubmitError.TheVariants.{TooManyLive, TooManyVersions};
 
@@ -62,7 +62,7 @@ impl Model for Marks {
 
     ghost view = { λ m. m.ledger };
 
-    ghost invariant = { λ m. AreSettled m.ledger };
+    ghost invariant = { λ m. AreMarksSettled m.ledger };
 }
 
 impl Marks {
@@ -71,7 +71,7 @@ impl Marks {
         requires some { 1 ≤ switches }
         requires few { switches ≤ 64 }
         ensures marks { result ≡ first_marks switches }
-        ensures rule { AreSettled result }
+        ensures rule { AreMarksSettled result }
     {
         Marks {
             ledger: Ledger::begin(switches),
@@ -82,7 +82,7 @@ impl Marks {
     pub fn hello(&mut self, s: u32, boot: u32) -> Settled
         requires { s < length self.old.switches }
         ensures taken { result.taken ≡ takes_hello boot (record_of self.old s) }
-        ensures settled { Settles (at_switch s (after_hello boot) self.old) self.new result }
+        ensures settled { Settles (at_switch s (hello_recorded boot) self.old) self.new result }
         ensures rule { StaySettled self.old self.new }
     {
         let mut known = self.ledger.record(s);
@@ -177,7 +177,7 @@ impl Marks {
     /// The version that every member has.
     pub fn current(&self) -> u32
         ensures current { result ≡ self.now.current }
-        ensures rule { AreSettled self.now }
+        ensures rule { AreMarksSettled self.now }
     {
         self.ledger.current()
     }
@@ -185,7 +185,7 @@ impl Marks {
     /// The last version that is retired, or 0.
     pub fn retired(&self) -> u32
         ensures retired { result ≡ self.now.retired }
-        ensures rule { AreSettled self.now }
+        ensures rule { AreMarksSettled self.now }
     {
         self.ledger.retired()
     }
@@ -193,7 +193,7 @@ impl Marks {
     /// How many versions there are.
     pub fn count(&self) -> u32
         ensures count { result ≡ self.now.count }
-        ensures rule { AreSettled self.now }
+        ensures rule { AreMarksSettled self.now }
     {
         self.ledger.count()
     }

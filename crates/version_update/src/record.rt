@@ -1,5 +1,5 @@
 ghost use Rattle.std.specs.Prelude.{◌≡◌, ◌<◌, ◌≤◌, ◌↔◌, IsTrue};
-ghost use Rattle.version_update.specs.Record.{is_member, is_joining, has_acked, first_record, takes_hello, after_hello, takes_installed, after_installed, takes_stamped, after_stamped, after_over, opens_at, opened_at};
+ghost use Rattle.version_update.specs.Record.{is_member, is_joining, has_acked, first_record, takes_hello, hello_recorded, takes_installed, after_installed, takes_stamped, after_stamped, after_over, opens_at, opened_record};
 
 use masks::has;
 
@@ -58,7 +58,7 @@ impl SwitchRecord {
 
     pub fn hello(&mut self, boot: u32) -> bool
         ensures taken { result ≡ takes_hello boot self.old }
-        ensures after { self.new ≡ after_hello boot self.old }
+        ensures after { self.new ≡ hello_recorded boot self.old }
     {
         let taken = self.boot < boot;
         if taken {
@@ -108,7 +108,7 @@ impl SwitchRecord {
         requires first { 1 ≤ current }
         requires last { current ≤ 64 }
         ensures opens { result ≡ opens_at current self.old }
-        ensures after { self.new ≡ opened_at current self.old }
+        ensures after { self.new ≡ opened_record current self.old }
     {
         let opens = self.phase == Phase::Joining && self.has_acked(current);
         if opens {

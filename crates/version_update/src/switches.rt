@@ -1,7 +1,7 @@
 //! Questions over what is known of all switches, each answered in one walk.
 ghost use Rattle.std.specs.Prelude.{ℕ, ◌≡◌, ◌+◌, ◌-◌, ◌<◌, ◌≤◌, ◌&&◌, map, length};
-ghost use Rattle.version_update.specs.Record.{is_member, opens_at, opened_at};
-ghost use Rattle.version_update.specs.Marks.{all_acked, stamps, least_of};
+ghost use Rattle.version_update.specs.Record.{is_member, opens_at, opened_record};
+ghost use Rattle.version_update.specs.Marks.{all_have_acked, stamps, least_of};
 ghost use Rattle.version_update.specs.Settling.{Names};
 ghost use Rattle.version_update.specs.declared.record.SwitchRecord.{SwitchRecord};
 
@@ -25,7 +25,7 @@ pub fn open_at(switches: &mut [SwitchRecord], current: u32) -> u64
     requires few { length switches.old ≤ 64 }
     requires first { 1 ≤ current }
     requires last { current ≤ 64 }
-    ensures opened { switches.new ≡ map (opened_at current) switches.old }
+    ensures opened { switches.new ≡ map (opened_record current) switches.old }
     ensures opens { Names result (opens_at current) switches.old }
 {
     let mut mask = 0;
@@ -39,7 +39,7 @@ pub fn open_at(switches: &mut [SwitchRecord], current: u32) -> u64
 pub fn all_acked(switches: &[SwitchRecord], version: u32) -> bool
     requires first { 1 ≤ version }
     requires last { version ≤ 64 }
-    ensures { result ≡ all_acked version switches.now }
+    ensures { result ≡ all_have_acked version switches.now }
 {
     switches
         .iter()

@@ -33,7 +33,7 @@ use Rattle.advert_laws.proofs.BothCauses.{HasBothCauses}
 use Rattle.advert_laws.proofs.NetLinks.{links_there}
 use Rattle.way_laws.specs.Rules.{IsRightEntry, IsRightRule}
 use Rattle.way_laws.specs.OnWay.{IsUnknown}
-use Rattle.way_laws.specs.Words.{names, told_by, words_of}
+use Rattle.way_laws.specs.Words.{names, words_after, words_of}
 use Rattle.way_laws.proofs.Words.{words_named, words_other}
 use Rattle.way_laws.specs.Kept.{AllKept, BringsRight, IsJudged, IsKept}
 use Rattle.way_laws.specs.Stages.{Blocked, CameIn, Judged, OnWay, Stage, stage_of, tells_stage}
@@ -102,19 +102,19 @@ same_packet packet i e = eqb-true packet i e
 -- the packet that an item names
 named_as : (setting : Setting) (before : List Item) (packet i : ℕ) (next : Item) (stage : Stage)
     → (packet == i) ≡ true → tells_stage i next ≡ Some stage
-    → IsKept setting before (told_by (retired_mark before) next (words_of before packet))
+    → IsKept setting before (words_after (retired_mark before) next (words_of before packet))
     (Some stage)
-    → IsKept setting before (told_by (retired_mark before) next (words_of before i))
+    → IsKept setting before (words_after (retired_mark before) next (words_of before i))
     (stage_of (before ++ next ∷ []) i)
 named_as setting before packet i next stage named tells kept =
-    subst (IsKept setting before (told_by (retired_mark before) next (words_of before i)))
+    subst (IsKept setting before (words_after (retired_mark before) next (words_of before i)))
     (sym (stage_more before next i stage tells))
-    (subst (λ k. IsKept setting before (told_by (retired_mark before) next (words_of before k))
+    (subst (λ k. IsKept setting before (words_after (retired_mark before) next (words_of before k))
     (Some stage)) (same_packet packet i named) kept)
 
 named_after : (setting : Setting) (before : List Item) (next : Item) (i : ℕ)
     → Before setting before → WayCause setting before next → names i next ≡ true
-    → IsKept setting before (told_by (retired_mark before) next (words_of before i))
+    → IsKept setting before (words_after (retired_mark before) next (words_of before i))
     (stage_of (before ++ next ∷ []) i)
 named_after setting before (item.Entered packet s header) i known way named =
     let own : NamesOwn setting (Packet s header) =

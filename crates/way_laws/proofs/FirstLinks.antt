@@ -3,7 +3,7 @@ use Rattle.std.proofs.Common.{ℕ, ◌≡◌, ◌<◌, true, false, Some, List, 
 use Rattle.std.specs.Prelude.{IsTrue, slice_get}
 use Rattle.std.proofs.lemmas.Bool.{cases_lt}
 use Rattle.std.proofs.lemmas.List.{get_or_past}
-use Rattle.failover.specs.Links.{is_link, neighbours_told, told_links, AreJoined, IsPath}
+use Rattle.failover.specs.Links.{is_link, neighbours_named, named_links, AreJoined, IsPath}
 use Rattle.masks.specs.Masks.{has}
 use Rattle.failover.specs.Paths.{IsRoute}
 use Rattle.masks.proofs.CallerLemmas.{has-zero}
@@ -31,9 +31,9 @@ own_row rows at own other is = elim (cases_lt at (length rows)) [
 joined_sees : (setting : Setting) (journal : List Item) (s next : ℕ) (down : List ℕ) → s < 64
     → next < 64 → AreJoined (links_known setting journal s down) s next
     → IsTrue (has (near setting journal s) next)
-unfolding is_link told_links
+unfolding is_link named_links
 joined_sees setting journal s next down small fits joined =
-    own_row (map neighbours_told (adverts_known setting journal s)) s (near setting journal s) next
+    own_row (map neighbours_named (adverts_known setting journal s)) s (near setting journal s) next
     (second _ _ _ _
     (sym (has_known_link setting journal s down s next small fits) ∙ joined))
 

@@ -45,7 +45,7 @@ use Rattle.advert_laws.specs.Adverts.{LinksAreThere}
 use Rattle.advert_laws.proofs.BothCauses.{HasBothCauses}
 use Rattle.way_laws.specs.Rules.{IsRightEntry}
 use Rattle.way_laws.specs.OnWay.{IsExiting, IsOnLeg, IsOnWay, IsPartitionOf, IsSeeking, IsUnderWay, LeadsTo}
-use Rattle.way_laws.specs.Words.{PacketWords, port_of, told_by, words_of}
+use Rattle.way_laws.specs.Words.{PacketWords, port_decided, words_after, words_of}
 use Rattle.way_laws.specs.Kept.{IsJudged, IsKept, IsSought}
 use Rattle.way_laws.specs.Stages.{Blocked, CameIn, Judged, OnWay, Stage, stage_of}
 use Rattle.way_laws.specs.WayCauses.{AuthorityDecides, CacheDecides, DecidesBy, IsDecided, IsRedirected, MeetsDown, MovesOver, TakesDetour, TakesExit, TakesRoute}
@@ -197,10 +197,10 @@ pub seeking_after : (setting : Setting) (before : List Item) (i mark version par
     (route : List ℕ) → Knows setting before i (stage_of before i)
     → TakesRoute setting before i (Seek version partition) route
     → IsKept setting before
-    (told_by mark (item.Seeking i version partition route) (words_of before i)) (Some OnWay)
+    (words_after mark (item.Seeking i version partition route) (words_of before i)) (Some OnWay)
 seeking_after setting before i mark version partition route knows takes =
     let words : PacketWords = words_of before i in
-    let after : PacketWords = told_by mark (item.Seeking i version partition route) words in
+    let after : PacketWords = words_after mark (item.Seeking i version partition route) words in
     let s : ℕ = takes.switch in
     let here : IsHere setting before i s =
     here_of setting before i s (stage_of before i) knows.is knows.have knows.kept takes.at in
@@ -250,10 +250,10 @@ port_named setting port act is named =
 
 pub exiting_after : (setting : Setting) (before : List Item) (i mark : ℕ) (route : List ℕ)
     → Knows setting before i (stage_of before i) → TakesExit setting before i route
-    → IsKept setting before (told_by mark (item.Exiting i route) (words_of before i)) (Some OnWay)
+    → IsKept setting before (words_after mark (item.Exiting i route) (words_of before i)) (Some OnWay)
 exiting_after setting before i mark route knows exits =
     let words : PacketWords = words_of before i in
-    let after : PacketWords = told_by mark (item.Exiting i route) words in
+    let after : PacketWords = words_after mark (item.Exiting i route) words in
     let s : ℕ = exits.by.switch in
     let out = exits.by.takes in
     let here : IsHere setting before i s =
@@ -273,7 +273,7 @@ exiting_after setting before i mark route knows exits =
     route_way setting before s (owner setting exits.port ∷ []) words.found route knows.links
     (subst (λ down. route_from setting before s (owner setting exits.port ∷ []) down ≡ Some route)
     (found_in before i) exits.by.leads) in
-    let port : port_of words.decision ≡ exits.port = rw (decided, out.action) refl in
+    let port : port_decided words.decision ≡ exits.port = rw (decided, out.action) refl in
     let exiting : IsExiting setting after exits.port = record {
       decision = out.decision;
       decided = decided;
@@ -288,7 +288,7 @@ exiting_after setting before i mark route knows exits =
       judged = λ travels is header entered. absurd cc;
       on_way = λ travels is. record {
         under_way = under;
-        leg = Exit (port_of words.decision);
+        leg = Exit (port_decided words.decision);
         takes = refl;
         on_leg = subst (IsExiting setting after) (sym port) exiting;
         stands = way.begins ∙ ap Some here.at;
@@ -323,10 +323,10 @@ leg_by setting before words after header (Exit port) decision mark on leads = re
 
 pub rerouted_after : (setting : Setting) (before : List Item) (i mark : ℕ) (route : List ℕ)
     → Knows setting before i (stage_of before i) → TakesDetour setting before i route
-    → IsKept setting before (told_by mark (item.Rerouted i route) (words_of before i)) (Some OnWay)
+    → IsKept setting before (words_after mark (item.Rerouted i route) (words_of before i)) (Some OnWay)
 rerouted_after setting before i mark route knows turns =
     let words : PacketWords = words_of before i in
-    let after : PacketWords = told_by mark (item.Rerouted i route) words in
+    let after : PacketWords = words_after mark (item.Rerouted i route) words in
     let s : ℕ = turns.switch in
     let here : IsHere setting before i s =
     here_of setting before i s (stage_of before i) knows.is knows.have knows.kept turns.at in
@@ -385,10 +385,10 @@ leg_same setting before words after header (Exit port) decision mark route on = 
 
 pub hopped_after : (setting : Setting) (before : List Item) (i mark next : ℕ)
     → Knows setting before i (stage_of before i) → MovesOver setting before i next
-    → IsKept setting before (told_by mark (item.Hopped i next) (words_of before i)) (Some OnWay)
+    → IsKept setting before (words_after mark (item.Hopped i next) (words_of before i)) (Some OnWay)
 hopped_after setting before i mark next knows moves =
     let words : PacketWords = words_of before i in
-    let after : PacketWords = told_by mark (item.Hopped i next) words in
+    let after : PacketWords = words_after mark (item.Hopped i next) words in
     let s : ℕ = moves.switch in
     let here : IsHere setting before i s =
     here_of setting before i s (stage_of before i) knows.is knows.have knows.kept moves.at in
@@ -423,11 +423,11 @@ hopped_after setting before i mark next knows moves =
 
 pub found_after : (setting : Setting) (before : List Item) (i mark one two : ℕ)
     → Knows setting before i (stage_of before i) → MeetsDown setting before i one two
-    → IsKept setting before (told_by mark (item.FoundDown i one two) (words_of before i))
+    → IsKept setting before (words_after mark (item.FoundDown i one two) (words_of before i))
     (Some Blocked)
 found_after setting before i mark one two knows meets =
     let words : PacketWords = words_of before i in
-    let after : PacketWords = told_by mark (item.FoundDown i one two) words in
+    let after : PacketWords = words_after mark (item.FoundDown i one two) words in
     let here : IsHere setting before i one =
     here_of setting before i one (stage_of before i) knows.is knows.have knows.kept meets.at in
     let was : IsOnWay setting before words = knows.kept.on_way here.travelling (inl meets.moving) in
@@ -455,7 +455,7 @@ found_after setting before i mark one two knows meets =
 pub entered_after : (setting : Setting) (before : List Item) (i s : ℕ) (header : Header)
     (words : PacketWords) → s < length setting.net.switches → IsHeader header
     → words.decision ≡ None → words.leg ≡ None
-    → IsKept setting before (told_by (retired_mark before) (item.Entered i s header) words)
+    → IsKept setting before (words_after (retired_mark before) (item.Entered i s header) words)
     (Some CameIn)
 entered_after setting before i s header words there sound undecided no_leg = record {
   under_way = λ travels. record {
@@ -617,11 +617,11 @@ pub decided_after : (setting : Setting) (before : List Item) (i mark version : �
     (act : Action) (by : How) → Knows setting before i (stage_of before i)
     → ((s : ℕ) → All (IsRightEntry setting before) (cache_of setting before s).entries)
     → IsDecided setting before i version rule act by
-    → IsKept setting before (told_by mark (item.Decided i version rule act by) (words_of before i))
+    → IsKept setting before (words_after mark (item.Decided i version rule act by) (words_of before i))
     (Some Judged)
 decided_after setting before i mark version rule act by knows right decided =
     let words : PacketWords = words_of before i in
-    let after : PacketWords = told_by mark (item.Decided i version rule act by) words in
+    let after : PacketWords = words_after mark (item.Decided i version rule act by) words in
     let s : ℕ = decided.switch in
     let here : IsHere setting before i s =
     here_of setting before i s (stage_of before i) knows.is knows.have knows.kept decided.at in

@@ -6,7 +6,7 @@ use Rattle.std.specs.List.{list_any}
 use Rattle.std.proofs.lemmas.Bool.{cases_eq}
 use Rattle.std.proofs.lemmas.List.{get_or-map, length-map}
 use Rattle.failover.specs.Adverts.{held}
-use Rattle.failover.specs.Links.{is_link, neighbours_told, told_links, has_link, AreJoined, IsReachable, Leads as LeadsByMasks}
+use Rattle.failover.specs.Links.{is_link, neighbours_named, named_links, has_link, AreJoined, IsReachable, Leads as LeadsByMasks}
 use Rattle.failover.specs.declared.advert.Advert.{Advert}
 use Rattle.failover.specs.Isolated.{names}
 use Rattle.failover.proofs.Rows.{has_known}
@@ -47,7 +47,7 @@ none_leads joined links from target rows over small unreached path leads =
 -- what a switch is told of the links of one
 abbrev told_row : Setting → List Item → ℕ → ℕ → ℕ
 told_row setting before s one = slice_index
-    (told_links (adverts_of_others setting before s) s (near setting before s)) one
+    (named_links (adverts_of_others setting before s) s (near setting before s)) one
 
 -- what is known of a journal in which a switch serves
 pub record Sees (setting : Setting) (before : List Item) (s : ℕ) : Type 0 where
@@ -59,7 +59,7 @@ pub record Sees (setting : Setting) (before : List Item) (s : ℕ) : Type 0 wher
 end_has : (setting : Setting) (before : List Item) (s one two : ℕ) → Sees setting before s
     → IsTrue (is_end setting before s one two)
     → IsNamed one two (IsTrue (has (told_row setting before s one) two))
-unfolding told_links names
+unfolding named_links names
 end_has setting before s one two sees is = elim (cases_eq one s) [
   | inl same ↦ own same
       (own_end setting before sees.net s two
@@ -75,14 +75,14 @@ end_has setting before s one two sees is = elim (cases_eq one s) [
     places = (heard_by_origin setting before s).places
 
     rows : List ℕ
-    rows = map neighbours_told adverts
+    rows = map neighbours_named adverts
 
     own : one ≡ s → IsNamed s two (IsTrue (has (near setting before s) two))
         → IsNamed one two (IsTrue (has (get_or (set rows s (near setting before s)) one 0) two))
     own same named =
         let row : get_or (set rows s (near setting before s)) s 0 ≡ near setting before s =
         get_or-set_same rows s (near setting before s) 0
-        (omega (arith, named.one_small, places, length-map adverts neighbours_told)) in
+        (omega (arith, named.one_small, places, length-map adverts neighbours_named)) in
         subst (λ x. IsNamed x two (IsTrue (has (get_or (set rows s (near setting before s)) x 0)
         two))) (sym same) (record {
           one_small = named.one_small;
@@ -91,13 +91,13 @@ end_has setting before s one two sees is = elim (cases_eq one s) [
         })
 
     told : one ≢ s
-        → IsNamed one two (IsTrue (has (neighbours_told (held adverts one)) two))
+        → IsNamed one two (IsTrue (has (neighbours_named (held adverts one)) two))
         → IsNamed one two (IsTrue (has (get_or (set rows s (near setting before s)) one 0) two))
     told apart named =
         let row : get_or (set rows s (near setting before s)) one 0
-        ≡ neighbours_told (held adverts one) =
+        ≡ neighbours_named (held adverts one) =
         get_or-set_other rows s one (near setting before s) 0 apart
-        ∙ get_or-map neighbours_told adverts one None 0 (omega (arith, named.one_small, places)) in
+        ∙ get_or-map neighbours_named adverts one None 0 (omega (arith, named.one_small, places)) in
         record {
           one_small = named.one_small;
           two_small = named.two_small;

@@ -11,7 +11,7 @@ use Rattle.journal.specs.declared.item.Item.TheVariants as item
 use Rattle.update_machine.specs.Adverts.{held_adverts, own_advert}
 use Rattle.update_machine.specs.Boots.{is_up}
 use Rattle.update_machine.specs.Causes.{HaveCauses}
-use Rattle.update_machine.specs.Deliveries.{advert_to, after_hello, controller_items, delivery_items, has_changed, link_changes, passed_on, received_items, switch_items, told_by, told_over, switches_in}
+use Rattle.update_machine.specs.Deliveries.{advert_to, after_hello, controller_items, delivery_items, has_changed, link_changes, passed_on, received_items, switch_items, messages_of, messages_over, switches_in}
 use Rattle.update_machine.specs.LinkMasks.{near}
 use Rattle.update_machine.specs.Marks.{acked_stamp, current_mark, retired_mark}
 use Rattle.update_machine.specs.Messages.{next_message, sends, sent_from}
@@ -172,7 +172,7 @@ controller_aside setting before body journal =
 -- ---- links and switches
 
 over_other : (setting : Setting) (before journal : List Item) (s neighbour : ℕ)
-    → AreOther (told_over setting before journal s neighbour)
+    → AreOther (messages_over setting before journal s neighbour)
 over_other setting before journal s neighbour = by_old (has (near setting before s) neighbour)
   where
     by_old : (b : Bool) → AreOther (elim b [
@@ -187,8 +187,8 @@ pub changes_aside : (setting : Setting) (before journal : List Item)
 unfolding link_changes
 changes_aside setting before journal =
     sends_aside journal _
-    (each_flat_map (λ (m : Message). IsOther m.body) (told_by setting before journal)
-    (λ s. each_flat_map (λ (m : Message). IsOther m.body) (told_over setting before journal s)
+    (each_flat_map (λ (m : Message). IsOther m.body) (messages_of setting before journal)
+    (λ s. each_flat_map (λ (m : Message). IsOther m.body) (messages_over setting before journal s)
     (λ neighbour. over_other setting before journal s neighbour)
     (switches_in setting (near setting journal s)))
     (filter (has_changed setting before journal) (switches_of setting)))

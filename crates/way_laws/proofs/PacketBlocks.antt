@@ -25,7 +25,7 @@ use Rattle.update_machine.specs.Causes.{HaveCauses, present_step}
 use Rattle.update_machine.specs.LinkMasks.{near}
 use Rattle.update_machine.specs.Messages.{next_message, sends, sent_from}
 use Rattle.update_machine.specs.Moves.{AuthorityRule, arrive_by, arrive_items, authority_items, authority_rule, cache_items, cache_rule, end_items, first_place, found_items, go_on, header_at, in_turn, leaves, leg_items, lookup_items, move_items, put, reroute_by, reroute_items, route_for, stuck_on, takes_route}
-use Rattle.update_machine.specs.Packets.{Decision, decision_of, header_in, standing, tells_decision, tells_header, tells_place}
+use Rattle.update_machine.specs.Packets.{Decision, decision_of, header_in, standing, tells_decision, tells_header, tells_standing}
 use Rattle.update_machine.specs.Pieces.{hop_items, lose_items, nothing, packet_items}
 use Rattle.update_machine.specs.Setting.{Setting}
 use Rattle.update_machine.specs.Versions.{holds_version, stamp_of, plan_at}
@@ -34,7 +34,7 @@ use Rattle.update_machine.specs.Ways.{changes_hops, found_down, next_switch, own
 use Rattle.update_machine.proofs.CallerLemmas.{folded_append, have_append, have_first, last_told_append, lookup_stays, near_stays, policies_keep, switch_keeps}
 use Rattle.way_laws.specs.Stages.{Stage, Blocked, CameIn, Judged, OnWay, stage_of, tells_stage}
 use Rattle.way_laws.specs.Rest.{AreResting, IsServed}
-use Rattle.way_laws.specs.WayCauses.{Arrives, AuthorityFinds, IsAt, IsLookedUp, IsOfRow, Reaches, TakesLeg, WayCause}
+use Rattle.way_laws.specs.WayCauses.{Arrives, AuthorityFinds, IsAt, IsLookedUp, IsOfRow, ReachesAuthority, TakesLeg, WayCause}
 use Rattle.way_laws.proofs.FirstLinks.{first_usable}
 
 abbrev pub Ways : Setting → List Item → List Item → Type 0
@@ -57,13 +57,13 @@ stage_stays before next i tells = rw (last_told_append (tells_stage i) before (n
 
 -- an item that leaves a packet where it is
 pub still : (before : List Item) (next : Item) (i s : ℕ) → tells_travelling i next ≡ None
-    → tells_place i next ≡ None → tells_serving s next ≡ None → IsAt before i s
+    → tells_standing i next ≡ None → tells_serving s next ≡ None → IsAt before i s
     → IsAt (before ++ next ∷ []) i s
 unfolding travels standing serves
 still before next i s travelling place serving at = record {
   travelling = rw (last_told_append (tells_travelling i) before (next ∷ []), travelling)
       at.travelling;
-  place = rw (last_told_append (tells_place i) before (next ∷ []), place) at.place;
+  place = rw (last_told_append (tells_standing i) before (next ∷ []), place) at.place;
   serving = rw (last_told_append (tells_serving s) before (next ∷ []), serving) at.serving;
 }
 
@@ -268,7 +268,7 @@ cache_ways setting journal i s found here finds = by_apart (is_at s (ingress_of 
 
 -- the packet is looked up or arrives where its rule is found
 abbrev pub WhenDecided : List Item → ℕ → ℕ → ℕ → Type 0
-WhenDecided journal i s version = IsLookedUp journal i s ⊎ Reaches journal i s version
+WhenDecided journal i s version = IsLookedUp journal i s ⊎ ReachesAuthority journal i s version
 
 pub authority_ways : (setting : Setting) (journal : List Item) (i s version : ℕ)
     (o : Option AuthorityRule) → IsAt journal i s → WhenDecided journal i s version
@@ -550,7 +550,7 @@ entered_at journal i s header serving =
     let entered : Item = item.Entered i s header in
     record {
       travelling = rw (last_told_append (tells_travelling i) journal (entered ∷ []), own i) refl;
-      place = rw (last_told_append (tells_place i) journal (entered ∷ []), own i) refl;
+      place = rw (last_told_append (tells_standing i) journal (entered ∷ []), own i) refl;
       serving = rw (last_told_append (tells_serving s) journal (entered ∷ [])) serving;
     }
 

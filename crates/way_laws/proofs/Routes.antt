@@ -4,7 +4,7 @@ use Rattle.std.proofs.Common.{ℕ, zero, suc, ◌≡◌, ◌+◌, ◌-◌, ◌<�
 use Rattle.std.specs.Prelude.{IsTrue, IsFalse, nat_eq, slice_get, slice_index}
 use Rattle.std.specs.List.{list_any}
 use Rattle.std.proofs.lemmas.Bool.{eq-eqb}
-use Rattle.failover.specs.Links.{is_link, told_links, has_link, AreJoined, IsPath, Leads}
+use Rattle.failover.specs.Links.{is_link, named_links, has_link, AreJoined, IsPath, Leads}
 use Rattle.masks.specs.Masks.{has}
 use Rattle.failover.specs.Paths.{IsRoute}
 use Rattle.failover.proofs.Searching.{path_is_route_list}
@@ -17,7 +17,7 @@ use Rattle.update_machine.specs.LinkMasks.{near, links_known}
 use Rattle.update_machine.specs.Setting.{Setting}
 use Rattle.update_machine.proofs.CallerLemmas.{has_known_link, known_link_laws}
 use Rattle.advert_laws.specs.Adverts.{LinksAreThere}
-use Rattle.way_laws.specs.OnWay.{IsFirst, LeadsTo}
+use Rattle.way_laws.specs.OnWay.{StartsAt, LeadsTo}
 use Rattle.way_laws.specs.Kept.{Avoids}
 
 -- what a joined pair is: a link of the network, not found down
@@ -44,13 +44,13 @@ good_link : (setting : Setting) (journal : List Item) (at one two : ℕ) (down :
     → AreJoined (links_known setting journal at down) one two → IsGoodLink setting down one two
 unfolding has
 good_link setting journal at one two down there one_small two_small joined =
-    let known : is_link (told_links (adverts_known setting journal at) at (near setting journal at))
+    let known : is_link (named_links (adverts_known setting journal at) at (near setting journal at))
     down one two ≡ true =
     sym (has_known_link setting journal at down one two one_small two_small) ∙ joined in
     record {
       linked = in_mask_of (are_linked setting.net.links one) two two_small
           ∙ there.known at one two down one_small two_small joined;
-      up = not_down (told_links (adverts_known setting journal at) at (near setting journal at)) down one
+      up = not_down (named_links (adverts_known setting journal at) at (near setting journal at)) down one
           two known;
     }
 
@@ -81,7 +81,7 @@ leads_at links target at (next ∷ more) (suc k) one two fits way here there =
 -- what a route does
 pub record IsWay (setting : Setting) (at : ℕ) (targets down route : List ℕ) : Type 0 where
   pub leads : LeadsTo setting targets route
-  pub begins : IsFirst at route
+  pub begins : StartsAt at route
   pub avoids : Avoids down route
 
 path_way : (setting : Setting) (journal : List Item) (at target : ℕ) (targets down route : List ℕ)

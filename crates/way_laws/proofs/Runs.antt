@@ -31,7 +31,7 @@ use Rattle.boot_laws.proofs.Grown.{count_more, retired_more}
 use Rattle.boot_laws.proofs.Versions.{caused_numbered}
 use Rattle.mark_laws.proofs.Marks.{bounded}
 use Rattle.way_laws.specs.OnWay.{IsUnknown}
-use Rattle.way_laws.specs.Words.{PacketWords, names, told_by, words_of}
+use Rattle.way_laws.specs.Words.{PacketWords, names, words_after, words_of}
 use Rattle.way_laws.proofs.Words.{other_number, own_number, words_named, words_other}
 use Rattle.way_laws.proofs.Words.{words_grow}
 use Rattle.way_laws.specs.Kept.{AllKept}
@@ -104,7 +104,7 @@ IsUnseen (item.Stuck packet switch cause leg down) = ⊥
 IsUnseen _ = ⊤
 
 unseen_words : (mark : ℕ) (item : Item) (words : PacketWords) (o : Option Packet) → IsUnseen item
-    → SeenAs o words → SeenAs o (told_by mark item words)
+    → SeenAs o words → SeenAs o (words_after mark item words)
 unseen_words mark (item.Submitted file version) words o is seen = absurd is
 unseen_words mark (item.Retired version) words o is seen = absurd is
 unseen_words mark (item.Entered packet switch header) words o is seen = absurd is
@@ -114,16 +114,16 @@ unseen_words mark (item.Left packet port leaving) words o is seen = absurd is
 unseen_words mark (item.Lost packet) words o is seen = absurd is
 unseen_words mark (item.Stuck packet switch cause leg down) words o is seen = absurd is
 unseen_words mark (item.Seeking packet version partition route) words o is seen =
-    seen_same o words (told_by mark (item.Seeking packet version partition route) words) refl refl
+    seen_same o words (words_after mark (item.Seeking packet version partition route) words) refl refl
     refl refl seen
 unseen_words mark (item.Exiting packet route) words o is seen =
-    seen_same o words (told_by mark (item.Exiting packet route) words) refl refl refl refl seen
+    seen_same o words (words_after mark (item.Exiting packet route) words) refl refl refl refl seen
 unseen_words mark (item.Rerouted packet route) words o is seen =
-    seen_same o words (told_by mark (item.Rerouted packet route) words) refl refl refl refl seen
+    seen_same o words (words_after mark (item.Rerouted packet route) words) refl refl refl refl seen
 unseen_words mark (item.Hopped packet switch) words o is seen =
-    seen_same o words (told_by mark (item.Hopped packet switch) words) refl refl refl refl seen
+    seen_same o words (words_after mark (item.Hopped packet switch) words) refl refl refl refl seen
 unseen_words mark (item.FoundDown packet one two) words o is seen =
-    seen_same o words (told_by mark (item.FoundDown packet one two) words) refl refl refl refl seen
+    seen_same o words (words_after mark (item.FoundDown packet one two) words) refl refl refl refl seen
 unseen_words mark _ words o is seen = seen
 
 no_submission : (next : Item) → IsUnseen next → is_submission next ≡ false
@@ -152,7 +152,7 @@ unseen_matches setting machine journal next is matches = record {
 
     by_name : (i : ℕ) (b : Bool)
         → SeenAs (machine.packets i)
-        (if b then told_by (retired_mark journal) next (words_of journal i) else words_of journal i)
+        (if b then words_after (retired_mark journal) next (words_of journal i) else words_of journal i)
     by_name i true = unseen_words (retired_mark journal) next (words_of journal i)
         (machine.packets i) is (matches.packets i)
     by_name i false = matches.packets i
@@ -266,7 +266,7 @@ goes_in setting machine journal i s header before matches number =
     } in
     let none : IsUnknown (words_of journal i) = before.kept.unknown i (omega (arith, number)) in
     let after : words_of (journal ++ entered ∷ []) i
-    ≡ told_by (retired_mark journal) entered (words_of journal i) =
+    ≡ words_after (retired_mark journal) entered (words_of journal i) =
     words_named i journal entered (own_number i) in
     record {
       new = with_packet machine i packet;
@@ -314,7 +314,7 @@ goes_decided setting machine journal i version rule act by before matches way =
     let hit : scan policy at.0.header ≡ record { rule = rule; action = act } =
     ap (scan policy) (sym same) ∙ now.rightly.first_match in
     let after : words_of (journal ++ decided ∷ []) i
-    ≡ told_by (retired_mark journal) decided words =
+    ≡ words_after (retired_mark journal) decided words =
     words_named i journal decided (own_number i) in
     let new : Packet = record at.0 { decision = Some (record { rule = rule; action = act }) } in
     record {

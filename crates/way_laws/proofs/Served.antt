@@ -17,7 +17,7 @@ use Rattle.journal.specs.declared.item.Item.TheVariants as item
 use Rattle.update_machine.specs.Boots.{is_up}
 use Rattle.update_machine.specs.Folds.{count_of, last_told}
 use Rattle.update_machine.specs.Links.{is_usable, serves, tells_serving}
-use Rattle.update_machine.specs.Packets.{is_packet, next_packet, standing, tells_place}
+use Rattle.update_machine.specs.Packets.{is_packet, next_packet, standing, tells_standing}
 use Rattle.update_machine.specs.Setting.{Setting}
 use Rattle.update_machine.specs.Travels.{changes_leg, exit_port, leg_of, tells_travelling, travels}
 use Rattle.update_machine.specs.LinkMasks.{near}
@@ -83,9 +83,9 @@ travels_more before next i =
     by_told (Some b) earlier = refl
 
 pub place_more : (before : List Item) (next : Item) (i : ℕ)
-    → standing (before ++ next ∷ []) i ≡ option_or (tells_place i next) (standing before i)
+    → standing (before ++ next ∷ []) i ≡ option_or (tells_standing i next) (standing before i)
 unfolding standing
-place_more before next i = last_told_append (tells_place i) before (next ∷ [])
+place_more before next i = last_told_append (tells_standing i) before (next ∷ [])
 
 pub packet_more : (before : List Item) (next : Item)
     → next_packet (before ++ next ∷ []) ≡ next_packet before + count_of is_packet (next ∷ [])
@@ -105,7 +105,7 @@ NotDown (item.Down s) = ⊥
 NotDown _ = ⊤
 
 -- an item that brings no packet to another place, behind which the place serves as before
-pub stays_served : (before : List Item) (next : Item) (i : ℕ) → tells_place i next ≡ None
+pub stays_served : (before : List Item) (next : Item) (i : ℕ) → tells_standing i next ≡ None
     → (tells_travelling i next ≡ None) ⊎ (tells_travelling i next ≡ Some false)
     → ((s : ℕ) → IsTrue (serves before s) → IsTrue (serves (before ++ next ∷ []) s))
     → (IsTrue (travels before i) → IsServed before i)

@@ -8,18 +8,18 @@ use Rattle.journal.specs.declared.item.Item.{Item}
 use Rattle.journal.specs.declared.item.Item.TheVariants as item
 use Rattle.update_machine.specs.Folds.{last_told}
 use Rattle.update_machine.specs.Marks.{retired_mark}
-use Rattle.update_machine.specs.Packets.{decision_of, header_in, standing, tells_decision, tells_header, tells_place}
+use Rattle.update_machine.specs.Packets.{decision_of, header_in, standing, tells_decision, tells_header, tells_standing}
 use Rattle.update_machine.specs.Travels.{changes_leg, ingress_of, leg_of, tells_ingress, tells_travelling, travels}
 use Rattle.update_machine.specs.Ways.{changes_found, changes_hops, found_down, route_in, route_place, tells_route}
 use Rattle.update_machine.proofs.CallerLemmas.{folded_append, last_told_append}
-use Rattle.way_laws.specs.Words.{changes_mark, entry_mark, names, told_by, words_of}
+use Rattle.way_laws.specs.Words.{changes_mark, entry_mark, names, words_after, words_of}
 
 -- the words behind one more item, each by its own fold
 words_more : (before : List Item) (i : ℕ) (item : Item) → words_of (before ++ item ∷ []) i
     ≡ record {
       header = option_or (tells_header i item) (header_in before i);
       ingress = option_or (tells_ingress i item) (ingress_of before i);
-      place = option_or (tells_place i item) (standing before i);
+      place = option_or (tells_standing i item) (standing before i);
       travels = unwrap_or (option_or (tells_travelling i item)
           (last_told (tells_travelling i) before))
           false;
@@ -36,7 +36,7 @@ words_more before i item =
     rw (
       last_told_append (tells_header i) before (item ∷ []),
       last_told_append (tells_ingress i) before (item ∷ []),
-      last_told_append (tells_place i) before (item ∷ []),
+      last_told_append (tells_standing i) before (item ∷ []),
       last_told_append (tells_travelling i) before (item ∷ []),
       last_told_append (tells_decision i) before (item ∷ []),
       folded_append (changes_leg i) None before (item ∷ []),
@@ -48,7 +48,7 @@ words_more before i item =
 
 by_name : (before : List Item) (i : ℕ) (item : Item) (b : Bool) → names i item ≡ b →
     words_of (before ++ item ∷ []) i
-    ≡ (if b then told_by (retired_mark before) item (words_of before i) else words_of before i)
+    ≡ (if b then words_after (retired_mark before) item (words_of before i) else words_of before i)
 unfolding words_of header_in ingress_of standing travels decision_of leg_of route_in route_place
     found_down entry_mark
 by_name before i (item.Entered packet switch header) true e = words_more before i
@@ -98,20 +98,20 @@ by_name before i other false e = words_more before i other
 
 pub words_grow : (i : ℕ) (before : List Item) (item : Item) →
     words_of (before ++ item ∷ []) i
-    ≡ (if names i item then told_by (retired_mark before) item (words_of before i) else words_of
+    ≡ (if names i item then words_after (retired_mark before) item (words_of before i) else words_of
     before i)
 words_grow i before item = by_name before i item (names i item) refl
 
 pub words_named : (i : ℕ) (before : List Item) (item : Item) → names i item ≡ true
-    → words_of (before ++ item ∷ []) i ≡ told_by (retired_mark before) item (words_of before i)
+    → words_of (before ++ item ∷ []) i ≡ words_after (retired_mark before) item (words_of before i)
 words_named i before item named = words_grow i before item
-    ∙ ap (λ b. if b then told_by (retired_mark before) item (words_of before i) else words_of before
+    ∙ ap (λ b. if b then words_after (retired_mark before) item (words_of before i) else words_of before
     i) named
 
 pub words_other : (i : ℕ) (before : List Item) (item : Item) → names i item ≡ false
     → words_of (before ++ item ∷ []) i ≡ words_of before i
 words_other i before item other = words_grow i before item
-    ∙ ap (λ b. if b then told_by (retired_mark before) item (words_of before i) else words_of before
+    ∙ ap (λ b. if b then words_after (retired_mark before) item (words_of before i) else words_of before
     i) other
 
 pub own_number : (i : ℕ) → (i == i) ≡ true

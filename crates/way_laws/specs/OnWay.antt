@@ -40,8 +40,8 @@ pub record LeadsTo (setting : Setting) (targets route : List ℕ) : Type 0 where
   pub ends : EndsAtTarget route targets
 
 -- the route begins at this switch
-abbrev pub IsFirst : ℕ → List ℕ → Type 0
-IsFirst switch route = slice_get route 0 ≡ Some switch
+abbrev pub StartsAt : ℕ → List ℕ → Type 0
+StartsAt switch route = slice_get route 0 ≡ Some switch
 
 -- ---- legs
 

@@ -186,7 +186,7 @@ pub record CacheDecides (setting : Setting) (before : List Item) (packet switch 
   pub brought : message ≡ entry.message
 
 -- it arrives at an authority that holds the version
-pub record Reaches (before : List Item) (packet switch version : ℕ) : Type 0 where
+pub record ReachesAuthority (before : List Item) (packet switch version : ℕ) : Type 0 where
   pub arrives : Arrives before packet
   pub partition : ℕ
   pub seeks : leg_of before packet ≡ Some (Seek version partition)
@@ -197,7 +197,7 @@ pub record AuthorityDecides (setting : Setting) (before : List Item) (packet swi
     (rule : Option ℕ) (action : Action) (partition : ℕ) : Type 0 where
   pub found : AuthorityRule
   pub finds : AuthorityFinds setting before packet switch version found
-  pub when : IsLookedUp before packet switch ⊎ Reaches before packet switch version
+  pub when : IsLookedUp before packet switch ⊎ ReachesAuthority before packet switch version
   pub by_rule : rule ≡ found.rule.rule
   pub says : action ≡ found.rule.action
   pub of_part : partition ≡ found.part.number

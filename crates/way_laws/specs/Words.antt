@@ -52,42 +52,42 @@ words_of journal i = record {
 }
 
 -- the port by which a packet of this decision is to leave; 0 where it has none
-abbrev pub port_of : Option Decision → ℕ
-port_of decision = unwrap_or (option_and_then (λ d. port_in d.action) decision) 0
+abbrev pub port_decided : Option Decision → ℕ
+port_decided decision = unwrap_or (option_and_then (λ d. port_in d.action) decision) 0
 
 -- what an item of the packet makes of its words, where versions up to this mark are retired
-abbrev pub told_by : ℕ → Item → PacketWords → PacketWords
-told_by mark (item.Entered packet switch header) words = record words {
+abbrev pub words_after : ℕ → Item → PacketWords → PacketWords
+words_after mark (item.Entered packet switch header) words = record words {
   header = Some header;
   ingress = Some switch;
   place = Some switch;
   travels = true;
   mark = mark;
 }
-told_by mark (item.Seeking packet version partition route) words = record words {
+words_after mark (item.Seeking packet version partition route) words = record words {
   leg = Some (Seek version partition);
   route = route;
   hops = 0;
 }
-told_by mark (item.Exiting packet route) words = record words {
-  leg = Some (Exit (port_of words.decision));
+words_after mark (item.Exiting packet route) words = record words {
+  leg = Some (Exit (port_decided words.decision));
   route = route;
   hops = 0;
 }
-told_by mark (item.Rerouted packet route) words =
+words_after mark (item.Rerouted packet route) words =
     record words { route = route; hops = 0 }
-told_by mark (item.Hopped packet switch) words =
+words_after mark (item.Hopped packet switch) words =
     record words { place = Some switch; hops = words.hops + 1 }
-told_by mark (item.FoundDown packet one two) words =
+words_after mark (item.FoundDown packet one two) words =
     record words { found = with_link words.found one two }
-told_by mark (item.Decided packet version rule action how) words = record words {
+words_after mark (item.Decided packet version rule action how) words = record words {
   decision = Some (record { version = version; rule = rule; action = action });
 }
-told_by mark (item.Left packet port leaving) words = record words { travels = false }
-told_by mark (item.Dropped packet) words = record words { travels = false }
-told_by mark (item.Lost packet) words = record words { travels = false }
-told_by mark (item.Stuck packet switch cause leg down) words = record words { travels = false }
-told_by mark _ words = words
+words_after mark (item.Left packet port leaving) words = record words { travels = false }
+words_after mark (item.Dropped packet) words = record words { travels = false }
+words_after mark (item.Lost packet) words = record words { travels = false }
+words_after mark (item.Stuck packet switch cause leg down) words = record words { travels = false }
+words_after mark _ words = words
 
 -- the item names the packet
 abbrev pub names : ℕ → Item → Bool

@@ -8,7 +8,7 @@ use Rattle.std.proofs.lemmas.Grind.{div_ceil_times}
 use Rattle.std.proofs.lemmas.List.{take-append-drop, length-map, take_all}
 use Rattle.ctrl_msg.specs.declared.message.Message.{Message}
 use Rattle.wire.specs.Messages.{message, IsSpelling}
-use Rattle.wire.specs.Frames.{frame, frames_from, frames_of, pieces, piece_of, place_of, slices, cut, head_len, most_of_piece, AreFrames}
+use Rattle.wire.specs.Frames.{frame, frames_from, frames_of, pieces, piece_of, place_in_frame, slices, cut, head_len, most_of_piece, AreFrames}
 use Rattle.wire.specs.declared.error.WireError.{WireError}
 use Rattle.wire.specs.declared.error.WireError.TheVariants.{Malformed, NoMemory}
 use Rattle.wire.specs.Assembly.{AreRising, IsOfCount, AreNone}
@@ -44,7 +44,7 @@ joined-pieces (f ∷ fs) = ap (λ bytes. piece_of f ++ bytes) (joined-pieces fs)
 pub rising_few : (from count : ℕ) (fs : List (List ℕ)) → AreRising from count fs → length fs ≤ count - from
 rising_few from count [] rising = omega arith
 rising_few from count (f ∷ fs) rising =
-    let others = rising_few (place_of f + 1) count fs rising.2 in
+    let others = rising_few (place_in_frame f + 1) count fs rising.2 in
     let below = rising.1.below in
     omega (arith, rising.0)
 
@@ -53,9 +53,9 @@ pub framed_again : (from count : ℕ) (fs : List (List ℕ)) → AreRising from 
     → fs ≡ frames_from from count (map piece_of fs)
 framed_again from count [] rising all = refl
 framed_again from count (f ∷ fs) rising all =
-    let others = rising_few (place_of f + 1) count fs rising.2 in
+    let others = rising_few (place_in_frame f + 1) count fs rising.2 in
     let below = rising.1.below in
-    let here : place_of f ≡ from = omega (arith, rising.0) in
+    let here : place_in_frame f ≡ from = omega (arith, rising.0) in
     let first : f ≡ frame from count (piece_of f) = rising.1.whole ∙ ap (λ place. frame place count (piece_of f)) here in
     let next : AreRising (from + 1) count fs = subst (λ place. AreRising (place + 1) count fs) here rising.2 in
     let rest : fs ≡ frames_from (from + 1) count (map piece_of fs) = framed_again (from + 1) count fs next (omega arith) in

@@ -5,7 +5,7 @@ use Rattle.std.proofs.lemmas.List.{length-append, length-take, take_at, drop_at,
 use Rattle.std.proofs.lemmas.Nat.{be_bytes_4, from_be_bytes-to_be_bytes_4}
 use Rattle.wire.specs.Format.{spelled_number}
 use Rattle.wire.specs.Fields.{n4}
-use Rattle.wire.specs.Frames.{frame, frames_from, place_of, count_of, piece_of, slices, cut, most_of_piece}
+use Rattle.wire.specs.Frames.{frame, frames_from, place_in_frame, count_of, piece_of, slices, cut, most_of_piece}
 use Rattle.wire.proofs.Laws.{AreBytes, AreBytes-drop, AreBytes-take}
 
 pub length_n4 : (n : ℕ) → length (n4.spell n) ≡ 4
@@ -30,8 +30,8 @@ n4_back : (n : ℕ) → n < 2 ^ 32 → from_be_bytes w32 (n4.spell n) ≡ n
 unfolding n4 spelled_number
 n4_back n lt = from_be_bytes-to_be_bytes_4 n lt
 
-pub place_of_frame : (place count : ℕ) (piece : List ℕ) → place < 2 ^ 32 → place_of (frame place count piece) ≡ place
-unfolding place_of
+pub place_of_frame : (place count : ℕ) (piece : List ℕ) → place < 2 ^ 32 → place_in_frame (frame place count piece) ≡ place
+unfolding place_in_frame
 place_of_frame place count piece lt =
     ap (λ bytes. from_be_bytes w32 (take 4 bytes)) (regroup place count piece)
     ∙ ap (from_be_bytes w32) (take_at (n4.spell place) (n4.spell count ++ piece) 4 (length_n4 place))
@@ -59,8 +59,8 @@ unfolding n4 spelled_number
 n4_again bytes len are = be_bytes_4 bytes _ len are refl
 
 -- bytes are the frame that they say
-pub frame_again : (bytes : List ℕ) → 8 ≤ length bytes → AreBytes bytes → bytes ≡ frame (place_of bytes) (count_of bytes) (piece_of bytes)
-unfolding frame place_of count_of
+pub frame_again : (bytes : List ℕ) → 8 ≤ length bytes → AreBytes bytes → bytes ≡ frame (place_in_frame bytes) (count_of bytes) (piece_of bytes)
+unfolding frame place_in_frame count_of
 frame_again bytes long are =
     let place : n4.spell (from_be_bytes w32 (take 4 bytes)) ≡ take 4 bytes =
     n4_again (take 4 bytes) (omega (arith, length-take 4 bytes)) (AreBytes-take 4 bytes are) in

@@ -8,8 +8,8 @@ use Rattle.ctrl_msg.specs.declared.message.Message.{Message}
 use Rattle.wire.specs.declared.assembler.Spot.TheVariants.{Held, New}
 use Rattle.wire.specs.declared.error.WireError.{WireError}
 use Rattle.wire.specs.declared.error.WireError.TheVariants.{Malformed, NoMemory}
-use Rattle.wire.specs.Frames.{place_of, count_of, AreFrames}
-use Rattle.wire.specs.Assembly.{held_at, with_frame, AreAllHeld, AreRising, AreTogether, IsOfCount, IsRefused, too_short, too_long, past_the_count, another_count, another_frame, no_message, Agree, IsAnswer, IsFed, Joins, IsSpot}
+use Rattle.wire.specs.Frames.{place_in_frame, count_of, AreFrames}
+use Rattle.wire.specs.Assembly.{held_at, with_frame, AreAllHeld, AreRising, AreTogether, IsOfCount, IsRefusedFrame, too_short, too_long, past_the_count, another_count, another_frame, no_message, Agree, IsAssembled, IsFed, Joins, IsSpot}
 use Rattle.wire.proofs.Laws.{AreBytes, some_is, passed}
 use Rattle.wire.proofs.Decoding.{none_is_not}
 use Rattle.wire.proofs.Framing.{frame_again}
@@ -57,17 +57,17 @@ no_bound m n lt = grind (arith, nat_tests)
 a_bound : (m n : ℕ) → n ≤ m → not (leb n m) ≡ false
 a_bound m n le = grind (arith, nat_tests)
 
-pub first_is : (g f : List ℕ) (gs : List (List ℕ)) (place : ℕ) → place_of g ≡ place → held_at (g ∷ gs) place ≡ Some f → g ≡ f
+pub first_is : (g f : List ℕ) (gs : List (List ℕ)) (place : ℕ) → place_in_frame g ≡ place → held_at (g ∷ gs) place ≡ Some f → g ≡ f
 first_is g f gs place same e =
     let is : held_at (g ∷ gs) place ≡ Some g = rw (same, same_place place) refl in
     some_is g f (sym is ∙ e)
 
-other_than : (g : List ℕ) (gs : List (List ℕ)) (place : ℕ) → place ≤ place_of g → held_at (g ∷ gs) place ≡ None → place < place_of g
+other_than : (g : List ℕ) (gs : List (List ℕ)) (place : ℕ) → place ≤ place_in_frame g → held_at (g ∷ gs) place ≡ None → place < place_in_frame g
 other_than g gs place le none =
-    elim (cases_lt place (place_of g)) [
+    elim (cases_lt place (place_in_frame g)) [
       | inl lt ↦ lt
       | inr ge ↦
-          let same : place_of g ≡ place = omega arith in
+          let same : place_in_frame g ≡ place = omega arith in
           let is : held_at (g ∷ gs) place ≡ Some g = rw (same, same_place place) refl in
           absurd (none_is_not g (sym none ∙ is))
     ]
@@ -79,27 +79,27 @@ pub none_below : (from count : ℕ) (fs : List (List ℕ)) (place : ℕ) → Are
 none_below from count [] place rising lt = refl
 none_below from count (f ∷ fs) place rising lt =
     let le = rising.0 in
-    rw (later_place (place_of f) place (omega arith)) (none_below (place_of f + 1) count fs place rising.2 (omega arith))
+    rw (later_place (place_in_frame f) place (omega arith)) (none_below (place_in_frame f + 1) count fs place rising.2 (omega arith))
 
 pub none_lower : (from count : ℕ) (fs : List (List ℕ)) (place : ℕ) → AreRising from count fs → place < from
-    → filter (λ g. ltb (place_of g) place) fs ≡ []
+    → filter (λ g. ltb (place_in_frame g) place) fs ≡ []
 none_lower from count [] place rising lt = refl
 none_lower from count (f ∷ fs) place rising lt =
     let le = rising.0 in
-    rw (not_below (place_of f) place (omega arith)) (none_lower (place_of f + 1) count fs place rising.2 (omega arith))
+    rw (not_below (place_in_frame f) place (omega arith)) (none_lower (place_in_frame f + 1) count fs place rising.2 (omega arith))
 
 pub all_higher : (from count : ℕ) (fs : List (List ℕ)) (place : ℕ) → AreRising from count fs → place < from
-    → filter (λ g. ltb place (place_of g)) fs ≡ fs
+    → filter (λ g. ltb place (place_in_frame g)) fs ≡ fs
 all_higher from count [] place rising lt = refl
 all_higher from count (f ∷ fs) place rising lt =
     let le = rising.0 in
-    rw (lt-ltb place (place_of f) (omega arith))
-    (ap (λ gs. f ∷ gs) (all_higher (place_of f + 1) count fs place rising.2 (omega arith)))
+    rw (lt-ltb place (place_in_frame f) (omega arith))
+    (ap (λ gs. f ∷ gs) (all_higher (place_in_frame f + 1) count fs place rising.2 (omega arith)))
 
 -- ---- all places are held exactly where there are as many frames as the count
 
-pub step_held : (f : List ℕ) (fs : List (List ℕ)) (place : ℕ) → place_of f < place → held_at (f ∷ fs) place ≡ held_at fs place
-step_held f fs place lt = rw (other_place (place_of f) place lt) refl
+pub step_held : (f : List ℕ) (fs : List (List ℕ)) (place : ℕ) → place_in_frame f < place → held_at (f ∷ fs) place ≡ held_at fs place
+step_held f fs place lt = rw (other_place (place_in_frame f) place lt) refl
 
 enough : (from count : ℕ) (fs : List (List ℕ)) → AreRising from count fs
     → ((place : ℕ) → from ≤ place → place < count → IsSome (held_at fs place)) → count - from ≤ length fs
@@ -111,13 +111,13 @@ enough from count [] rising held =
 enough from count (f ∷ fs) rising held =
     let le = rising.0 in
     let below = rising.1.below in
-    elim (cases_lt from (place_of f)) [
+    elim (cases_lt from (place_in_frame f)) [
       | inl lt ↦
-          let none : held_at (f ∷ fs) from ≡ None = none_below (place_of f) count (f ∷ fs) from (omega arith, rising.1, rising.2) lt in
+          let none : held_at (f ∷ fs) from ≡ None = none_below (place_in_frame f) count (f ∷ fs) from (omega arith, rising.1, rising.2) lt in
           absurd (nothing (held_at (f ∷ fs) from) none (held from (omega arith) (omega arith)))
       | inr ge ↦
-          let here : place_of f ≡ from = omega arith in
-          let others = enough (place_of f + 1) count fs rising.2
+          let here : place_in_frame f ≡ from = omega arith in
+          let others = enough (place_in_frame f + 1) count fs rising.2
           (λ place le2 lt2. subst IsSome (step_held f fs place (omega arith)) (held place (omega arith) lt2)) in
           omega arith
     ]
@@ -126,17 +126,17 @@ all_there : (from count : ℕ) (fs : List (List ℕ)) → AreRising from count f
     → (place : ℕ) → from ≤ place → place < count → IsSome (held_at fs place)
 all_there from count [] rising all place le lt = absurd (omega arith)
 all_there from count (f ∷ fs) rising all place le lt =
-    let few = rising_few (place_of f + 1) count fs rising.2 in
+    let few = rising_few (place_in_frame f + 1) count fs rising.2 in
     let from_le = rising.0 in
     let below = rising.1.below in
-    let here : place_of f ≡ from = omega arith in
+    let here : place_in_frame f ≡ from = omega arith in
     elim (cases_lt from place) [
       | inl behind ↦
           subst IsSome (sym (step_held f fs place (omega arith)))
-          (all_there (place_of f + 1) count fs rising.2 (omega arith) place (omega arith) lt)
+          (all_there (place_in_frame f + 1) count fs rising.2 (omega arith) place (omega arith) lt)
       | inr ge ↦
-          let at : place ≡ place_of f = omega arith in
-          rw (at, same_place (place_of f)) refl
+          let at : place ≡ place_in_frame f = omega arith in
+          rw (at, same_place (place_in_frame f)) refl
     ]
 
 pub all_held : (count : ℕ) (fs : List (List ℕ)) → AreRising 0 count fs → length fs ≡ count → AreAllHeld fs count
@@ -150,24 +150,24 @@ held_all count fs rising held =
 
 -- ---- a frame that is held already
 
-pub held_stays : (from count : ℕ) (fs : List (List ℕ)) (f : List ℕ) → AreRising from count fs → held_at fs (place_of f) ≡ Some f → with_frame fs f ≡ fs
+pub held_stays : (from count : ℕ) (fs : List (List ℕ)) (f : List ℕ) → AreRising from count fs → held_at fs (place_in_frame f) ≡ Some f → with_frame fs f ≡ fs
 held_stays from count [] f rising e = absurd (none_is_not f e)
 held_stays from count (g ∷ gs) f rising e =
-    elim (cases_lt (place_of g) (place_of f)) [
+    elim (cases_lt (place_in_frame g) (place_in_frame f)) [
       | inl lt ↦
-          let rest = held_stays (place_of g + 1) count gs f rising.2 (sym (step_held g gs (place_of f) lt) ∙ e) in
-          rw (lt-ltb _ _ lt, not_below (place_of f) (place_of g) (omega arith)) (ap (λ hs. g ∷ hs) rest)
+          let rest = held_stays (place_in_frame g + 1) count gs f rising.2 (sym (step_held g gs (place_in_frame f) lt) ∙ e) in
+          rw (lt-ltb _ _ lt, not_below (place_in_frame f) (place_in_frame g) (omega arith)) (ap (λ hs. g ∷ hs) rest)
       | inr ge ↦
-          elim (cases_lt (place_of f) (place_of g)) [
-            | inl lt ↦ absurd (none_is_not f (sym (none_below (place_of g) count (g ∷ gs) (place_of f) (omega arith, rising.1, rising.2) lt) ∙ e))
+          elim (cases_lt (place_in_frame f) (place_in_frame g)) [
+            | inl lt ↦ absurd (none_is_not f (sym (none_below (place_in_frame g) count (g ∷ gs) (place_in_frame f) (omega arith, rising.1, rising.2) lt) ∙ e))
             | inr le ↦
-                let same : place_of g ≡ place_of f = omega arith in
-                let is : g ≡ f = first_is g f gs (place_of f) same e in
+                let same : place_in_frame g ≡ place_in_frame f = omega arith in
+                let is : g ≡ f = first_is g f gs (place_in_frame f) same e in
                 rw (
-                  not_below (place_of g) (place_of f) ge,
-                  not_below (place_of f) (place_of g) le,
-                  none_lower (place_of g + 1) count gs (place_of f) rising.2 (omega arith),
-                  all_higher (place_of g + 1) count gs (place_of f) rising.2 (omega arith),
+                  not_below (place_in_frame g) (place_in_frame f) ge,
+                  not_below (place_in_frame f) (place_in_frame g) le,
+                  none_lower (place_in_frame g + 1) count gs (place_in_frame f) rising.2 (omega arith),
+                  all_higher (place_in_frame g + 1) count gs (place_in_frame f) rising.2 (omega arith),
                 ) (ap (λ h. h ∷ gs) (sym is))
           ]
     ]
@@ -175,44 +175,44 @@ held_stays from count (g ∷ gs) f rising e =
 -- ---- a frame of a new place
 
 abbrev pub index_of : List (List ℕ) → ℕ → ℕ
-index_of fs place = position_or_len (λ g. leb place (place_of g)) fs
+index_of fs place = position_or_len (λ g. leb place (place_in_frame g)) fs
 
-pub new_joins : (from count : ℕ) (fs : List (List ℕ)) (f : List ℕ) → AreRising from count fs → held_at fs (place_of f) ≡ None
-    → with_frame fs f ≡ insert fs (index_of fs (place_of f)) f
+pub new_joins : (from count : ℕ) (fs : List (List ℕ)) (f : List ℕ) → AreRising from count fs → held_at fs (place_in_frame f) ≡ None
+    → with_frame fs f ≡ insert fs (index_of fs (place_in_frame f)) f
 new_joins from count [] f rising none = refl
 new_joins from count (g ∷ gs) f rising none =
-    elim (cases_lt (place_of g) (place_of f)) [
+    elim (cases_lt (place_in_frame g) (place_in_frame f)) [
       | inl lt ↦
-          let rest = new_joins (place_of g + 1) count gs f rising.2 (sym (step_held g gs (place_of f) lt) ∙ none) in
-          let next : 1 + index_of gs (place_of f) ≡ suc (index_of gs (place_of f)) = omega arith in
-          rw (lt-ltb _ _ lt, not_below (place_of f) (place_of g) (omega arith), no_bound (place_of g) (place_of f) lt, next)
+          let rest = new_joins (place_in_frame g + 1) count gs f rising.2 (sym (step_held g gs (place_in_frame f) lt) ∙ none) in
+          let next : 1 + index_of gs (place_in_frame f) ≡ suc (index_of gs (place_in_frame f)) = omega arith in
+          rw (lt-ltb _ _ lt, not_below (place_in_frame f) (place_in_frame g) (omega arith), no_bound (place_in_frame g) (place_in_frame f) lt, next)
           (ap (λ hs. g ∷ hs) rest)
       | inr ge ↦
-          let behind : place_of f < place_of g = other_than g gs (place_of f) ge none in
+          let behind : place_in_frame f < place_in_frame g = other_than g gs (place_in_frame f) ge none in
           rw (
-            not_below (place_of g) (place_of f) ge,
+            not_below (place_in_frame g) (place_in_frame f) ge,
             lt-ltb _ _ behind,
-            a_bound (place_of g) (place_of f) ge,
-            none_lower (place_of g + 1) count gs (place_of f) rising.2 (omega arith),
-            all_higher (place_of g + 1) count gs (place_of f) rising.2 (omega arith),
+            a_bound (place_in_frame g) (place_in_frame f) ge,
+            none_lower (place_in_frame g + 1) count gs (place_in_frame f) rising.2 (omega arith),
+            all_higher (place_in_frame g + 1) count gs (place_in_frame f) rising.2 (omega arith),
           ) refl
     ]
 
-pub new_rises : (from count : ℕ) (fs : List (List ℕ)) (f : List ℕ) → AreRising from count fs → from ≤ place_of f → IsOfCount count f
-    → held_at fs (place_of f) ≡ None → AreRising from count (with_frame fs f)
+pub new_rises : (from count : ℕ) (fs : List (List ℕ)) (f : List ℕ) → AreRising from count fs → from ≤ place_in_frame f → IsOfCount count f
+    → held_at fs (place_in_frame f) ≡ None → AreRising from count (with_frame fs f)
 new_rises from count [] f rising le of none = (le, of, tt)
 new_rises from count (g ∷ gs) f rising le of none =
-    elim (cases_lt (place_of g) (place_of f)) [
+    elim (cases_lt (place_in_frame g) (place_in_frame f)) [
       | inl lt ↦
-          let rest = new_rises (place_of g + 1) count gs f rising.2 (omega arith) of (sym (step_held g gs (place_of f) lt) ∙ none) in
-          rw (lt-ltb _ _ lt, not_below (place_of f) (place_of g) (omega arith)) (rising.0, rising.1, rest)
+          let rest = new_rises (place_in_frame g + 1) count gs f rising.2 (omega arith) of (sym (step_held g gs (place_in_frame f) lt) ∙ none) in
+          rw (lt-ltb _ _ lt, not_below (place_in_frame f) (place_in_frame g) (omega arith)) (rising.0, rising.1, rest)
       | inr ge ↦
-          let behind : place_of f < place_of g = other_than g gs (place_of f) ge none in
+          let behind : place_in_frame f < place_in_frame g = other_than g gs (place_in_frame f) ge none in
           rw (
-            not_below (place_of g) (place_of f) ge,
+            not_below (place_in_frame g) (place_in_frame f) ge,
             lt-ltb _ _ behind,
-            none_lower (place_of g + 1) count gs (place_of f) rising.2 (omega arith),
-            all_higher (place_of g + 1) count gs (place_of f) rising.2 (omega arith),
+            none_lower (place_in_frame g + 1) count gs (place_in_frame f) rising.2 (omega arith),
+            all_higher (place_in_frame g + 1) count gs (place_in_frame f) rising.2 (omega arith),
           )
           (le, of, (omega arith, rising.1, rising.2))
     ]
@@ -220,9 +220,9 @@ new_rises from count (g ∷ gs) f rising le of none =
 pub index_within : (fs : List (List ℕ)) (place : ℕ) → index_of fs place ≤ length fs
 index_within [] place = omega arith
 index_within (g ∷ gs) place =
-    elim (cases_lt (place_of g) place) [
-      | inl lt ↦ let rest = index_within gs place in rw (no_bound (place_of g) place lt) (omega arith)
-      | inr ge ↦ rw (a_bound (place_of g) place ge) (omega arith)
+    elim (cases_lt (place_in_frame g) place) [
+      | inl lt ↦ let rest = index_within gs place in rw (no_bound (place_in_frame g) place lt) (omega arith)
+      | inr ge ↦ rw (a_bound (place_in_frame g) place ge) (omega arith)
     ]
 
 -- ---- the count of held frames
@@ -234,11 +234,11 @@ rising_together count (f ∷ fs) rising = subst (λ n. AreRising 0 n (f ∷ fs))
 pub held_count : (from count : ℕ) (fs : List (List ℕ)) (place : ℕ) (g : List ℕ) → AreRising from count fs → held_at fs place ≡ Some g → count_of g ≡ count
 held_count from count [] place g rising e = absurd (none_is_not g e)
 held_count from count (f ∷ fs) place g rising e =
-    elim (cases_eq (place_of f) place) [
+    elim (cases_eq (place_in_frame f) place) [
       | inl same ↦ subst (λ h. count_of h ≡ count) (first_is f g fs place same e) rising.1.count_is
       | inr other ↦
-          let next : held_at (f ∷ fs) place ≡ held_at fs place = rw (differ (place_of f) place other) refl in
-          held_count (place_of f + 1) count fs place g rising.2 (sym next ∙ e)
+          let next : held_at (f ∷ fs) place ≡ held_at fs place = rw (differ (place_in_frame f) place other) refl in
+          held_count (place_in_frame f + 1) count fs place g rising.2 (sym next ∙ e)
     ]
 
 pub agree_first : (fs : List (List ℕ)) (g : List ℕ) (count : ℕ) (b : Bool) → AreTogether fs → slice_get fs 0 ≡ Some g → b ≡ eqb (count_of g) count → Agree fs count b
@@ -249,8 +249,8 @@ agree_first (f ∷ fs) g count true together e is =
     subst (λ n. AreRising 0 n (f ∷ fs)) one together
 agree_first (f ∷ fs) g count false together e is =
     let same : f ≡ g = some_is f g e in
-    let at : held_at (f ∷ fs) (place_of f) ≡ Some f = rw (same_place (place_of f)) refl in
-    (place_of f, f, at, λ one. absurd (cc (is ∙ ap (λ n. eqb n count) (ap count_of (sym same) ∙ one) ∙ same_place count)))
+    let at : held_at (f ∷ fs) (place_in_frame f) ≡ Some f = rw (same_place (place_in_frame f)) refl in
+    (place_in_frame f, f, at, λ one. absurd (cc (is ∙ ap (λ n. eqb n count) (ap count_of (sym same) ∙ one) ∙ same_place count)))
 
 pub agree_none : (fs : List (List ℕ)) (count : ℕ) → slice_get fs 0 ≡ None → Agree fs count true
 agree_none [] count e = tt
@@ -258,23 +258,23 @@ agree_none (f ∷ fs) count e = absurd (none_is_not f (sym e))
 
 -- ---- where a frame belongs
 
-pub of_its_count : (f : List ℕ) → 9 ≤ length f → AreBytes f → place_of f < count_of f → IsOfCount (count_of f) f
+pub of_its_count : (f : List ℕ) → 9 ≤ length f → AreBytes f → place_in_frame f < count_of f → IsOfCount (count_of f) f
 of_its_count f long are below = record { below = below; whole = frame_again f (omega arith) are; count_is = refl }
 
-pub spot_held : (held : List (List ℕ)) (f g : List ℕ) → 9 ≤ length f → length f ≤ 16384 → place_of f < count_of f → AreRising 0 (count_of f) held
-    → held_at held (place_of f) ≡ Some g → g ≡ f → IsSpot held f Held
+pub spot_held : (held : List (List ℕ)) (f g : List ℕ) → 9 ≤ length f → length f ≤ 16384 → place_in_frame f < count_of f → AreRising 0 (count_of f) held
+    → held_at held (place_in_frame f) ≡ Some g → g ≡ f → IsSpot held f Held
 spot_held held f g long short below rising at same =
-    let is : held_at held (place_of f) ≡ Some f = at ∙ ap (λ h. Some h) same in (
+    let is : held_at held (place_in_frame f) ≡ Some f = at ∙ ap (λ h. Some h) same in (
       record { long = long; short = short; below = below; rising = rising; same = λ h at2. some_is h f (sym at2 ∙ is) },
       held_stays 0 (count_of f) held f rising is,
     )
 
-pub spot_new : (held : List (List ℕ)) (f : List ℕ) (index : ℕ) → 9 ≤ length f → length f ≤ 16384 → AreBytes f → place_of f < count_of f → AreRising 0 (count_of f) held
-    → held_at held (place_of f) ≡ None → index ≡ index_of held (place_of f) → IsSpot held f (New index)
+pub spot_new : (held : List (List ℕ)) (f : List ℕ) (index : ℕ) → 9 ≤ length f → length f ≤ 16384 → AreBytes f → place_in_frame f < count_of f → AreRising 0 (count_of f) held
+    → held_at held (place_in_frame f) ≡ None → index ≡ index_of held (place_in_frame f) → IsSpot held f (New index)
 spot_new held f index long short are below rising none at =
     let joins = new_joins 0 (count_of f) held f rising none ∙ ap (λ i. insert held i f) (sym at) in
     let rises = new_rises 0 (count_of f) held f rising (omega arith) (of_its_count f long are below) none in
-    let within : index ≤ length held = rw at (index_within held (place_of f)) in (
+    let within : index ≤ length held = rw at (index_within held (place_in_frame f)) in (
       record { long = long; short = short; below = below; rising = rising; same = λ h at2. absurd (none_is_not h (sym none ∙ at2)) },
       within,
       joins,
@@ -282,7 +282,7 @@ spot_new held f index long short are below rising none at =
     )
 
 -- the index of the first frame at a place or behind it
-pub index_found : (fs : List (List ℕ)) (place index : ℕ) → Some index ≡ position (λ g. leb place (place_of g)) fs → index ≡ index_of fs place
+pub index_found : (fs : List (List ℕ)) (place index : ℕ) → Some index ≡ position (λ g. leb place (place_in_frame g)) fs → index ≡ index_of fs place
 index_found fs place index e =
     sym (passed (ltb (index_of fs place) (length fs)) (index_of fs place) index (sym e)).1
 
@@ -290,7 +290,7 @@ none_passed : {A : Type 0} (b : Bool) (x : A) → cond b (Some x) None ≡ None 
 none_passed true x e = absurd (none_is_not x (sym e))
 none_passed false x e = refl
 
-pub index_past : (fs : List (List ℕ)) (place : ℕ) → None ≡ position (λ g. leb place (place_of g)) fs → length fs ≡ index_of fs place
+pub index_past : (fs : List (List ℕ)) (place : ℕ) → None ≡ position (λ g. leb place (place_in_frame g)) fs → length fs ≡ index_of fs place
 index_past fs place e =
     let past = ltb-false (index_of fs place) (length fs) (none_passed (ltb (index_of fs place) (length fs)) (index_of fs place) (sym e)) in
     let within = index_within fs place in
@@ -300,7 +300,7 @@ index_past fs place e =
 
 not_refused : (held : List (List ℕ)) (f : List ℕ) → Joins held f
     → (AreAllHeld (with_frame held f) (count_of f) → ((m : Message) → AreFrames m (with_frame held f) → ⊥) → ⊥)
-    → IsRefused held f → ⊥
+    → IsRefusedFrame held f → ⊥
 not_refused held f joins whole (too_short lt) = absurd (omega (arith, joins.long))
 not_refused held f joins whole (too_long lt) = absurd (omega (arith, joins.short))
 not_refused held f joins whole (past_the_count le) = absurd (omega (arith, joins.below))
@@ -309,7 +309,7 @@ not_refused held f joins whole (another_frame g at other) = other (joins.same g 
 not_refused held f joins whole (no_message all none) = whole all none
 
 pub fed : (held : List (List ℕ)) (f : List ℕ) (after : List (List ℕ)) (result : Result (Option Message) WireError)
-    → AreTogether held → Joins held f → AreRising 0 (count_of f) (with_frame held f) → IsAnswer (with_frame held f) (count_of f) result
+    → AreTogether held → Joins held f → AreRising 0 (count_of f) (with_frame held f) → IsAssembled (with_frame held f) (count_of f) result
     → OnOk result (after ≡ with_frame held f) → OnErr result (after ≡ held) → IsFed held f after result
 fed held f after (Ok None) together joins rising answer is unchanged =
     let incomplete : AreAllHeld (with_frame held f) (count_of f) → ⊥ = λ all. answer (held_all (count_of f) (with_frame held f) rising all) in
@@ -351,24 +351,24 @@ fed held f after (Err NoMemory) together joins rising answer is unchanged = reco
 }
 
 pub fed_held : (held : List (List ℕ)) (f : List ℕ) (result : Result (Option Message) WireError)
-    → AreTogether held → IsSpot held f Held → IsAnswer held (count_of f) result → IsFed held f held result
+    → AreTogether held → IsSpot held f Held → IsAssembled held (count_of f) result → IsFed held f held result
 fed_held held f result together spot answer =
     fed held f held result together spot.0
     (subst (AreRising 0 (count_of f)) (sym spot.1) spot.0.rising)
-    (subst (λ fs. IsAnswer fs (count_of f) result) (sym spot.1) answer)
+    (subst (λ fs. IsAssembled fs (count_of f) result) (sym spot.1) answer)
     (on_ok result (sym spot.1)) (on_err result refl)
 
 pub fed_new : (held : List (List ℕ)) (f : List ℕ) (index : ℕ) (after : List (List ℕ)) (result : Result (Option Message) WireError)
-    → AreTogether held → IsSpot held f (New index) → IsAnswer (insert held index f) (count_of f) result
+    → AreTogether held → IsSpot held f (New index) → IsAssembled (insert held index f) (count_of f) result
     → OnOk result (after ≡ insert held index f) → OnErr result (after ≡ held) → IsFed held f after result
 fed_new held f index after result together spot answer is unchanged =
     fed held f after result together spot.0
     (subst (AreRising 0 (count_of f)) (sym spot.2) spot.3)
-    (subst (λ fs. IsAnswer fs (count_of f) result) (sym spot.2) answer)
+    (subst (λ fs. IsAssembled fs (count_of f) result) (sym spot.2) answer)
     (subst (λ fs. OnOk result (after ≡ fs)) (sym spot.2) is) unchanged
 
 -- a frame that is refused changes nothing
-pub fed_refused : (held : List (List ℕ)) (f : List ℕ) → AreTogether held → IsRefused held f → IsFed held f held (Err Malformed)
+pub fed_refused : (held : List (List ℕ)) (f : List ℕ) → AreTogether held → IsRefusedFrame held f → IsFed held f held (Err Malformed)
 fed_refused held f together refused = record {
   together = together;
   refused = λ e. refused;

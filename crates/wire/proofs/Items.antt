@@ -5,7 +5,7 @@ use Rattle.std.proofs.lemmas.List.{append-nil}
 use Rattle.wire.specs.declared.error.WireError.{WireError}
 use Rattle.wire.specs.declared.error.WireError.TheVariants.{Malformed, NoMemory}
 use Rattle.wire.specs.Format.{Format, then_read, read_items}
-use Rattle.wire.specs.Reading.{Refuses}
+use Rattle.wire.specs.Reading.{RefusesBytes}
 
 -- what was read before, and what is still read
 abbrev pub with_front : {A : Type 0} → List A → Option (List A × List ℕ) → Option (List A × List ℕ)
@@ -28,8 +28,8 @@ goes_on f front count i bytes x after total lt h so_far =
     sym one ∙ so_far
 
 pub stops : {A : Type 0} (f : Format A) (front : List A) (count i : ℕ) (bytes : List ℕ) (total : Option (List A × List ℕ)) (error : WireError)
-    → i < count → Refuses error (f.read bytes)
-    → with_front front (read_items f (count - i) bytes) ≡ total → Refuses error total
+    → i < count → RefusesBytes error (f.read bytes)
+    → with_front front (read_items f (count - i) bytes) ≡ total → RefusesBytes error total
 unfolding read_items
 stops f front count i bytes total NoMemory lt h so_far = tt
 stops f front count i bytes total Malformed lt h so_far =

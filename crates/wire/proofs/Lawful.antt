@@ -10,8 +10,8 @@ use Rattle.ctrl_msg.specs.declared.message.Body.TheVariants.{Install, OpenAt, St
 use Rattle.policy_rules.specs.declared.policy.Action.{Action}
 use Rattle.policy_rules.specs.declared.policy.Action.TheVariants.{Drop, Out}
 use Rattle.wire.specs.Format.{Format, then_read, ◌⊗◌, such_that, optional, list_of}
-use Rattle.wire.specs.Fields.{n1, n4, n8, n16, switch, is_word, word, rule_name, action_of, port_of, action, rule, target_count, targets, region, partition, tables}
-use Rattle.wire.specs.Messages.{receiver_of, receiver, front, install, of_version, cache_rule, advert, hello, acknowledged, kind_of, spelled_fields, fields_fit, made, cache_rule_of, read_fields, body, suits, message}
+use Rattle.wire.specs.Fields.{n1, n4, n8, n16, switch, is_word, word, rule_name, action_by_port, port_in_action, action, rule, target_count, targets, region, partition, tables}
+use Rattle.wire.specs.Messages.{receiver_of, receiver, front, install_form, of_version, cache_rule_form, advert, hello, acknowledged, kind_number, spelled_fields, fields_fit, made, cache_rule_of, read_fields, body, suits, message}
 use Rattle.wire.proofs.Laws.{AreBytes, Takes, IsLawful, then_some, some_is, both_true, n8-bits, n32-bits, n64-bits, pair_lawful, as_type_lawful, such_that_lawful, optional_lawful, list_lawful}
 
 n1_lawful : IsLawful n1
@@ -59,18 +59,18 @@ rule_name_lawful : IsLawful rule_name
 unfolding rule_name
 rule_name_lawful = maybe_lawful
 
-port_back : (o : Option ℕ) → port_of (action_of o) ≡ o
+port_back : (o : Option ℕ) → port_in_action (action_by_port o) ≡ o
 port_back None = refl
 port_back (Some port) = refl
 
-action_back : (a : Action) → action_of (port_of a) ≡ a
+action_back : (a : Action) → action_by_port (port_in_action a) ≡ a
 action_back Drop = refl
 action_back (Out port) = refl
 
 action_lawful : IsLawful action
 unfolding action
 action_lawful =
-    as_type_lawful action_of port_of (optional n1 n4) (λ o fits. port_back o) (λ a fits. action_back a) maybe_lawful
+    as_type_lawful action_by_port port_in_action (optional n1 n4) (λ o fits. port_back o) (λ a fits. action_back a) maybe_lawful
 
 rule_lawful : IsLawful rule
 unfolding rule
@@ -149,16 +149,16 @@ front_lawful = pair_lawful receiver (n1 ⊗ n4) receiver_lawful (pair_lawful n1 
 
 -- ---- the fields
 
-install_lawful : IsLawful install
-unfolding install
+install_lawful : IsLawful install_form
+unfolding install_form
 install_lawful = pair_lawful n4 tables n4_lawful tables_lawful
 
 of_version_lawful : IsLawful of_version
 unfolding of_version
 of_version_lawful = pair_lawful n4 n4 n4_lawful n4_lawful
 
-cache_rule_lawful : IsLawful cache_rule
-unfolding cache_rule
+cache_rule_lawful : IsLawful cache_rule_form
+unfolding cache_rule_form
 cache_rule_lawful =
     pair_lawful n4 (word ⊗ rule_name ⊗ action) n4_lawful
     (pair_lawful word (rule_name ⊗ action) word_lawful (pair_lawful rule_name action rule_name_lawful action_lawful))
@@ -181,13 +181,13 @@ acknowledged_lawful =
 
 -- a body of a kind was taken from bytes behind that kind
 record TakesFields (kind : ℕ) (b : Body) (bytes rest : List ℕ) : Type 0 where
-  pub kind_is : kind_of b ≡ kind
+  pub kind_is : kind_number b ≡ kind
   pub fit : fields_fit b ≡ true
   pub parts : bytes ≡ spelled_fields b ++ rest
   pub rest_are : AreBytes rest
 
 kind_takes : {A : Type 0} (make : A → Body) (f : Format A) (kind : ℕ)
-    → ((x : A) → kind_of (make x) ≡ kind) → ((x : A) → spelled_fields (make x) ≡ f.spell x) → ((x : A) → fields_fit (make x) ≡ f.fits x)
+    → ((x : A) → kind_number (make x) ≡ kind) → ((x : A) → spelled_fields (make x) ≡ f.spell x) → ((x : A) → fields_fit (make x) ≡ f.fits x)
     → IsLawful f → (bytes : List ℕ) (b : Body) (rest : List ℕ) → AreBytes bytes → made make (f.read bytes) ≡ Some (b, rest)
     → TakesFields kind b bytes rest
 kind_takes make f kind kinds spells fits lf bytes b rest are e =
@@ -207,7 +207,7 @@ at_kind k kind b bytes rest e t = subst (λ n. TakesFields n b bytes rest) (sym 
 fields_take : (k : ℕ) (bytes : List ℕ) (b : Body) (rest : List ℕ) → AreBytes bytes → read_fields k bytes ≡ Some (b, rest) → TakesFields k b bytes rest
 fields_take k bytes b rest are e =
     elim (chosen (eqb k 1) _ _ _ e) [
-      | inl h ↦ at_kind k 1 b bytes rest h.0 (kind_takes (λ p. Install p.0 p.1) install 1 (λ x. refl) (λ x. refl) (λ x. refl) install_lawful bytes b rest are h.1)
+      | inl h ↦ at_kind k 1 b bytes rest h.0 (kind_takes (λ p. Install p.0 p.1) install_form 1 (λ x. refl) (λ x. refl) (λ x. refl) install_lawful bytes b rest are h.1)
       | inr g1 ↦ elim (chosen (eqb k 2) _ _ _ g1.1) [
         | inl h ↦ at_kind k 2 b bytes rest h.0 (kind_takes (λ p. OpenAt p.0 p.1) of_version 2 (λ x. refl) (λ x. refl) (λ x. refl) of_version_lawful bytes b rest are h.1)
         | inr g2 ↦ elim (chosen (eqb k 3) _ _ _ g2.1) [
@@ -215,7 +215,7 @@ fields_take k bytes b rest are e =
           | inr g3 ↦ elim (chosen (eqb k 4) _ _ _ g3.1) [
             | inl h ↦ at_kind k 4 b bytes rest h.0 (kind_takes (λ p. Collect p.0 p.1) of_version 4 (λ x. refl) (λ x. refl) (λ x. refl) of_version_lawful bytes b rest are h.1)
             | inr g4 ↦ elim (chosen (eqb k 5) _ _ _ g4.1) [
-              | inl h ↦ at_kind k 5 b bytes rest h.0 (kind_takes cache_rule_of cache_rule 5 (λ x. refl) (λ x. refl) (λ x. refl) cache_rule_lawful bytes b rest are h.1)
+              | inl h ↦ at_kind k 5 b bytes rest h.0 (kind_takes cache_rule_of cache_rule_form 5 (λ x. refl) (λ x. refl) (λ x. refl) cache_rule_lawful bytes b rest are h.1)
               | inr g5 ↦ elim (chosen (eqb k 6) _ _ _ g5.1) [
                 | inl h ↦ at_kind k 6 b bytes rest h.0 (kind_takes Advertise advert 6 (λ x. refl) (λ x. refl) (λ x. refl) advert_lawful bytes b rest are h.1)
                 | inr g6 ↦ elim (chosen (eqb k 7) _ _ _ g6.1) [
@@ -235,7 +235,7 @@ fields_take k bytes b rest are e =
       ]
     ]
 
-fields_again : (b : Body) (rest : List ℕ) → fields_fit b ≡ true → read_fields (kind_of b) (spelled_fields b ++ rest) ≡ Some (b, rest)
+fields_again : (b : Body) (rest : List ℕ) → fields_fit b ≡ true → read_fields (kind_number b) (spelled_fields b ++ rest) ≡ Some (b, rest)
 fields_again (Install boot tables) rest fits = rw (install_lawful.again (boot, tables) rest fits) refl
 fields_again (OpenAt boot version) rest fits = rw (of_version_lawful.again (boot, version) rest fits) refl
 fields_again (Stamp boot version) rest fits = rw (of_version_lawful.again (boot, version) rest fits) refl
@@ -246,7 +246,7 @@ fields_again (Hello switch boot) rest fits = rw (hello_lawful.again (switch, boo
 fields_again (Installed switch boot version) rest fits = rw (acknowledged_lawful.again (switch, (boot, version)) rest fits) refl
 fields_again (Stamped switch boot version) rest fits = rw (acknowledged_lawful.again (switch, (boot, version)) rest fits) refl
 
-kind_fits : (b : Body) → n1.fits (kind_of b) ≡ true
+kind_fits : (b : Body) → n1.fits (kind_number b) ≡ true
 unfolding n1
 kind_fits (Install _ _) = refl
 kind_fits (OpenAt _ _) = refl
@@ -269,13 +269,13 @@ body_lawful = record {
         fits = fields.fit;
         parts = t.parts ∙ ap (λ u. n1.spell d.0.0 ++ u) fields.parts
             ∙ ap (λ k. n1.spell k ++ (spelled_fields b ++ rest)) (sym fields.kind_is)
-            ∙ sym (append_assoc (n1.spell (kind_of b)) (spelled_fields b) rest);
+            ∙ sym (append_assoc (n1.spell (kind_number b)) (spelled_fields b) rest);
         rest_are = fields.rest_are;
       };
   again = λ b rest fits.
       rw (
-        append_assoc (n1.spell (kind_of b)) (spelled_fields b) rest,
-        n1_lawful.again (kind_of b) (spelled_fields b ++ rest) (kind_fits b),
+        append_assoc (n1.spell (kind_number b)) (spelled_fields b) rest,
+        n1_lawful.again (kind_number b) (spelled_fields b ++ rest) (kind_fits b),
       ) (fields_again b rest fits);
 }
 

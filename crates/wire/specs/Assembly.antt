@@ -6,46 +6,46 @@ use Rattle.wire.specs.declared.assembler.Spot.{Spot}
 use Rattle.wire.specs.declared.assembler.Spot.TheVariants.{Refused, Held, New}
 use Rattle.wire.specs.declared.error.WireError.{WireError}
 use Rattle.wire.specs.declared.error.WireError.TheVariants.{Malformed, NoMemory}
-use Rattle.wire.specs.Frames.{AreFrames, place_of, count_of, piece_of, frame}
+use Rattle.wire.specs.Frames.{AreFrames, place_in_frame, count_of, piece_of, frame}
 
 -- the frame that is held at a place
 abbrev pub held_at : List (List ℕ) → ℕ → Option (List ℕ)
-held_at held place = find (λ f. place_of f == place) held
+held_at held place = find (λ f. place_in_frame f == place) held
 
 -- a frame is held too: behind those of lower places, and before those of higher ones
 abbrev pub with_frame : List (List ℕ) → List ℕ → List (List ℕ)
 with_frame held f =
-    filter (λ g. nat_lt (place_of g) (place_of f)) held
-    ++ f ∷ filter (λ g. nat_lt (place_of f) (place_of g)) held
+    filter (λ g. nat_lt (place_in_frame g) (place_in_frame f)) held
+    ++ f ∷ filter (λ g. nat_lt (place_in_frame f) (place_in_frame g)) held
 
 -- at each place there is a frame
 abbrev pub AreAllHeld : List (List ℕ) → ℕ → Type 0
 AreAllHeld held count = (place : ℕ) → place < count → IsSome (held_at held place)
 
 -- why a frame is refused
-pub data IsRefused (held : List (List ℕ)) (f : List ℕ) : Type 0 where
-  too_short : length f < 9 → IsRefused held f
-  too_long : 16384 < length f → IsRefused held f
-  past_the_count : count_of f ≤ place_of f → IsRefused held f
+pub data IsRefusedFrame (held : List (List ℕ)) (f : List ℕ) : Type 0 where
+  too_short : length f < 9 → IsRefusedFrame held f
+  too_long : 16384 < length f → IsRefusedFrame held f
+  past_the_count : count_of f ≤ place_in_frame f → IsRefusedFrame held f
   another_count : (place : ℕ) (g : List ℕ) → held_at held place ≡ Some g
-      → count_of g ≢ count_of f → IsRefused held f
-  another_frame : (g : List ℕ) → held_at held (place_of f) ≡ Some g → g ≢ f → IsRefused held f
+      → count_of g ≢ count_of f → IsRefusedFrame held f
+  another_frame : (g : List ℕ) → held_at held (place_in_frame f) ≡ Some g → g ≢ f → IsRefusedFrame held f
   no_message : AreAllHeld (with_frame held f) (count_of f)
-      → ((m : Message) → AreFrames m (with_frame held f) → ⊥) → IsRefused held f
+      → ((m : Message) → AreFrames m (with_frame held f) → ⊥) → IsRefusedFrame held f
 
 -- ---- what holds of the held frames
 
 -- a frame of this count, whose place is below it
 pub record IsOfCount (count : ℕ) (f : List ℕ) : Type 0 where
-  pub below : place_of f < count
-  pub whole : f ≡ frame (place_of f) count (piece_of f)
+  pub below : place_in_frame f < count
+  pub whole : f ≡ frame (place_in_frame f) count (piece_of f)
   pub count_is : count_of f ≡ count
 
 -- frames of one count, at rising places from this one on
 abbrev pub AreRising : ℕ → ℕ → List (List ℕ) → Type 0
 AreRising from count [] = Unit {0}
 AreRising from count (f ∷ fs) =
-    (from ≤ place_of f) × IsOfCount count f × AreRising (place_of f + 1) count fs
+    (from ≤ place_in_frame f) × IsOfCount count f × AreRising (place_in_frame f + 1) count fs
 
 -- the held frames are of one count, each of a place of its own
 abbrev pub AreTogether : List (List ℕ) → Type 0
@@ -65,10 +65,10 @@ IsWhole fs (Ok m) = AreFrames m fs
 IsWhole fs (Err error) = AreNone fs (length fs) error
 
 -- what the frames of a count answer
-abbrev pub IsAnswer : List (List ℕ) → ℕ → Result (Option Message) WireError → Type 0
-IsAnswer fs count (Ok None) = length fs ≢ count
-IsAnswer fs count (Ok (Some m)) = (length fs ≡ count) × AreFrames m fs
-IsAnswer fs count (Err error) = AreNone fs count error
+abbrev pub IsAssembled : List (List ℕ) → ℕ → Result (Option Message) WireError → Type 0
+IsAssembled fs count (Ok None) = length fs ≢ count
+IsAssembled fs count (Ok (Some m)) = (length fs ≡ count) × AreFrames m fs
+IsAssembled fs count (Err error) = AreNone fs count error
 
 -- the held frames are of this count, or one of them isn't
 abbrev pub Agree : List (List ℕ) → ℕ → Bool → Type 0
@@ -80,14 +80,14 @@ Agree held count false =
 pub record Joins (held : List (List ℕ)) (f : List ℕ) : Type 0 where
   pub long : 9 ≤ length f
   pub short : length f ≤ 16384
-  pub below : place_of f < count_of f
+  pub below : place_in_frame f < count_of f
   pub rising : AreRising 0 (count_of f) held
-  pub same : (g : List ℕ) → held_at held (place_of f) ≡ Some g → g ≡ f
+  pub same : (g : List ℕ) → held_at held (place_in_frame f) ≡ Some g → g ≡ f
 
 -- where a frame belongs among those that are held: nowhere, where it is already, or before the
 -- frame of this index
 abbrev pub IsSpot : List (List ℕ) → List ℕ → Spot → Type 0
-IsSpot held f Refused = IsRefused held f
+IsSpot held f Refused = IsRefusedFrame held f
 IsSpot held f Held = Joins held f × (with_frame held f ≡ held)
 IsSpot held f (New index) =
     Joins held f × (index ≤ length held) × (with_frame held f ≡ insert held index f)
@@ -97,8 +97,8 @@ IsSpot held f (New index) =
 pub record IsFed (held : List (List ℕ)) (f : List ℕ) (after : List (List ℕ))
     (result : Result (Option Message) WireError) : Type 0 where
   pub together : AreTogether after
-  pub refused : IsErrOf result Malformed → IsRefused held f
-  pub taken : OnOk result (IsRefused held f → ⊥)
+  pub refused : IsErrOf result Malformed → IsRefusedFrame held f
+  pub taken : OnOk result (IsRefusedFrame held f → ⊥)
   pub is_held : OnOk result (after ≡ with_frame held f)
   pub some : IfOk result (λ answer. IsSome answer ↔ AreAllHeld after (count_of f))
   pub message : IfOk result (λ answer. IfSome answer (λ m. AreFrames m after))

@@ -48,16 +48,16 @@ unfoldable pub rule_name : Format (Option ℕ)
 rule_name = optional n1 n4
 
 -- the port, or nothing for a drop
-abbrev pub action_of : Option ℕ → Action
-action_of None = Drop
-action_of (Some port) = Out port
+abbrev pub action_by_port : Option ℕ → Action
+action_by_port None = Drop
+action_by_port (Some port) = Out port
 
-abbrev pub port_of : Action → Option ℕ
-port_of Drop = None
-port_of (Out port) = Some port
+abbrev pub port_in_action : Action → Option ℕ
+port_in_action Drop = None
+port_in_action (Out port) = Some port
 
 unfoldable pub action : Format Action
-action = as_type action_of port_of (optional n1 n4)
+action = as_type action_by_port port_in_action (optional n1 n4)
 
 unfoldable pub rule : Format Rule
 rule =

@@ -65,8 +65,8 @@ frames_of_version version fs = slice_set fs 1 (begun_with version (slice_index_o
 
 -- ---- the parts of a frame
 
-unfoldable pub place_of : List ℕ → ℕ
-place_of bytes = from_be_bytes w32 (take 4 bytes)
+unfoldable pub place_in_frame : List ℕ → ℕ
+place_in_frame bytes = from_be_bytes w32 (take 4 bytes)
 
 unfoldable pub count_of : List ℕ → ℕ
 count_of bytes = from_be_bytes w32 (take 4 (drop 4 bytes))

@@ -40,14 +40,14 @@ receiver =
 
 -- ---- the fields of each kind
 
-unfoldable pub install : Format (ℕ × Tables)
-install = form.n4 ⊗ form.tables
+unfoldable pub install_form : Format (ℕ × Tables)
+install_form = form.n4 ⊗ form.tables
 
 unfoldable pub of_version : Format (ℕ × ℕ)
 of_version = form.n4 ⊗ form.n4
 
-unfoldable pub cache_rule : Format (ℕ × (WordValue × (Option ℕ × Action)))
-cache_rule = form.n4 ⊗ form.word ⊗ form.rule_name ⊗ form.action
+unfoldable pub cache_rule_form : Format (ℕ × (WordValue × (Option ℕ × Action)))
+cache_rule_form = form.n4 ⊗ form.word ⊗ form.rule_name ⊗ form.action
 
 unfoldable pub advert : Format Advert
 advert =
@@ -63,36 +63,36 @@ acknowledged = form.switch ⊗ form.n4 ⊗ form.n4
 
 -- ---- the body: the kind, and its fields
 
-abbrev pub kind_of : Body → ℕ
-kind_of (Install _ _) = 1
-kind_of (OpenAt _ _) = 2
-kind_of (Stamp _ _) = 3
-kind_of (Collect _ _) = 4
-kind_of (CacheRule _ _ _ _) = 5
-kind_of (Advertise _) = 6
-kind_of (Hello _ _) = 7
-kind_of (Installed _ _ _) = 8
-kind_of (Stamped _ _ _) = 9
+abbrev pub kind_number : Body → ℕ
+kind_number (Install _ _) = 1
+kind_number (OpenAt _ _) = 2
+kind_number (Stamp _ _) = 3
+kind_number (Collect _ _) = 4
+kind_number (CacheRule _ _ _ _) = 5
+kind_number (Advertise _) = 6
+kind_number (Hello _ _) = 7
+kind_number (Installed _ _ _) = 8
+kind_number (Stamped _ _ _) = 9
 
 abbrev pub spelled_fields : Body → List ℕ
-spelled_fields (Install boot tables) = install.spell (boot, tables)
+spelled_fields (Install boot tables) = install_form.spell (boot, tables)
 spelled_fields (OpenAt boot version) = of_version.spell (boot, version)
 spelled_fields (Stamp boot version) = of_version.spell (boot, version)
 spelled_fields (Collect boot version) = of_version.spell (boot, version)
 spelled_fields (CacheRule version word rule action) =
-    cache_rule.spell (version, (word, (rule, action)))
+    cache_rule_form.spell (version, (word, (rule, action)))
 spelled_fields (Advertise told) = advert.spell told
 spelled_fields (Hello switch boot) = hello.spell (switch, boot)
 spelled_fields (Installed switch boot version) = acknowledged.spell (switch, (boot, version))
 spelled_fields (Stamped switch boot version) = acknowledged.spell (switch, (boot, version))
 
 abbrev pub fields_fit : Body → Bool
-fields_fit (Install boot tables) = install.fits (boot, tables)
+fields_fit (Install boot tables) = install_form.fits (boot, tables)
 fields_fit (OpenAt boot version) = of_version.fits (boot, version)
 fields_fit (Stamp boot version) = of_version.fits (boot, version)
 fields_fit (Collect boot version) = of_version.fits (boot, version)
 fields_fit (CacheRule version word rule action) =
-    cache_rule.fits (version, (word, (rule, action)))
+    cache_rule_form.fits (version, (word, (rule, action)))
 fields_fit (Advertise told) = advert.fits told
 fields_fit (Hello switch boot) = hello.fits (switch, boot)
 fields_fit (Installed switch boot version) = acknowledged.fits (switch, (boot, version))
@@ -107,11 +107,11 @@ cache_rule_of p = CacheRule p.0 p.1.0 p.1.1.0 p.1.1.1
 
 abbrev pub read_fields : ℕ → List ℕ → Option (Body × List ℕ)
 read_fields kind bytes =
-    if kind == 1 then made (λ p. Install p.0 p.1) (install.read bytes)
+    if kind == 1 then made (λ p. Install p.0 p.1) (install_form.read bytes)
     else (if kind == 2 then made (λ p. OpenAt p.0 p.1) (of_version.read bytes)
     else (if kind == 3 then made (λ p. Stamp p.0 p.1) (of_version.read bytes)
     else (if kind == 4 then made (λ p. Collect p.0 p.1) (of_version.read bytes)
-    else (if kind == 5 then made cache_rule_of (cache_rule.read bytes)
+    else (if kind == 5 then made cache_rule_of (cache_rule_form.read bytes)
     else (if kind == 6 then made Advertise (advert.read bytes)
     else (if kind == 7 then made (λ p. Hello p.0 p.1) (hello.read bytes)
     else (if kind == 8 then made (λ p. Installed p.0 p.1.0 p.1.1) (acknowledged.read bytes)
@@ -121,7 +121,7 @@ read_fields kind bytes =
 unfoldable pub body : Format Body
 body =
     record {
-      spell = λ b. form.n1.spell (kind_of b) ++ spelled_fields b;
+      spell = λ b. form.n1.spell (kind_number b) ++ spelled_fields b;
       fits = fields_fit;
       read = λ bytes. then_read (form.n1.read bytes) (λ kind. read_fields kind.0 kind.1);
     }
@@ -194,12 +194,12 @@ FieldsSuit (Installed switch boot version) = switch < 64
 FieldsSuit (Stamped switch boot version) = switch < 64
 FieldsSuit _ = Unit {0}
 
-abbrev pub IsSwitch : Receiver → Type 0
-IsSwitch (Switch s) = s < 64
-IsSwitch Controller = Unit {0}
+abbrev pub IsReceiver : Receiver → Type 0
+IsReceiver (Switch s) = s < 64
+IsReceiver Controller = Unit {0}
 
 -- switches below 64, lists shorter than 2^32, and a receiver for the body
 pub record HasSpelling (m : Message) : Type 0 where
-  pub switch : IsSwitch m.to
+  pub switch : IsReceiver m.to
   pub suits : suits m.to m.body ≡ true
   pub fields : FieldsSuit m.body

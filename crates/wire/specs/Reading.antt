@@ -7,22 +7,22 @@ use Rattle.wire.specs.Format.{Format}
 use Rattle.wire.specs.Messages.{fields_fit, spelled_fields}
 
 -- without memory it may be anything
-abbrev pub Refuses : {A : Type 0} → WireError → Option A → Type 0
-Refuses Malformed read = read ≡ None
-Refuses NoMemory read = Unit {0}
+abbrev pub RefusesBytes : {A : Type 0} → WireError → Option A → Type 0
+RefusesBytes Malformed read = read ≡ None
+RefusesBytes NoMemory read = Unit {0}
 
 -- the answer, seen by view, and the bytes that are left are what was read
 abbrev pub Gives : {X A : Type 0} → (X → A) → Option (A × List ℕ) → Result X WireError → List ℕ
     → Type 0
 Gives view read (Ok x) rest = read ≡ Some (view x, rest)
-Gives view read (Err error) rest = Refuses error read
+Gives view read (Err error) rest = RefusesBytes error read
 
 -- the answer and the bytes that are left are what the format reads
 abbrev pub Reads : {A : Type 0} → Format A → List ℕ → Result A WireError → List ℕ → Type 0
 Reads f bytes result rest = Gives (λ x. x) (f.read bytes) result rest
 
 -- the value has a spelling, which stands at the end of the new bytes
-pub record Appends {A : Type 0} (f : Format A) (x : A) (before after : List ℕ) : Type 0 where
+pub record AppendsForm {A : Type 0} (f : Format A) (x : A) (before after : List ℕ) : Type 0 where
   pub fits : f.fits x ≡ true
   pub bytes : after ≡ before ++ f.spell x
 

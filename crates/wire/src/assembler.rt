@@ -2,8 +2,8 @@ ghost use Rattle.std.specs.Prelude.{◌≡◌, ◌<◌, ◌≤◌, ◌↔◌, []
 ghost use Rattle.std.specs.Option.{option_copied};
 ghost use Rattle.std.specs.List.{insert, position, position_or_len};
 ghost use Rattle.wire.specs.declared.error.WireError.TheVariants.{Malformed};
-ghost use Rattle.wire.specs.Frames.{AreFrames, count_of, place_of};
-ghost use Rattle.wire.specs.Assembly.{Agree, AreAllHeld, AreRising, AreTogether, IsAnswer, IsFed, IsRefused, IsSpot, held_at, with_frame};
+ghost use Rattle.wire.specs.Frames.{AreFrames, count_of, place_in_frame};
+ghost use Rattle.wire.specs.Assembly.{Agree, AreAllHeld, AreRising, AreTogether, IsAssembled, IsFed, IsRefusedFrame, IsSpot, held_at, with_frame};
 
 use crate::assembly::{are_same, message_of};
 use crate::error::WireError;
@@ -49,8 +49,8 @@ impl Assembler {
     /// held frame has another count, another frame is held at its place, or all frames are there
     /// and are those of no message. An error changes nothing.
     pub fn feed(&mut self, alloc: Global, frame: &[u8]) -> Result<Option<Message>, WireError>
-        ensures refused { IsErrOf result Malformed → IsRefused self.old frame.now }
-        ensures taken { OnOk result (IsRefused self.old frame.now → ⊥) }
+        ensures refused { IsErrOf result Malformed → IsRefusedFrame self.old frame.now }
+        ensures taken { OnOk result (IsRefusedFrame self.old frame.now → ⊥) }
         ensures held { OnOk result (self.new ≡ with_frame self.old frame.now) }
         ensures some { IfOk result (λ answer.
             IsSome answer ↔ AreAllHeld self.new (count_of frame.now)) }
@@ -83,7 +83,7 @@ fn hold(
     requires long { 8 ≤ length frame.now }
     requires rising { AreRising 0 (count_of frame.now) (insert frames.old.items index frame.now) }
     ensures answer { let held = insert frames.old.items index frame.now in
-        IsAnswer held (count_of frame.now) result }
+        IsAssembled held (count_of frame.now) result }
     ensures ok { OnOk result (frames.new.items ≡ insert frames.old.items index frame.now) }
     ensures unchanged { OnErr result (frames.new.items ≡ frames.old.items) }
 {
@@ -142,7 +142,7 @@ fn agree(frames: &[Frame], count: u32) -> bool
 fn spot_among(frames: &[Frame], frame: &[u8]) -> Spot
     requires long { 9 ≤ length frame.now }
     requires short { length frame.now ≤ 16384 }
-    requires below { place_of frame.now < count_of frame.now }
+    requires below { place_in_frame frame.now < count_of frame.now }
     requires rising { AreRising 0 (count_of frame.now) frames.now }
     ensures { IsSpot frames.now frame.now result }
 {
@@ -168,14 +168,14 @@ fn find_at(frames: &[Frame], place: u32) -> Option<&Frame>
 
 // The index of the first frame of this place or a higher one.
 fn first_behind(frames: &[Frame], place: u32) -> Option<usize>
-    ensures { result ≡ position (λ f. nat_le place (place_of f)) frames.now }
+    ensures { result ≡ position (λ f. nat_le place (place_in_frame f)) frames.now }
 {
     frames.iter().position(|frame| place <= frame.place())
 }
 
 // How many frames stand before the first of this place or a higher one.
 fn index_of(frames: &[Frame], place: u32) -> usize
-    ensures { result ≡ position_or_len (λ f. nat_le place (place_of f)) frames.now }
+    ensures { result ≡ position_or_len (λ f. nat_le place (place_in_frame f)) frames.now }
 {
     match first_behind(frames, place) {
         Some(index) => index,

@@ -1,7 +1,7 @@
 ghost use Rattle.std.specs.Prelude.{◌≡◌, ◌↔◌, length, map, IsTrue, IfOk};
 ghost use Rattle.std.specs.List.{flat_map};
 ghost use Rattle.wire.specs.Frames.{piece_of};
-ghost use Rattle.wire.specs.Assembly.{AreRising, IsAnswer, IsWhole};
+ghost use Rattle.wire.specs.Assembly.{AreRising, IsAssembled, IsWhole};
 
 use crate::codec::decode;
 use crate::error::WireError;
@@ -77,7 +77,7 @@ pub(crate) fn message_of(
     frames: &[Frame],
 ) -> Result<Option<Message>, WireError>
     requires { AreRising 0 count frames.now }
-    ensures { IsAnswer frames.now count result }
+    ensures { IsAssembled frames.now count result }
 {
     if frames.len() != count as usize {
         return Ok(None);

@@ -3,8 +3,8 @@ ghost use Rattle.ctrl_msg.specs.declared.message.Message.{Message};
 ghost use Rattle.wire.specs.declared.error.WireError.TheVariants.{Malformed};
 ghost use Rattle.wire.specs.Fields as form;
 ghost use Rattle.wire.specs.Messages as kinds;
-ghost use Rattle.wire.specs.Messages.{AreShort, FieldsSuit, HasSpelling, IsSpelling, IsSwitch, cache_rule_of, kind_of, made, read_fields, whole};
-ghost use Rattle.wire.specs.Reading.{Appends, AppendsFields, Gives, Reads};
+ghost use Rattle.wire.specs.Messages.{AreShort, FieldsSuit, HasSpelling, IsSpelling, IsReceiver, cache_rule_of, kind_number, made, read_fields, whole};
+ghost use Rattle.wire.specs.Reading.{AppendsForm, AppendsFields, Gives, Reads};
 
 use crate::error::WireError;
 use crate::fields::{
@@ -33,8 +33,8 @@ pub(crate) fn read_receiver(reader: &mut Reader) -> Result<Receiver, WireError>
 
 #[tactic(auto, unfolding(crate::specs::Messages::receiver))]
 pub(crate) fn put_receiver(out: &mut Vec<u8>, to: Receiver) -> Result<(), AllocError>
-    requires { IsSwitch to }
-    ensures { OnOk result (Appends kinds.receiver to out.old.items out.new.items) }
+    requires { IsReceiver to }
+    ensures { OnOk result (AppendsForm kinds.receiver to out.old.items out.new.items) }
 {
     match to {
         Receiver::Controller => put_n1(out, 255),
@@ -42,9 +42,9 @@ pub(crate) fn put_receiver(out: &mut Vec<u8>, to: Receiver) -> Result<(), AllocE
     }
 }
 
-#[tactic(auto, unfolding(crate::specs::Messages::install))]
+#[tactic(auto, unfolding(crate::specs::Messages::install_form))]
 fn read_install(reader: &mut Reader) -> Result<(u32, SharedTables), WireError>
-    ensures { Reads kinds.install reader.old result reader.new }
+    ensures { Reads kinds.install_form reader.old result reader.new }
 {
     let boot = reader.n4()?;
     let tables = read_tables(reader)?;
@@ -73,9 +73,9 @@ fn read_advert(reader: &mut Reader) -> Result<Advert, WireError>
     })
 }
 
-#[tactic(auto, unfolding(crate::specs::Messages::cache_rule))]
+#[tactic(auto, unfolding(crate::specs::Messages::cache_rule_form))]
 fn read_cache_rule(reader: &mut Reader) -> Result<Body, WireError>
-    ensures { let read = made cache_rule_of (kinds.cache_rule.read reader.old) in
+    ensures { let read = made cache_rule_of (kinds.cache_rule_form.read reader.old) in
         Gives (λ body. body) read result reader.new }
 {
     Ok(Body::CacheRule {
@@ -191,10 +191,10 @@ fn whole(reader: &mut Reader) -> Result<Message, WireError>
     }
 }
 
-#[tactic(auto, unfolding(crate::specs::Messages::install))]
+#[tactic(auto, unfolding(crate::specs::Messages::install_form))]
 fn put_install(out: &mut Vec<u8>, boot: u32, tables: &SharedTables) -> Result<(), AllocError>
     requires { AreShort tables.now }
-    ensures { OnOk result (Appends kinds.install (boot, tables.now) out.old.items out.new.items) }
+    ensures { OnOk result (AppendsForm kinds.install_form (boot, tables.now) out.old.items out.new.items) }
 {
     put_n4(out, boot)?;
     put_tables(out, tables.tables())
@@ -202,15 +202,15 @@ fn put_install(out: &mut Vec<u8>, boot: u32, tables: &SharedTables) -> Result<()
 
 #[tactic(auto, unfolding(crate::specs::Messages::of_version))]
 fn put_of_version(out: &mut Vec<u8>, boot: u32, version: u32) -> Result<(), AllocError>
-    ensures { OnOk result (Appends kinds.of_version (boot, version) out.old.items out.new.items) }
+    ensures { OnOk result (AppendsForm kinds.of_version (boot, version) out.old.items out.new.items) }
 {
     put_n4(out, boot)?;
     put_n4(out, version)
 }
 
-#[tactic(auto, unfolding(crate::specs::Messages::cache_rule))]
+#[tactic(auto, unfolding(crate::specs::Messages::cache_rule_form))]
 fn put_cache_rule(out: &mut Vec<u8>, version: u32, word: &Word, hit: Hit) -> Result<(), AllocError>
-    ensures { OnOk result (Appends kinds.cache_rule (version, (word.now, (hit.rule, hit.action)))
+    ensures { OnOk result (AppendsForm kinds.cache_rule_form (version, (word.now, (hit.rule, hit.action)))
         out.old.items out.new.items) }
 {
     put_n4(out, version)?;
@@ -222,7 +222,7 @@ fn put_cache_rule(out: &mut Vec<u8>, version: u32, word: &Word, hit: Hit) -> Res
 #[tactic(auto, unfolding(crate::specs::Messages::advert))]
 fn put_advert(out: &mut Vec<u8>, advert: &Advert) -> Result<(), AllocError>
     requires { advert.now.origin < 64 }
-    ensures { OnOk result (Appends kinds.advert advert.now out.old.items out.new.items) }
+    ensures { OnOk result (AppendsForm kinds.advert advert.now out.old.items out.new.items) }
 {
     put_switch(out, advert.origin)?;
     put_n4(out, advert.boot)?;
@@ -233,7 +233,7 @@ fn put_advert(out: &mut Vec<u8>, advert: &Advert) -> Result<(), AllocError>
 #[tactic(auto, unfolding(crate::specs::Messages::hello))]
 fn put_hello(out: &mut Vec<u8>, switch: u32, boot: u32) -> Result<(), AllocError>
     requires { switch < 64 }
-    ensures { OnOk result (Appends kinds.hello (switch, boot) out.old.items out.new.items) }
+    ensures { OnOk result (AppendsForm kinds.hello (switch, boot) out.old.items out.new.items) }
 {
     put_switch(out, switch)?;
     put_n4(out, boot)
@@ -247,7 +247,7 @@ fn put_acknowledged(
     version: u32,
 ) -> Result<(), AllocError>
     requires { switch < 64 }
-    ensures { OnOk result (Appends kinds.acknowledged (switch, (boot, version))
+    ensures { OnOk result (AppendsForm kinds.acknowledged (switch, (boot, version))
         out.old.items out.new.items) }
 {
     put_switch(out, switch)?;
@@ -256,7 +256,7 @@ fn put_acknowledged(
 }
 
 fn kind_of(body: &Body) -> u8
-    ensures { result ≡ kind_of body.now }
+    ensures { result ≡ kind_number body.now }
 {
     match body {
         Body::Install { .. } => 1,
@@ -310,7 +310,7 @@ fn put_fields(out: &mut Vec<u8>, body: &Body) -> Result<(), AllocError>
 #[tactic(auto, unfolding(crate::specs::Messages::body))]
 fn put_body(out: &mut Vec<u8>, body: &Body) -> Result<(), AllocError>
     requires { FieldsSuit body.now }
-    ensures { OnOk result (Appends kinds.body body.now out.old.items out.new.items) }
+    ensures { OnOk result (AppendsForm kinds.body body.now out.old.items out.new.items) }
 {
     put_n1(out, kind_of(body))?;
     put_fields(out, body)
@@ -319,7 +319,7 @@ fn put_body(out: &mut Vec<u8>, body: &Body) -> Result<(), AllocError>
 #[tactic(auto, unfolding(crate::specs::Messages::message))]
 fn put_message(out: &mut Vec<u8>, message: &Message) -> Result<(), AllocError>
     requires { HasSpelling message.now }
-    ensures { OnOk result (Appends kinds.message message.now out.old.items out.new.items) }
+    ensures { OnOk result (AppendsForm kinds.message message.now out.old.items out.new.items) }
 {
     put_receiver(out, message.to)?;
     put_body(out, &message.body)

@@ -1,6 +1,6 @@
 ghost use Rattle.std.specs.Prelude.{◌<◌, ◌≤◌, All, IfOk, OnOk};
 ghost use Rattle.wire.specs.Fields as form;
-ghost use Rattle.wire.specs.Reading.{Appends, Reads};
+ghost use Rattle.wire.specs.Reading.{AppendsForm, Reads};
 
 use crate::error::WireError;
 use crate::reader::Reader;
@@ -24,7 +24,7 @@ pub(crate) fn read_switch(reader: &mut Reader) -> Result<u32, WireError>
 #[tactic(auto, unfolding(crate::specs::Fields::switch))]
 pub(crate) fn put_switch(out: &mut Vec<u8>, number: u32) -> Result<(), AllocError>
     requires { number < 64 }
-    ensures { OnOk result (Appends form.switch number out.old.items out.new.items) }
+    ensures { OnOk result (AppendsForm form.switch number out.old.items out.new.items) }
 {
     put_n1(out, number as u8)
 }
@@ -43,7 +43,7 @@ pub(crate) fn read_word(reader: &mut Reader) -> Result<Word, WireError>
 
 #[tactic(auto, unfolding(crate::specs::Fields::word))]
 pub(crate) fn put_word(out: &mut Vec<u8>, word: &Word) -> Result<(), AllocError>
-    ensures { OnOk result (Appends form.word word.now out.old.items out.new.items) }
+    ensures { OnOk result (AppendsForm form.word word.now out.old.items out.new.items) }
 {
     put_n16(out, word.value())?;
     put_n16(out, word.mask())
@@ -62,7 +62,7 @@ pub(crate) fn read_rule_name(reader: &mut Reader) -> Result<Option<u32>, WireErr
 
 #[tactic(auto, unfolding(crate::specs::Fields::rule_name))]
 pub(crate) fn put_rule_name(out: &mut Vec<u8>, rule: Option<u32>) -> Result<(), AllocError>
-    ensures { OnOk result (Appends form.rule_name rule out.old.items out.new.items) }
+    ensures { OnOk result (AppendsForm form.rule_name rule out.old.items out.new.items) }
 {
     match rule {
         None => put_n1(out, 0),
@@ -86,7 +86,7 @@ pub(crate) fn read_action(reader: &mut Reader) -> Result<Action, WireError>
 
 #[tactic(auto, unfolding(crate::specs::Fields::action))]
 pub(crate) fn put_action(out: &mut Vec<u8>, action: Action) -> Result<(), AllocError>
-    ensures { OnOk result (Appends form.action action out.old.items out.new.items) }
+    ensures { OnOk result (AppendsForm form.action action out.old.items out.new.items) }
 {
     match action {
         Action::Drop => put_n1(out, 0),
@@ -129,7 +129,7 @@ pub(crate) fn read_targets(reader: &mut Reader) -> Result<Targets, WireError>
 #[tactic(auto, unfolding(crate::specs::Fields::targets, crate::specs::Fields::target_count))]
 pub(crate) fn put_targets(out: &mut Vec<u8>, targets: &Targets) -> Result<(), AllocError>
     requires { All (λ s. s < 64) targets.now }
-    ensures { OnOk result (Appends form.targets targets.now out.old.items out.new.items) }
+    ensures { OnOk result (AppendsForm form.targets targets.now out.old.items out.new.items) }
 {
     let switches = targets.items();
     put_n1(out, switches.len() as u8)?;

@@ -1,5 +1,5 @@
 ghost use Rattle.std.specs.Prelude.{◌≡◌, ◌+◌, ◌<◌, ◌≤◌, ◌^◌, length, IfOk};
-ghost use Rattle.wire.specs.Frames.{frame, place_of, count_of, piece_of};
+ghost use Rattle.wire.specs.Frames.{frame, place_in_frame, count_of, piece_of};
 
 use crate::writer::put_n4;
 use std::alloc::{AllocError, Global};
@@ -66,7 +66,7 @@ impl Frame {
     }
 
     pub fn place(&self) -> u32
-        ensures { result ≡ place_of self.now }
+        ensures { result ≡ place_in_frame self.now }
     {
         place_of(self.bytes())
     }
@@ -94,10 +94,10 @@ impl Clone for Frame {
 }
 
 /// The place of a frame.
-#[tactic(auto, unfolding(crate::specs::Frames::place_of))]
+#[tactic(auto, unfolding(crate::specs::Frames::place_in_frame))]
 pub(crate) fn place_of(frame: &[u8]) -> u32
     requires { 8 ≤ length frame.now }
-    ensures { result ≡ place_of frame.now }
+    ensures { result ≡ place_in_frame frame.now }
 {
     u32::from_be_bytes([frame[0], frame[1], frame[2], frame[3]])
 }

@@ -2,7 +2,7 @@
 ghost use Rattle.std.specs.Prelude.{◌≡◌, ◌++◌, ℕ, true, IfOk, IsErrOf, OnOk};
 ghost use Rattle.ctrl_msg.specs.declared.message.Receiver.{Receiver};
 ghost use Rattle.wire.specs.declared.error.WireError.TheVariants.{Malformed};
-ghost use Rattle.wire.specs.Messages.{IsFront, IsSwitch, front, read_front, spelled_front};
+ghost use Rattle.wire.specs.Messages.{IsFront, IsReceiver, front, read_front, spelled_front};
 ghost use Rattle.wire.specs.Reading.{Gives};
 
 use crate::codec::{put_receiver, read_receiver};
@@ -21,7 +21,7 @@ const INSTALL: u8 = 1;
 /// Want of memory alone; a part of it may be written then.
 #[tactic(auto, unfolding(crate::specs::Messages::front))]
 pub fn append_front(out: &mut Vec<u8>, to: Receiver, boot: u32) -> Result<(), AllocError>
-    requires { IsSwitch to }
+    requires { IsReceiver to }
     ensures fits { OnOk result (front.fits (to, (1, boot)) ≡ true) }
     ensures spelled { OnOk result (out.new.items ≡ out.old.items ++ spelled_front to boot) }
 {

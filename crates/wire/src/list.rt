@@ -1,6 +1,6 @@
 ghost use Rattle.std.specs.Prelude.{◌≡◌, ◌<◌, ◌^◌, ◌++◌, length, All, OnOk};
 ghost use Rattle.wire.specs.Format.{Format, list_of, read_items};
-ghost use Rattle.wire.specs.Reading.{Reads, Gives, Appends};
+ghost use Rattle.wire.specs.Reading.{Reads, Gives, AppendsForm};
 ghost use Rattle.wire.specs.Fields.{n4};
 
 use crate::error::WireError;
@@ -23,7 +23,7 @@ pub(crate) trait Part: Sized + Drop {
     /// Writes it at the end.
     fn put(&self, out: &mut Vec<u8>) -> Result<(), AllocError>
         requires { needs self.now }
-        ensures { OnOk result (Appends format self.now out.old.items out.new.items) };
+        ensures { OnOk result (AppendsForm format self.now out.old.items out.new.items) };
 }
 
 fn read_items<T: Part>(reader: &mut Reader, count: u32) -> Result<Vec<T>, WireError>
@@ -47,7 +47,7 @@ pub(crate) fn read_list<T: Part>(reader: &mut Reader) -> Result<Vec<T>, WireErro
 pub(crate) fn put_list<T: Part>(items: &[T], out: &mut Vec<u8>) -> Result<(), AllocError>
     requires few { length items.now < 2 ^ 32 }
     requires each { All T.needs items.now }
-    ensures { OnOk result (Appends (list_of n4 T.format) items.now out.old.items out.new.items) }
+    ensures { OnOk result (AppendsForm (list_of n4 T.format) items.now out.old.items out.new.items) }
 {
     put_n4(out, items.len() as u32)?;
     for item in items {

@@ -1,5 +1,5 @@
 ghost use Rattle.std.specs.Prelude.{OnOk};
-ghost use Rattle.wire.specs.Reading.{Appends, Reads};
+ghost use Rattle.wire.specs.Reading.{AppendsForm, Reads};
 ghost use Rattle.wire.specs.Fields as form;
 ghost use Rattle.wire.specs.Messages.{AreShort};
 
@@ -106,7 +106,7 @@ pub(crate) fn read_tables(reader: &mut Reader) -> Result<Tables, WireError>
 #[tactic(auto, unfolding(crate::specs::Fields::tables))]
 pub(crate) fn put_tables(out: &mut Vec<u8>, tables: &Tables) -> Result<(), AllocError>
     requires { AreShort tables.now }
-    ensures { OnOk result (Appends form.tables tables.now out.old.items out.new.items) }
+    ensures { OnOk result (AppendsForm form.tables tables.now out.old.items out.new.items) }
 {
     put_n4(out, tables.version)?;
     put_list(tables.parts.items(), out)?;

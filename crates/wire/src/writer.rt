@@ -1,13 +1,13 @@
 ghost use Rattle.std.specs.Prelude.{OnOk};
 ghost use Rattle.wire.specs.Fields as form;
-ghost use Rattle.wire.specs.Reading.{Appends};
+ghost use Rattle.wire.specs.Reading.{AppendsForm};
 
 use std::alloc::AllocError;
 
 /// Writes a number of one byte at the end.
 #[tactic(auto, unfolding(crate::specs::Fields::n1, crate::specs::Format::spelled_number))]
 pub(crate) fn put_n1(out: &mut Vec<u8>, number: u8) -> Result<(), AllocError>
-    ensures { OnOk result (Appends form.n1 number out.old.items out.new.items) }
+    ensures { OnOk result (AppendsForm form.n1 number out.old.items out.new.items) }
 {
     out.push(number)?;
     Ok(())
@@ -16,7 +16,7 @@ pub(crate) fn put_n1(out: &mut Vec<u8>, number: u8) -> Result<(), AllocError>
 /// Writes a number of four bytes at the end.
 #[tactic(auto, unfolding(crate::specs::Fields::n4, crate::specs::Format::spelled_number))]
 pub(crate) fn put_n4(out: &mut Vec<u8>, number: u32) -> Result<(), AllocError>
-    ensures { OnOk result (Appends form.n4 number out.old.items out.new.items) }
+    ensures { OnOk result (AppendsForm form.n4 number out.old.items out.new.items) }
 {
     out.extend_from_slice(&number.to_be_bytes())
 }
@@ -24,7 +24,7 @@ pub(crate) fn put_n4(out: &mut Vec<u8>, number: u32) -> Result<(), AllocError>
 /// Writes a number of eight bytes at the end.
 #[tactic(auto, unfolding(crate::specs::Fields::n8, crate::specs::Format::spelled_number))]
 pub(crate) fn put_n8(out: &mut Vec<u8>, number: u64) -> Result<(), AllocError>
-    ensures { OnOk result (Appends form.n8 number out.old.items out.new.items) }
+    ensures { OnOk result (AppendsForm form.n8 number out.old.items out.new.items) }
 {
     out.extend_from_slice(&number.to_be_bytes())
 }
@@ -32,7 +32,7 @@ pub(crate) fn put_n8(out: &mut Vec<u8>, number: u64) -> Result<(), AllocError>
 /// Writes a number of sixteen bytes at the end.
 #[tactic(auto, unfolding(crate::specs::Fields::n16))]
 pub(crate) fn put_n16(out: &mut Vec<u8>, number: u128) -> Result<(), AllocError>
-    ensures { OnOk result (Appends form.n16 number out.old.items out.new.items) }
+    ensures { OnOk result (AppendsForm form.n16 number out.old.items out.new.items) }
 {
     put_n8(out, (number >> 64) as u64)?;
     put_n8(out, (number & u128::from(u64::MAX)) as u64)

@@ -16,7 +16,7 @@ use Rattle.clap.proofs.OnLiterals.{clap_on_literals}
 use Rattle.clap.proofs.TakesLemmas.{leaf_takes}
 use Rattle.clap.proofs.WalkLemmas.{both, first_value-rows, one_text-rows, raw_values-rows}
 use Rattle.words.specs.Line.{IsFlagRead, IsNetRead, Options, app_with, net_and, none}
-use Rattle.words.specs.Words.{Cut, Line, cut_options, end_together, is_name, line_of}
+use Rattle.words.specs.Words.{Cut, Line, cut_options, end_together, is_file_name, line_of}
 use Rattle.words.proofs.Shapes.{IsCut, cut_is, given_in, names_good, spelled}
 use Rattle.words.proofs.Walks.{At, Goes, IsFew, MayStand, apart, goes_far, may_give, name_first, named, names_rule, names_walk, net_rule, options_walk, quiet_rule, rows_at, rules, settles, shape, shape_is, takes_flag, takes_net, use_all, valued, walk_at}
 
@@ -189,7 +189,7 @@ pub record HasParts (words : List (List ℕ)) (line : Line) : Type 0 where
   pub front_cut : IsCut words front
   pub back_cut : IsCut (drop (length line.names) front.words) back
   pub names : front.words ≡ line.names ++ drop (length line.names) front.words
-  pub good : list_all is_name line.names ≡ true
+  pub good : list_all is_file_name line.names ≡ true
   pub ends : back.words ≡ []
   pub net : line.net ≡ option_or front.net back.net
   pub quiet : line.quiet ≡ (front.quiet || back.quiet)
@@ -204,7 +204,7 @@ parts_of words line e = go (end_together front back) refl e
     front = cut_options words
 
     count : ℕ
-    count = prefix_len is_name front.words
+    count = prefix_len is_file_name front.words
 
     back : Cut
     back = cut_options (drop count front.words)
@@ -228,7 +228,7 @@ parts_of words line e = go (end_together front back) refl e
         let q = both (not (is_some front.net && is_some back.net)
         && not (front.quiet && back.quiet)) _ s in
         let p = both (not (is_some front.net && is_some back.net)) _ q.0 in
-        let size : length names ≡ count = length-prefix_len is_name front.words in
+        let size : length names ≡ count = length-prefix_len is_file_name front.words in
         subst (HasParts words) line_is (record {
           front = front;
           back = back;
@@ -280,7 +280,7 @@ module _ (name : List ℕ) (o : Options) (words : List (List ℕ))
       let one = options_walk name o front apart [] parts.front_cut.good may_front tt in
       let rows = rows_at one.at one.left in
       let two = options_walk name o back (named n ns) rows parts.back_cut.good may_back few in
-      let good = both (is_name n) _ parts.good in
+      let good = both (is_file_name n) _ parts.good in
       let first = name_first name o one.at one.left n good.0 one.stands (one.apart tt) in
       let more = names_walk name o n [] ns rows good.1 in
       let all_names = goes_far name o _ _ _ (n ∷ []) ns first more in

@@ -6,7 +6,7 @@ use Rattle.std.specs.Option.{option_map_or}
 use Rattle.std.proofs.Common.{◌≡◌, ℕ, Bool, true, false, cond, ◌&&◌, Option, Some, None, is_some, List, [], ◌∷◌, ◌++◌, length, take, drop, refl, sym, ap, ap₂, ◌∙◌, subst, append_assoc, append-nil, suc, ◌+◌, true≢false, eqb-true, arith}
 use Rattle.std.proofs.lemmas.Slice.Eq.{bytes_eq-Decides}
 use Rattle.clap.proofs.WalkLemmas.{both}
-use Rattle.words.specs.Words.{Cut, cut_net, cut_options, cut_pair, cut_quiet, is_name, joined_net, net_and_quiet, quiet_and_net}
+use Rattle.words.specs.Words.{Cut, cut_net, cut_options, cut_pair, cut_quiet, is_file_name, joined_net, net_and_quiet, quiet_and_net}
 
 -- an option, as it is written
 pub data Given : Type 0 where
@@ -25,7 +25,7 @@ spelled (g ∷ gs) = spell g ++ spelled gs
 
 abbrev pub is_good : Given → Bool
 is_good (joined net) = true
-is_good (pair net) = is_name net
+is_good (pair net) = is_file_name net
 is_good quiet = true
 
 -- options that give this network and this flag, in one of their orders
@@ -69,10 +69,10 @@ joined_is : (word net : List ℕ) → joined_net word ≡ Some net → word ≡ 
 joined_is word net e = go (starts_with eqb word (codes "--net=")) refl e
   where
     go : (b : Bool) → starts_with eqb word (codes "--net=") ≡ b
-        → cond (b && is_name (drop 6 word)) (Some (drop 6 word)) None ≡ Some net
+        → cond (b && is_file_name (drop 6 word)) (Some (drop 6 word)) None ≡ Some net
         → word ≡ codes "--net=" ++ net
     go false s e = absurd (true≢false (ap is_some (sym e)))
-    go true s e = named (is_name (drop 6 word)) e
+    go true s e = named (is_file_name (drop 6 word)) e
       where
         named : (b : Bool) → cond b (Some (drop 6 word)) None ≡ Some net
             → word ≡ codes "--net=" ++ net
@@ -87,13 +87,13 @@ pair_is option [] net rest e = absurd (true≢false (ap is_some (sym e)))
 pair_is option (value ∷ words) net rest e = go (bytes_eq option (codes "--net")) refl e
   where
     go : (b : Bool) → bytes_eq option (codes "--net") ≡ b
-        → cond {A = Option (List ℕ × List (List ℕ))} (b && is_name value) (Some (value, words)) None
+        → cond {A = Option (List ℕ × List (List ℕ))} (b && is_file_name value) (Some (value, words)) None
         ≡ Some (net, rest)
         → IsNetCut (option ∷ value ∷ words) net rest
     go false s e = absurd (true≢false (ap is_some (sym e)))
-    go true s e = named (is_name value) refl e
+    go true s e = named (is_file_name value) refl e
       where
-        named : (b : Bool) → is_name value ≡ b
+        named : (b : Bool) → is_file_name value ≡ b
             → cond {A = Option (List ℕ × List (List ℕ))} b (Some (value, words)) None
             ≡ Some (net, rest)
             → IsNetCut (option ∷ value ∷ words) net rest
@@ -103,7 +103,7 @@ pair_is option (value ∷ words) net rest e = go (bytes_eq option (codes "--net"
           words = ap (λ o. o ∷ value ∷ words) ((bytes_eq-Decides option (codes "--net")).0 s)
               ∙ ap₂ (λ v ws. codes "--net" ∷ v ∷ ws) (ap (λ o. (cut_or o).0) e)
               (ap (λ o. (cut_or o).1) e);
-          good = ap (λ o. is_name (cut_or o).0) (sym e) ∙ n;
+          good = ap (λ o. is_file_name (cut_or o).0) (sym e) ∙ n;
         }
 
 net_cut : (words : List (List ℕ)) (net : List ℕ) (rest : List (List ℕ))
@@ -214,14 +214,14 @@ cut_is words = go (cut_quiet words) refl
 -- ---- names
 
 pub names_good : (words : List (List ℕ))
-    → list_all is_name (take (prefix_len is_name words) words) ≡ true
+    → list_all is_file_name (take (prefix_len is_file_name words) words) ≡ true
 names_good [] = refl
-names_good (word ∷ words) = go (is_name word) refl (names_good words)
+names_good (word ∷ words) = go (is_file_name word) refl (names_good words)
   where
-    go : (b : Bool) → is_name word ≡ b
-        → list_all is_name (take (prefix_len is_name words) words) ≡ true
-        → list_all is_name (take (cond b (1 + prefix_len is_name words) 0) (word ∷ words)) ≡ true
+    go : (b : Bool) → is_file_name word ≡ b
+        → list_all is_file_name (take (prefix_len is_file_name words) words) ≡ true
+        → list_all is_file_name (take (cond b (1 + prefix_len is_file_name words) 0) (word ∷ words)) ≡ true
     go false e rest = refl
     go true e rest =
-        let one : 1 + prefix_len is_name words ≡ suc (prefix_len is_name words) = omega arith in
+        let one : 1 + prefix_len is_file_name words ≡ suc (prefix_len is_file_name words) = omega arith in
         rw (one, e) rest

@@ -11,7 +11,7 @@ use Rattle.clap.specs.Walk as clap
 use Rattle.clap.specs.declared.builder.value_parser.ValueParser.TheVariants as vp
 use Rattle.clap.proofs.WalkLemmas.{both}
 use Rattle.words.specs.Line.{Options, app_with, names_arg, net_and, net_arg, none, quiet_arg}
-use Rattle.words.specs.Words.{is_name}
+use Rattle.words.specs.Words.{is_file_name}
 use Rattle.words.proofs.Shapes.{Given, is_good, joined, pair, quiet, spell, spelled}
 
 -- the arguments as they are built
@@ -138,7 +138,7 @@ record IsPlainWord (word : List ℕ) : Type 0 where
   pub long : long_of word ≡ None
   pub short : short_of word ≡ None
 
-plain_word : (word : List ℕ) → is_name word ≡ true → IsPlainWord word
+plain_word : (word : List ℕ) → is_file_name word ≡ true → IsPlainWord word
 plain_word [] e = absurd (true≢false (sym e))
 plain_word (x ∷ xs) e = go (x == 45) refl e
   where
@@ -275,7 +275,7 @@ module _ (name : List ℕ) where
       (record { walk = front.walk; passes = p.1 }) back)
 
   -- a name behind options
-  pub name_first : (o : Options) (a : At) (rows : List Row) (n : List ℕ) → is_name n ≡ true
+  pub name_first : (o : Options) (a : At) (rows : List Row) (n : List ℕ) → is_file_name n ≡ true
       → MayStand o a → IsApart a
       → Goes name o (walk_at a rows) (n ∷ []) (walk_at (named n []) (rows_at a rows))
   unfolding walked
@@ -293,13 +293,13 @@ module _ (name : List ℕ) where
 
   -- more names behind one
   pub names_walk : (o : Options) (n : List ℕ) (ns ms : List (List ℕ)) (rows : List Row)
-      → list_all is_name ms ≡ true
+      → list_all is_file_name ms ≡ true
       → Goes name o (walk_at (named n ns) rows) ms (walk_at (named n (ns ++ ms)) rows)
   unfolding walked
   names_walk o n ns [] rows good =
       rw (append-nil ns) (goes_nowhere o (walk_at (named n ns) rows))
   names_walk o n ns (m ∷ ms) rows good =
-      let p = both (is_name m) _ good in
+      let p = both (is_file_name m) _ good in
       let word = plain_word m p.0 in
       let more = names_walk o n (ns ++ m ∷ []) ms rows p.1 in
       goes_on o (walk_at (named n ns) rows) (walk_at (named n (ns ++ m ∷ [])) rows) _ m ms
@@ -314,7 +314,7 @@ module _ (name : List ℕ) where
   may_ask flag (valued net) rows few = rw (again_passes (codes "net") rows) refl
   may_ask flag (named n ns) rows few = rw (names_pass n ns rows few) refl
 
-  told : (flag : Bool) (net : List ℕ) (rows : List Row) → is_name net ≡ true
+  told : (flag : Bool) (net : List ℕ) (rows : List Row) → is_file_name net ≡ true
       → Goes name (net_and flag) (walk_asking rows) (net ∷ []) (walk_at (valued net) rows)
   unfolding walked
   told flag net rows good =

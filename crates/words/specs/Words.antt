@@ -6,15 +6,15 @@ use Rattle.five_tuple.specs.Texts.{number_up_to}
 use Rattle.words.specs.Commands.{Command, Replay, Print, Load}
 
 -- a word that may name a file or a switch: it isn't empty and doesn't begin with a dash
-abbrev pub is_name : List ℕ → Bool
-is_name word = nat_lt 0 (length word) && not (slice_index word 0 == 45)
+abbrev pub is_file_name : List ℕ → Bool
+is_file_name word = nat_lt 0 (length word) && not (slice_index word 0 == 45)
 
 -- ---- options
 
 -- the network of an option `--net=NET`
 abbrev pub joined_net : List ℕ → Option (List ℕ)
 joined_net word =
-    if starts_with eqb word (codes "--net=") && is_name (drop 6 word)
+    if starts_with eqb word (codes "--net=") && is_file_name (drop 6 word)
     then Some (drop 6 word)
     else None
 
@@ -22,7 +22,7 @@ joined_net word =
 abbrev pub cut_pair : List ℕ → List (List ℕ) → Option (List ℕ × List (List ℕ))
 cut_pair option [] = None
 cut_pair option (net ∷ words) =
-    if bytes_eq option (codes "--net") && is_name net then Some (net, words) else None
+    if bytes_eq option (codes "--net") && is_file_name net then Some (net, words) else None
 
 -- the network of an option in front of the words, in either form, and the words behind it
 abbrev pub cut_net : List (List ℕ) → Option (List ℕ × List (List ℕ))
@@ -92,7 +92,7 @@ line_from front names back =
 abbrev pub line_of : List (List ℕ) → Option Line
 line_of words =
     let front = cut_options words in
-    let count = prefix_len is_name front.words in
+    let count = prefix_len is_file_name front.words in
     line_from front (take count front.words) (cut_options (drop count front.words))
 
 -- ---- the commands

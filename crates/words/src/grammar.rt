@@ -2,7 +2,7 @@
 ghost use Rattle.std.specs.Prelude.{◌≡◌, ◌≤◌, ◌⊎◌, true, IfSome, IfNone, None, codes, drop, is_some, length, map, option_map, string_bytes};
 ghost use Rattle.std.specs.List.{prefix_len};
 ghost use Rattle.words.specs.Named.{command_in, cut_seen, kind_name, net_named, pair_seen, parts_seen};
-ghost use Rattle.words.specs.Words.{Line as Stated, command_by, command_of, cut_net, cut_options, cut_pair, cut_quiet, end_together, is_name, joined_net, line_from, line_of, load_of, net_and_quiet, print_of, quiet_and_net, replay_from};
+ghost use Rattle.words.specs.Words.{Line as Stated, command_by, command_of, cut_net, cut_options, cut_pair, cut_quiet, end_together, is_file_name, joined_net, line_from, line_of, load_of, net_and_quiet, print_of, quiet_and_net, replay_from};
 
 use crate::command::{MAX_LOAD, MAX_POLICIES};
 use five_tuple::read_number;
@@ -143,7 +143,7 @@ fn end_together(front: &Cut<'_>, back: &Cut<'_>) -> bool
 
 // How many words in front may name a file, up to the first that may not.
 fn name_count(words: &[String]) -> usize
-    ensures value { result ≡ prefix_len is_name (map string_bytes words.now) }
+    ensures value { result ≡ prefix_len is_file_name (map string_bytes words.now) }
     ensures within { result ≤ length words.now }
 {
     words.iter().take_while(|word| is_name(word)).count()
@@ -254,7 +254,7 @@ fn joined_net(word: &str) -> Option<&str>
 
 // Whether a word may name a file or a switch: it is not empty and does not begin with a dash.
 fn is_name(word: &str) -> bool
-    ensures { result ≡ is_name word.now }
+    ensures { result ≡ is_file_name word.now }
 {
     !word.is_empty() && word.as_bytes()[0] != b'-'
 }

@@ -11,7 +11,7 @@ use Rattle.steps.specs.declared.step.Step.{Step}
 use Rattle.update_machine.specs.Pieces.{piece, step_items}
 use Rattle.update_machine.specs.Setting.{Setting, setting_of}
 use Rattle.policy_store.specs.Files.{FilesValue}
-use Rattle.world.specs.Parts.{AreTiedIn, Begins, Goes, HasBegun, IsReady, KeepNet, Plays, control_in, setting_in}
+use Rattle.world.specs.Parts.{AreTiedIn, BeginsStep, Goes, HasBegun, IsReadyForStep, KeepNet, Plays, control_in, setting_in}
 use Rattle.world.specs.State.{comes_in}
 use Rattle.world_ties.specs.Tied.{AreTied, Control}
 use Rattle.world_log.specs.Writing.{IsPart}
@@ -96,7 +96,7 @@ unfolding piece
 piece_split setting before row step = refl
 
 module _ {T E : Type 0} (r : Result T E) (before : List Item) (row : ℕ) (step : Step)
-    (old new : Parts) (begins : Begins before row step old) (keeps : KeepNet old new) where
+    (old new : Parts) (begins : BeginsStep before row step old) (keeps : KeepNet old new) where
   -- the step writes these items behind its row
   pub goes : (items : List Item)
       → piece (setting_in old) before row step ≡ item.Row row step ∷ items
@@ -167,7 +167,7 @@ abbrev pub with_journal : Parts → List Item → Parts
 with_journal parts journal = record parts { log = record parts.log { journal = journal } }
 
 ready_behind : (before : List Item) (step : Step) (parts : Parts) (journal : List Item)
-    → IsReady before step parts → IsReady before step (with_journal parts journal)
+    → IsReadyForStep before step parts → IsReadyForStep before step (with_journal parts journal)
 ready_behind before step parts journal ready = record {
   sound = record {
     sound = ready.sound.sound;
@@ -180,10 +180,10 @@ ready_behind before step parts journal ready = record {
 }
 
 module _ (row : ℕ) (step kind : Step) (old : Parts) (rowed : List Item)
-    (ready : IsReady old.log.journal step old)
+    (ready : IsReadyForStep old.log.journal step old)
     (is : rowed ≡ old.log.journal ++ item.Row row step ∷ []) (kind_is : step ≡ kind) where
-  begins_kind : Begins old.log.journal row kind (with_journal old rowed)
-  begins_kind = subst (λ (k : Step). Begins old.log.journal row k (with_journal old rowed)) kind_is
+  begins_kind : BeginsStep old.log.journal row kind (with_journal old rowed)
+  begins_kind = subst (λ (k : Step). BeginsStep old.log.journal row k (with_journal old rowed)) kind_is
       (record {
         ready = ready_behind old.log.journal step old rowed ready;
         rowed = is;

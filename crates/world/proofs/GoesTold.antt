@@ -8,7 +8,7 @@ use Rattle.journal.specs.declared.item.Item.{Item}
 use Rattle.journal.specs.declared.item.Item.TheVariants as item
 use Rattle.steps.specs.declared.step.Step.{Step}
 use Rattle.update_machine.specs.Pieces.{piece}
-use Rattle.world.specs.Parts.{Begins, Goes, KeepNet, control_in, setting_in}
+use Rattle.world.specs.Parts.{BeginsStep, Goes, KeepNet, control_in, setting_in}
 use Rattle.world.specs.State.{comes_in}
 use Rattle.world_ties.specs.Tied.{AreTied, Control}
 use Rattle.travelling.specs.Travelling.{Travellers}
@@ -38,7 +38,7 @@ pub record Tells {T E : Type 0} (r : Result T E) (before : List Item) (row : ℕ
 
 pub goes_told : {T E : Type 0} (r : Result T E) (before : List Item) (row : ℕ) (step : Step)
     (old new : Parts) (first : Item) (tail : ℕ → List Item) (begun : List Item) (number : ℕ)
-    (posts more : List Post) → Begins before row step old → KeepNet old new
+    (posts more : List Post) → BeginsStep before row step old → KeepNet old new
     → Tells r before row step old new first tail begun number posts more
     → Goes r before row step old new
 goes_told r before row step old new first tail begun number posts more begins keeps tells =
@@ -62,7 +62,7 @@ goes_told r before row step old new first tail begun number posts more begins ke
 
 -- memory runs out behind the first item
 pub first_goes : {T E : Type 0} (r : Result T E) (before : List Item) (row : ℕ) (step : Step)
-    (old new : Parts) (first : Item) (rest : List Item) → Begins before row step old
+    (old new : Parts) (first : Item) (rest : List Item) → BeginsStep before row step old
     → KeepNet old new
     → piece (setting_in old) before row step ≡ item.Row row step ∷ first ∷ rest
     → IsErr r → new.log.journal ≡ old.log.journal ++ first ∷ [] → Goes r before row step old new

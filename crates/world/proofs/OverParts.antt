@@ -9,8 +9,8 @@ use Rattle.steps.specs.declared.step.Step.TheVariants.{Hop, Packet as PacketStep
 use Rattle.switch_core.specs.State.{SwitchValue, counted}
 use Rattle.tunnel.specs.Moves.{here}
 use Rattle.update_machine.specs.Pieces.{piece}
-use Rattle.world_log.specs.Packets.{coming_in, entry, hop_items, hop_posts, hop_traveller, hopped_switch}
-use Rattle.world.specs.Parts.{IsReady, control_in, setting_in}
+use Rattle.world_log.specs.Packets.{coming_in, entry, hop_written, hop_posts, hop_traveller, hopped_switch}
+use Rattle.world.specs.Parts.{IsReadyForStep, control_in, setting_in}
 use Rattle.world_ties.specs.Tied.{AreTied}
 use Rattle.travelling.specs.Travelling.{Travellers, WithOne, traveller}
 use Rattle.world_log.specs.Writing.{entered_items, entered_posts, entered_traveller}
@@ -25,7 +25,7 @@ use Rattle.world_log.proofs.Writing.{both_ok, three_ok}
 -- ---- a packet that comes in
 
 module _ (parts : Parts) (before : List Item) (row s : ℕ) (header : Header) (own : SwitchValue)
-    (ready : IsReady before (PacketStep s header) parts)
+    (ready : IsReadyForStep before (PacketStep s header) parts)
     (its : own ≡ get_or parts.switches.items s own) where
   pub come_is : piece (setting_in parts) before row (PacketStep s header)
       ≡ item.Row row (PacketStep s header) ∷ entered_items (length parts.log.bag + 1)
@@ -67,7 +67,7 @@ module _ (parts : Parts) (before : List Item) (row s : ℕ) (header : Header) (o
 -- ---- a packet that moves on
 
 module _ (parts : Parts) (before : List Item) (row i : ℕ) (t : Traveller) (s : ℕ)
-    (switch : SwitchValue) (ready : IsReady before (Hop i) parts)
+    (switch : SwitchValue) (ready : IsReadyForStep before (Hop i) parts)
     (its : traveller parts.log.travelling i ≡ Some t) (at : s ≡ here t.tunnel)
     (own : switch ≡ get_or parts.switches.items s switch) where
   can : CanAsk (setting_in parts) before i t s (slice_index parts.near s) switch parts.ports
@@ -76,7 +76,7 @@ module _ (parts : Parts) (before : List Item) (row i : ℕ) (t : Traveller) (s :
       its at own
 
   pub hop_is : piece (setting_in parts) before row (Hop i) ≡ item.Row row (Hop i)
-      ∷ hop_items (length parts.log.bag + 1) switch (slice_index parts.near s) parts.ports t
+      ∷ hop_written (length parts.log.bag + 1) switch (slice_index parts.near s) parts.ports t
   hop_is =
       hop_piece_of (control_in parts) (setting_in parts) before parts.switches.items
       parts.log.travelling parts.packets row i t s (slice_index parts.near s) switch parts.ports
@@ -89,13 +89,13 @@ module _ (parts : Parts) (before : List Item) (row i : ℕ) (t : Traveller) (s :
       (hop_traveller switch (slice_index parts.near s) parts.ports t) after)
       → OnOk r (bag ≡ parts.log.bag ++ hop_posts switch (slice_index parts.near s) parts.ports t)
       → OnOk r (AreTied (setting_in parts) (before ++ item.Row row (Hop i)
-      ∷ hop_items (length parts.log.bag + 1) switch (slice_index parts.near s) parts.ports t)
+      ∷ hop_written (length parts.log.bag + 1) switch (slice_index parts.near s) parts.ports t)
       (set parts.switches.items s changed) after parts.packets
       (record (control_in parts) { posts = bag }))
   hop_ties r changed after bag changed_is travels posted =
       let near : ℕ = slice_index parts.near s in
       let new : List Item = before ++ item.Row row (Hop i)
-      ∷ hop_items (length parts.log.bag + 1) switch near parts.ports t in
+      ∷ hop_written (length parts.log.bag + 1) switch near parts.ports t in
       let there : s < length (setting_in parts).net.switches =
       omega (arith, can.at, can.standing.stands.there) in
       three_ok r (λ answered same with.

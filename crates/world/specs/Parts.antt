@@ -18,7 +18,7 @@ abbrev pub setting_in : Parts → Setting
 setting_in parts = setting_of parts.files.net parts.files.policies
 
 -- the table of the ports is the network's
-pub record AreSound (parts : Parts) : Type 0 where
+pub record AreSoundParts (parts : Parts) : Type 0 where
   pub sound : IsNet parts.files.net
   pub owners : AreOwners parts.files.net.switches parts.ports
 
@@ -53,8 +53,8 @@ pub record KeepRest (before after : Parts) : Type 0 where
   pub travelling : after.log.travelling ≡ before.log.travelling
 
 -- a step may be played on the parts, which are as this journal says
-pub record IsReady (before : List Item) (step : Step) (parts : Parts) : Type 0 where
-  pub sound : AreSound parts
+pub record IsReadyForStep (before : List Item) (step : Step) (parts : Parts) : Type 0 where
+  pub sound : AreSoundParts parts
   pub tied : AreTied (setting_in parts) before parts.switches.items parts.log.travelling
       parts.packets (control_in parts)
   pub may : IsStep parts.files.net (length parts.files.policies) step
@@ -62,8 +62,8 @@ pub record IsReady (before : List Item) (step : Step) (parts : Parts) : Type 0 w
   pub room : length parts.log.bag < 990_000
 
 -- and its row was written behind that journal
-pub record Begins (before : List Item) (row : ℕ) (step : Step) (parts : Parts) : Type 0 where
-  pub ready : IsReady before step parts
+pub record BeginsStep (before : List Item) (row : ℕ) (step : Step) (parts : Parts) : Type 0 where
+  pub ready : IsReadyForStep before step parts
   pub rowed : parts.log.journal ≡ before ++ item.Row row step ∷ []
 
 -- the parts behind the step: its items are written, and the parts are as the journal says then;
@@ -80,19 +80,19 @@ pub record Goes {T E : Type 0} (result : Result T E) (before : List Item) (row :
 pub record HasBegun (step : Step) (parts : Parts) : Type 0 where
   pub before : List Item
   pub row : ℕ
-  pub begins : Begins before row step parts
+  pub begins : BeginsStep before row step parts
 
 -- a step that was begun is played
 abbrev pub Plays : {T E : Type 0} → Step → Result T E → Parts → Parts → Type 0
 Plays step result old new =
-    (before : List Item) (row : ℕ) → Begins before row step old
+    (before : List Item) (row : ℕ) → BeginsStep before row step old
     → Goes result before row step old new
 
 -- ---- a world
 
 -- a world as contracts see it
-abbrev pub value_of : Parts → Bool → WorldValue
-value_of parts is_spent = record {
+abbrev pub world_value : Parts → Bool → WorldValue
+world_value parts is_spent = record {
   net = parts.files.net;
   policies = parts.files.policies;
   journal = parts.log.journal;
@@ -108,5 +108,5 @@ value_of parts is_spent = record {
 
 -- as long as memory didn't run out within a step, the parts are as their journal says
 pub record IsWorld (parts : Parts) (is_spent : Bool) : Type 0 where
-  pub sound : AreSound parts
+  pub sound : AreSoundParts parts
   pub tied : is_spent ≡ false → AreTiedIn parts

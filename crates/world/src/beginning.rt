@@ -4,7 +4,7 @@ ghost use Rattle.controller.specs.Controller.{first_controller};
 ghost use Rattle.controller.specs.Plan.{PlanValue};
 ghost use Rattle.net_file.specs.Net.{IsNet};
 ghost use Rattle.usable_links.specs.Linking.{AreNear};
-ghost use Rattle.world_ties.specs.Begun.{IsFirst, switch_begun};
+ghost use Rattle.world_ties.specs.Begun.{IsFirstController, switch_begun};
 
 use controller::Controller;
 use failover::Database;
@@ -25,7 +25,7 @@ pub fn switches_of(
 ) -> Result<Vec<Switch>, AllocError>
     requires net { IsNet net.now }
     requires near { AreNear net.now near.now }
-    requires first { IsFirst net.now controller.now }
+    requires first { IsFirstController net.now controller.now }
     ensures { IfOk result (λ switches. (plan : PlanValue)
         → controller.now ≡ first_controller (length net.now.switches) plan
         → switches.items ≡ map (switch_begun net.now plan.placed)

@@ -2,7 +2,7 @@
 ghost use Rattle.std.specs.Prelude.{ℕ, ◌≡◌, ◌+◌, ◌-◌, ◌^◌, ◌<◌, ◌≤◌, ◌++◌, ◌∷◌, [], All, OnOk, OnErr, length, map};
 ghost use Rattle.bag.specs.Posts.{posted};
 ghost use Rattle.controller.specs.Controller.{ControllerValue, SettlesWith};
-ghost use Rattle.controller.specs.Sends.{NamesThere, after_hearing, hearing};
+ghost use Rattle.controller.specs.Sends.{NamesThere, marks_after, hearing};
 ghost use Rattle.steps.specs.declared.step.Step.TheVariants.{Deliver as DeliverStep};
 ghost use Rattle.update_machine.specs.Messages.{sent_from};
 ghost use Rattle.usable_links.specs.Linking.{AreRelinked, all_told, near_all};
@@ -93,10 +93,10 @@ fn tell_controller(
 ) -> Result<(), AllocError>
     requires there { NamesThere body.now controller.old.marks }
     requires may { (new : ControllerValue)
-        → SettlesWith (after_hearing body.now controller.old.marks) controller.old.plans new
+        → SettlesWith (marks_after body.now controller.old.marks) controller.old.plans new
         → MayNote log.old.bag (hearing body.now controller.old.marks new) }
     ensures after { SettlesWith
-        (after_hearing body.now controller.old.marks) controller.old.plans controller.new }
+        (marks_after body.now controller.old.marks) controller.old.plans controller.new }
     ensures written { OnOk result (log.new.journal ≡ log.old.journal
         ++ act_items (length log.old.bag + 1)
         (hearing body.now controller.old.marks controller.new)) }

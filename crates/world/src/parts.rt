@@ -1,6 +1,6 @@
 ghost use Rattle.std.specs.Prelude.{◌≡◌};
 ghost use Rattle.steps.specs.declared.step.Step.TheVariants.{Deliver as DeliverStep, Expire as ExpireStep, Forget as ForgetStep, Hop as HopStep, Lose as LoseStep, Packet as PacketStep};
-ghost use Rattle.world.specs.Parts.{Goes, HasBegun, IsReady, Plays};
+ghost use Rattle.world.specs.Parts.{Goes, HasBegun, IsReadyForStep, Plays};
 
 use controller::Controller;
 use five_tuple::Header;
@@ -35,7 +35,7 @@ impl Parts {
     /// # Errors
     /// Want of memory alone; a part of the items is written then.
     pub fn play(&mut self, alloc: Global, row: u32, step: &Step) -> Result<(), AllocError>
-        requires { IsReady self.old.log.journal step.now self.old }
+        requires { IsReadyForStep self.old.log.journal step.now self.old }
         ensures { Goes result self.old.log.journal row step.now self.old self.new }
     {
         self.log.journal.push(Item::Row { row, step: *step })?;

@@ -10,7 +10,7 @@ use Rattle.switch_core.specs.declared.answers.Arrived.{Arrived}
 use Rattle.switch_core.specs.declared.verdicts.Received.{Received}
 use Rattle.travelling.specs.Travelling.{Standing, standing_at}
 use Rattle.travelling.specs.declared.travelling.Traveller.{Traveller}
-use Rattle.world_log.specs.Outcomes.{packet_at}
+use Rattle.world_log.specs.Outcomes.{packet_standing}
 
 -- by the links between what was asked and the traveller
 pub record IsSaidOf (w after : SwitchValue) (near : ℕ) (ports : Ports) (t : Traveller)
@@ -18,8 +18,8 @@ pub record IsSaidOf (w after : SwitchValue) (near : ℕ) (ports : Ports) (t : Tr
   pub at_is : at ≡ standing_at number t
   pub number_is : number ≡ w.number
   pub leg_is : leg ≡ t.tunnel.leg
-  pub so : arrived_as after near (packet_at at) received
-      ≡ arrived_on w (around near ports) (packet_at at) leg
+  pub so : arrived_as after near (packet_standing at) received
+      ≡ arrived_on w (around near ports) (packet_standing at) leg
 
 module _ (w after : SwitchValue) (near : ℕ) (ports : Ports) (t : Traveller) (at : Standing)
     (number : ℕ) (leg : Leg) (received : Received)
@@ -27,13 +27,13 @@ module _ (w after : SwitchValue) (near : ℕ) (ports : Ports) (t : Traveller) (a
   at_here : at ≡ standing_at w.number t
   at_here = is.at_is ∙ ap (λ n. standing_at n t) is.number_is
 
-  said : arrived_as after near (packet_at at) received ≡ arrived w (around near ports) t.tunnel
+  said : arrived_as after near (packet_standing at) received ≡ arrived w (around near ports) t.tunnel
   unfolding arrived
-  said = is.so ∙ ap (λ a. arrived_on w (around near ports) (packet_at a) leg) at_here
+  said = is.so ∙ ap (λ a. arrived_on w (around near ports) (packet_standing a) leg) at_here
       ∙ ap (arrived_on w (around near ports) (packet_of t.tunnel)) is.leg_is
 
   pub has_arrived : (P : Standing → Arrived → Type 0)
-      → P at (arrived_as after near (packet_at at) received)
+      → P at (arrived_as after near (packet_standing at) received)
       → P (standing_at w.number t) (arrived w (around near ports) t.tunnel)
   has_arrived P holds =
       subst (λ a. P a (arrived w (around near ports) t.tunnel)) at_here
@@ -41,7 +41,7 @@ module _ (w after : SwitchValue) (near : ℕ) (ports : Ports) (t : Traveller) (a
 
   pub asked_of : (P : Standing → Arrived → Type 0)
       → P (standing_at w.number t) (arrived w (around near ports) t.tunnel)
-      → P at (arrived_as after near (packet_at at) received)
+      → P at (arrived_as after near (packet_standing at) received)
   asked_of P holds =
       subst (λ what. P at what) (sym said)
       (subst (λ a. P a (arrived w (around near ports) t.tunnel)) (sym at_here) holds)

@@ -13,7 +13,7 @@ use Rattle.policy_rules.specs.declared.packet.Leg.TheVariants.{Seek, Exit}
 use Rattle.policy_rules.specs.declared.policy.Action.{Action}
 use Rattle.policy_rules.specs.declared.rules.Partition.{Partition}
 use Rattle.switch_core.specs.Answering.{answer_by, arrived, arrived_on, decided_at, decided_in, looked_up, packet_of, seek_by}
-use Rattle.switch_core.specs.Deciding.{cache_rule}
+use Rattle.switch_core.specs.Deciding.{rule_for_cache}
 use Rattle.switch_core.specs.Ends.{Site, around}
 use Rattle.switch_core.specs.State.{SwitchValue, held_tables, stamp_tables}
 use Rattle.switch_core.specs.declared.answers.Answer.{Answer}
@@ -47,9 +47,9 @@ IsSpelledAt at what = IfSome (answer_message at what) HasShortSpelling
 module _ (at : Standing) (below : at.ingress < 64) (s : SwitchValue) (site : Site)
     (packet : Packet) where
   cached_by : (version : ℕ) (part : Partition) (place : ℕ)
-      → IfSome (cache_message at.ingress (cache_rule s.number packet version part place))
+      → IfSome (cache_message at.ingress (rule_for_cache s.number packet version part place))
       HasShortSpelling
-  unfolding cache_rule
+  unfolding rule_for_cache
   cached_by version part place =
       by_ingress (packet.ingress == s.number) version _ _ _
     where

@@ -5,7 +5,7 @@ use Rattle.five_tuple.specs.declared.header.Header.{Header}
 use Rattle.policy_rules.specs.declared.packet.Leg.{Leg}
 use Rattle.policy_rules.specs.declared.packet.Leg.TheVariants.{Seek, Exit}
 use Rattle.switch_core.specs.Answering.{IsAtAuthority}
-use Rattle.switch_core.specs.Moving.{found_down, hopped, hopped_to, moved, moved_along, rerouted}
+use Rattle.switch_core.specs.Moving.{link_found_down, hopped, hopped_to, moved, moved_along, rerouted_here}
 use Rattle.switch_core.specs.State.{SwitchValue, counted}
 use Rattle.tunnel.specs.Moves.{marked_down, next, on_route, route_from_here}
 use Rattle.tunnel.specs.Tunnel.{TunnelValue}
@@ -30,8 +30,8 @@ along_same w near t (Some route) =
 
 pub hopped_same : (w : SwitchValue) (near : ℕ) (t : TunnelValue)
     → SamePacket t (hopped w near t).tunnel
-unfolding hopped rerouted
-hopped_same w near t = by_link (found_down near (next t))
+unfolding hopped rerouted_here
+hopped_same w near t = by_link (link_found_down near (next t))
   where
     by_link : (o : Option ℕ) → SamePacket t (hopped_to w near t o).tunnel
     by_link None = moved_same t (next t)
@@ -44,7 +44,7 @@ hopped_same w near t = by_link (found_down near (next t))
 abbrev pub OnlyPlace : TunnelValue → TunnelValue → Type 0
 OnlyPlace old new = record old { place = new.place } ≡ new
 
-pub none_found : (w : SwitchValue) (near : ℕ) (t : TunnelValue) → found_down near (next t) ≡ None
+pub none_found : (w : SwitchValue) (near : ℕ) (t : TunnelValue) → link_found_down near (next t) ≡ None
     → OnlyPlace t (hopped w near t).tunnel
 unfolding hopped
 none_found w near t none =

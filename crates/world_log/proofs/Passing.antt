@@ -6,19 +6,19 @@ use Rattle.journal.specs.declared.item.Item.{Item}
 use Rattle.journal.specs.declared.item.Item.TheVariants as item
 use Rattle.net_file.specs.declared.ports.Ports.{Ports}
 use Rattle.switch_core.specs.Answering.{IsAtAuthority}
-use Rattle.switch_core.specs.Moving.{Moved, found_down, hopped, hopped_to, is_free, moved}
+use Rattle.switch_core.specs.Moving.{Moved, link_found_down, hopped, hopped_to, is_free, moved}
 use Rattle.switch_core.specs.State.{SwitchValue, counted}
 use Rattle.switch_core.specs.declared.answers.HopEnd.TheVariants.{Arrive}
 use Rattle.tunnel.specs.Moves.{advanced, next}
 use Rattle.travelling.specs.Travelling.{WithOne, placed_at, traveller}
 use Rattle.travelling.specs.declared.travelling.Traveller.{Traveller}
-use Rattle.world_log.specs.Packets.{Hops, arrival, arrival_items, arrival_posts, ended_items, ended_posts, ended_switch, ended_traveller, hop_items, hop_posts, hop_traveller, hopped_switch, turned_items}
+use Rattle.world_log.specs.Packets.{Hops, arrival, arrival_items, arrival_posts, ended_items, ended_posts, ended_switch, ended_traveller, hop_written, hop_posts, hop_traveller, hopped_switch, turned_items}
 use Rattle.world_log.specs.Writing.{IsPart}
 use Rattle.world_log.specs.declared.log.Log.{Log}
 use Rattle.world_log.proofs.Hopping.{authority_counted}
 use Rattle.world_log.proofs.Writing.{part_none}
 
-free_none : (near : ℕ) (o : Option ℕ) → is_free near o ≡ true → found_down near o ≡ None
+free_none : (near : ℕ) (o : Option ℕ) → is_free near o ≡ true → link_found_down near o ≡ None
 free_none near None free = refl
 free_none near (Some other) free = by_test _ free
   where
@@ -32,14 +32,14 @@ module _ (s : SwitchValue) (near : ℕ) (ports : Ports) (t : Traveller) where
       turned_items t.tunnel.packet s.number found m.end m.tunnel.route
       ++ ended_items number (counted s) near ports (record t { tunnel = m.tunnel }) m.end
 
-  module _ (onward : Option ℕ) (none : found_down near (next t.tunnel) ≡ None)
+  module _ (onward : Option ℕ) (none : link_found_down near (next t.tunnel) ≡ None)
       (onward_is : next t.tunnel ≡ onward) where
     hopped_is : hopped s near t.tunnel ≡ moved t.tunnel onward
     unfolding hopped
     hopped_is =
         ap (hopped_to s near t.tunnel) none ∙ ap (moved t.tunnel) onward_is
 
-    items_are : (number : ℕ) → hop_items number s near ports t
+    items_are : (number : ℕ) → hop_written number s near ports t
         ≡ items_by number None (moved t.tunnel onward)
     items_are number =
         ap (λ found. items_by number found (hopped s near t.tunnel)) none
@@ -61,11 +61,11 @@ module _ (s : SwitchValue) (near : ℕ) (ports : Ports) (t : Traveller) where
   -- over a usable link
   module _ (other : ℕ) (free : is_free near (next t.tunnel) ≡ true)
       (next_is : next t.tunnel ≡ Some other) where
-    none_met : found_down near (next t.tunnel) ≡ None
+    none_met : link_found_down near (next t.tunnel) ≡ None
     none_met = free_none near (next t.tunnel) free
 
     pub move_items : (number : ℕ)
-        → hop_items number s near ports t ≡ item.Hopped t.tunnel.packet other ∷ []
+        → hop_written number s near ports t ≡ item.Hopped t.tunnel.packet other ∷ []
     move_items = items_are (Some other) none_met next_is
 
     pub move_posts : hop_posts s near ports t ≡ []
@@ -80,14 +80,14 @@ module _ (s : SwitchValue) (near : ℕ) (ports : Ports) (t : Traveller) where
 
   -- at the end of its route
   module _ (last_is : next t.tunnel ≡ None) where
-    none_last : found_down near (next t.tunnel) ≡ None
-    none_last = ap (found_down near) last_is
+    none_last : link_found_down near (next t.tunnel) ≡ None
+    none_last = ap (link_found_down near) last_is
 
     pub last_end : (hopped s near t.tunnel).end ≡ Arrive
     last_end = ap (λ (m : Moved). m.end) (hopped_is None none_last last_is)
 
     pub last_items : (number : ℕ)
-        → hop_items number s near ports t ≡ arrival_items number (counted s) near ports t
+        → hop_written number s near ports t ≡ arrival_items number (counted s) near ports t
     last_items = items_are None none_last last_is
 
     pub last_posts : hop_posts s near ports t ≡ arrival_posts (counted s) near ports t

@@ -4,13 +4,13 @@ use Rattle.std.specs.Prelude.{IsSomeAnd, option_map}
 use Rattle.journal.specs.declared.item.Item.{Item}
 use Rattle.net_file.specs.declared.ports.Ports.{Ports}
 use Rattle.switch_core.specs.Answering.{IsAtAuthority}
-use Rattle.switch_core.specs.Moving.{Moved, found_down, hopped}
+use Rattle.switch_core.specs.Moving.{Moved, link_found_down, hopped}
 use Rattle.switch_core.specs.State.{SwitchValue, counted}
 use Rattle.switch_core.specs.declared.answers.HopEnd.{HopEnd}
 use Rattle.switch_core.specs.declared.answers.HopEnd.TheVariants as hop
 use Rattle.tunnel.specs.Moves.{next}
 use Rattle.tunnel.specs.Tunnel.{TunnelValue}
-use Rattle.world_log.specs.Packets.{IsEnded, IsTurned, ended_items, ended_traveller, hop_items, hop_traveller, hopped_traveller, turned_items}
+use Rattle.world_log.specs.Packets.{IsEnded, IsTurned, ended_items, ended_traveller, hop_written, hop_traveller, hopped_traveller, turned_items}
 use Rattle.travelling.specs.Travelling.{HasPlace, IsKeptOn, OthersStay, Travellers, WithOne, placed_at, traveller}
 use Rattle.world_log.specs.Writing.{IsPart}
 use Rattle.travelling.specs.declared.travelling.Traveller.{Traveller}
@@ -117,7 +117,7 @@ pub record IsAnswered (w : SwitchValue) (near : ℕ) (t : TunnelValue) (s : Swit
   pub after : s ≡ counted w
   pub moved_it : tunnel ≡ (hopped w near t).tunnel
   pub here_is : here ≡ w.number
-  pub found_is : found ≡ found_down near (next t)
+  pub found_is : found ≡ link_found_down near (next t)
   pub end_is : end ≡ (hopped w near t).end
 
 module _ (w : SwitchValue) (near : ℕ) (ports : Ports) (t : Traveller) (s : SwitchValue)
@@ -161,24 +161,24 @@ module _ (w : SwitchValue) (near : ℕ) (ports : Ports) (t : Traveller) (s : Swi
       (authority_counted w t.tunnel.header t.tunnel.leg at))))
 
   turned_is : turned_items tunnel.packet here found end tunnel.route
-      ≡ turned_items t.tunnel.packet w.number (found_down near (next t.tunnel)) m.end
+      ≡ turned_items t.tunnel.packet w.number (link_found_down near (next t.tunnel)) m.end
       m.tunnel.route
   turned_is =
       ap (λ k. turned_items k here found end tunnel.route) same_packet
       ∙ ap (λ (u : TunnelValue). turned_items t.tunnel.packet here found end u.route) is.moved_it
       ∙ ap (λ n. turned_items t.tunnel.packet n found end m.tunnel.route) is.here_is
       ∙ ap (λ f. turned_items t.tunnel.packet w.number f end m.tunnel.route) is.found_is
-      ∙ ap (λ e. turned_items t.tunnel.packet w.number (found_down near (next t.tunnel)) e
+      ∙ ap (λ e. turned_items t.tunnel.packet w.number (link_found_down near (next t.tunnel)) e
       m.tunnel.route) is.end_is
 
   -- all that was written
   pub hop_items_are : (number : ℕ)
       → turned_items tunnel.packet here found end tunnel.route
       ++ ended_items number s near ports (record t { tunnel = tunnel }) end
-      ≡ hop_items number w near ports t
+      ≡ hop_written number w near ports t
   hop_items_are number =
       ap (λ items. items ++ ended_items number s near ports now end) turned_is
-      ∙ ap (λ items. turned_items t.tunnel.packet w.number (found_down near (next t.tunnel)) m.end
+      ∙ ap (λ items. turned_items t.tunnel.packet w.number (link_found_down near (next t.tunnel)) m.end
       m.tunnel.route ++ items)
       (ap (λ u. ended_items number u near ports now end) is.after
       ∙ ap (λ (u : TunnelValue). ended_items number (counted w) near ports

@@ -14,8 +14,8 @@ use Rattle.world_log.specs.declared.outcome.Outcome.{Outcome}
 use Rattle.world_log.specs.declared.outcome.Outcome.TheVariants as outcome
 
 -- the packet that stands there, as the switch is asked of it
-abbrev pub packet_at : Standing → Packet
-packet_at at = packet_with at.packet at.header at.ingress at.down
+abbrev pub packet_standing : Standing → Packet
+packet_standing at = packet_with at.packet at.header at.ingress at.down
 
 abbrev pub next_as : Standing → Onward → Next
 next_as at (onward.Ends end) = next_at end

@@ -8,7 +8,7 @@ use Rattle.journal.specs.declared.item.Item.TheVariants as item
 use Rattle.net_file.specs.declared.ports.Ports.{Ports}
 use Rattle.switch_core.specs.Answering.{arrived, entered, incoming}
 use Rattle.switch_core.specs.Ends.{around}
-use Rattle.switch_core.specs.Moving.{found_down, hopped}
+use Rattle.switch_core.specs.Moving.{link_found_down, hopped}
 use Rattle.switch_core.specs.State.{SwitchValue, counted}
 use Rattle.switch_core.specs.declared.answers.Entered.{Entered}
 use Rattle.switch_core.specs.declared.answers.HopEnd.{HopEnd}
@@ -92,10 +92,10 @@ abbrev pub hopped_traveller : SwitchValue → ℕ → Traveller → Traveller
 hopped_traveller s near t = record t { tunnel = (hopped s near t.tunnel).tunnel }
 
 -- all that a hop writes and posts, and where the packet is then
-abbrev pub hop_items : ℕ → SwitchValue → ℕ → Ports → Traveller → List Item
-hop_items number s near ports t =
+abbrev pub hop_written : ℕ → SwitchValue → ℕ → Ports → Traveller → List Item
+hop_written number s near ports t =
     let moved = hopped s near t.tunnel in
-    turned_items t.tunnel.packet s.number (found_down near (next t.tunnel)) moved.end
+    turned_items t.tunnel.packet s.number (link_found_down near (next t.tunnel)) moved.end
     moved.tunnel.route
     ++ ended_items number (counted s) near ports (hopped_traveller s near t) moved.end
 
@@ -120,10 +120,10 @@ hopped_switch s near t = ended_switch (counted s) (hopped s near t.tunnel).end
 pub record Hops {T E : Type 0} (result : Result T E) (s : SwitchValue) (near : ℕ) (ports : Ports)
     (t : Traveller) (old new : Log) (asked : SwitchValue) : Type 0 where
   pub written : OnOk result (new.journal
-      ≡ old.journal ++ hop_items (length old.bag + 1) s near ports t)
+      ≡ old.journal ++ hop_written (length old.bag + 1) s near ports t)
   pub posted : OnOk result (new.bag ≡ old.bag ++ hop_posts s near ports t)
   pub travels : OnOk result (WithOne old.travelling t.tunnel.packet
       (hop_traveller s near ports t) new.travelling)
-  pub part : OnErr result (IsPart old.journal (hop_items (length old.bag + 1) s near ports t)
+  pub part : OnErr result (IsPart old.journal (hop_written (length old.bag + 1) s near ports t)
       new.journal)
   pub counted : OnOk result (asked ≡ hopped_switch s near t)

@@ -38,26 +38,26 @@ abbrev pub exit_leg : Action → Leg
 exit_leg action.Drop = ExitLeg 0
 exit_leg (action.Out port) = ExitLeg port
 
-abbrev pub leaves : Standing → ℕ → Option ℕ → ℕ → Item
-leaves at version rule port = item.Left at.packet port (record {
+abbrev pub left_item : Standing → ℕ → Option ℕ → ℕ → Item
+left_item at version rule port = item.Left at.packet port (record {
   packet = at.packet;
   header = at.header;
   version = version;
   rule = rule;
 })
 
-abbrev pub end_of : Standing → Decision → Next → Item
-end_of at decision next.Dropped = item.Dropped at.packet
-end_of at decision (next.Out port) = leaves at decision.version decision.rule port
-end_of at decision (next.Exit tunnel) = takes_route at.packet tunnel.leg tunnel.route
-end_of at decision (next.Stuck cause) =
+abbrev pub end_item : Standing → Decision → Next → Item
+end_item at decision next.Dropped = item.Dropped at.packet
+end_item at decision (next.Out port) = left_item at decision.version decision.rule port
+end_item at decision (next.Exit tunnel) = takes_route at.packet tunnel.leg tunnel.route
+end_item at decision (next.Stuck cause) =
     item.Stuck at.packet at.switch cause (exit_leg decision.action) at.down
 
 -- its decision, what is sent then, and what becomes of it
 abbrev pub decided_items : Standing → Decision → List Item → Next → List Item
 decided_items at decision sends onward =
     item.Decided at.packet decision.version decision.rule decision.action decision.how
-    ∷ sends ++ end_of at decision onward ∷ []
+    ∷ sends ++ end_item at decision onward ∷ []
 
 -- it travels on where it is to exit elsewhere
 abbrev pub decided_traveller : Decision → Next → Option Traveller
@@ -131,7 +131,7 @@ entered_traveller (entered.Answered what) = answer_traveller 0 None what
 
 abbrev pub arrived_items : ℕ → Standing → Traveller → Arrived → List Item
 arrived_items number at traveller (arrived.Out port) =
-    leaves at traveller.version traveller.rule port ∷ []
+    left_item at traveller.version traveller.rule port ∷ []
 arrived_items number at traveller (arrived.Answered what) = answer_items number at what
 
 abbrev pub arrived_posts : Standing → Arrived → List Post

@@ -8,7 +8,7 @@ ghost use Rattle.switch_core.specs.Verdicts.{next_at};
 ghost use Rattle.world_log.specs.Outcomes.{next_as};
 ghost use Rattle.world_log.specs.Packets.{IsTurned, turned_items};
 ghost use Rattle.travelling.specs.Travelling.{HasPlace, IsKeptOn, WithOne, begun_at, placed_at, traveller, travels_by};
-ghost use Rattle.world_log.specs.Writing.{IsPart, decided_items, decided_traveller, end_of, exit_leg, leaves, messages_in};
+ghost use Rattle.world_log.specs.Writing.{IsPart, decided_items, decided_traveller, end_item, exit_leg, left_item, messages_in};
 
 use crate::outcome::Onward;
 use bag::Bag;
@@ -265,7 +265,7 @@ impl Log {
         onward: Onward,
     ) -> Result<(), AllocError>
         ensures written { OnOk result (self.new.journal
-            ≡ self.old.journal ++ end_of at.now decision (next_as at.now onward) ∷ []) }
+            ≡ self.old.journal ++ end_item at.now decision (next_as at.now onward) ∷ []) }
         ensures travels { OnOk result (WithOne self.old.travelling at.now.packet
             (decided_traveller decision (next_as at.now onward)) self.new.travelling) }
         ensures unwritten { OnErr result (self.new.journal ≡ self.old.journal) }
@@ -294,7 +294,7 @@ impl Log {
         end: End,
     ) -> Result<(), AllocError>
         ensures written { OnOk result (self.new.journal
-            ≡ self.old.journal ++ end_of at.now decision (next_at end) ∷ []) }
+            ≡ self.old.journal ++ end_item at.now decision (next_at end) ∷ []) }
         ensures travels { OnOk result
             (WithOne self.old.travelling at.now.packet None self.new.travelling) }
         ensures unwritten { OnErr result (self.new.journal ≡ self.old.journal) }
@@ -312,7 +312,7 @@ impl Log {
 
 /// The packet leaves by the port, with the version and the rule of its decision.
 pub fn leaves(at: &Standing, version: u32, rule: Option<u32>, port: u32) -> Item
-    ensures { result ≡ leaves at.now version rule port }
+    ensures { result ≡ left_item at.now version rule port }
 {
     Item::Left {
         packet: at.packet,

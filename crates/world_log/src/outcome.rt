@@ -3,7 +3,7 @@ ghost use Rattle.policy_rules.specs.declared.packet.Leg.TheVariants.{Exit as Exi
 ghost use Rattle.switch_core.specs.Answering.{seek_by};
 ghost use Rattle.switch_core.specs.Ends.{exit_by, set_out};
 ghost use Rattle.switch_core.specs.Verdicts.{answer_of};
-ghost use Rattle.world_log.specs.Outcomes.{answer_as, next_as, packet_at};
+ghost use Rattle.world_log.specs.Outcomes.{answer_as, next_as, packet_standing};
 
 use journal::{Body, SharedRoute};
 use policy_rules::{Cause, Leg, Targets};
@@ -59,7 +59,7 @@ impl Outcome {
         verdict: Verdict,
     ) -> Result<Outcome, AllocError>
         ensures { IfOk result (λ outcome.
-            answer_as at.now outcome ≡ answer_of switch.now near (packet_at at.now) verdict) }
+            answer_as at.now outcome ≡ answer_of switch.now near (packet_standing at.now) verdict) }
     {
         match verdict {
             Verdict::Here {
@@ -99,7 +99,7 @@ fn exit(
     owner: u32,
 ) -> Result<Onward, AllocError>
     ensures { IfOk result (λ onward. next_as at.now onward ≡ exit_by
-        (set_out switch.now near (packet_at at.now) (ExitLeg port) (owner ∷ []))) }
+        (set_out switch.now near (packet_standing at.now) (ExitLeg port) (owner ∷ []))) }
 {
     let targets = Targets::new(&[owner]).unwrap();
     match switch.way(near, at.links(), Leg::Exit { port }, &targets) {
@@ -125,7 +125,7 @@ fn seek(
     targets: Targets,
 ) -> Result<Outcome, AllocError>
     ensures { IfOk result (λ outcome. answer_as at.now outcome
-        ≡ seek_by leg (set_out switch.now near (packet_at at.now) leg targets)) }
+        ≡ seek_by leg (set_out switch.now near (packet_standing at.now) leg targets)) }
 {
     match switch.way(near, at.links(), leg, &targets) {
         Err(cause) => Ok(Outcome::Stuck { cause, leg }),

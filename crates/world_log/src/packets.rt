@@ -5,8 +5,8 @@ ghost use Rattle.switch_core.specs.Moving.{hopped};
 ghost use Rattle.switch_core.specs.State.{counted, serves};
 ghost use Rattle.switch_core.specs.declared.answers.HopEnd.TheVariants.{Arrive};
 ghost use Rattle.switch_core.specs.Verdicts.{answer_of, arrived_as, entered_as};
-ghost use Rattle.world_log.specs.Outcomes.{answer_as, packet_at};
-ghost use Rattle.world_log.specs.Packets.{Hops, IsEnded, arrival, arrival_items, arrival_posts, coming_in, ended_items, ended_posts, ended_switch, entry, hop_items, hop_posts, hop_traveller, hopped_switch};
+ghost use Rattle.world_log.specs.Outcomes.{answer_as, packet_standing};
+ghost use Rattle.world_log.specs.Packets.{Hops, IsEnded, arrival, arrival_items, arrival_posts, coming_in, ended_items, ended_posts, ended_switch, entry, hop_written, hop_posts, hop_traveller, hopped_switch};
 ghost use Rattle.travelling.specs.Travelling.{WithOne, traveller as traveller_of};
 ghost use Rattle.travelling.specs.declared.travelling.Traveller.{Traveller as TravellerValue};
 ghost use Rattle.world_log.specs.Writing.{IsPart, answer_items, answer_message, answer_posts, answer_traveller, arrived_items, arrived_message, arrived_posts, arrived_traveller, cache_message, entered_items, entered_message, entered_posts, entered_traveller};
@@ -73,19 +73,19 @@ fn note_admitted(
     admitted: Option<Verdict>,
 ) -> Result<(), AllocError>
     requires spelling { IfSome (entered_message at.now
-        (entered_as switch.now near (packet_at at.now) admitted)) HasShortSpelling }
+        (entered_as switch.now near (packet_standing at.now) admitted)) HasShortSpelling }
     requires few { length log.old.bag < 2 ^ 32 - 1 }
     ensures written { OnOk result (log.new.journal ≡ log.old.journal
         ++ entered_items (length log.old.bag + 1) at.now
-        (entered_as switch.now near (packet_at at.now) admitted)) }
+        (entered_as switch.now near (packet_standing at.now) admitted)) }
     ensures posted { OnOk result (log.new.bag ≡ log.old.bag ++ entered_posts at.now
-        (entered_as switch.now near (packet_at at.now) admitted)) }
+        (entered_as switch.now near (packet_standing at.now) admitted)) }
     ensures travels { OnOk result (WithOne log.old.travelling at.now.packet
-        (entered_traveller (entered_as switch.now near (packet_at at.now) admitted))
+        (entered_traveller (entered_as switch.now near (packet_standing at.now) admitted))
         log.new.travelling) }
     ensures part { OnErr result (IsPart log.old.journal
         (entered_items (length log.old.bag + 1) at.now
-        (entered_as switch.now near (packet_at at.now) admitted)) log.new.journal) }
+        (entered_as switch.now near (packet_standing at.now) admitted)) log.new.journal) }
 {
     match admitted {
         None => {
@@ -120,19 +120,19 @@ fn note_verdict(
     verdict: Verdict,
 ) -> Result<(), AllocError>
     requires spelling { IfSome (answer_message at.now
-        (answer_of switch.now near (packet_at at.now) verdict)) HasShortSpelling }
+        (answer_of switch.now near (packet_standing at.now) verdict)) HasShortSpelling }
     requires few { length log.old.bag < 2 ^ 32 - 1 }
     ensures written { OnOk result (log.new.journal ≡ log.old.journal
         ++ answer_items (length log.old.bag + 1) at.now
-        (answer_of switch.now near (packet_at at.now) verdict)) }
+        (answer_of switch.now near (packet_standing at.now) verdict)) }
     ensures posted { OnOk result (log.new.bag ≡ log.old.bag ++ answer_posts at.now
-        (answer_of switch.now near (packet_at at.now) verdict)) }
+        (answer_of switch.now near (packet_standing at.now) verdict)) }
     ensures travels { OnOk result (WithOne log.old.travelling at.now.packet
-        (answer_traveller version rule (answer_of switch.now near (packet_at at.now) verdict))
+        (answer_traveller version rule (answer_of switch.now near (packet_standing at.now) verdict))
         log.new.travelling) }
     ensures part { OnErr result (IsPart log.old.journal
         (answer_items (length log.old.bag + 1) at.now
-        (answer_of switch.now near (packet_at at.now) verdict)) log.new.journal) }
+        (answer_of switch.now near (packet_standing at.now) verdict)) log.new.journal) }
 {
     let outcome = Outcome::of(alloc, switch, near, at, verdict)?;
     note_outcome(alloc, log, at, version, rule, outcome)
@@ -202,13 +202,13 @@ pub fn hop(
     requires ingress { traveller.old.tunnel.ingress < 64 }
     requires few { length log.old.bag < 2 ^ 32 - 1 }
     ensures written { OnOk result (log.new.journal ≡ log.old.journal
-        ++ hop_items (length log.old.bag + 1) switch.old near ports.now traveller.old) }
+        ++ hop_written (length log.old.bag + 1) switch.old near ports.now traveller.old) }
     ensures posted { OnOk result (log.new.bag
         ≡ log.old.bag ++ hop_posts switch.old near ports.now traveller.old) }
     ensures travels { OnOk result (WithOne log.old.travelling traveller.old.tunnel.packet
         (hop_traveller switch.old near ports.now traveller.old) log.new.travelling) }
     ensures part { OnErr result (IsPart log.old.journal
-        (hop_items (length log.old.bag + 1) switch.old near ports.now traveller.old)
+        (hop_written (length log.old.bag + 1) switch.old near ports.now traveller.old)
         log.new.journal) }
     ensures counted { OnOk result (switch.new ≡ hopped_switch switch.old near traveller.old) }
 {
@@ -387,19 +387,19 @@ fn note_received(
     received: Received,
 ) -> Result<(), AllocError>
     requires spelling { IfSome (arrived_message at.now
-        (arrived_as switch.now near (packet_at at.now) received)) HasShortSpelling }
+        (arrived_as switch.now near (packet_standing at.now) received)) HasShortSpelling }
     requires few { length log.old.bag < 2 ^ 32 - 1 }
     ensures written { OnOk result (log.new.journal ≡ log.old.journal
         ++ arrived_items (length log.old.bag + 1) at.now kept.now
-        (arrived_as switch.now near (packet_at at.now) received)) }
+        (arrived_as switch.now near (packet_standing at.now) received)) }
     ensures posted { OnOk result (log.new.bag ≡ log.old.bag ++ arrived_posts at.now
-        (arrived_as switch.now near (packet_at at.now) received)) }
+        (arrived_as switch.now near (packet_standing at.now) received)) }
     ensures travels { OnOk result (WithOne log.old.travelling at.now.packet
-        (arrived_traveller kept.now (arrived_as switch.now near (packet_at at.now) received))
+        (arrived_traveller kept.now (arrived_as switch.now near (packet_standing at.now) received))
         log.new.travelling) }
     ensures part { OnErr result (IsPart log.old.journal
         (arrived_items (length log.old.bag + 1) at.now kept.now
-        (arrived_as switch.now near (packet_at at.now) received)) log.new.journal) }
+        (arrived_as switch.now near (packet_standing at.now) received)) log.new.journal) }
 {
     let version = kept.version();
     let rule = kept.rule();

@@ -9,7 +9,7 @@ use Rattle.bag.proofs.Numbered.{length_changed}
 use Rattle.control_ties.specs.Written.{AreWritten}
 use Rattle.control_ties.proofs.CallerLemmas.{hears, names_there, steps_leave}
 use Rattle.controller.specs.Controller.{ControllerValue, SettlesWith}
-use Rattle.controller.specs.Sends.{NamesThere, after_hearing, hearing}
+use Rattle.controller.specs.Sends.{NamesThere, marks_after, hearing}
 use Rattle.controller.specs.declared.sends.Act.{Act}
 use Rattle.controller.specs.declared.sends.Act.TheVariants.{Post as PostAct}
 use Rattle.ctrl_msg.specs.declared.message.Message.{Message}
@@ -171,7 +171,7 @@ module _ (control : Control) (setting : Setting) (journal : List Item)
     (new : ControllerValue) (tied : AreTied setting journal switches before count control)
     (may : IsStep setting.net (length setting.policies) (Deliver n)) (there : IsMessageOf control.posts n message)
     (to : message.to ≡ receiver.Controller)
-    (settles : SettlesWith (after_hearing message.body control.controller.marks)
+    (settles : SettlesWith (marks_after message.body control.controller.marks)
     control.controller.plans new) where
   its : IsThere setting journal control.posts row n message
   its = is_there control setting journal switches before count row n message tied there

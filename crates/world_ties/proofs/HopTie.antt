@@ -17,7 +17,7 @@ use Rattle.update_machine.specs.Pieces.{piece}
 use Rattle.steps.specs.Steps.{IsStep}
 use Rattle.update_machine.specs.Setting.{Setting}
 use Rattle.update_machine.specs.Travels.{is_at, travels}
-use Rattle.world_log.specs.Packets.{ended_switch, hop_items, hop_posts, hop_traveller, hopped_switch}
+use Rattle.world_log.specs.Packets.{ended_switch, hop_written, hop_posts, hop_traveller, hopped_switch}
 use Rattle.world_ties.specs.Tied.{AreTied, Control}
 use Rattle.log_ties.specs.Travellers.{traveller_in}
 use Rattle.travelling.specs.Travelling.{Travellers, WithOne, traveller}
@@ -42,7 +42,7 @@ module _ (control : Control) (setting : Setting) (journal : List Item)
   number = next_message journal
 
   abbrev items : List Item
-  items = hop_items number w near ports t
+  items = hop_written number w near ports t
 
   abbrev all : List Item
   all = item.Row row (Hop i) ∷ items
@@ -99,7 +99,7 @@ module _ (control : Control) (setting : Setting) (journal : List Item)
       → other ≡ hopped_switch w near t
       → WithOne before i (hop_traveller w near ports t) after
       → AreTied setting (journal ++ item.Row row (Hop i)
-      ∷ hop_items (length control.posts + 1) w near ports t)
+      ∷ hop_written (length control.posts + 1) w near ports t)
       (set switches s other) after count (record control {
         posts = control.posts ++ hop_posts w near ports t;
       })
@@ -112,7 +112,7 @@ module _ (control : Control) (setting : Setting) (journal : List Item)
       (steps_of after with there own (packets_are control setting journal switches before count tied)
       (switches_are control setting journal switches before count tied))
       (omega (arith, hop_packets row i items (hop_later number w near ports t))) in
-      subst (λ n. AreTied setting (journal ++ item.Row row (Hop i) ∷ hop_items n w near ports t)
+      subst (λ n. AreTied setting (journal ++ item.Row row (Hop i) ∷ hop_written n w near ports t)
       (set switches s other) after count
       (record control { posts = control.posts ++ hop_posts w near ports t }))
       (numbered control setting journal switches before count tied)
@@ -123,10 +123,10 @@ module _ (control : Control) (setting : Setting) (journal : List Item)
 
   -- the piece of a hop, by what its switch is told
   pub hop_piece_of : piece setting journal row (Hop i) ≡ item.Row row (Hop i)
-      ∷ hop_items (length control.posts + 1) w near ports t
+      ∷ hop_written (length control.posts + 1) w near ports t
   hop_piece_of =
       hop_piece setting journal row i t s near w ports can
-      ∙ ap (λ n. item.Row row (Hop i) ∷ hop_items n w near ports t)
+      ∙ ap (λ n. item.Row row (Hop i) ∷ hop_written n w near ports t)
       (numbered control setting journal switches before count tied)
 
 -- ---- a packet that doesn't travel

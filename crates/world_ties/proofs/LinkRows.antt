@@ -17,7 +17,7 @@ use Rattle.net_file.specs.Joins.{are_linked, joins}
 use Rattle.net_file.specs.declared.net.LinkRow.{LinkRow}
 use Rattle.net_file.specs.declared.net.Net.{Net}
 use Rattle.net_file.proofs.Places.{links as link_laws}
-use Rattle.settle_laws.specs.Steps.{is_for_controller}
+use Rattle.settle_laws.specs.Steps.{asks_controller}
 use Rattle.steps.specs.Steps.{HasLink, IsStep}
 use Rattle.steps.specs.declared.step.Step.{Step}
 use Rattle.switch_core.specs.Life.{next_advert}
@@ -142,7 +142,7 @@ uncalled journal q row one two true = refl
 uncalled journal q row one two false = refl
 
 untold : (journal : List Item) (one two : ℕ) (up : Bool)
-    → is_for_controller journal (link_step up one two) ≡ false
+    → asks_controller journal (link_step up one two) ≡ false
 untold journal one two true = refl
 untold journal one two false = refl
 

@@ -23,7 +23,7 @@ use Rattle.masks.proofs.CallerLemmas.{has_mask}
 use Rattle.net_file.specs.Joins.{are_linked}
 use Rattle.send_laws.specs.Sends.{NumbersFit}
 use Rattle.send_laws.proofs.Fitting.{fit_in_room}
-use Rattle.settle_laws.specs.Steps.{is_for_controller}
+use Rattle.settle_laws.specs.Steps.{asks_controller}
 use Rattle.steps.specs.Steps.{IsStep}
 use Rattle.steps.specs.declared.step.Step.{Step}
 use Rattle.switch_core.specs.Life.{next_advert}
@@ -36,7 +36,7 @@ use Rattle.switch_ties.proofs.Links.{link_ties}
 use Rattle.travelling.specs.Travelling.{Travellers, traveller}
 use Rattle.update_machine.specs.Adverts.{own_advert}
 use Rattle.update_machine.specs.Causes.{HaveCauses}
-use Rattle.update_machine.specs.Deliveries.{has_changed, link_changes, told_by}
+use Rattle.update_machine.specs.Deliveries.{has_changed, link_changes, messages_of}
 use Rattle.update_machine.specs.Folds.{count_of}
 use Rattle.update_machine.specs.Full.{HasRoom}
 use Rattle.update_machine.specs.LinkMasks.{near}
@@ -177,7 +177,7 @@ pub record LinksChange (setting : Setting) (journal : List Item) (row : ℕ) (st
   pub may : IsStep setting.net (length setting.policies) step
   pub piece_is : piece setting journal row step ≡ item.Row row step
       ∷ first ++ link_changes setting journal (journal ++ item.Row row step ∷ first)
-  pub not_told : IsFalse (is_for_controller journal step)
+  pub not_told : IsFalse (asks_controller journal step)
   pub none_come : count_of is_packet (item.Row row step ∷ first) ≡ 0
   pub as_many : length others ≡ length switches
   pub number : length posts ≡ length control.posts
@@ -232,7 +232,7 @@ module _ (control : Control) (setting : Setting) (journal : List Item)
   changes_are : link_changes setting journal now ≡ sent_from number messages
   unfolding link_changes
   changes_are =
-      ap (λ k. sent_from k (flat_map (told_by setting journal now)
+      ap (λ k. sent_from k (flat_map (messages_of setting journal now)
       (filter (has_changed setting journal now) (switches_of setting))))
       (changes.bag.many ∙ ap (λ k. k + 1) changes.number)
       ∙ ap (sent_from number)

@@ -9,7 +9,7 @@ use Rattle.update_machine.specs.Concerns.{NoneConcern}
 use Rattle.update_machine.specs.Folds.{count_of}
 use Rattle.update_machine.specs.Marks.{retired_mark}
 use Rattle.update_machine.specs.Packets.{is_packet}
-use Rattle.way_laws.specs.Words.{PacketWords, told_by}
+use Rattle.way_laws.specs.Words.{PacketWords, words_after}
 use Rattle.log_ties.proofs.Others.{NoneName, unnamed}
 use Rattle.world_ties.proofs.Standing.{among}
 use Rattle.log_ties.proofs.Words.{Targets, traveller_by, words_along}
@@ -63,13 +63,13 @@ words_lost i before (k ∷ packets) more words none =
         ≡ (if among i (k ∷ packets) then ended words else words)
     by_same true e rest =
         ap (λ b. words_along i after (map item.Lost packets ++ more)
-        (if b then told_by (retired_mark before) (item.Lost k) words else words)) e
+        (if b then words_after (retired_mark before) (item.Lost k) words else words)) e
         ∙ rest (ended words)
         ∙ still (among i packets)
         ∙ sym (rw e refl)
     by_same false e rest =
         ap (λ b. words_along i after (map item.Lost packets ++ more)
-        (if b then told_by (retired_mark before) (item.Lost k) words else words)) e
+        (if b then words_after (retired_mark before) (item.Lost k) words else words)) e
         ∙ rest words
         ∙ sym (rw e refl)
 
@@ -89,5 +89,5 @@ traveller_lost targets i before [] packets more words none last =
 traveller_lost targets i before (one ∷ first) packets more words none last =
     ap (λ b. traveller_by targets i (words_along i (before ++ one ∷ [])
     (first ++ map item.Lost packets ++ more)
-    (if b then told_by (retired_mark before) one words else words))) none.0
+    (if b then words_after (retired_mark before) one words else words))) none.0
     ∙ traveller_lost targets i (before ++ one ∷ []) first packets more words none.1 last

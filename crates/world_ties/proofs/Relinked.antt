@@ -23,7 +23,7 @@ use Rattle.switch_ties.specs.SwitchOf.{switch_of}
 use Rattle.switch_ties.proofs.Links.{link_ties}
 use Rattle.update_machine.specs.Adverts.{own_advert}
 use Rattle.update_machine.specs.Boots.{is_up}
-use Rattle.update_machine.specs.Deliveries.{has_changed, told_by}
+use Rattle.update_machine.specs.Deliveries.{has_changed, messages_of}
 use Rattle.update_machine.specs.Links.{is_usable, serves as serves_in}
 use Rattle.update_machine.specs.Setting.{Setting, switches_of}
 use Rattle.update_machine.specs.LinkMasks.{near, usable_links}
@@ -284,7 +284,7 @@ module _ (setting : Setting) (before now : List Item) (links had : List ℕ)
   -- what a switch whose links changed tells
   told_changed : (s : ℕ) → s < length switches → has_changed setting before now s ≡ true
       → told_as (length switches) (get_or had s 0) (get_or (near_all links switches) s 0)
-      (get_or switches s d) ≡ told_by setting before now s
+      (get_or switches s d) ≡ messages_of setting before now s
   told_changed s there changed =
       let w : SwitchValue = get_or switches s d in
       let links_now : ℕ = near setting now s in
@@ -313,7 +313,7 @@ module _ (setting : Setting) (before now : List Item) (links had : List ℕ)
 
   told_here : (s : ℕ) → s < length switches
       → told_at (length switches) had (near_all links switches) switches s
-      ≡ (if has_changed setting before now s then told_by setting before now s else [])
+      ≡ (if has_changed setting before now s then messages_of setting before now s else [])
   told_here s there =
       ap (λ o. elim o [
         | None ↦ []
@@ -324,7 +324,7 @@ module _ (setting : Setting) (before now : List Item) (links had : List ℕ)
     where
       by_test : (b : Bool) → has_changed setting before now s ≡ b
           → told_as (length switches) (get_or had s 0) (get_or (near_all links switches) s 0)
-          (get_or switches s d) ≡ (if b then told_by setting before now s else [])
+          (get_or switches s d) ≡ (if b then messages_of setting before now s else [])
       by_test true is = told_changed s there is
       by_test false is =
           (told_nothing (get_or switches s d) (length switches) (get_or had s 0)
@@ -333,13 +333,13 @@ module _ (setting : Setting) (before now : List Item) (links had : List ℕ)
   below : (n : ℕ) → n ≤ length switches
       → flat_map (told_at (length switches) had (near_all links switches) switches)
       (range_with_len 0 n)
-      ≡ flat_map (told_by setting before now)
+      ≡ flat_map (messages_of setting before now)
       (filter (has_changed setting before now) (range_with_len 0 n))
   below zero there = refl
   below (suc n) there =
       let f : ℕ → List Message =
       told_at (length switches) had (near_all links switches) switches in
-      let g : ℕ → List Message = told_by setting before now in
+      let g : ℕ → List Message = messages_of setting before now in
       let p : ℕ → Bool = has_changed setting before now in
       let next : ◌≡◌ {A = ℕ} (suc n) (n + 1) = omega arith in
       ap (λ k. flat_map f (range_with_len 0 k)) next
@@ -352,16 +352,16 @@ module _ (setting : Setting) (before now : List Item) (links had : List ℕ)
       ∙ sym (ap (flat_map g) (filter_more p n))
       ∙ sym (ap (λ k. flat_map g (filter p (range_with_len 0 k))) next)
     where
-      one : (b : Bool) → (if b then told_by setting before now n else [])
-          ≡ flat_map (told_by setting before now) (cond b (n ∷ []) [])
-      one true = sym (append-nil (told_by setting before now n))
+      one : (b : Bool) → (if b then messages_of setting before now n else [])
+          ≡ flat_map (messages_of setting before now) (cond b (n ∷ []) [])
+      one true = sym (append-nil (messages_of setting before now n))
       one false = refl
 
   -- what all of them tell
   pub told_now : all_told had (near_all links switches) switches
-      ≡ flat_map (told_by setting before now)
+      ≡ flat_map (messages_of setting before now)
       (filter (has_changed setting before now) (switches_of setting))
   unfolding all_told
   told_now = below (length switches) (omega arith)
-      ∙ ap (λ n. flat_map (told_by setting before now)
+      ∙ ap (λ n. flat_map (messages_of setting before now)
       (filter (has_changed setting before now) (range_with_len 0 n))) can.many

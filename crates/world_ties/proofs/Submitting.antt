@@ -8,7 +8,7 @@ use Rattle.control_ties.proofs.CallerLemmas.{items_leave, submits, too_many_live
 use Rattle.controller.specs.Controller.{ControllerValue}
 use Rattle.controller.specs.Plan.{PlanValue}
 use Rattle.controller.specs.Sends.{submitting}
-use Rattle.controller.specs.Submit.{Submits}
+use Rattle.controller.specs.Submit.{SubmitsPlan}
 use Rattle.controller.specs.declared.sends.Act.{Act}
 use Rattle.journal.specs.declared.item.Item.{Item}
 use Rattle.journal.specs.declared.item.Item.TheVariants as item
@@ -128,7 +128,7 @@ module _ (control : Control) (setting : Setting) (journal : List Item)
   module _ (plan : PlanValue) (new : ControllerValue) (of_file : IsPlanOfFile setting file plan)
       (live : control.controller.marks.count - control.controller.marks.retired ≢ 8)
       (versions : control.controller.marks.count ≢ 64)
-      (submitted : Submits control.controller plan new) where
+      (submitted : SubmitsPlan control.controller plan new) where
     abbrev version : ℕ
     version = control.controller.marks.count + 1
 

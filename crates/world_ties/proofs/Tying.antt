@@ -8,7 +8,7 @@ use Rattle.journal.specs.declared.item.Item.{Item}
 use Rattle.journal.specs.declared.item.Item.TheVariants as item
 use Rattle.net_file.specs.Owners.{links_of}
 use Rattle.net_file.specs.declared.net.LinkRow.{LinkRow}
-use Rattle.settle_laws.specs.Steps.{is_for_controller}
+use Rattle.settle_laws.specs.Steps.{asks_controller}
 use Rattle.steps.specs.declared.step.Step.{Step}
 use Rattle.switch_core.specs.State.{SwitchValue}
 use Rattle.switch_ties.specs.SwitchOf.{switch_of}
@@ -54,7 +54,7 @@ pub controller_stays : (control : Control) (setting : Setting) (journal : List I
     (switches : List SwitchValue) (before : Travellers) (count row : ℕ) (step : Step)
     (items : List Item) → AreTied setting journal switches before count control
     → piece setting journal row step ≡ item.Row row step ∷ items
-    → IsFalse (is_for_controller journal step)
+    → IsFalse (asks_controller journal step)
     → IsControllerOf setting (stepped journal row step items) control.controller
 unfolding AreTied
 controller_stays control setting journal switches before count row step items tied is not_told =
@@ -121,7 +121,7 @@ pub record Steps (setting : Setting) (journal : List Item) (row : ℕ) (step : S
     (items : List Item) (switches others : List SwitchValue) (after : Travellers) : Type 0 where
   pub may : IsStep setting.net (length setting.policies) step
   pub piece_is : piece setting journal row step ≡ item.Row row step ∷ items
-  pub not_told : IsFalse (is_for_controller journal step)
+  pub not_told : IsFalse (asks_controller journal step)
   -- the messages that it sends have the next numbers
   pub sends : SendFrom (next_message journal) items
   pub as_many : length others ≡ length switches

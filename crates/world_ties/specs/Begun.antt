@@ -16,6 +16,6 @@ switch_begun net plan s = begun s net.cache (tables_of plan 1 s)
     (length net.switches))
 
 -- the network's controller as it begins, with some plan
-abbrev pub IsFirst : Net → ControllerValue → Type 0
-IsFirst net controller =
+abbrev pub IsFirstController : Net → ControllerValue → Type 0
+IsFirstController net controller =
     (plan : PlanValue) × (controller ≡ first_controller (length net.switches) plan)

@@ -2,7 +2,7 @@ use Rattle.std.proofs.Common.{ℕ, Bool, ◌≡◌, ◌<◌, [], length, sym, ap
 use Rattle.std.specs.Prelude.{false, not, slice_get}
 use Rattle.std.specs.Option.{option_map_or}
 use Rattle.version_update.specs.Record.{is_over}
-use Rattle.controller.specs.Sends.{boot_of, install}
+use Rattle.controller.specs.Sends.{boot_recorded, install_act}
 use Rattle.controller.proofs.Picking.{picked_add, picked_skip, passes_there}
 use Rattle.controller.proofs.controller.install_each.Goals as goal
 use Rattle.controller.proofs.controller.install_each.Goals.{then-is_there+in_ok-install+in_ok-push, else-is_there}
@@ -17,7 +17,7 @@ loop-s-preserved c =
     let there : test s ≡ c.is_there.result = passes_there (λ known. not (is_over known.phase))
     switches s _ within ∙ sym
     (c.is_there.ensures ∙ ap (λ phase. not (is_over phase)) c.phase.ensures) in
-    let act = λ (s : ℕ). install s (boot_of c.args.marks.now s) c.args.version.now in
+    let act = λ (s : ℕ). install_act s (boot_recorded c.args.marks.now s) c.args.version.now in
     elim c.if-is_there.branch [
       | then-is_there+in_ok-install+in_ok-push w ↦ picked_add act test s [] c.loop-s.acts.items _
           c.loop-s.invariant (there ∙ w.if-is_there.true)

@@ -1,11 +1,11 @@
 use Rattle.std.proofs.Common.{◌≡◌, map}
 use Rattle.version_update.specs.Record.{is_over}
 use Rattle.std.specs.Prelude.{not}
-use Rattle.controller.specs.Sends.{boot_of, install}
+use Rattle.controller.specs.Sends.{boot_recorded, install_act}
 use Rattle.controller.proofs.Picking.{those_below}
 use Rattle.controller.proofs.controller.install_each.Given as goal
 
 -- the version for those of the switches so far that aren't over
 abbrev pub invariant-loop-s : goal.invariant-loop-s
-invariant-loop-s l = l.acts.items ≡ map (λ s. install s (boot_of l.marks s) l.version)
+invariant-loop-s l = l.acts.items ≡ map (λ s. install_act s (boot_recorded l.marks s) l.version)
     (those_below (λ known. not (is_over known.phase)) l.marks.switches l.s)

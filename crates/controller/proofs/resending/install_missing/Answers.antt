@@ -1,7 +1,7 @@
 use Rattle.std.proofs.Common.{Bool, ◌≡◌, ◌<◌, length, sym, ap, ◌∙◌, arith}
 use Rattle.version_update.specs.Marks.{record_of}
 use Rattle.controller.specs.Controller.{KeptPlan}
-use Rattle.controller.specs.Sends.{install, is_missing}
+use Rattle.controller.specs.Sends.{install_act, is_missing}
 use Rattle.controller.proofs.Picking.{item_add, item_skip}
 use Rattle.controller.proofs.resending.install_missing.Goals as goal
 use Rattle.controller.proofs.resending.install_missing.Goals.{then-is_missing+in_ok-install+in_ok-push, else-is_missing}
@@ -15,12 +15,12 @@ loop-kept-preserved c =
     let test : lacks c.kept-item.result ≡ c.is_missing.result =
     sym (c.is_missing.ensures ∙ ap (is_missing known c.args.first) c.version.ensures) in
     elim c.if-is_missing.branch [
-      | then-is_missing+in_ok-install+in_ok-push w ↦ item_add (install c.args.s known.boot) lacks
+      | then-is_missing+in_ok-install+in_ok-push w ↦ item_add (install_act c.args.s known.boot) lacks
           c.args.versions.now c.loop-kept.kept-index c.kept-item.result _ c.loop-kept.acts.items _
           within c.kept-item.is c.loop-kept.invariant (test ∙ w.if-is_missing.true)
           (ap (λ v. v.items) w.acts-is
           ∙ cc (c.boot-boot.ensures, w.in_ok-install.ensures, w.in_ok-push.ensures.items))
-      | else-is_missing w ↦ item_skip (install c.args.s known.boot) lacks c.args.versions.now
+      | else-is_missing w ↦ item_skip (install_act c.args.s known.boot) lacks c.args.versions.now
           c.loop-kept.kept-index c.kept-item.result _ c.loop-kept.acts.items _ within c.kept-item.is
           c.loop-kept.invariant (test ∙ w.if-is_missing.false) (ap (λ v. v.items) w.acts-is)
     ]

@@ -1,7 +1,7 @@
 use Rattle.std.specs.Prelude.{IsTrue}
 use Rattle.std.proofs.Common.{ℕ, ◌≡◌, ◌+◌, Ok, All, List, [], ◌∷◌, ◌++◌, ap, arith, drop, length, length-append, subst, sym}
 use Rattle.std.proofs.lemmas.List.Elements.{All-push}
-use Rattle.policy_file.specs.Ports.{has_port}
+use Rattle.policy_file.specs.Ports.{names_port_of}
 use Rattle.policy_rules.specs.Policy.{IsPolicy}
 use Rattle.policy_rules.specs.declared.policy.Row.{Row}
 use Rattle.std.specs.Option.{ForSome}
@@ -46,7 +46,7 @@ loop-name-preserved g c =
     let before = c.loop-name.policies.items in
     let rows = c.in_ok-policy.policy in
     let pushed : c.push.new.self.items ≡ before ++ rows ∷ [] = c.in_ok-push.ensures.items in
-    let HasOwn : List Row → Type 0 = All (λ row. IsTrue (has_port c.args.ports row.action)) in
+    let HasOwn : List Row → Type 0 = All (λ row. IsTrue (names_port_of c.args.ports row.action)) in
     record {
       read = subst (λ (policies : List (List Row)). HasRead c.args.ports (names_seen names)
           (drop (c.loop-name.name-index + 1) (names_seen names)) policies

@@ -1,6 +1,6 @@
 use Rattle.std.proofs.Common.{◌≡◌, All, drop, length}
 use Rattle.std.specs.Prelude.{IsTrue}
-use Rattle.policy_file.specs.Ports.{has_port}
+use Rattle.policy_file.specs.Ports.{names_port_of}
 use Rattle.policy_rules.specs.Policy.{IsPolicy}
 use Rattle.words.specs.Named.{names_seen}
 use Rattle.difane_cli.proofs.PolicyReads.{HasRead}
@@ -12,6 +12,6 @@ invariant-loop-name g l = record {
       (drop l.name-index (names_seen l.names)) l.policies.items
       (g.F.Shelf.state l.fn.shelf) (g.F.Shelf.state l.shelf);
   many : length l.policies.items ≡ l.name-index;
-  own_ports : All (All (λ row. IsTrue (has_port l.ports row.action))) l.policies.items;
+  own_ports : All (All (λ row. IsTrue (names_port_of l.ports row.action))) l.policies.items;
   sound : All IsPolicy l.policies.items;
 }

@@ -1,5 +1,5 @@
 use Rattle.std.proofs.Common.{◌∙◌, ◌==◌, ap}
-use Rattle.failover.specs.Links.{is_link, link_row}
+use Rattle.failover.specs.Links.{is_link, links_at}
 use Rattle.masks.proofs.CallerLemmas.{mask_of_lt}
 use Rattle.failover.proofs.Rows.{no_row_past}
 use Rattle.failover.proofs.RowLoop.{and_all}
@@ -10,5 +10,5 @@ returns-then-one-ge-SWITCHES c = no_row_past _ _ _ c.told-neighbours c.if-one-ge
 
 pub returns-else-one-ge-SWITCHES : goal.returns-else-one-ge-SWITCHES
 returns-else-one-ge-SWITCHES c = ap (λ row. row == 0) (c.links_within.ensures
-    ∙ and_all (link_row c.args.neighbours.now c.args.down.now c.args.one)
+    ∙ and_all (links_at c.args.neighbours.now c.args.down.now c.args.one)
     (mask_of_lt (is_link c.args.neighbours.now c.args.down.now c.args.one)))

@@ -1,12 +1,12 @@
 use Rattle.std.proofs.Common.{◌≡◌, ℕ, ◌<◌, false, length}
 use Rattle.masks.specs.Masks.{has}
-use Rattle.failover.specs.Isolated.{link_rows}
+use Rattle.failover.specs.Isolated.{links_of_each}
 use Rattle.failover.specs.Routes.{ball}
 use Rattle.failover.specs.Search.{AreBalls, IsEdge}
 use Rattle.failover.proofs.search.distance.Given as goal
 
 abbrev pub invariant-loop-k : goal.invariant-loop-k
-invariant-loop-k l = let links = link_rows l.neighbours l.down in record {
+invariant-loop-k l = let links = links_of_each l.neighbours l.down in record {
   here : l.ball ≡ ball links l.target l.k;
   places : length l.balls ≡ 64;
   edge : IsEdge links l.ball l.edge;

@@ -1,8 +1,8 @@
 use Rattle.std.proofs.Common.{◌≡◌, drop}
-use Rattle.failover.specs.Isolated.{link_rows}
+use Rattle.failover.specs.Isolated.{links_of_each}
 use Rattle.failover.specs.Routes.{first_route}
 use Rattle.failover.proofs.search.first_route.Given as goal
 
 abbrev pub invariant-loop-target : goal.invariant-loop-target
-invariant-loop-target l = first_route (link_rows l.neighbours l.down) l.from (drop l.target-index l.targets) ≡
-    first_route (link_rows l.neighbours l.down) l.from l.targets
+invariant-loop-target l = first_route (links_of_each l.neighbours l.down) l.from (drop l.target-index l.targets) ≡
+    first_route (links_of_each l.neighbours l.down) l.from l.targets

@@ -1,5 +1,5 @@
 use Rattle.std.proofs.Common.{sym, ◌∙◌, ap, arith, Some}
-use Rattle.failover.specs.Isolated.{link_rows}
+use Rattle.failover.specs.Isolated.{links_of_each}
 use Rattle.failover.proofs.Rows.{length-link_rows}
 use Rattle.failover.proofs.Searching.{route_to-above, route_to-out}
 use Rattle.failover.proofs.Walking.{is_route_list, route_to-along}
@@ -9,9 +9,9 @@ use Rattle.failover.proofs.search.route_to.Goals.{then-from-ge-SWITCHES-via-then
 pub returns-then-from-ge-SWITCHES : goal.returns-then-from-ge-SWITCHES
 returns-then-from-ge-SWITCHES c = elim c.then-from-ge-SWITCHES.branch [
   | then-from-ge-SWITCHES-via-then-from-ge-SWITCHES w ↦ sym
-      (route_to-above (link_rows c.args.neighbours.now c.args.down.now) c.args.from c.args.target (λ p q. absurd (omega arith)))
+      (route_to-above (links_of_each c.args.neighbours.now c.args.down.now) c.args.from c.args.target (λ p q. absurd (omega arith)))
   | then-from-ge-SWITCHES-via-else-from-ge-SWITCHES+then-target-ge-SWITCHES w ↦ sym
-      (route_to-above (link_rows c.args.neighbours.now c.args.down.now) c.args.from c.args.target (λ p q. absurd (omega arith)))
+      (route_to-above (links_of_each c.args.neighbours.now c.args.down.now) c.args.from c.args.target (λ p q. absurd (omega arith)))
 ]
 
 pub returns-in_err-distance : goal.returns-in_err-distance

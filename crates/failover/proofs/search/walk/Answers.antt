@@ -1,5 +1,5 @@
 use Rattle.std.proofs.Common.{ℕ, ◌≡◌, ◌+◌, ◌-◌, List, ◌∷◌, ◌++◌, take, replicate, get_or, sym, ◌∙◌, ap, subst, arith, length}
-use Rattle.failover.specs.Isolated.{link_rows}
+use Rattle.failover.specs.Isolated.{links_of_each}
 use Rattle.failover.specs.RouteList.{IsRouteList}
 use Rattle.std.specs.Int.Bits.{bit_and}
 use Rattle.masks.specs.Masks.{least_in}
@@ -16,28 +16,28 @@ pub offset_bounds-balls-distance : goal.offset_bounds-balls-distance
 offset_bounds-balls-distance c =
     omega (
       arith,
-      length-along (link_rows c.args.neighbours.now c.args.down.now) c.args.balls.now c.args.distance c.args.from,
+      length-along (links_of_each c.args.neighbours.now c.args.down.now) c.args.balls.now c.args.distance c.args.from,
       c.requires.few,
     )
 
 pub bounds-balls-distance : goal.bounds-balls-distance
 bounds-balls-distance c = omega (
   arith,
-  length-along (link_rows c.args.neighbours.now c.args.down.now) c.args.balls.now c.args.distance c.args.from,
+  length-along (links_of_each c.args.neighbours.now c.args.down.now) c.args.balls.now c.args.distance c.args.from,
   c.requires.few,
 )
 
 pub bounds-switches-step : goal.bounds-switches-step
 bounds-switches-step c = omega (
   arith,
-  length-along (link_rows c.args.neighbours.now c.args.down.now) c.args.balls.now c.args.distance c.args.from,
+  length-along (links_of_each c.args.neighbours.now c.args.down.now) c.args.balls.now c.args.distance c.args.from,
   c.requires.few,
 )
 
 pub loop-step-preserved : goal.loop-step-preserved
 unfolding nearer least_in
 loop-step-preserved c =
-    let links = link_rows c.args.neighbours.now c.args.down.now in
+    let links = links_of_each c.args.neighbours.now c.args.down.now in
     let route = c.args.from ∷ along links c.args.balls.now c.args.distance c.args.from in
     let long = length-along links c.args.balls.now c.args.distance c.args.from in
     let fits = below_in _ c.loop-step.step _ _ c.requires c.loop-step.invariant.left in
@@ -70,15 +70,15 @@ whole_of route switches distance step long last written =
 
 pub new-requires-clause-list : goal.new-requires-clause-list
 new-requires-clause-list c =
-    let long = length-along (link_rows c.args.neighbours.now c.args.down.now) c.args.balls.now c.args.distance c.args.from in
+    let long = length-along (links_of_each c.args.neighbours.now c.args.down.now) c.args.balls.now c.args.distance c.args.from in
     subst IsRouteList (sym (whole_of
-    (c.args.from ∷ along (link_rows c.args.neighbours.now c.args.down.now) c.args.balls.now c.args.distance c.args.from)
+    (c.args.from ∷ along (links_of_each c.args.neighbours.now c.args.down.now) c.args.balls.now c.args.distance c.args.from)
     c.loop-step.switches c.args.distance c.loop-step.step (omega arith)
     (omega arith) c.loop-step.invariant.written)) c.requires
 
 pub returns : goal.returns
 returns c =
-    let long = length-along (link_rows c.args.neighbours.now c.args.down.now) c.args.balls.now c.args.distance c.args.from in
-    c.new.ensures ∙ whole_of (c.args.from ∷ along (link_rows c.args.neighbours.now c.args.down.now) c.args.balls.now c.args.distance
+    let long = length-along (links_of_each c.args.neighbours.now c.args.down.now) c.args.balls.now c.args.distance c.args.from in
+    c.new.ensures ∙ whole_of (c.args.from ∷ along (links_of_each c.args.neighbours.now c.args.down.now) c.args.balls.now c.args.distance
     c.args.from) c.loop-step.switches c.args.distance c.loop-step.step (omega arith)
     (omega arith) c.loop-step.invariant.written

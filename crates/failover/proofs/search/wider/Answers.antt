@@ -4,7 +4,7 @@ use Rattle.std.specs.Int.Bits.{bit_and, bit_xor}
 use Rattle.masks.specs.Masks.{least_in}
 use Rattle.masks.proofs.CallerLemmas.{least_lt, mask_of_lt}
 use Rattle.failover.specs.Links.{is_link}
-use Rattle.failover.specs.Isolated.{link_rows}
+use Rattle.failover.specs.Isolated.{links_of_each}
 use Rattle.failover.proofs.RowLoop.{first_left, less, or_others}
 use Rattle.failover.proofs.Rows.{length-link_rows, row_of, row_turned}
 use Rattle.failover.proofs.WiderLoop.{IsWideSoFar, wide_begins, wide_ends, wide_goes_on}
@@ -25,12 +25,12 @@ loop-rest-preserved c =
     least_lt c.loop-rest.rest (omega arith) c.loop-rest.invariant.rest_fits in
     let here = row_of neighbours down at fits in
     let row_fits = subst (λ (m : ℕ). m < 2 ^ 64) (sym here) (mask_of_lt (is_link neighbours down at)) in
-    subst (λ (m : ℕ). IsWideSoFar (link_rows neighbours down) c.args.ball m
+    subst (λ (m : ℕ). IsWideSoFar (links_of_each neighbours down) c.args.ball m
     (bit_xor c.loop-rest.rest c.only_if-rest.result))
     (sym (or_others c.loop-rest.wide _ c.links_within-wide.result c.loop-rest.invariant.wide_fits
     row_fits (c.links_within-wide.ensures
     ∙ ap (λ row. bit_and row (bit_not w64 c.loop-rest.wide)) (sym here))))
-    (wide_goes_on (link_rows neighbours down) c.args.ball c.loop-rest.wide c.loop-rest.rest
+    (wide_goes_on (links_of_each neighbours down) c.args.ball c.loop-rest.wide c.loop-rest.rest
     at _ (length-link_rows neighbours down) (row_turned neighbours down) c.loop-rest.invariant
     (first_left c.loop-rest.rest c.loop-rest.invariant.rest_fits c.loop-rest-test.true)
     fits row_fits c.only_if-rest.ensures)

@@ -1,9 +1,9 @@
-use Rattle.failover.specs.Isolated.{link_rows}
+use Rattle.failover.specs.Isolated.{links_of_each}
 use Rattle.failover.proofs.WiderLoop.{IsWideSoFar}
 use Rattle.failover.proofs.search.wider.Given as goal
 
 abbrev pub invariant-loop-rest : goal.invariant-loop-rest
-invariant-loop-rest l = IsWideSoFar (link_rows l.neighbours l.down) l.ball l.wide l.rest
+invariant-loop-rest l = IsWideSoFar (links_of_each l.neighbours l.down) l.ball l.wide l.rest
 
 abbrev pub decreases-loop-rest : goal.decreases-loop-rest
 decreases-loop-rest l = l.rest

@@ -1,6 +1,6 @@
 use Rattle.std.proofs.Common.{◌∙◌, ◌∷◌, [], ◌++◌, ap, sym, take}
 use Rattle.std.proofs.lemmas.List.{take_more}
-use Rattle.load_text.specs.Summary.{counted, counts_of}
+use Rattle.load_text.specs.Summary.{counted_with, counts_of}
 use Rattle.load_text.proofs.Counts.{counts_more, counts_start}
 use Rattle.load_text.proofs.summary.count.Goals as goal
 
@@ -12,7 +12,7 @@ loop-item-preserved c =
     let items = c.args.items.now in
     let i = c.loop-item.item-index in
     let item = c.item-item.result in
-    c.note.ensures ∙ ap (λ counts. counted counts item) c.loop-item.invariant
+    c.note.ensures ∙ ap (λ counts. counted_with counts item) c.loop-item.invariant
     ∙ sym (counts_more (take i items) item)
     ∙ ap counts_of (ap (λ x. take i items ++ x ∷ []) c.item-item.is
     ∙ sym (take_more items i item c.loop-item-test.true))

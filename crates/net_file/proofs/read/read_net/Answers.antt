@@ -2,7 +2,7 @@ use Rattle.std.proofs.Common.{ok_or}
 use Rattle.std.proofs.lemmas.Result.{IfOk-weaker, err_from_is_err_and}
 use Rattle.toml.specs.View.{table_view}
 use Rattle.net_file.specs.Net.{IsNet}
-use Rattle.net_file.specs.Reading.{document_of, net_in, net_of}
+use Rattle.net_file.specs.Reading.{document_of, net_read, net_of}
 use Rattle.net_file.specs.Refusals.{in_row}
 use Rattle.net_file.specs.declared.error.NetRefusal.TheVariants.{Toml}
 use Rattle.net_file.proofs.Sound.{net_of_document, sound_net}
@@ -13,7 +13,7 @@ pub returns-in_err-read_document-clause-refused : goal.returns-in_err-read_docum
 unfolding net_of
 returns-in_err-read_document-clause-refused c =
     let p = err_from_is_err_and c.from_residual.result c.from_residual.ensures.1 in
-    rw (p.1, p.2) (refused_with (in_row 0 (ok_or (document_of c.args.bytes.now) Toml)) net_in
+    rw (p.1, p.2) (refused_with (in_row 0 (ok_or (document_of c.args.bytes.now) Toml)) net_read
     c.in_err-read_document.field-0.0 c.in_err-read_document.ensures.refused)
 
 pub returns-clause-net : goal.returns-clause-net

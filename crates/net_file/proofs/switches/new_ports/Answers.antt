@@ -1,7 +1,7 @@
 use Rattle.std.proofs.Common.{◌||◌, ap, sym, ◌∙◌}
 use Rattle.std.specs.Prelude.{filter_map, nat_eq}
 use Rattle.std.specs.List.{list_any}
-use Rattle.net_file.specs.Reading.{port_of}
+use Rattle.net_file.specs.Reading.{port_read}
 use Rattle.net_file.proofs.Masks.{in_mask, mask_of_is}
 use Rattle.net_file.proofs.FreshPorts.{any_next, are_fresh, are_new_is, fresh_next, fresh_stop, or_nothing, ports_less, ports_more}
 use Rattle.net_file.proofs.Values.{values_end, values_more}
@@ -22,7 +22,7 @@ pub returns-clause-new : goal.returns-clause-new
 returns-clause-new c =
     let inv = c.loop-value.invariant in
     sym (are_new_is c.args.taken c.args.earlier.now _ c.requires ∙ inv.fresh
-    ∙ ap (λ ds. are_fresh c.loop-value.seen (filter_map port_of ds))
+    ∙ ap (λ ds. are_fresh c.loop-value.seen (filter_map port_read ds))
     (values_end c.args.values.now c.loop-value.value-index c.loop-value-test.false))
 
 pub returns-clause-mask : goal.returns-clause-mask
@@ -31,7 +31,7 @@ returns-clause-mask c =
     let ended = values_end c.args.values.now c.loop-value.value-index c.loop-value-test.false in
     mask_of_is c.loop-value.ports _ inv.small
     (λ k. sym (inv.ports k ∙ ap
-    (λ ds. in_mask c.loop-value.ports k || list_any (nat_eq k) (filter_map port_of ds)) ended
+    (λ ds. in_mask c.loop-value.ports k || list_any (nat_eq k) (filter_map port_read ds)) ended
     ∙ or_nothing (in_mask c.loop-value.ports k)))
 
 pub loop-value-preserved : goal.loop-value-preserved

@@ -2,17 +2,17 @@ use Rattle.std.proofs.Common.{ℕ, ◌≡◌, ◌<◌, ◌^◌, ◌||◌, drop, 
 use Rattle.std.specs.Prelude.{filter_map, nat_eq}
 use Rattle.std.specs.List.{list_any}
 use Rattle.toml.specs.View.{view}
-use Rattle.net_file.specs.Reading.{port_of}
+use Rattle.net_file.specs.Reading.{port_read}
 use Rattle.net_file.proofs.Masks.{in_mask}
 use Rattle.net_file.proofs.FreshPorts.{are_fresh}
 use Rattle.net_file.proofs.switches.new_ports.Given as goal
 
 abbrev pub invariant-loop-value : goal.invariant-loop-value
 invariant-loop-value l = record {
-  fresh : are_fresh l.taken (filter_map port_of (map view l.values)) ≡ are_fresh l.seen
-      (filter_map port_of (map view (drop l.value-index l.values)));
+  fresh : are_fresh l.taken (filter_map port_read (map view l.values)) ≡ are_fresh l.seen
+      (filter_map port_read (map view (drop l.value-index l.values)));
   small : l.ports < 2 ^ 64;
-  ports : (k : ℕ) → list_any (nat_eq k) (filter_map port_of (map view l.values))
+  ports : (k : ℕ) → list_any (nat_eq k) (filter_map port_read (map view l.values))
       ≡ (in_mask l.ports k || list_any (nat_eq k)
-      (filter_map port_of (map view (drop l.value-index l.values))));
+      (filter_map port_read (map view (drop l.value-index l.values))));
 }

@@ -2,7 +2,7 @@ use Rattle.std.proofs.Common.{◌≡◌, ◌+◌, ◌||◌, [], ◌∷◌, ◌++
 use Rattle.std.proofs.lemmas.Result.{err_from_is_err_and}
 use Rattle.toml.specs.View.{view}
 use Rattle.net_file.specs.Joins.{has_port}
-use Rattle.net_file.specs.Reading.{rows_from, switch_of}
+use Rattle.net_file.specs.Reading.{rows_read, switch_read}
 use Rattle.net_file.proofs.Masks.{in_mask_or}
 use Rattle.net_file.proofs.FreshPorts.{have_port_push}
 use Rattle.net_file.proofs.Steps.{next_row, refused_row, refused_same}
@@ -18,8 +18,8 @@ returns-in_err-switch-clause-refused c =
     c.loop-value-test.true c.value-item.is in
     let e = c.in_err-switch.field-0.0 in
     let p = err_from_is_err_and c.from_residual.result c.from_residual.ensures.1 in
-    rw (p.1, p.2) (refused_same _ _ e (inv.rest ∙ ap (rows_from 0 switch_of rows) left)
-    (refused_row 0 switch_of rows (view c.value-item.result) more (c.loop-value.row + 1) e
+    rw (p.1, p.2) (refused_same _ _ e (inv.rest ∙ ap (rows_read 0 switch_read rows) left)
+    (refused_row 0 switch_read rows (view c.value-item.result) more (c.loop-value.row + 1) e
     (omega (arith, inv.count, inv.row))
     (rw (← c.deref.ensures.value) c.in_err-switch.ensures.refused)))
 
@@ -33,8 +33,8 @@ loop-value-preserved c =
     let left = values_more c.args.values.now c.loop-value.value-index c.value-item.result
     c.loop-value-test.true c.value-item.is in
     record {
-      rest = rw items (inv.rest ∙ ap (rows_from 0 switch_of rows) left
-          ∙ next_row 0 switch_of rows (view c.value-item.result) more row
+      rest = rw items (inv.rest ∙ ap (rows_read 0 switch_read rows) left
+          ∙ next_row 0 switch_read rows (view c.value-item.result) more row
           (rw (← c.deref.ensures.value) c.in_ok-switch.ensures.switch));
       count = rw (items, length-append, inv.count) refl;
       row = rw inv.row refl;

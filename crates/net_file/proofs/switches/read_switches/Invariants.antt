@@ -1,13 +1,13 @@
 use Rattle.std.proofs.Common.{◌≡◌, [], drop, map, length}
 use Rattle.toml.specs.View.{view}
 use Rattle.net_file.specs.Laws.{IsMask}
-use Rattle.net_file.specs.Reading.{rows_from, switch_of}
+use Rattle.net_file.specs.Reading.{rows_read, switch_read}
 use Rattle.net_file.specs.Owners.{have_port}
 use Rattle.net_file.proofs.switches.read_switches.Given as goal
 
 abbrev pub invariant-loop-value : goal.invariant-loop-value
 invariant-loop-value l = record {
-  rest : rows_from 0 switch_of [] (map view l.values) ≡ rows_from 0 switch_of l.rows.items
+  rest : rows_read 0 switch_read [] (map view l.values) ≡ rows_read 0 switch_read l.rows.items
       (map view (drop l.value-index l.values));
   count : length l.rows.items ≡ l.value-index;
   row : l.row ≡ l.value-index;

@@ -4,7 +4,7 @@ use Rattle.std.proofs.lemmas.List.Elements.{All-push}
 use Rattle.csv.specs.Records.{fields_of}
 use Rattle.policy_rules.specs.Read.{HasSmallPort}
 use Rattle.policy_rules.specs.declared.policy.Row.{Row}
-use Rattle.policy_file.specs.Reading.{State, row_of}
+use Rattle.policy_file.specs.Reading.{State, row_read}
 use Rattle.policy_file.proofs.Rows.{ends_at, next_of, refused_row, state_push, too_many}
 use Rattle.policy_file.proofs.read.read_rows.Goals as goal
 
@@ -55,7 +55,7 @@ loop-records-preserved c =
     let items : c.push.new.self.items ≡ rows ++ row ∷ [] = c.in_ok-push-in-Ok.ensures.items in
     let len : length c.push.new.self.items ≡ length rows + 1 =
     omega (arith, ap length items, length-append rows (row ∷ [])) in
-    let is : row_of fields ≡ Ok row = sym c.in-Ok.ensures.row in
+    let is : row_read fields ≡ Ok row = sym c.in-Ok.ensures.row in
     let pushed : State (take (length rows + 1) records) (rows ++ row ∷ []) =
     subst (λ xs. State xs (rows ++ row ∷ [])) (sym next.more)
     (state_push (take (length rows) records) rows fields row known.stated is) in

@@ -1,7 +1,7 @@
 use Rattle.std.proofs.Common.{◌≡◌, ◌∙◌, ap, sym, take, ◌++◌, append_assoc, arith}
 use Rattle.std.proofs.lemmas.List.{take_all}
-use Rattle.policy_file.specs.Printing.{line, policy_text, row_fields, rows_text}
-use Rattle.policy_file.specs.Reading.{heading_fields, policy_of}
+use Rattle.policy_file.specs.Printing.{fields_line, policy_text, row_fields, rows_text}
+use Rattle.policy_file.specs.Reading.{policy_heading, policy_of}
 use Rattle.policy_file.proofs.Lines.{rows_text-more}
 use Rattle.policy_file.proofs.write.write_policy.Goals as goal
 
@@ -10,11 +10,11 @@ loop-row-preserved c =
     let rows = c.rows-row-items.result.now in
     let i = c.loop-row.row-index in
     let row = c.row-item.result in
-    c.in_ok-writeln-2.ensures.bytes ∙ ap (λ text. text ++ line (row_fields row))
-    c.loop-row.invariant ∙ append_assoc (line heading_fields) (rows_text (take i rows))
-    (line (row_fields row))
-    ∙ ap (λ last. line heading_fields ++ (rows_text (take i rows) ++ line (row_fields last)))
-    c.row-item.is ∙ ap (λ text. line heading_fields ++ text)
+    c.in_ok-writeln-2.ensures.bytes ∙ ap (λ text. text ++ fields_line (row_fields row))
+    c.loop-row.invariant ∙ append_assoc (fields_line policy_heading) (rows_text (take i rows))
+    (fields_line (row_fields row))
+    ∙ ap (λ last. fields_line policy_heading ++ (rows_text (take i rows) ++ fields_line (row_fields last)))
+    c.row-item.is ∙ ap (λ text. fields_line policy_heading ++ text)
     (sym (rows_text-more rows i row c.loop-row-test.true))
 
 pub returns-clause-read_back : goal.returns-clause-read_back

@@ -8,7 +8,7 @@ use Rattle.switch_core.specs.Answering.{arrived_on}
 use Rattle.switch_core.specs.Ends.{around}
 use Rattle.switch_core.specs.Verdicts.{arrived_as}
 use Rattle.travelling.specs.Travelling.{Standing, WithOne}
-use Rattle.world_log.specs.Outcomes.{packet_at}
+use Rattle.world_log.specs.Outcomes.{packet_standing}
 use Rattle.world_log.specs.Packets.{arrival, arrival_items, arrival_posts}
 use Rattle.world_log.specs.Writing.{IsPart, arrived_items, arrived_message, arrived_posts, arrived_traveller}
 use Rattle.world_log.proofs.Arriving.{IsSaidOf, asked_of, has_arrived}
@@ -25,9 +25,9 @@ note_received-requires-clause-spelling c =
       at_is = c.in_ok-at.ensures;
       number_is = c.number.ensures.number;
       leg_is = c.leg.ensures;
-      so = subst (λ (a : Standing). arrived_as after c.args.near (packet_at a)
+      so = subst (λ (a : Standing). arrived_as after c.args.near (packet_standing a)
           c.receive-received.result
-          ≡ arrived_on w (around c.args.near c.args.ports.now) (packet_at a) c.leg.result)
+          ≡ arrived_on w (around c.args.near c.args.ports.now) (packet_standing a) c.leg.result)
           c.at.view_is
           (c.receive-received.ensures.answer c.args.near c.at.inside.packet
           (unwrap_or c.at.inside.down no_links));
@@ -48,9 +48,9 @@ returns-clause-written c =
       at_is = c.in_ok-at.ensures;
       number_is = c.number.ensures.number;
       leg_is = c.leg.ensures;
-      so = subst (λ (a : Standing). arrived_as after c.args.near (packet_at a)
+      so = subst (λ (a : Standing). arrived_as after c.args.near (packet_standing a)
           c.receive-received.result
-          ≡ arrived_on w (around c.args.near c.args.ports.now) (packet_at a) c.leg.result)
+          ≡ arrived_on w (around c.args.near c.args.ports.now) (packet_standing a) c.leg.result)
           c.at.view_is
           (c.receive-received.ensures.answer c.args.near c.at.inside.packet
           (unwrap_or c.at.inside.down no_links));
@@ -72,9 +72,9 @@ returns-clause-posted c =
       at_is = c.in_ok-at.ensures;
       number_is = c.number.ensures.number;
       leg_is = c.leg.ensures;
-      so = subst (λ (a : Standing). arrived_as after c.args.near (packet_at a)
+      so = subst (λ (a : Standing). arrived_as after c.args.near (packet_standing a)
           c.receive-received.result
-          ≡ arrived_on w (around c.args.near c.args.ports.now) (packet_at a) c.leg.result)
+          ≡ arrived_on w (around c.args.near c.args.ports.now) (packet_standing a) c.leg.result)
           c.at.view_is
           (c.receive-received.ensures.answer c.args.near c.at.inside.packet
           (unwrap_or c.at.inside.down no_links));
@@ -95,9 +95,9 @@ returns-clause-travels c =
       at_is = c.in_ok-at.ensures;
       number_is = c.number.ensures.number;
       leg_is = c.leg.ensures;
-      so = subst (λ (a : Standing). arrived_as after c.args.near (packet_at a)
+      so = subst (λ (a : Standing). arrived_as after c.args.near (packet_standing a)
           c.receive-received.result
-          ≡ arrived_on w (around c.args.near c.args.ports.now) (packet_at a) c.leg.result)
+          ≡ arrived_on w (around c.args.near c.args.ports.now) (packet_standing a) c.leg.result)
           c.at.view_is
           (c.receive-received.ensures.answer c.args.near c.at.inside.packet
           (unwrap_or c.at.inside.down no_links));
@@ -119,9 +119,9 @@ returns-clause-part c =
       at_is = c.in_ok-at.ensures;
       number_is = c.number.ensures.number;
       leg_is = c.leg.ensures;
-      so = subst (λ (a : Standing). arrived_as after c.args.near (packet_at a)
+      so = subst (λ (a : Standing). arrived_as after c.args.near (packet_standing a)
           c.receive-received.result
-          ≡ arrived_on w (around c.args.near c.args.ports.now) (packet_at a) c.leg.result)
+          ≡ arrived_on w (around c.args.near c.args.ports.now) (packet_standing a) c.leg.result)
           c.at.view_is
           (c.receive-received.ensures.answer c.args.near c.at.inside.packet
           (unwrap_or c.at.inside.down no_links));

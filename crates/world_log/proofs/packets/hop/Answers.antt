@@ -3,7 +3,7 @@ use Rattle.std.proofs.Common.{◌+◌, ◌++◌, List, ap, sym, subst, ◌∙◌
 use Rattle.std.proofs.lemmas.Result.{on_err_weaker, on_ok_weaker}
 use Rattle.bag.specs.Posts.{Post}
 use Rattle.switch_core.specs.State.{SwitchValue}
-use Rattle.world_log.specs.Packets.{hop_items}
+use Rattle.world_log.specs.Packets.{hop_written}
 use Rattle.travelling.specs.Travelling.{WithOne}
 use Rattle.world_log.specs.Writing.{IsPart}
 use Rattle.world_log.proofs.Turning.{IsAnswered, both_written, ended, hop_authority, hop_ingress, hop_items_are, hop_kept, hop_traveller_is, part_back, part_front, same_packet}
@@ -95,7 +95,7 @@ returns-clause-written c =
     (hop_items_are c.args.switch.now c.args.near c.args.ports.now c.args.traveller.now
     c.hop-hop.new.self c.hop-hop.new.t c.number.result c.hop-hop.result.found
     c.hop-hop.result.end is (length c.turn.new.self.bag + 1)
-    ∙ ap (λ (bag : List Post). hop_items (length bag + 1) c.args.switch.now c.args.near
+    ∙ ap (λ (bag : List Post). hop_written (length bag + 1) c.args.switch.now c.args.near
     c.args.ports.now c.args.traveller.now) c.in_ok-turn.ensures.unsent))
     c.end_hop.ensures.written
 
@@ -116,7 +116,7 @@ returns-clause-part c =
     (hop_items_are c.args.switch.now c.args.near c.args.ports.now c.args.traveller.now
     c.hop-hop.new.self c.hop-hop.new.t c.number.result c.hop-hop.result.found
     c.hop-hop.result.end is (length c.turn.new.self.bag + 1)
-    ∙ ap (λ (bag : List Post). hop_items (length bag + 1) c.args.switch.now c.args.near
+    ∙ ap (λ (bag : List Post). hop_written (length bag + 1) c.args.switch.now c.args.near
     c.args.ports.now c.args.traveller.now) c.in_ok-turn.ensures.unsent)
     (part_back c.args.log.now.journal c.turn.new.self.journal c.end_hop.new.log.journal _ _
     c.in_ok-turn.ensures.written part)) c.end_hop.ensures.part

@@ -3,7 +3,7 @@ use Rattle.std.specs.Prelude.{not}
 use Rattle.version_update.specs.Marks.{with_version}
 use Rattle.version_update.specs.Record.{is_over}
 use Rattle.controller.specs.Controller.{KeptPlan, ControllerValue, StaysController}
-use Rattle.controller.specs.Sends.{boot_of, install, those, settling, submitting}
+use Rattle.controller.specs.Sends.{boot_recorded, install_act, those, settling, submitting}
 use Rattle.controller.proofs.Versions.{IsWhole, pushed_next, whole_more, stays_more}
 use Rattle.controller.proofs.controller.Controller.add.Goals as goal
 use Rattle.controller.proofs.controller.Controller.add.Goals.{After-settle}
@@ -48,7 +48,7 @@ returns-clause-sends c =
     c.new-2.ensures ∙ c.in_ok-settle.ensures.acts _ c.add_version-settled.ensures.settled
     ∙ ap (λ l. l ++ settling (with_version old) new)
     (c.in_ok-acts.ensures ∙ ap
-    (λ (version : KeptPlan). map (λ s. install s (boot_of old s) version)
+    (λ (version : KeptPlan). map (λ s. install_act s (boot_recorded old s) version)
     (those (λ known. not (is_over known.phase)) old.switches)) next)
     ∙ ap (λ (value : ControllerValue). submitting value.marks c.args.plan new) c.self.view_is
 

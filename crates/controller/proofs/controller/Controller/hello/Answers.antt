@@ -1,58 +1,58 @@
 use Rattle.std.proofs.Common.{◌≡◌, ◌++◌, map, sym, ap, ◌∙◌}
 use Rattle.ctrl_msg.specs.declared.message.Body.TheVariants.{Hello}
 use Rattle.version_update.specs.Marks.{at_switch, record_of}
-use Rattle.version_update.specs.Record.{after_hello, takes_hello}
+use Rattle.version_update.specs.Record.{hello_recorded, takes_hello}
 use Rattle.controller.specs.Controller.{ControllerValue, plans_from}
-use Rattle.controller.specs.Sends.{install, settling, hearing}
+use Rattle.controller.specs.Sends.{install_act, settling, hearing}
 use Rattle.controller.proofs.Telling.{added, not_added}
 use Rattle.controller.proofs.Versions.{plans_twice, whole_at, settles_at, stays_at}
 use Rattle.controller.proofs.controller.Controller.hello.Goals as goal
 use Rattle.controller.proofs.controller.Controller.hello.Goals.{then-settled+in_ok-install_all, else-settled}
 
 pub invariant_of-self : goal.invariant_of-self
-invariant_of-self c = whole_at c.args.s (after_hello c.args.boot) c.self.inside.marks
+invariant_of-self c = whole_at c.args.s (hello_recorded c.args.boot) c.self.inside.marks
     c.self.inside.versions.items _ _ _ c.self.invariant c.hello-settled.ensures.rule
     c.hello-settled.ensures.settled c.settle.ensures.versions
 
 pub returns-in_err-settle-clause-rule : goal.returns-in_err-settle-clause-rule
-returns-in_err-settle-clause-rule c = stays_at c.args.s (after_hello c.args.boot)
+returns-in_err-settle-clause-rule c = stays_at c.args.s (hello_recorded c.args.boot)
     c.self.inside.marks c.self.inside.versions.items _ _ _ _ c.self.view_is c.self.invariant
     c.hello-settled.ensures.rule c.hello-settled.ensures.settled c.settle.ensures.versions
 
 pub returns-in_err-settle-clause-after : goal.returns-in_err-settle-clause-after
-returns-in_err-settle-clause-after c = settles_at c.args.s (after_hello c.args.boot)
+returns-in_err-settle-clause-after c = settles_at c.args.s (hello_recorded c.args.boot)
     c.self.inside.marks c.self.inside.versions.items _ _ _ _ c.self.view_is
     c.hello-settled.ensures.settled c.settle.ensures.versions
 
 pub invariant_of-self-2 : goal.invariant_of-self-2
-invariant_of-self-2 c = whole_at c.args.s (after_hello c.args.boot) c.self.inside.marks
+invariant_of-self-2 c = whole_at c.args.s (hello_recorded c.args.boot) c.self.inside.marks
     c.self.inside.versions.items _ _ _ c.self.invariant c.hello-settled.ensures.rule
     c.hello-settled.ensures.settled c.settle.ensures.versions
 
 pub invariant_of-self-in_err-install_all : goal.invariant_of-self-in_err-install_all
-invariant_of-self-in_err-install_all c = whole_at c.args.s (after_hello c.args.boot)
+invariant_of-self-in_err-install_all c = whole_at c.args.s (hello_recorded c.args.boot)
     c.self.inside.marks c.self.inside.versions.items _ _ _ c.self.invariant
     c.hello-settled.ensures.rule c.hello-settled.ensures.settled c.settle.ensures.versions
 
 pub returns-in_err-install_all-clause-rule : goal.returns-in_err-install_all-clause-rule
-returns-in_err-install_all-clause-rule c = stays_at c.args.s (after_hello c.args.boot)
+returns-in_err-install_all-clause-rule c = stays_at c.args.s (hello_recorded c.args.boot)
     c.self.inside.marks c.self.inside.versions.items _ _ _ _ c.self.view_is c.self.invariant
     c.hello-settled.ensures.rule c.hello-settled.ensures.settled c.settle.ensures.versions
 
 pub returns-in_err-install_all-clause-after : goal.returns-in_err-install_all-clause-after
-returns-in_err-install_all-clause-after c = settles_at c.args.s (after_hello c.args.boot)
+returns-in_err-install_all-clause-after c = settles_at c.args.s (hello_recorded c.args.boot)
     c.self.inside.marks c.self.inside.versions.items _ _ _ _ c.self.view_is
     c.hello-settled.ensures.settled c.settle.ensures.versions
 
 pub returns : goal.returns
 returns c =
     let inside = c.self.inside in
-    let change = after_hello c.args.boot in
+    let change = hello_recorded c.args.boot in
     let s = c.args.s in
     let marks = c.hello-settled.new.self in
     let kept = c.settle.new.versions.items in
     let asked = takes_hello c.args.boot (record_of inside.marks s) in
-    let all = map (install s c.args.boot) (plans_from marks.current kept) in
+    let all = map (install_act s c.args.boot) (plans_from marks.current kept) in
     let told = settling (at_switch s change inside.marks) marks in
     let base : c.settle.new.acts.items ≡ told = c.in_ok-settle.ensures.acts _
     c.hello-settled.ensures.settled ∙ ap (λ l. l ++ told) c.new-acts.ensures.items in
@@ -68,7 +68,7 @@ returns c =
             | then-settled+in_ok-install_all w ↦ added asked _ c.settle.new.acts.items told all
                 (sym taken ∙ w.if-settled.true)
                 (ap (λ v. v.items) w.acts-is ∙ w.in_ok-install_all.ensures
-                ∙ ap (λ plans. c.settle.new.acts.items ++ map (install s c.args.boot) plans)
+                ∙ ap (λ plans. c.settle.new.acts.items ++ map (install_act s c.args.boot) plans)
                 (w.deref.ensures.value ∙ sym once)) base
             | else-settled w ↦ not_added asked _ c.settle.new.acts.items told all
                 (sym taken ∙ w.if-settled.false) (ap (λ v. v.items) w.acts-is) base

@@ -1,7 +1,7 @@
 use Rattle.std.proofs.Common.{◌≡◌, ◌∙◌, [], cond, not, ap, sym, subst}
 use Rattle.csv.specs.Records.{fields_of}
 use Rattle.csv_records.specs.Readers.{records_left}
-use Rattle.csv_records.specs.Texts.{TakesNext}
+use Rattle.csv_records.specs.Texts.{TakesRecord}
 use Rattle.csv_records.proofs.Taking.{source_known, takes_next}
 use Rattle.csv_records.proofs.records.Records.read_next.Goals as goal
 
@@ -15,5 +15,5 @@ returns-in-Ok-clause-takes c =
     let (xs, source) = source_known old r.going in
     let left : records_left old ≡ c.args.self.now = ap (λ over. cond over [] (records_left old))
     (sym c.if-self.false) ∙ c.self.view_is in
-    subst (λ before. TakesNext before found fields (cond (not found) [] (records_left new))) left
+    subst (λ before. TakesRecord before found fields (cond (not found) [] (records_left new))) left
     (takes_next old new found fields xs r.config source (c.in-Ok.ensures.reads r.trim r.ready))

@@ -1,6 +1,6 @@
 use Rattle.std.proofs.Common.{sym, ◌∙◌, ap, set, Some}
 use Rattle.std.proofs.lemmas.List.{map-set}
-use Rattle.failover.specs.Links.{neighbours_told}
+use Rattle.failover.specs.Links.{neighbours_named}
 use Rattle.failover.proofs.Adverts.{after_no_news, after_news, by_origin-set}
 use Rattle.failover.proofs.database.Database.hear.Goals as goal
 
@@ -10,7 +10,7 @@ invariant_of-self c = record {
       c.if-not-is_news.ensures.switch;
   neighbours = ap (λ told. set told c.args.advert.now.origin c.args.advert.now.up)
       c.self.invariant.neighbours
-      ∙ sym (map-set neighbours_told c.self.inside.adverts c.args.advert.now.origin
+      ∙ sym (map-set neighbours_named c.self.inside.adverts c.args.advert.now.origin
       (Some c.args.advert.now));
 }
 

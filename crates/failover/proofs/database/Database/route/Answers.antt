@@ -2,18 +2,18 @@ use Rattle.std.proofs.Common.{ap, ◌∙◌, List, ℕ, sym, subst, Option}
 use Rattle.failover.specs.Links.{known_links}
 use Rattle.failover.specs.Paths.{IsRoute}
 use Rattle.failover.specs.Routes.{route_of, first_route}
-use Rattle.failover.specs.Isolated.{link_rows}
+use Rattle.failover.specs.Isolated.{links_of_each}
 use Rattle.failover.proofs.Rows.{told_links_held}
 use Rattle.failover.proofs.Searching.{known_route_is_route, route_is_list}
 use Rattle.failover.proofs.database.Database.route.Goals as goal
 
 pub returns-clause-value : goal.returns-clause-value
-unfolding route_of known_links link_rows
+unfolding route_of known_links links_of_each
 returns-clause-value c =
     c.first_route.ensures
-    ∙ ap (λ targets. first_route (link_rows c.set_own.new.neighbours c.args.down.now)
+    ∙ ap (λ targets. first_route (links_of_each c.set_own.new.neighbours c.args.down.now)
     c.args.from targets) c.items.ensures.list
-    ∙ ap (λ neighbours. first_route (link_rows neighbours c.args.down.now) c.args.from
+    ∙ ap (λ neighbours. first_route (links_of_each neighbours c.args.down.now) c.args.from
     c.args.targets.now) (rw (← c.self.view_is)
     (told_links_held c.self.inside.adverts c.self.inside.told c.args.from c.args.near
     _ c.self.invariant c.set_own.ensures))

@@ -1,6 +1,6 @@
 use Rattle.std.proofs.Common.{ℕ, ◌-◌, ◌<◌, ◌≤◌}
 use Rattle.std.specs.Prelude.{IsTrue}
-use Rattle.version_update.specs.Marks.{all_acked}
+use Rattle.version_update.specs.Marks.{all_have_acked}
 use Rattle.version_update.proofs.ledger.Ledger.risen.Given as goal
 
 -- each member acknowledged every version from the old mark up to this one
@@ -9,7 +9,7 @@ invariant-loop-current l = record {
   rises : l.self.current ≤ l.current;
   bound : l.current ≤ l.self.count;
   acknowledged : (version : ℕ) → l.self.current < version → version ≤ l.current
-      → IsTrue (all_acked version l.self.switches);
+      → IsTrue (all_have_acked version l.self.switches);
 }
 
 abbrev pub decreases-loop-current : goal.decreases-loop-current

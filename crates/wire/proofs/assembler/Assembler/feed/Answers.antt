@@ -1,13 +1,13 @@
 use Rattle.std.proofs.Common.{subst}
 use Rattle.std.specs.Prelude.{IsErrOf, OnOk}
 use Rattle.wire.specs.declared.error.WireError.TheVariants.{Malformed}
-use Rattle.wire.specs.Assembly.{IsRefused}
+use Rattle.wire.specs.Assembly.{IsRefusedFrame}
 use Rattle.wire.proofs.assembler.Assembler.feed.Goals as goal
 
 pub returns-clause-refused : goal.returns-clause-refused
 returns-clause-refused c =
-    subst (λ held. IsErrOf c.feed.result Malformed → IsRefused held c.args.frame.now) c.self.view_is c.feed.ensures.refused
+    subst (λ held. IsErrOf c.feed.result Malformed → IsRefusedFrame held c.args.frame.now) c.self.view_is c.feed.ensures.refused
 
 pub returns-clause-taken : goal.returns-clause-taken
 returns-clause-taken c =
-    subst (λ held. OnOk c.feed.result (IsRefused held c.args.frame.now → ⊥)) c.self.view_is c.feed.ensures.taken
+    subst (λ held. OnOk c.feed.result (IsRefusedFrame held c.args.frame.now → ⊥)) c.self.view_is c.feed.ensures.taken

@@ -1,13 +1,13 @@
 use Rattle.std.proofs.Common.{◌≡◌, false, subst}
 use Rattle.update_machine.specs.Travels.{next_travelling}
-use Rattle.world.specs.Parts.{value_of}
+use Rattle.world.specs.Parts.{world_value}
 use Rattle.world.specs.State.{WorldValue}
 use Rattle.world.proofs.LeastHops.{least_travels_in}
 use Rattle.world.proofs.world.World.next_travelling.Goals as goal
 
 pub returns-clause-first : goal.returns-clause-first
 returns-clause-first c = λ able is_one.
-    let own = value_of c.self.inside.parts c.self.inside.is_spent in
+    let own = world_value c.self.inside.parts c.self.inside.is_spent in
     subst (λ (w : WorldValue). w.is_spent ≡ false → c.next.result ≡ next_travelling w.journal)
     c.self.view_is
     (λ spent. least_travels_in own _ (c.self.invariant.tied spent) (rw is_one at c.next.ensures))
