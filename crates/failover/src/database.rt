@@ -28,7 +28,7 @@ pub struct Database {
 impl Model for Database {
     ghost use Rattle.std.specs.Prelude.{List, Option};
     ghost use Rattle.failover.specs.declared.advert.Advert.{Advert};
-    ghost use Rattle.failover.specs.Links.{IsDatabase};
+    ghost use Rattle.failover.specs.Isolated.{IsDatabase};
 
     ghost Value = { List (Option Advert) };
 
@@ -38,7 +38,7 @@ impl Model for Database {
 }
 
 impl Database {
-    ghost use Rattle.failover.specs.Adverts.{AreByOrigin};
+    ghost use Rattle.failover.specs.Newest.{AreByOrigin};
 
     /// The first adverts, of boot 1 and seq 1: bit k of a switch's mask in `near` says that it has
     /// a link to switch k.

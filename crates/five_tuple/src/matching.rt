@@ -14,7 +14,7 @@ pub struct Prefix {
 }
 
 impl Model for Prefix {
-    ghost use Rattle.five_tuple.specs.Matching.{AddressBlock, IsAddressBlock};
+    ghost use Rattle.five_tuple.specs.Header.{AddressBlock, IsAddressBlock};
 
     ghost Value = { AddressBlock };
 
@@ -59,7 +59,7 @@ pub struct PortRange {
 }
 
 impl Model for PortRange {
-    ghost use Rattle.five_tuple.specs.Matching.{PortRangeValue, IsPortRange};
+    ghost use Rattle.five_tuple.specs.Header.{PortRangeValue, IsPortRange};
 
     ghost Value = { PortRangeValue };
 

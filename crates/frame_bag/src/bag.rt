@@ -24,13 +24,13 @@ pub struct FrameBag {
 
 impl Model for FrameBag {
     ghost use Rattle.std.specs.Prelude.{List, ℕ, All, map};
-    ghost use Rattle.frame_bag.specs.Kept.{IsKept, frames_in};
+    ghost use Rattle.frame_bag.specs.Kept.{AreKeptFrames, frames_in};
 
     ghost Value = { List (List (List ℕ)) };
 
     ghost view = { λ b. map (frames_in b.tables.items) b.firsts };
 
-    ghost invariant = { λ b. All (IsKept b.tables.items) b.firsts };
+    ghost invariant = { λ b. All (AreKeptFrames b.tables.items) b.firsts };
 }
 
 impl FrameBag {

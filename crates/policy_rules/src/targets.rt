@@ -18,15 +18,15 @@ pub struct Targets {
 
 impl Model for Targets {
     ghost use Rattle.std.specs.Prelude.{List, ℕ};
-    ghost use Rattle.policy_rules.specs.Targets.{first_places, IsFilled, filled, filled-first_places};
+    ghost use Rattle.policy_rules.specs.Targets.{first_places, AreFilledTargets, filled_targets, filled-first_places};
 
     ghost Value = { List ℕ };
 
     ghost view = { first_places };
 
-    ghost invariant = { IsFilled };
+    ghost invariant = { AreFilledTargets };
 
-    ghost inverse = { filled };
+    ghost inverse = { filled_targets };
 
     ghost inverse_ok = { filled-first_places };
 }

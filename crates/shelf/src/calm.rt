@@ -39,12 +39,12 @@ impl CalmShelf {
 }
 
 impl Shelf for CalmShelf {
-    ghost use Rattle.shelf.specs.Shelf.{HasFile, LacksFile, HasLongerFile, is_fault};
+    ghost use Rattle.shelf.specs.Shelf.{HasFile, LacksFile, HasLongerFile, is_read_fault};
 
     ghost state = { λ s. record { files = Some s.files; faults = 0; reads = s.reads } };
 
     fn read(&mut self, name: &str, limit: u64) -> Result<Vec<u8>, ShelfError>
-        ensures no_fault { is_fault result ≡ false }
+        ensures no_fault { is_read_fault result ≡ false }
         ensures after { self.new ≡ record self.old { reads = counted self.old.reads } }
         ensures content { IfOk result (λ content.
             HasFile self.old.files name.now limit content.items) }

@@ -17,7 +17,7 @@ struct Script {
 }
 
 impl Model for Script {
-    ghost use Rattle.shelf.specs.Faults.{CallScript};
+    ghost use Rattle.shelf.specs.Scripts.{CallScript};
 
     ghost Value = { CallScript };
 
@@ -95,7 +95,7 @@ impl MemShelf {
 }
 
 impl Shelf for MemShelf {
-    ghost use Rattle.shelf.specs.Shelf.{is_fault, HasFile, LacksFile, HasLongerFile, IsServed};
+    ghost use Rattle.shelf.specs.Shelf.{is_read_fault, HasFile, LacksFile, HasLongerFile, IsNoFault};
 
     ghost state = { λ s. record {
       files = Some s.files;
@@ -106,14 +106,14 @@ impl Shelf for MemShelf {
     fn read(&mut self, name: &str, limit: u64) -> Result<Vec<u8>, ShelfError>
         ensures fails { IsErrOf result ShelfError.Failed ↔ FailsNext self.old.script }
         ensures after { self.new
-            ≡ record self.old { script = after_call self.old.script (is_fault result) } }
+            ≡ record self.old { script = after_call self.old.script (is_read_fault result) } }
         ensures faults { self.old.script.faults ≤ self.new.script.faults }
 
         ensures content { IfOk result (λ content.
             HasFile self.old.files name.now limit content.items) }
-        ensures missing { IsServed result
+        ensures missing { IsNoFault result
             → (IsErrOf result ShelfError.Missing ↔ LacksFile self.old.files name.now) }
-        ensures too_long { IsServed result
+        ensures too_long { IsNoFault result
             → (IsErrOf result ShelfError.TooLong ↔ HasLongerFile self.old.files name.now limit) }
     {
         if self.script.begin_call() {
@@ -135,7 +135,7 @@ pub struct MemSink {
 }
 
 impl Model for MemSink {
-    ghost use Rattle.shelf.specs.Sink.{ScriptedBytes};
+    ghost use Rattle.shelf.specs.SinkWrites.{ScriptedBytes};
 
     ghost Value = { ScriptedBytes };
 
@@ -164,7 +164,7 @@ impl MemSink {
 }
 
 impl Sink for MemSink {
-    ghost use Rattle.shelf.specs.Sink.{is_fault};
+    ghost use Rattle.shelf.specs.SinkWrites.{is_write_fault};
 
     ghost state = { λ s. record { bytes = Some s.bytes; faults = s.script.faults } };
 
@@ -178,7 +178,7 @@ impl Sink for MemSink {
         ensures err { OnErr result (self.new.bytes ≡ self.old.bytes) }
         ensures same_most { self.new.most ≡ self.old.most }
         ensures after { self.new.script
-            ≡ after_call self.old.script (is_fault piece.now result) }
+            ≡ after_call self.old.script (is_write_fault piece.now result) }
 
         ensures faults { self.old.script.faults ≤ self.new.script.faults }
     {

@@ -135,7 +135,7 @@ fn write_through<W: Write>(stream: &mut W, piece: &[u8]) -> io::Result<usize>
 }
 
 impl<W: Write + Drop> Sink for StdSink<W> {
-    ghost use Rattle.shelf.specs.Sink.{is_fault};
+    ghost use Rattle.shelf.specs.SinkWrites.{is_write_fault};
 
     ghost state = { λ s. record { bytes = None; faults = s } };
 
@@ -145,7 +145,7 @@ impl<W: Write + Drop> Sink for StdSink<W> {
         ensures within { IfOk result (λ taken. taken ≤ length piece.now) }
         ensures no_memory { result ≢ Err SinkError.NoMemory }
         ensures after { self.new
-            ≡ (if is_fault piece.now result then counted self.old else self.old) }
+            ≡ (if is_write_fault piece.now result then counted self.old else self.old) }
         ensures faults { self.old ≤ self.new }
     {
         match write_through(&mut self.stream, piece) {

@@ -31,13 +31,13 @@ pub struct Switch {
 const _: () = prove!(size_of::<Switch>() < 8192);
 
 impl Model for Switch {
-    ghost use Rattle.switch_core.specs.State.{SwitchValue, IsSwitch, value_of};
+    ghost use Rattle.switch_core.specs.State.{SwitchValue, IsSwitch, switch_value};
 
     ghost Value = { SwitchValue };
 
-    ghost view = { value_of };
+    ghost view = { switch_value };
 
-    ghost invariant = { λ s. IsSwitch (value_of s) };
+    ghost invariant = { λ s. IsSwitch (switch_value s) };
 }
 
 impl Switch {

@@ -28,11 +28,11 @@ pub struct Tunnel {
 const _: () = prove!(size_of::<Tunnel>() < 900);
 
 impl Model for Tunnel {
-    ghost use Rattle.tunnel.specs.Tunnel.{TunnelValue, value_of, inside_of, IsOnRoute};
+    ghost use Rattle.tunnel.specs.Tunnel.{TunnelValue, tunnel_value, inside_of, IsOnRoute};
 
     ghost Value = { TunnelValue };
 
-    ghost view = { value_of };
+    ghost view = { tunnel_value };
 
     ghost invariant = { λ t. IsOnRoute t.route t.place };
 

@@ -56,7 +56,7 @@ pub struct Marks {
 const _: () = prove!(size_of::<Marks>() <= 4096);
 
 impl Model for Marks {
-    ghost use Rattle.version_update.specs.Marks.{MarksValue, AreSettled};
+    ghost use Rattle.version_update.specs.Marks.{MarksValue, AreMarksSettled};
 
     ghost Value = { MarksValue };
 

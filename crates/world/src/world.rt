@@ -47,11 +47,11 @@ pub struct World {
 
 impl Model for World {
     ghost use Rattle.world.specs.State.{WorldValue};
-    ghost use Rattle.world.specs.Parts.{IsWorld, value_of};
+    ghost use Rattle.world.specs.Parts.{IsWorld, world_value};
 
     ghost Value = { WorldValue };
 
-    ghost view = { λ w. value_of w.parts w.is_spent };
+    ghost view = { λ w. world_value w.parts w.is_spent };
 
     ghost invariant = { λ w. IsWorld w.parts w.is_spent };
 }
