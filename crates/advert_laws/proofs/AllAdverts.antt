@@ -1,5 +1,5 @@
 -- What each own advert that is told has, and each first one, and items keep, all adverts have.
-use Rattle.std.proofs.Common.{ℕ, ◌≡◌, ◌<◌, ◌==◌, Bool, true, false, if◌then◌else◌, Option, Some, None, List, [], ◌∷◌, ◌++◌, map, length, refl, ap, sym, subst, ◌∙◌, arith, inl, inr}
+use Rattle.std.proofs.Common.{ℕ, ◌≡◌, ◌≢◌, ◌<◌, ◌==◌, Bool, true, false, if◌then◌else◌, Option, Some, None, List, [], ◌∷◌, ◌++◌, map, length, refl, ap, sym, subst, ◌∙◌, arith, inl, inr}
 use Rattle.std.specs.Prelude.{⊤, All, IsTrue, filter_map, nat_lt, option_to_list, slice_index}
 use Rattle.std.specs.List.{AllByRecursion}
 use Rattle.std.specs.Option.{option_map_or}
@@ -119,6 +119,16 @@ own_told own advert told = by_test (own.seq == 0) told
     by_test true told = absurd cc
     by_test false told = cc
 
+-- an advert of another switch that it knows is the newest that it heard or began with
+pub is_newest : (setting : Setting) (journal : List Item) (s origin : ℕ) (advert : Advert)
+    → origin ≢ s → origin < 64 → advert_known setting journal s origin ≡ Some advert
+    → IsNewest origin (option_to_list (held (adverts_begun setting journal s) origin)
+    ++ adverts_heard journal s) (Some advert)
+is_newest setting journal s origin advert apart small known =
+    subst (IsNewest origin (option_to_list (held (adverts_begun setting journal s) origin)
+    ++ adverts_heard journal s)) known
+    (known_link_laws.newest setting journal s origin apart small)
+
 -- an advert that a switch knows is its own, or it heard it or began with it
 pub known_such : (setting : Setting) (P : List Item → Advert → Type 0) (journal : List Item)
     → AreSuch setting P journal → (s origin : ℕ) (advert : Advert) → origin < 64
@@ -132,12 +142,7 @@ known_such setting P journal such s origin advert small told known =
           ∙ ap (advert_known setting journal s) (sym same) ∙ known in
           subst (P journal) (own_told (own_advert setting journal s) advert own) told
       | inr apart ↦
-          let newest : IsNewest origin
-          (option_to_list (held (adverts_begun setting journal s) origin)
-          ++ adverts_heard journal s) (Some advert) =
-          subst (IsNewest origin (option_to_list (held (adverts_begun setting journal s) origin)
-          ++ adverts_heard journal s)) known
-          (known_link_laws.newest setting journal s origin apart small) in
+          let newest = is_newest setting journal s origin advert apart small known in
           middle (P journal) newest.0 advert newest.1
           (subst (AllByRecursion (P journal)) newest.2
           (each_append (P journal)

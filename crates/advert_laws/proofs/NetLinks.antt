@@ -1,15 +1,15 @@
 -- Adverts, known links and routes name links of the network alone.
-use Rattle.std.proofs.Common.{ℕ, ◌≡◌, ◌<◌, ◌≤◌, Bool, true, false, ◌&&◌, ◌⊎◌, Option, Some, None, List, [], ◌∷◌, ◌++◌, map, length, get_or, set, refl, ap, sym, subst, ◌∙◌, arith, inl, inr, get_or-set_other, get_or-set_same, length-set}
-use Rattle.std.specs.Prelude.{IsTrue, filter, option_to_list}
+use Rattle.std.proofs.Common.{ℕ, ◌≡◌, ◌<◌, ◌≤◌, Bool, true, false, ◌&&◌, ◌⊎◌, Option, Some, None, List, [], ◌∷◌, map, length, get_or, set, refl, ap, sym, subst, ◌∙◌, arith, inl, inr, get_or-set_other, get_or-set_same, length-set}
+use Rattle.std.specs.Prelude.{IsTrue, filter}
 use Rattle.std.specs.List.{list_any}
 use Rattle.std.proofs.lemmas.Bool.{cases_eq, cases_lt}
+use Rattle.std.proofs.lemmas.Bool.Decides.{nat_tests}
 use Rattle.std.proofs.lemmas.List.{get_or-map, get_or_past, length-map}
 use Rattle.failover.specs.Adverts.{held}
 use Rattle.failover.specs.Links.{is_link, neighbours_named, named_links, AreJoined, IsPath, Leads}
 use Rattle.masks.specs.Masks.{has}
 use Rattle.failover.specs.Paths.{IsRoute}
 use Rattle.failover.specs.declared.advert.Advert.{Advert}
-use Rattle.failover.specs.Newest.{IsNewest}
 use Rattle.masks.proofs.CallerLemmas.{has-zero}
 use Rattle.net_file.specs.Joins.{are_linked, joins}
 use Rattle.net_file.specs.declared.net.LinkRow.{LinkRow}
@@ -20,12 +20,12 @@ use Rattle.steps.specs.Steps.{HasLink}
 use Rattle.journal.specs.declared.item.Item.{Item}
 use Rattle.update_machine.specs.Adverts.{advert_known, adverts_known, own_advert, own_if_sent}
 use Rattle.update_machine.specs.Causes.{HaveCauses}
-use Rattle.update_machine.specs.Links.{is_usable}
+use Rattle.update_machine.specs.Links.{is_usable, serves}
 use Rattle.update_machine.specs.Setting.{Setting}
-use Rattle.update_machine.specs.LinkMasks.{near, adverts_begun, adverts_heard, links_known}
+use Rattle.update_machine.specs.LinkMasks.{near, links_known}
 use Rattle.update_machine.proofs.CallerLemmas.{has_known_link, known_link_laws}
 use Rattle.advert_laws.specs.Adverts.{AllAdverts, GoesOverLinks, IsOverLinks, LinksAreThere, NamesLinks}
-use Rattle.advert_laws.proofs.AllAdverts.{IsAdvertFact, all_such, own_told}
+use Rattle.advert_laws.proofs.AllAdverts.{IsAdvertFact, all_such, is_newest, own_told}
 use Rattle.advert_laws.proofs.BothCauses.{HasBothCauses}
 
 -- ---- links that can be used
@@ -62,6 +62,43 @@ near_linked setting journal s k is =
     any_filter (joins s k) (is_usable journal) setting.net.links
     (linked_by_mask (filter (is_usable journal) setting.net.links) s k is)
 
+-- ---- both ends of such a link serve
+
+usable_serves : (journal : List Item) (s k : ℕ) (link : LinkRow) → joins s k link ≡ true
+    → is_usable journal link ≡ true → (serves journal s ≡ true) × (serves journal k ≡ true)
+usable_serves journal s k link joined usable = grind (arith, nat_tests)
+
+any_serves : (journal : List Item) (s k : ℕ) (links : List LinkRow)
+    → list_any (joins s k) (filter (is_usable journal) links) ≡ true
+    → (serves journal s ≡ true) × (serves journal k ≡ true)
+any_serves journal s k [] is = absurd cc
+any_serves journal s k (link ∷ links) is =
+    by_tests (is_usable journal link) refl (any_serves journal s k links) is
+  where
+    by_joins : (b : Bool) → joins s k link ≡ b → is_usable journal link ≡ true
+        → (list_any (joins s k) (filter (is_usable journal) links) ≡ true
+        → (serves journal s ≡ true) × (serves journal k ≡ true))
+        → list_any (joins s k) (link ∷ filter (is_usable journal) links) ≡ true
+        → (serves journal s ≡ true) × (serves journal k ≡ true)
+    by_joins true e usable rest is = usable_serves journal s k link e usable
+    by_joins false e usable rest is = rest (rw (e) at is)
+
+    by_tests : (b : Bool) → is_usable journal link ≡ b
+        → (list_any (joins s k) (filter (is_usable journal) links) ≡ true
+        → (serves journal s ≡ true) × (serves journal k ≡ true))
+        → list_any (joins s k) (filter (is_usable journal) (link ∷ links)) ≡ true
+        → (serves journal s ≡ true) × (serves journal k ≡ true)
+    by_tests true e rest is = by_joins (joins s k link) refl e rest (rw e at is)
+    by_tests false e rest is = rest (rw e at is)
+
+pub ends_serve : (setting : Setting) (journal : List Item) (s k : ℕ)
+    → IsTrue (has (near setting journal s) k)
+    → (serves journal s ≡ true) × (serves journal k ≡ true)
+unfolding near
+ends_serve setting journal s k is =
+    any_serves journal s k setting.net.links
+    (linked_by_mask (filter (is_usable journal) setting.net.links) s k is)
+
 -- ---- adverts
 
 own_names : (setting : Setting) (journal : List Item) (s : ℕ)
@@ -93,13 +130,7 @@ known_origin setting journal s origin advert small known = elim (cases_eq origin
       ap (λ a. a.origin) (sym (own_told (own_advert setting journal s) advert own))
       ∙ own_origin setting journal s ∙ sym same
   | inr apart ↦
-      let newest : IsNewest origin
-      (option_to_list (held (adverts_begun setting journal s) origin)
-      ++ adverts_heard journal s) (Some advert) =
-      subst (IsNewest origin (option_to_list (held (adverts_begun setting journal s) origin)
-      ++ adverts_heard journal s)) known
-      (known_link_laws.newest setting journal s origin apart small) in
-      newest.3
+      (is_newest setting journal s origin advert apart small known).3
 ]
 
 -- ---- known links
@@ -113,7 +144,7 @@ no_link_in_none : (k : ℕ) → IsTrue (has 0 k) → ⊥
 no_link_in_none k is = let none : has 0 k ≡ false = has-zero k in absurd cc
 
 -- what a switch is told of another one's links
-told_row : (adverts : List (Option Advert)) (one : ℕ)
+pub told_row : (adverts : List (Option Advert)) (one : ℕ)
     → get_or (map neighbours_named adverts) one 0 ≡ neighbours_named (held adverts one)
 told_row adverts one = elim (cases_lt one (length adverts)) [
   | inl within ↦ get_or-map neighbours_named adverts one None 0 within

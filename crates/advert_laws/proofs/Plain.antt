@@ -1,9 +1,8 @@
 -- Blocks of a piece that change no links, and in which no advert is sent.
 use Rattle.std.specs.Prelude.{⊤, IsFalse}
-use Rattle.std.specs.List.{AllByRecursion}
-use Rattle.std.proofs.Common.{ℕ, ◌+◌, List, [], ◌∷◌, ◌++◌, map, refl, arith}
+use Rattle.std.proofs.Common.{ℕ, List, refl}
 use Rattle.ctrl_msg.specs.declared.message.Body.{Body}
-use Rattle.ctrl_msg.specs.declared.message.Body.TheVariants.{CacheRule, Hello}
+use Rattle.ctrl_msg.specs.declared.message.Body.TheVariants.{Advertise, CacheRule}
 use Rattle.ctrl_msg.specs.declared.message.Message.{Message}
 use Rattle.ctrl_msg.specs.declared.message.Receiver.{Receiver}
 use Rattle.ctrl_msg.specs.declared.message.Receiver.TheVariants as receiver
@@ -12,15 +11,13 @@ use Rattle.journal.specs.declared.item.Item.{Item}
 use Rattle.journal.specs.declared.item.Item.TheVariants as item
 use Rattle.update_machine.specs.Causes.{HaveCauses}
 use Rattle.update_machine.specs.Concerns.{NoneConcern, concerns_links}
-use Rattle.update_machine.specs.Deliveries.{after_hello, controller_items}
-use Rattle.update_machine.specs.Messages.{next_message, sends, sent_from}
-use Rattle.update_machine.specs.Pieces.{confirm_items, expire_items, forget_items, hop_items, lose_items, packet_items, update_items}
+use Rattle.update_machine.specs.Messages.{sends}
+use Rattle.update_machine.specs.Pieces.{expire_items, forget_items, hop_items, lose_items, packet_items}
 use Rattle.update_machine.specs.Quiet.{is_advert}
 use Rattle.update_machine.specs.Setting.{Setting}
-use Rattle.update_machine.specs.Settling.{current_items, install_for, installs_to, installs_to_all, open_items, retired_items, settling, submitted_items}
-use Rattle.update_machine.proofs.CallerLemmas.{have_first, have_in_turn}
+use Rattle.boot_laws.proofs.Commands.{Control, IsCommand, IsControl}
 use Rattle.boot_laws.proofs.Facts.{have_weaker}
-use Rattle.boot_laws.proofs.Sends.{each, each_map}
+use Rattle.boot_laws.proofs.Sent.{sends_any}
 use Rattle.boot_laws.proofs.Traffic.{IsRuleTo, IsWork, Work, expire_work, forget_work, hop_work, lose_work, packet_works}
 
 -- the item changes no links, and sends no advert
@@ -52,41 +49,10 @@ plain_keeps_links before items plain =
 -- ---- messages
 
 -- what is sent changes no links
-sent_silent : (messages : List Message) (journal : List Item) (n : ℕ)
-    → NoneConcern concerns_links journal (sent_from n messages)
-unfolding sent_from
-sent_silent [] journal n = tt
-sent_silent (message ∷ messages) journal n =
-    (refl, sent_silent messages (journal ++ item.Sent n message ∷ []) (n + 1))
-
 pub sends_silent : (journal : List Item) (messages : List Message)
     → NoneConcern concerns_links journal (sends journal messages)
-sends_silent journal messages = sent_silent messages journal (next_message journal)
-
-sent_plain : (messages : List Message) (journal : List Item) (n : ℕ)
-    → AllByRecursion (λ message. IsFalse (is_advert message.body)) messages
-    → ArePlain journal (sent_from n messages)
-unfolding sent_from
-sent_plain [] journal n plain = tt
-sent_plain (message ∷ messages) journal n plain =
-    (plain.0, sent_plain messages (journal ++ item.Sent n message ∷ []) (n + 1) plain.1)
-
-pub sends_plain : (journal : List Item) (messages : List Message)
-    → AllByRecursion (λ message. IsFalse (is_advert message.body)) messages
-    → ArePlain journal (sends journal messages)
-sends_plain journal messages plain = sent_plain messages journal (next_message journal) plain
-
--- the same message to each
-pub each_plain : (to : ℕ → Message) → ((x : ℕ) → IsFalse (is_advert (to x).body))
-    → (xs : List ℕ) → AllByRecursion (λ message. IsFalse (is_advert message.body)) (map to xs)
-each_plain to plain xs =
-    each_map (λ message. IsFalse (is_advert message.body)) to xs
-    (each (λ x. IsFalse (is_advert (to x).body)) plain xs)
-
-to_each_plain : (journal : List Item) (to : ℕ → Message)
-    → ((x : ℕ) → IsFalse (is_advert (to x).body)) → (xs : List ℕ)
-    → ArePlain journal (sends journal (map to xs))
-to_each_plain journal to plain xs = sends_plain journal (map to xs) (each_plain to plain xs)
+sends_silent =
+    sends_any (λ before next. IsFalse (concerns_links before next)) (λ before n message. refl)
 
 -- ---- packets, and messages and cache rules that end
 
@@ -135,64 +101,17 @@ expire_plain setting s place journal =
 
 -- ---- the controller
 
-current_plain : (setting : Setting) (journal : List Item)
-    → ArePlain journal (current_items setting journal)
-unfolding current_items
-current_plain setting journal = grind (arith, have_first, sends_plain, each_plain)
+command_plain : (body : Body) → IsCommand body → IsFalse (is_advert body)
+command_plain (Advertise advert) is = absurd is
+command_plain _ is = refl
 
-open_plain : (setting : Setting) (journal : List Item)
-    → ArePlain journal (open_items setting journal)
-unfolding open_items
-open_plain setting journal = to_each_plain journal _ (λ s. refl) _
+control_is_plain : (before : List Item) (next : Item) → IsControl before next → IsPlain before next
+control_is_plain before (item.Sent number message) is = command_plain message.body is
+control_is_plain before (item.Down s) is = is
+control_is_plain before (item.Booted s boot) is = is
+control_is_plain before (item.Opened s version) is = is
+control_is_plain before (item.LinkIs one two up) is = is
+control_is_plain before _ is = tt
 
-retired_plain : (setting : Setting) (journal : List Item)
-    → ArePlain journal (retired_items setting journal)
-unfolding retired_items
-retired_plain setting journal = grind (arith, have_first, sends_plain, each_plain)
-
-pub settling_plain : (setting : Setting) (journal : List Item)
-    → ArePlain journal (settling setting journal)
-unfolding settling
-settling_plain setting journal =
-    have_in_turn IsPlain
-    (current_items setting ∷ open_items setting ∷ retired_items setting ∷ [])
-    (current_plain setting, (open_plain setting, (retired_plain setting, tt))) journal
-
-installs_plain : (setting : Setting) (s : ℕ) (journal : List Item)
-    → ArePlain journal (installs_to setting s journal)
-unfolding installs_to
-installs_plain setting s journal =
-    to_each_plain journal (λ version. install_for setting journal version s) (λ version. refl) _
-
-all_installs_plain : (setting : Setting) (journal : List Item)
-    → ArePlain journal (installs_to_all setting journal)
-unfolding installs_to_all
-all_installs_plain setting journal = to_each_plain journal _ (λ s. refl) _
-
-submitted_plain : (setting : Setting) (journal : List Item)
-    → ArePlain journal (submitted_items setting journal)
-submitted_plain setting journal =
-    have_in_turn IsPlain (installs_to_all setting ∷ settling setting ∷ [])
-    (all_installs_plain setting, (settling_plain setting, tt)) journal
-
-pub update_plain : (setting : Setting) (file : ℕ) (journal : List Item)
-    → ArePlain journal (update_items setting file journal)
-unfolding update_items
-update_plain setting file journal = grind (arith, have_first, submitted_plain)
-
-pub confirm_plain : (setting : Setting) (s : ℕ) (journal : List Item)
-    → ArePlain journal (confirm_items setting s journal)
-unfolding confirm_items
-confirm_plain setting s journal = grind (arith, have_first, settling_plain)
-
-hello_plain : (setting : Setting) (before : List Item) (body : Body) (journal : List Item)
-    → ArePlain journal (after_hello setting before body journal)
-hello_plain setting before (Hello s boot) journal = grind (arith, installs_plain)
-hello_plain setting before _ journal = tt
-
-pub controller_plain : (setting : Setting) (before : List Item) (body : Body)
-    (journal : List Item) → ArePlain journal (controller_items setting before body journal)
-unfolding controller_items
-controller_plain setting before body journal =
-    have_in_turn IsPlain (settling setting ∷ after_hello setting before body ∷ [])
-    (settling_plain setting, (hello_plain setting before body, tt)) journal
+pub control_plain : (journal items : List Item) → Control journal items → ArePlain journal items
+control_plain = have_weaker IsControl IsPlain control_is_plain

@@ -1,19 +1,16 @@
 -- Each piece has its causes: of each advert that is sent, and of each change of links.
-use Rattle.std.proofs.Common.{ℕ, ◌≡◌, ◌==◌, Bool, true, false, not, ◌&&◌, Option, Some, None, List, [], ◌∷◌, ◌++◌, map, refl, ap, sym, ◌∙◌, arith, append_assoc}
+use Rattle.std.proofs.Common.{ℕ, ◌≡◌, ◌==◌, Bool, true, false, not, ◌&&◌, Some, List, [], ◌∷◌, ◌++◌, map, refl, ap, sym, ◌∙◌, arith, append_assoc}
 use Rattle.std.specs.Prelude.{IsFalse}
 use Rattle.std.specs.Option.{option_map_or}
 use Rattle.ctrl_msg.specs.declared.message.Body.{Body}
 use Rattle.ctrl_msg.specs.declared.message.Body.TheVariants.{Install, OpenAt, Stamp, Advertise, Installed, Stamped}
-use Rattle.ctrl_msg.specs.declared.message.Message.{Message}
-use Rattle.ctrl_msg.specs.declared.message.Receiver.{Receiver}
-use Rattle.ctrl_msg.specs.declared.message.Receiver.TheVariants as receiver
 use Rattle.journal.specs.declared.item.Item.{Item}
 use Rattle.journal.specs.declared.item.Item.TheVariants as item
 use Rattle.steps.specs.declared.step.Step.{Step}
 use Rattle.steps.specs.declared.step.Step.TheVariants.{Packet, Hop, Lose, Deliver, Forget, Expire, Update, LinkDown, LinkUp, Crash, Restart, Confirm, Resend}
 use Rattle.update_machine.specs.Boots.{heard, said_to}
 use Rattle.update_machine.specs.Concerns.{concerns_links}
-use Rattle.update_machine.specs.Deliveries.{controller_items, delivery_items, is_news_to, link_changes, passed_on, received_items, switch_items, to_controller}
+use Rattle.update_machine.specs.Deliveries.{is_news_to, link_changes, passed_on, switch_items, to_controller}
 use Rattle.update_machine.specs.Messages.{sends, sent_from}
 use Rattle.update_machine.specs.Moves.{put}
 use Rattle.update_machine.specs.Packets.{next_packet}
@@ -22,13 +19,16 @@ use Rattle.update_machine.specs.Quiet.{is_advert}
 use Rattle.update_machine.specs.Setting.{Setting}
 use Rattle.update_machine.specs.Steps.{changes_steps, steps_in}
 use Rattle.update_machine.specs.Versions.{stamp_of}
-use Rattle.update_machine.specs.Links.{serves, message_of}
+use Rattle.update_machine.specs.Links.{serves}
 use Rattle.update_machine.proofs.CallerLemmas.{PiecesHave, folded_append, have_append, have_first, have_put}
+use Rattle.boot_laws.proofs.Commands.{confirm_control, controller_control, update_control}
+use Rattle.boot_laws.proofs.Crashes.{losts_have}
+use Rattle.boot_laws.proofs.Delivered.{deliver_has, delivery_has}
 use Rattle.boot_laws.proofs.Facts.{have_weaker}
 use Rattle.boot_laws.proofs.SwitchBlocks.{said_row}
 use Rattle.boot_laws.proofs.Grown.{heard_more}
 use Rattle.advert_laws.proofs.LinkCauses.{ChangedNoLinks, HasLinkCause, HaveLinkCauses, IsToldIn}
-use Rattle.advert_laws.proofs.Plain.{ArePlain, IsPlain, confirm_plain, controller_plain, expire_plain, forget_plain, hop_plain, lose_plain, packet_plain, update_plain}
+use Rattle.advert_laws.proofs.Plain.{ArePlain, IsPlain, control_plain, expire_plain, forget_plain, hop_plain, lose_plain, packet_plain}
 use Rattle.advert_laws.proofs.Resent.{resend_caused}
 use Rattle.advert_laws.proofs.Telling.{changes_told, last_heard, passed_told, sends_told}
 
@@ -137,63 +137,19 @@ switch_caused setting before now s bodies (Advertise advert) first heard =
     by_news false is = tt
 switch_caused setting before now s bodies _ first heard = tt
 
-received_caused : (setting : Setting) (before : List Item) (row number : ℕ) (step : Step)
-    (message : Message)
-    → let now = (before ++ item.Row row step ∷ []) ++ item.Delivered number ∷ [] in
-    HaveLinkCauses setting now (received_items setting before number message now)
-received_caused setting before row number step message = by_receiver message.to
-  where
-    here : List Item
-    here = before ++ item.Row row step ∷ []
-
-    now : List Item
-    now = here ++ item.Delivered number ∷ []
-
-    by_said : (s : ℕ) (said : Option Body) → said_to before s number ≡ said
-        → HaveLinkCauses setting now (elim said [
-          | None ↦ []
-          | Some body ↦ switch_items setting before s body now
-        ])
-    by_said s None is = tt
-    by_said s (Some body) is =
-        switch_caused setting before now s (heard here s) body
-        (delivered_first here number (row_first before row step))
-        (heard_now before row s number step body is)
-
-    by_receiver : (to : Receiver) → HaveLinkCauses setting now (elim to [
-      | receiver.Controller ↦ controller_items setting before message.body now
-      | receiver.Switch s ↦ elim (said_to before s number) [
-        | None ↦ []
-        | Some body ↦ switch_items setting before s body now
-      ]
-    ])
-    by_receiver receiver.Controller =
-        are_caused setting now _ (controller_plain setting before message.body now)
-    by_receiver (receiver.Switch s) = by_said s (said_to before s number) refl
-
-delivery_caused : (setting : Setting) (before : List Item) (row number : ℕ) (step : Step)
-    → let now = (before ++ item.Row row step ∷ []) ++ item.Delivered number ∷ [] in
-    HaveLinkCauses setting now (delivery_items setting before number now)
-unfolding delivery_items
-delivery_caused setting before row number step = by_message (message_of before number)
-  where
-    now : List Item
-    now = (before ++ item.Row row step ∷ []) ++ item.Delivered number ∷ []
-
-    by_message : (sent : Option Message) → HaveLinkCauses setting now (elim sent [
-      | None ↦ []
-      | Some message ↦ received_items setting before number message now
-    ])
-    by_message None = tt
-    by_message (Some message) = received_caused setting before row number step message
-
 deliver_caused : (setting : Setting) (before : List Item) (row number : ℕ) (step : Step)
     → let here = before ++ item.Row row step ∷ [] in
     HaveLinkCauses setting here (deliver_items setting before number here)
-unfolding deliver_items
 deliver_caused setting before row number step =
-    let delivery = delivery_caused setting before row number step in
-    grind arith
+    let here : List Item = before ++ item.Row row step ∷ [] in
+    let now : List Item = here ++ item.Delivered number ∷ [] in
+    deliver_has (HasLinkCause setting) setting before number here tt tt
+    (delivery_has (HaveLinkCauses setting now) setting before number now tt
+    (λ body sent. are_caused setting now _
+    (control_plain now _ (controller_control setting before body now)))
+    (λ s body said. switch_caused setting before now s (heard here s) body
+    (delivered_first here number (row_first before row step))
+    (heard_now before row s number step body said)))
 
 -- ---- links, switches
 
@@ -203,19 +159,13 @@ link_caused : (setting : Setting) (before : List Item) (one two : ℕ) (up : Boo
 unfolding link_items
 link_caused setting before one two up journal first = grind (arith, have_first, changes_told)
 
-lost_caused : (setting : Setting) (packets : List ℕ) (journal : List Item)
-    → HaveLinkCauses setting journal (map item.Lost packets)
-lost_caused setting [] journal = tt
-lost_caused setting (i ∷ packets) journal =
-    (tt, lost_caused setting packets (journal ++ item.Lost i ∷ []))
-
 down_caused : (setting : Setting) (before : List Item) (s : ℕ) (packets : List ℕ)
     (journal : List Item) → ChangedNoLinks journal → HaveLinkCauses setting journal
     (put (item.Down s ∷ map item.Lost packets) (link_changes setting before) journal)
 down_caused setting before s packets journal first =
     let down : List Item = item.Down s ∷ map item.Lost packets in
     have_put (HasLinkCause setting) down (link_changes setting before) journal
-    (first, lost_caused setting packets (journal ++ item.Down s ∷ []))
+    (first, losts_have (HasLinkCause setting) (λ now i. tt) packets (journal ++ item.Down s ∷ []))
     (changes_told setting before (journal ++ down))
 
 crash_caused : (setting : Setting) (before : List Item) (s : ℕ) (journal : List Item)
@@ -246,7 +196,7 @@ step_caused setting before row (Forget message) =
 step_caused setting before row (Expire s place) =
     are_caused setting _ _ (expire_plain setting s place _)
 step_caused setting before row (Update file) =
-    are_caused setting _ _ (update_plain setting file _)
+    are_caused setting _ _ (control_plain _ _ (update_control setting file _))
 step_caused setting before row (LinkDown one two) =
     link_caused setting before one two false _ (row_first before row (LinkDown one two))
 step_caused setting before row (LinkUp one two) =
@@ -256,7 +206,7 @@ step_caused setting before row (Crash s) =
 step_caused setting before row (Restart s) =
     restart_caused setting s _ (row_first before row (Restart s))
 step_caused setting before row (Confirm s) =
-    are_caused setting _ _ (confirm_plain setting s _)
+    are_caused setting _ _ (control_plain _ _ (confirm_control setting s _))
 step_caused setting before row (Resend s) = resend_caused setting s _
 
 pub pieces_caused : (setting : Setting) → PiecesHave (HasLinkCause setting) setting

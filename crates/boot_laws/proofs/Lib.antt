@@ -6,9 +6,15 @@ pub mod Serving
 pub mod Sends
 pub mod Traffic
 pub mod ControllerBlocks
+pub mod Delivered
 pub mod SwitchBlocks
+pub mod Resent
 pub mod Resends
 pub mod Pieces
 pub mod Reached
 pub mod Behind
+pub mod Sent
+pub mod Commands
+pub mod Crashes
+pub mod StepCases
 mod CauseRows

@@ -1,5 +1,5 @@
 -- Each piece has its causes, whatever its step, and so has the journal of any steps.
-use Rattle.std.proofs.Common.{sym, subst, ℕ, ◌≡◌, ◌+◌, ◌==◌, Bool, true, false, Option, Some, None, List, [], ◌∷◌, ◌++◌, map, refl, arith}
+use Rattle.std.proofs.Common.{sym, subst, ℕ, ◌≡◌, ◌+◌, ◌==◌, true, false, Option, Some, None, List, [], ◌∷◌, ◌++◌, refl, arith, ◌∙◌}
 use Rattle.std.specs.Prelude.{Result, Ok, Err}
 use Rattle.std.proofs.lemmas.Bool.{eq-eqb}
 use Rattle.std.proofs.lemmas.Bool.Decides.{nat_tests}
@@ -13,14 +13,12 @@ use Rattle.steps.specs.declared.step.Step.TheVariants.{Packet, Hop, Lose, Delive
 use Rattle.update_machine.specs.Answers.{StepOfRow, after_steps}
 use Rattle.update_machine.specs.Boots.{is_up}
 use Rattle.update_machine.specs.Causes.{HaveCauses}
-use Rattle.update_machine.specs.Deliveries.{link_changes}
 use Rattle.update_machine.specs.Messages.{sends}
-use Rattle.update_machine.specs.Moves.{put}
 use Rattle.update_machine.specs.Packets.{next_packet}
-use Rattle.update_machine.specs.Pieces.{confirm_items, crash_items, deliver_items, hello_of, link_items, marks_code, piece, plan_code, restart_items, step_items, update_code, update_items}
+use Rattle.update_machine.specs.Pieces.{confirm_items, deliver_items, hello_of, marks_code, piece, plan_code, restart_items, step_items, update_code, update_items}
 use Rattle.update_machine.specs.Setting.{Setting, plan_of_file, policy_of_file}
 use Rattle.update_machine.specs.Versions.{version_count}
-use Rattle.update_machine.proofs.CallerLemmas.{PiecesHave, begun_has, have_first, have_put}
+use Rattle.update_machine.proofs.CallerLemmas.{PiecesHave, begun_has, have_first}
 use Rattle.boot_laws.specs.Always.{HoldsAlways}
 use Rattle.boot_laws.specs.ItemCauses.{HasItemCause, SubmitsRightly}
 use Rattle.boot_laws.proofs.ControllerBlocks.{settling_have, submitted_have}
@@ -28,8 +26,9 @@ use Rattle.boot_laws.proofs.Facts.{Has, steps_have}
 use Rattle.boot_laws.proofs.Grown.{up_more}
 use Rattle.boot_laws.proofs.Sends.{sends_have}
 use Rattle.boot_laws.proofs.SwitchBlocks.{delivery_have}
-use Rattle.boot_laws.proofs.Traffic.{expire_traffic, forget_traffic, hop_traffic, links_have, lose_traffic, lost_traffic, packet_has, traffic_has, traffic_right}
+use Rattle.boot_laws.proofs.Traffic.{expire_traffic, forget_traffic, hop_traffic, lose_traffic, packet_has, traffic_has, traffic_right}
 use Rattle.boot_laws.proofs.Resends.{resend_have}
+use Rattle.boot_laws.proofs.Crashes.{crash_has, link_traffic}
 
 deliver_have : (setting : Setting) (before : List Item) (row number : ℕ) (step : Step)
     → let here = before ++ item.Row row step ∷ [] in
@@ -72,29 +71,6 @@ update_have : (setting : Setting) (file : ℕ) (journal : List Item)
 unfolding update_items
 update_have setting file journal = grind (arith, submitted_have, may_submit)
 
-link_have : (setting : Setting) (before : List Item) (one two : ℕ) (up : Bool)
-    (journal : List Item) → Has setting journal (link_items setting before one two up journal)
-unfolding link_items
-link_have setting before one two up journal = grind (arith, links_have)
-
-down_has : (setting : Setting) (before : List Item) (s : ℕ) (packets : List ℕ)
-    (journal : List Item) → is_up journal s ≡ true → Has setting journal
-    (put (item.Down s ∷ map item.Lost packets) (link_changes setting before) journal)
-down_has setting before s packets journal up =
-    let down : List Item = item.Down s ∷ map item.Lost packets in
-    have_put (HasItemCause setting) down (link_changes setting before) journal (
-      up,
-      traffic_has setting (journal ++ item.Down s ∷ []) (map item.Lost packets)
-          (lost_traffic setting packets (journal ++ item.Down s ∷ [])),
-    )
-    (links_have setting before (journal ++ down))
-
-crash_have : (setting : Setting) (before : List Item) (s : ℕ) (journal : List Item)
-    → is_up journal s ≡ is_up before s
-    → Has setting journal (crash_items setting before s journal)
-unfolding crash_items
-crash_have setting before s journal same = grind (arith, down_has)
-
 -- a switch that began a boot is up, and says hello of it
 says_hello : (setting : Setting) (s boot : ℕ) (journal : List Item)
     → let booted = journal ++ item.Booted s boot ∷ [] in
@@ -131,10 +107,13 @@ step_have setting before row (Forget message) =
 step_have setting before row (Expire s at) =
     traffic_has setting _ _ (expire_traffic setting s at _)
 step_have setting before row (Update file) = update_have setting file _
-step_have setting before row (LinkDown one two) = link_have setting before one two false _
-step_have setting before row (LinkUp one two) = link_have setting before one two true _
-step_have setting before row (Crash s) = crash_have setting before s _
-    (up_more before (item.Row row (Crash s)) s)
+step_have setting before row (LinkDown one two) =
+    traffic_has setting _ _ (link_traffic setting before one two false _)
+step_have setting before row (LinkUp one two) =
+    traffic_has setting _ _ (link_traffic setting before one two true _)
+step_have setting before row (Crash s) =
+    crash_has setting (HasItemCause setting) (traffic_right setting) before s _
+    (λ up. up_more before (item.Row row (Crash s)) s ∙ up)
 step_have setting before row (Restart s) = restart_have setting s _
 step_have setting before row (Confirm s) = confirm_have setting s _
 step_have setting before row (Resend s) = resend_have setting s _

@@ -1,5 +1,5 @@
 -- What a delivery causes has its causes.
-use Rattle.std.proofs.Common.{ℕ, ◌≡◌, ◌+◌, ◌≤◌, ◌==◌, Bool, true, false, if◌then◌else◌, Option, Some, None, List, [], ◌∷◌, ◌++◌, ◌||◌, refl, ap, sym, subst, ◌∙◌, arith}
+use Rattle.std.proofs.Common.{ℕ, ◌≡◌, ◌≤◌, ◌==◌, Bool, true, false, if◌then◌else◌, Option, Some, None, List, [], ◌∷◌, ◌++◌, ◌||◌, refl, ap, sym, subst, ◌∙◌, arith}
 use Rattle.std.specs.Prelude.{⊤, IsTrue, IsFalse, nat_lt, option_and_then}
 use Rattle.std.specs.List.{list_any}
 use Rattle.std.specs.Option.{option_map_or}
@@ -15,22 +15,21 @@ use Rattle.journal.specs.declared.item.Item.{Item}
 use Rattle.journal.specs.declared.item.Item.TheVariants as item
 use Rattle.steps.specs.declared.step.Step.{Step}
 use Rattle.update_machine.specs.Boots.{boot_of, heard, is_for_boot, is_up, said_to}
-use Rattle.update_machine.specs.Causes.{HaveCauses}
 use Rattle.update_machine.specs.Deliveries.{after_hello, controller_items, delivery_items, is_new_boot, received_items, switch_items, to_controller}
 use Rattle.update_machine.specs.Marks.{is_over, known_boot, hello_boot, raises_known, said_to_controller}
-use Rattle.update_machine.specs.Messages.{next_message, sends, sent_from}
 use Rattle.update_machine.specs.Moves.{in_turn}
 use Rattle.update_machine.specs.Setting.{Setting}
-use Rattle.update_machine.specs.Settling.{current_items, installs_to, open_items, retired_items, settling, to_switch}
+use Rattle.update_machine.specs.Settling.{installs_to, settling, to_switch}
 use Rattle.update_machine.specs.Versions.{installs, stamp_in, stamp_of}
 use Rattle.update_machine.specs.Links.{message_of}
-use Rattle.update_machine.proofs.CallerLemmas.{have_first, have_in_turn, have_put}
+use Rattle.update_machine.proofs.CallerLemmas.{have_put}
 use Rattle.boot_laws.specs.ItemCauses.{HasItemCause, OpensRightly}
 use Rattle.boot_laws.proofs.ControllerBlocks.{installs_have, settling_have}
 use Rattle.boot_laws.proofs.Facts.{AreKept, Has, fact_on}
 use Rattle.boot_laws.proofs.Grown.{boot_more, heard_more, known_more, message_more, over_more, raised, stamp_told, up_more}
 use Rattle.boot_laws.proofs.Traffic.{links_have, passed_traffic, traffic_has}
 use Rattle.boot_laws.proofs.Sends.{sends_have}
+use Rattle.boot_laws.proofs.Commands.{IsOfSettling, settling_settles}
 
 -- ---- what is said to a switch
 
@@ -141,48 +140,7 @@ switch_have setting before now s number _ is = tt
 
 -- ---- what the controller does
 
--- an item that settling writes
-abbrev pub IsOfSettling : List Item → Item → Type 0
-IsOfSettling before (item.Current version) = ⊤
-IsOfSettling before (item.Retired version) = ⊤
-IsOfSettling before (item.Sent number message) = ⊤
-IsOfSettling before _ = ⊥
-
-pub sent_settle : (messages : List Message) (journal : List Item) (n : ℕ)
-    → HaveCauses IsOfSettling journal (sent_from n messages)
-unfolding sent_from
-sent_settle [] journal n = tt
-sent_settle (message ∷ messages) journal n =
-    (tt, sent_settle messages (journal ++ item.Sent n message ∷ []) (n + 1))
-
-pub sends_settle : (journal : List Item) (messages : List Message)
-    → HaveCauses IsOfSettling journal (sends journal messages)
-sends_settle journal messages = sent_settle messages journal (next_message journal)
-
-pub current_settles : (setting : Setting) (journal : List Item)
-    → HaveCauses IsOfSettling journal (current_items setting journal)
-unfolding current_items
-current_settles setting journal = grind (arith, have_first, sends_settle)
-
-pub open_settles : (setting : Setting) (journal : List Item)
-    → HaveCauses IsOfSettling journal (open_items setting journal)
-unfolding open_items
-open_settles setting journal = sends_settle journal _
-
-pub retired_settles : (setting : Setting) (journal : List Item)
-    → HaveCauses IsOfSettling journal (retired_items setting journal)
-unfolding retired_items
-retired_settles setting journal = grind (arith, have_first, sends_settle)
-
-pub settling_settles : (setting : Setting) (journal : List Item)
-    → HaveCauses IsOfSettling journal (settling setting journal)
-unfolding settling
-settling_settles setting journal =
-    have_in_turn IsOfSettling
-    (current_items setting ∷ open_items setting ∷ retired_items setting ∷ [])
-    (current_settles setting, (open_settles setting, (retired_settles setting, tt))) journal
-
--- so a switch that isn't over isn't so behind it
+-- a switch that isn't over isn't so behind settling
 over_kept : (s : ℕ) → AreKept IsOfSettling (λ journal. IsFalse (is_over journal s))
 over_kept s before (item.Current version) of none =
     over_more before (item.Current version) s ∙ none

@@ -1,7 +1,7 @@
 -- Items of packets and of links, and messages between switches: they boot and open no switch,
 -- deliver nothing and move no mark, whatever journal they stand behind.
-use Rattle.std.proofs.Common.{ℕ, ◌+◌, Bool, true, false, Option, Some, None, List, [], ◌∷◌, ◌++◌, map, arith, ◌≡◌, ◌<◌, length, refl}
-use Rattle.std.specs.Prelude.{⊤, filter, IfSome, IsTrue, is_some, option_and_then, option_map, slice_get, unwrap_or}
+use Rattle.std.proofs.Common.{ℕ, Bool, true, false, Option, Some, None, List, [], ◌∷◌, ◌++◌, map, arith, ◌≡◌, ◌<◌, length, refl}
+use Rattle.std.specs.Prelude.{⊤, filter, IfSome, IsFalse, IsTrue, is_some, option_and_then, option_map, slice_get, unwrap_or}
 use Rattle.std.specs.List.{AllByRecursion, flat_map}
 use Rattle.ctrl_msg.specs.declared.message.Body.{Body}
 use Rattle.ctrl_msg.specs.declared.message.Body.TheVariants.{CacheRule, Advertise}
@@ -19,17 +19,18 @@ use Rattle.policy_rules.specs.declared.packet.How.TheVariants as how
 use Rattle.five_tuple.specs.declared.header.Header.{Header}
 use Rattle.journal.specs.declared.item.Item.{Item}
 use Rattle.journal.specs.declared.item.Item.TheVariants as item
-use Rattle.update_machine.specs.Adverts.{held_adverts, own_advert}
+use Rattle.update_machine.specs.Adverts.{held_adverts, own_advert, route_from}
 use Rattle.update_machine.specs.Links.{serves}
 use Rattle.update_machine.specs.Caches.{lookup_at}
 use Rattle.update_machine.specs.Causes.{HaveCauses}
 use Rattle.update_machine.specs.Deliveries.{advert_to, has_changed, link_changes, passed_on, messages_of, messages_over, switches_in}
 use Rattle.update_machine.specs.LinkMasks.{near}
-use Rattle.update_machine.specs.Messages.{next_message, sends, sent_from}
-use Rattle.update_machine.specs.Moves.{put, AuthorityRule, arrive_by, arrive_items, authority_items, cache_items, end_items, found_items, go_on, header_at, leg_items, lookup_items, move_items, reroute_by, reroute_items, authority_rule, cache_rule, first_place, in_turn}
+use Rattle.update_machine.specs.Messages.{sends, sent_from}
+use Rattle.update_machine.specs.Moves.{put, AuthorityRule, arrive_by, arrive_items, authority_items, cache_items, end_items, found_items, go_on, header_at, leg_items, lookup_items, move_items, reroute_by, reroute_items, route_for, stuck_on, takes_route, authority_rule, cache_rule, first_place, in_turn}
 use Rattle.update_machine.specs.Travels.{leg_of, ingress_of, is_at}
 use Rattle.update_machine.specs.Pieces.{expire_items, forget_items, hop_items, lose_items, packet_items}
 use Rattle.update_machine.specs.Setting.{Setting, switches_of, policy_of_file}
+use Rattle.update_machine.specs.Ways.{found_down, targets_of}
 use Rattle.update_machine.proofs.CallerLemmas.{have_first, have_in_turn, have_put, version_kept}
 use Rattle.std.specs.Option.{option_map_or}
 use Rattle.partition.specs.Plan.{Placed}
@@ -40,6 +41,7 @@ use Rattle.update_machine.specs.Versions.{holds_version, is_version, stamp_of, p
 use Rattle.boot_laws.specs.ItemCauses.{HasItemCause, IsRightMessage}
 use Rattle.boot_laws.proofs.Facts.{Has, have_weaker}
 use Rattle.boot_laws.proofs.Sends.{each_flat_map, each_map, each_append, each_kept, each_range}
+use Rattle.boot_laws.proofs.Sent.{sends_each}
 
 -- the switch where some packet came in
 pub record IsIngress (before : List Item) (s : ℕ) : Type 0 where
@@ -52,10 +54,19 @@ IsRuleTo before (receiver.Switch s) (CacheRule version word rule action) =
     IsTrue (is_version before version) × IsIngress before s
 IsRuleTo before to body = ⊥
 
+-- the switch knows no route without the links that the packet found down
+pub record KnowsNoRoute (setting : Setting) (before : List Item) (i s : ℕ) (leg : Leg)
+    (down : List ℕ) : Type 0 where
+  pub found : down ≡ found_down before i
+  pub none : route_from setting before s (targets_of setting before leg) down ≡ None
+
 -- what becomes of packets once they came in, and of messages and cache rules that end: nothing is
--- sent but cache rules, and no link changes
+-- sent but cache rules, no link changes, a packet is stuck only where its switch knows no route,
+-- and finds down only links that can't be used
 abbrev pub IsWork : Setting → List Item → Item → Type 0
 IsWork setting before (item.Sent number message) = IsRuleTo before message.to message.body
+IsWork setting before (item.Stuck i s cause leg down) = KnowsNoRoute setting before i s leg down
+IsWork setting before (item.FoundDown i one two) = IsFalse (has (near setting before one) two)
 IsWork setting before (item.Entered packet s header) = ⊥
 IsWork setting before (item.Delivered number) = ⊥
 IsWork setting before (item.LinkIs one two up) = ⊥
@@ -153,7 +164,19 @@ traffic_of setting journal items work =
 leg_work : (setting : Setting) (journal : List Item) (i s : ℕ) (leg : Leg)
     → Work setting journal (leg_items setting journal i s leg)
 unfolding leg_items
-leg_work setting journal i s leg = grind arith
+leg_work setting journal i s leg = by_route (route_for setting journal i s leg) refl
+  where
+    takes : (leg : Leg) (route : List ℕ) → Work setting journal (takes_route i leg route ∷ [])
+    takes (Seek version partition) route = (tt, tt)
+    takes (Exit port) route = (tt, tt)
+
+    by_route : (o : Option (List ℕ)) → route_for setting journal i s leg ≡ o
+        → Work setting journal (elim o [
+          | None ↦ stuck_on setting journal i s leg ∷ []
+          | Some route ↦ takes_route i leg route ∷ []
+        ])
+    by_route None e = (record { found = refl; none = e }, tt)
+    by_route (Some route) e = takes leg route
 
 end_work : (setting : Setting) (i s : ℕ) (act : Action) (journal : List Item)
     → Work setting journal (end_items setting i s act journal)
@@ -286,7 +309,19 @@ go_on_work setting i s journal = grind (arith, arrive_work)
 
 reroute_by_work : (setting : Setting) (i s : ℕ) (leg : Option Leg) (journal : List Item)
     → Work setting journal (reroute_by setting i s leg journal)
-reroute_by_work setting i s leg journal = grind (arith, go_on_work)
+reroute_by_work setting i s None journal = tt
+reroute_by_work setting i s (Some leg) journal =
+    by_route (route_for setting journal i s leg) refl
+  where
+    by_route : (o : Option (List ℕ)) → route_for setting journal i s leg ≡ o
+        → Work setting journal (elim o [
+          | None ↦ stuck_on setting journal i s leg ∷ []
+          | Some route ↦ put (item.Rerouted i route ∷ []) (go_on setting i s) journal
+        ])
+    by_route None e = (record { found = refl; none = e }, tt)
+    by_route (Some route) e =
+        have_first (IsWork setting) (item.Rerouted i route) (go_on setting i s) journal tt
+        (go_on_work setting i s (journal ++ item.Rerouted i route ∷ []))
 
 reroute_work : (setting : Setting) (i s : ℕ) (journal : List Item)
     → Work setting journal (reroute_items setting i s journal)
@@ -389,15 +424,25 @@ advert_between : (setting : Setting) (before : List Item) (to : Receiver) (body 
 advert_between setting before (receiver.Switch s) (Advertise advert) is = is
 advert_between setting before to body is = absurd is
 
-sent_traffic : (setting : Setting) (messages : List Message) (journal : List Item) (n : ℕ)
-    → AllByRecursion (IsAdvert setting) messages
-    → Traffic setting journal (sent_from n messages)
-unfolding sent_from
-sent_traffic setting [] journal n all = tt
-sent_traffic setting (message ∷ messages) journal n all = (
-  advert_between setting journal message.to message.body all.0,
-  sent_traffic setting messages (journal ++ item.Sent n message ∷ []) (n + 1) all.1,
-)
+-- what changes of links write, and switches that crash
+abbrev pub IsChange : Setting → List Item → Item → Type 0
+IsChange setting before (item.Sent number message) = IsAdvert setting message
+IsChange setting before (item.LinkIs one two up) = ⊤
+IsChange setting before (item.Lost packet) = ⊤
+IsChange setting before item.Nothing = ⊤
+IsChange setting before _ = ⊥
+
+abbrev pub Change : Setting → List Item → List Item → Type 0
+Change setting journal items = HaveCauses (IsChange setting) journal items
+
+pub change_traffic : (setting : Setting) (before : List Item) (next : Item)
+    → IsChange setting before next → IsTraffic setting before next
+change_traffic setting before (item.Sent number message) is =
+    advert_between setting before message.to message.body is
+change_traffic setting before (item.LinkIs one two up) is = tt
+change_traffic setting before (item.Lost packet) is = tt
+change_traffic setting before item.Nothing is = tt
+change_traffic setting before _ is = absurd is
 
 pub adverts_to : (setting : Setting) (s : ℕ) → s < length setting.net.switches
     → (adverts : List Advert) → AllByRecursion (IsAdvert setting) (map (advert_to s) adverts)
@@ -440,16 +485,22 @@ told_adverts setting before journal s neighbour there =
     by_link true = (there, tt)
     by_link false = adverts_to setting neighbour there (held_adverts setting journal s)
 
-pub links_traffic : (setting : Setting) (before journal : List Item)
-    → Traffic setting journal (link_changes setting before journal)
+pub links_change : (setting : Setting) (before journal : List Item)
+    → Change setting journal (link_changes setting before journal)
 unfolding link_changes
-links_traffic setting before journal =
-    sent_traffic setting _ journal (next_message journal)
+links_change setting before journal =
+    sends_each (IsChange setting) (IsAdvert setting) (λ before n message is. is) journal _
     (each_flat_map (IsAdvert setting) (messages_of setting before journal)
     (λ s. each_told setting (messages_over setting before journal s)
     (told_adverts setting before journal s) (switches_in setting (near setting journal s))
     (masked_there setting (near setting journal s)))
     (filter (has_changed setting before journal) (switches_of setting)))
+
+pub links_traffic : (setting : Setting) (before journal : List Item)
+    → Traffic setting journal (link_changes setting before journal)
+links_traffic setting before journal =
+    have_weaker (IsChange setting) (IsTraffic setting) (change_traffic setting) journal _
+    (links_change setting before journal)
 
 pub links_have : (setting : Setting) (before journal : List Item)
     → Has setting journal (link_changes setting before journal)
@@ -460,6 +511,8 @@ links_have setting before journal =
 pub passed_traffic : (setting : Setting) (journal : List Item) (s : ℕ) (advert : Advert)
     → Traffic setting journal (sends journal (passed_on setting journal s advert))
 passed_traffic setting journal s advert =
-    sent_traffic setting (passed_on setting journal s advert) journal (next_message journal)
+    sends_each (IsTraffic setting) (IsAdvert setting)
+    (λ before n message is. advert_between setting before message.to message.body is) journal
+    (passed_on setting journal s advert)
     (each_map (IsAdvert setting) (λ neighbour. advert_to neighbour advert)
     (switches_in setting (near setting journal s)) (masked_there setting (near setting journal s)))

@@ -29,8 +29,21 @@ opened_same before next s known none =
     or_none None = refl
     or_none (Some x) = refl
 
--- a delivery that raises the known boot leaves no member: no message opened it in that boot
-raised_none : (before : List Item) (number s : ℕ) → StampsAreCurrent before
+-- a delivery that raises the known boot makes it a greater one
+pub raised_above : (before : List Item) (number s : ℕ) → raises_known before s number ≡ true
+    → known_boot before s < known_boot (before ++ item.Delivered number ∷ []) s
+raised_above before number s raises =
+    rw (known_more before (item.Delivered number) s)
+    (rises (option_and_then (hello_boot s) (said_to_controller before number)) raises)
+  where
+    rises : (hello : Option ℕ)
+        → option_map_or (λ boot. nat_lt (known_boot before s) boot) hello false ≡ true
+        → known_boot before s < raised (known_boot before s) hello
+    rises None e = absurd cc
+    rises (Some boot) e = grind (arith, nat_tests)
+
+-- and leaves no member: no message opened it in that boot
+pub raised_none : (before : List Item) (number s : ℕ) → StampsAreCurrent before
     → raises_known before s number ≡ true
     → opened_at (before ++ item.Delivered number ∷ []) s ≡ None
 raised_none before number s are raises =
@@ -41,15 +54,8 @@ raised_none before number s are raises =
     after : List Item
     after = before ++ item.Delivered number ∷ []
 
-    rises : (hello : Option ℕ)
-        → option_map_or (λ boot. nat_lt (known_boot before s) boot) hello false ≡ true
-        → known_boot before s < raised (known_boot before s) hello
-    rises None e = absurd cc
-    rises (Some boot) e = grind (arith, nat_tests)
-
     more : known_boot before s < known_boot after s
-    more = rw (known_more before (item.Delivered number) s)
-        (rises (option_and_then (hello_boot s) (said_to_controller before number)) raises)
+    more = raised_above before number s raises
 
     by_opened : (o : Option ℕ) → opened_in before s (known_boot after s) ≡ o
         → opened_in before s (known_boot after s) ≡ None
@@ -59,7 +65,7 @@ raised_none before number s are raises =
         absurd (omega (arith, past, more))
 
 -- one that doesn't leaves it
-unraised_same : (before : List Item) (number s : ℕ) → raises_known before s number ≡ false
+pub unraised_same : (before : List Item) (number s : ℕ) → raises_known before s number ≡ false
     → known_boot (before ++ item.Delivered number ∷ []) s ≡ known_boot before s
 unraised_same before number s none =
     known_more before (item.Delivered number) s
@@ -125,11 +131,26 @@ closed_no_member journal s closed member =
 
 -- ---- items
 
-sent_on : (setting : Setting) (Holds : List Item → ℕ → Type 0) → MemberFact setting Holds
-    → (before : List Item) (n s : ℕ) (message : Message)
-    → HasItemCause setting before (item.Sent n message) → StampsAreCurrent before
-    → Holds before s → Holds (before ++ item.Sent n message ∷ []) s
-sent_on setting Holds fact before n s message cause are is = by_opened (opened_at before s) refl
+-- an item that is no delivery, message or word of one that is over
+pub quiet_leaves : (before : List Item) (next : Item) (s : ℕ)
+    → known_boot (before ++ next ∷ []) s ≡ known_boot before s
+    → is_over (before ++ next ∷ []) s ≡ is_over before s
+    → open_sent s (known_boot before s) next ≡ [] → LeavesMember before next s
+quiet_leaves before next s known over none = record {
+  known = known;
+  over = over;
+  opened = opened_same before next s known none;
+}
+
+-- a message that is sent leaves the member as it was, or there is none, or it is opened now
+pub sent_cases : (setting : Setting) (before : List Item) (n s : ℕ) (message : Message)
+    → HasItemCause setting before (item.Sent n message) → (Goal : Type 0)
+    → (LeavesMember before (item.Sent n message) s → Goal)
+    → ((IsTrue (is_member (before ++ item.Sent n message ∷ []) s) → ⊥) → Goal)
+    → ((version : ℕ) → IsFirstOpening before s version
+    → opened_at (before ++ item.Sent n message ∷ []) s ≡ Some version → Goal) → Goal
+sent_cases setting before n s message cause Goal leaves none new =
+    by_opened (opened_at before s) refl
   where
     next : Item
     next = item.Sent n message
@@ -145,94 +166,84 @@ sent_on setting Holds fact before n s message cause are is = by_opened (opened_a
     after = opened_at_more before next s known
 
     by_new : (o : Option ℕ) → opened_at before s ≡ None
-        → first_number (open_sent s boot next) ≡ o → opened_at (before ++ next ∷ []) s ≡ o
-        → Holds (before ++ next ∷ []) s
-    by_new None closed opens now =
-        fact.none (before ++ next ∷ []) s (closed_no_member (before ++ next ∷ []) s now)
+        → first_number (open_sent s boot next) ≡ o → opened_at (before ++ next ∷ []) s ≡ o → Goal
+    by_new None closed opens now = none (closed_no_member (before ++ next ∷ []) s now)
     by_new (Some w) closed opens now =
-        let new = opens_by next s boot w opens in
+        let opening = opens_by next s boot w opens in
         let right : IsRightOpening before s boot w =
-        subst (HasItemCause setting before) new.1 cause in
+        subst (HasItemCause setting before) opening.1 cause in
         elim right.opens [
-          | inl first ↦ fact.new before n s w message are first now
+          | inl first ↦ new w first now
           | inr same ↦ let clash : None ≡ Some w = sym closed ∙ same in absurd cc
         ]
 
-    by_opened : (o : Option ℕ) → opened_at before s ≡ o → Holds (before ++ next ∷ []) s
-    by_opened (Some w) e = fact.same before next s
-        (record {
-          known = known;
-          over = over_more before next s;
-          opened = after ∙ ap (λ o. option_or o (first_number (open_sent s boot next))) e ∙ sym e;
-        }) (current_more before next) (retired_more before next) is
+    by_opened : (o : Option ℕ) → opened_at before s ≡ o → Goal
+    by_opened (Some w) e = leaves (record {
+      known = known;
+      over = over_more before next s;
+      opened = after ∙ ap (λ o. option_or o (first_number (open_sent s boot next))) e ∙ sym e;
+    })
     by_opened None e = by_new (first_number (open_sent s boot next)) e refl
         (after ∙ ap (λ o. option_or o (first_number (open_sent s boot next))) e)
 
-delivered_on : (setting : Setting) (Holds : List Item → ℕ → Type 0) → MemberFact setting Holds
-    → (before : List Item) (number s : ℕ) → StampsAreCurrent before → Holds before s
-    → Holds (before ++ item.Delivered number ∷ []) s
-delivered_on setting Holds fact before number s are is =
-    by_raise (raises_known before s number) refl
+-- a delivery leaves it as it was, or raises the known boot
+pub delivered_cases : (before : List Item) (number s : ℕ) → StampsAreCurrent before
+    → (Goal : Type 0) → (LeavesMember before (item.Delivered number) s → Goal)
+    → ((IsTrue (is_member (before ++ item.Delivered number ∷ []) s) → ⊥) → Goal) → Goal
+delivered_cases before number s are Goal leaves none = by_raise (raises_known before s number) refl
   where
     next : Item
     next = item.Delivered number
 
-    by_raise : (b : Bool) → raises_known before s number ≡ b → Holds (before ++ next ∷ []) s
-    by_raise true e = fact.none (before ++ next ∷ []) s
+    by_raise : (b : Bool) → raises_known before s number ≡ b → Goal
+    by_raise true e = none
         (closed_no_member (before ++ next ∷ []) s (raised_none before number s are e))
-    by_raise false e =
-        let known = unraised_same before number s e in
-        fact.same before next s
-        (record {
-          known = known;
-          over = over_more before next s ∙ ap (λ b. if b then false else is_over before s) e;
-          opened = opened_same before next s known refl;
-        }) (current_more before next) (retired_more before next) is
+    by_raise false e = leaves
+        (quiet_leaves before next s (unraised_same before number s e)
+        (over_more before next s ∙ ap (λ b. if b then false else is_over before s) e) refl)
 
-over_on : (setting : Setting) (Holds : List Item → ℕ → Type 0) → MemberFact setting Holds
-    → (before : List Item) (t s : ℕ) → Holds before s → Holds (before ++ item.OverNow t ∷ []) s
-over_on setting Holds fact before t s is = by_test (t == s) refl
+-- a switch that is over now is no member
+pub over_cases : (before : List Item) (t s : ℕ) (Goal : Type 0)
+    → (LeavesMember before (item.OverNow t) s → Goal)
+    → ((IsTrue (is_member (before ++ item.OverNow t ∷ []) s) → ⊥) → Goal) → Goal
+over_cases before t s Goal leaves none = by_test (t == s) refl
   where
     next : Item
     next = item.OverNow t
 
-    by_test : (b : Bool) → (t == s) ≡ b → Holds (before ++ next ∷ []) s
-    by_test true e = fact.none (before ++ next ∷ []) s
-        (λ member.
+    by_test : (b : Bool) → (t == s) ≡ b → Goal
+    by_test true e = none (λ member.
         let parts = member_parts (before ++ next ∷ []) s member in
         let over : is_over (before ++ next ∷ []) s ≡ true =
         over_more before next s ∙ ap (λ b. if b then true else is_over before s) e in
         let none : true ≡ false = sym over ∙ parts.0 in
         absurd cc)
-    by_test false e =
-        let known = known_more before next s in
-        fact.same before next s
-        (record {
-          known = known;
-          over = over_more before next s ∙ ap (λ b. if b then true else is_over before s) e;
-          opened = opened_same before next s known refl;
-        }) (current_more before next) (retired_more before next) is
-
--- an item that is no delivery, message or word of one that is over
-quiet_leaves : (before : List Item) (next : Item) (s : ℕ)
-    → known_boot (before ++ next ∷ []) s ≡ known_boot before s
-    → is_over (before ++ next ∷ []) s ≡ is_over before s
-    → open_sent s (known_boot before s) next ≡ [] → LeavesMember before next s
-quiet_leaves before next s known over none = record {
-  known = known;
-  over = over;
-  opened = opened_same before next s known none;
-}
+    by_test false e = leaves
+        (quiet_leaves before next s (known_more before next s)
+        (over_more before next s ∙ ap (λ b. if b then true else is_over before s) e) refl)
 
 pub member_on : (setting : Setting) (Holds : List Item → ℕ → Type 0) → MemberFact setting Holds
     → (before : List Item) (next : Item) (s : ℕ) → HasItemCause setting before next
     → StampsAreCurrent before → Holds before s → Holds (before ++ next ∷ []) s
 member_on setting Holds fact before (item.Sent n message) s cause are is =
-    sent_on setting Holds fact before n s message cause are is
+    let next : Item = item.Sent n message in
+    sent_cases setting before n s message cause (Holds (before ++ next ∷ []) s)
+    (λ leaves. fact.same before next s leaves (current_more before next) (retired_more before next)
+    is)
+    (fact.none (before ++ next ∷ []) s)
+    (λ version first now. fact.new before n s version message are first now)
 member_on setting Holds fact before (item.Delivered number) s cause are is =
-    delivered_on setting Holds fact before number s are is
+    let next : Item = item.Delivered number in
+    delivered_cases before number s are (Holds (before ++ next ∷ []) s)
+    (λ leaves. fact.same before next s leaves (current_more before next) (retired_more before next)
+    is)
+    (fact.none (before ++ next ∷ []) s)
 member_on setting Holds fact before (item.OverNow t) s cause are is =
-    over_on setting Holds fact before t s is
+    let next : Item = item.OverNow t in
+    over_cases before t s (Holds (before ++ next ∷ []) s)
+    (λ leaves. fact.same before next s leaves (current_more before next) (retired_more before next)
+    is)
+    (fact.none (before ++ next ∷ []) s)
 member_on setting Holds fact before (item.Current version) s cause are is =
     fact.raised before version s are cause
     (quiet_leaves before (item.Current version) s (known_more before (item.Current version) s)

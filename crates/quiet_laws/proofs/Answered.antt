@@ -13,7 +13,7 @@ use Rattle.steps.specs.declared.step.Step.{Step}
 use Rattle.steps.specs.declared.step.Step.TheVariants.{Deliver, Restart}
 use Rattle.update_machine.specs.Boots.{boot_of, heard, is_up, said_to}
 use Rattle.update_machine.specs.Deliveries.{delivery_items, link_changes, received_items, switch_items, to_controller}
-use Rattle.update_machine.specs.Messages.{is_deliverable, sends}
+use Rattle.update_machine.specs.Messages.{sends}
 use Rattle.update_machine.specs.Moves.{put}
 use Rattle.update_machine.specs.Pieces.{deliver_items, hello_of, nothing, piece, restart_items, step_items}
 use Rattle.update_machine.specs.Setting.{Setting}
@@ -23,6 +23,7 @@ use Rattle.update_machine.specs.Links.{serves, message_of}
 use Rattle.update_machine.proofs.CallerLemmas.{start_laws}
 use Rattle.boot_laws.proofs.Facts.{AreKept, fact_on}
 use Rattle.boot_laws.proofs.Grown.{boot_more, heard_more, serving_more, up_more}
+use Rattle.boot_laws.proofs.StepCases.{deliver_cases, restart_cases}
 use Rattle.boot_laws.proofs.SwitchBlocks.{said_parts, said_row}
 use Rattle.boot_laws.proofs.Traffic.{IsTraffic, links_traffic}
 use Rattle.mark_laws.proofs.Switches.{is_delivered}
@@ -269,14 +270,15 @@ switch_answers setting before s (OpenAt boot version) now same =
     opens setting before s now same boot version
 switch_answers setting before s _ now same = tt
 
--- what is said to a switch is answered in the step
-pub delivery_is : (setting : Setting) (before : List Item) (number : ℕ) (now : List Item)
-    (s : ℕ) (body : Body) → said_to before s number ≡ Some body
-    → delivery_items setting before number now ≡ switch_items setting before s body now
+-- what is sent to a switch is answered in the step, if it is said
+pub sent_items : (setting : Setting) (before : List Item) (number s : ℕ) (body : Body)
+    (now : List Item) → message_of before number ≡ Some (to_switch s body) → (said : Option Body)
+    → said_to before s number ≡ said → delivery_items setting before number now ≡ elim said [
+      | None ↦ []
+      | Some told ↦ switch_items setting before s told now
+    ]
 unfolding delivery_items
-delivery_is setting before number now s body said =
-    let sent : message_of before number ≡ Some (to_switch s body) =
-    (said_parts before s number body said).sent in
+sent_items setting before number s body now sent said is =
     ap (λ o. elim o [
       | None ↦ []
       | Some message ↦ received_items setting before number message now
@@ -284,7 +286,14 @@ delivery_is setting before number now s body said =
     ∙ ap (λ o. elim o [
       | None ↦ []
       | Some told ↦ switch_items setting before s told now
-    ]) said
+    ]) is
+
+pub delivery_is : (setting : Setting) (before : List Item) (number : ℕ) (now : List Item)
+    (s : ℕ) (body : Body) → said_to before s number ≡ Some body
+    → delivery_items setting before number now ≡ switch_items setting before s body now
+delivery_is setting before number now s body said =
+    sent_items setting before number s body now (said_parts before s number body said).sent
+    (Some body) said
 
 delivery_answers : (setting : Setting) (before : List Item) (number : ℕ) (now : List Item)
     (s : ℕ) (body : Body) → said_to before s number ≡ Some body
@@ -298,8 +307,9 @@ delivery_answers setting before number now s body said same =
 deliver_spoken : (setting : Setting) (before : List Item) (row number : ℕ)
     → let here = before ++ item.Row row (Deliver number) ∷ [] in HaveSpoken here
     → HaveSpoken (here ++ deliver_items setting before number here)
-unfolding deliver_items
-deliver_spoken setting before row number spoken = by_test (is_deliverable before number)
+deliver_spoken setting before row number spoken =
+    deliver_cases HaveSpoken setting before number here (spoken_stay here nothing (tt, tt) spoken)
+    (record { answers = answers; hellos = hellos })
   where
     here : List Item
     here = before ++ item.Row row (Deliver number) ∷ []
@@ -330,15 +340,6 @@ deliver_spoken setting before row number spoken = by_test (is_deliverable before
     hellos : AreGreeted (λ s. ⊥) (now ++ items)
     hellos = hellos_stay (λ s. ⊥) now items (delivery_plain setting before number now)
         (hellos_on (λ s. ⊥) here next refl spoken.hellos)
-
-    by_test : (b : Bool) → HaveSpoken (here ++ elim b [
-      | false ↦ nothing
-      | true ↦ put (next ∷ []) (delivery_items setting before number) here
-    ])
-    by_test false = spoken_stay here nothing (tt, tt) spoken
-    by_test true =
-        subst HaveSpoken (append_assoc here (next ∷ []) items)
-        (record { answers = answers; hellos = hellos })
 
 -- ---- a restart
 
@@ -374,8 +375,9 @@ booted_owed here s boot are = record { each = λ t up. by_test t (s == t) refl u
 -- and sends it
 restart_spoken : (s : ℕ) (here : List Item) → HaveSpoken here
     → HaveSpoken (here ++ restart_items s here)
-unfolding restart_items
-restart_spoken s here spoken = by_up (is_up here s)
+restart_spoken s here spoken =
+    restart_cases HaveSpoken s here (spoken_stay here nothing (tt, tt) spoken)
+    (λ down. record { answers = answers; hellos = hellos })
   where
     next : Item
     next = item.Booted s (boot_of here s + 1)
@@ -408,15 +410,6 @@ restart_spoken s here spoken = by_up (is_up here s)
             | inr known ↦ inr known
           ];
     }
-
-    by_up : (b : Bool) → HaveSpoken (here ++ elim b [
-      | true ↦ nothing
-      | false ↦ put (next ∷ []) hello here
-    ])
-    by_up true = spoken_stay here nothing (tt, tt) spoken
-    by_up false =
-        subst HaveSpoken (append_assoc here (next ∷ []) (hello now))
-        (record { answers = answers; hellos = hellos })
 
 -- ---- steps
 

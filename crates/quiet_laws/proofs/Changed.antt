@@ -24,19 +24,17 @@ use Rattle.update_machine.specs.Messages.{sends}
 use Rattle.update_machine.specs.Setting.{Setting, switches_of}
 use Rattle.update_machine.specs.Links.{serves}
 use Rattle.update_machine.proofs.CallerLemmas.{known_link_laws, near_stays}
-use Rattle.boot_laws.proofs.Facts.{have_weaker}
 use Rattle.boot_laws.proofs.Grown.{boot_more, heard_more, serving_more, up_more}
+use Rattle.boot_laws.proofs.Sent.{sends_any}
 use Rattle.boot_laws.proofs.Serving.{IsKnown, known_kept}
 use Rattle.mark_laws.proofs.Switches.{is_delivered, turns}
 use Rattle.advert_laws.proofs.BothCauses.{HasBothCauses}
-use Rattle.advert_laws.proofs.NetLinks.{near_linked}
+use Rattle.advert_laws.proofs.NetLinks.{ends_serve, near_linked}
 use Rattle.advert_laws.proofs.Newest.{own_on}
 use Rattle.advert_laws.proofs.OwnAdverts.{AdvertGoesOn, same_near}
 use Rattle.quiet_laws.specs.News.{IsAsNew}
 use Rattle.quiet_laws.proofs.Givens.{HasNews, HaveNews, IsHad, IsOther, IsStill, as_new_itself, given_grows, news_on, sends_tell, stills_news}
 use Rattle.quiet_laws.proofs.Lists.{IsIn, all_in, in_either, in_filter, in_filter_map, in_flat_map, in_left, in_map, in_range, in_right}
-use Rattle.quiet_laws.proofs.Near.{ends_serve}
-use Rattle.quiet_laws.proofs.Plain.{IsSending, all_sendings}
 
 -- ---- the newest advert that a switch holds
 
@@ -278,26 +276,16 @@ link_news setting before here next links_same both none known have =
 
 -- ---- the debt is paid
 
-sending_still : (before : List Item) (next : Item) → IsSending before next → IsStill before next
-sending_still before (item.Sent n message) is = tt
-sending_still before _ is = absurd is
-
 pub sends_still : (journal : List Item) (messages : List Message)
     → HaveCauses IsStill journal (sends journal messages)
-sends_still journal messages =
-    have_weaker IsSending IsStill sending_still journal _ (all_sendings journal messages)
-
-sending_none : (before : List Item) (next : Item) → IsSending before next
-    → IsFalse (concerns_links before next)
-sending_none before (item.Sent n message) is = refl
-sending_none before _ is = absurd is
+sends_still = sends_any IsStill (λ before n message. tt)
 
 pub sends_near : (setting : Setting) (journal : List Item) (messages : List Message) (s : ℕ)
     → near setting (journal ++ sends journal messages) s ≡ near setting journal s
 sends_near setting journal messages s =
     near_stays setting s journal (sends journal messages)
-    (have_weaker IsSending (λ before next. IsFalse (concerns_links before next)) sending_none
-    journal (sends journal messages) (all_sendings journal messages))
+    (sends_any (λ before next. IsFalse (concerns_links before next)) (λ before n message. refl)
+    journal messages)
 
 -- both ends of a link are switches of the network
 pub record AreEnds (setting : Setting) (s neighbour : ℕ) : Type 0 where

@@ -25,14 +25,14 @@ use Rattle.update_machine.specs.Settling.{to_switch}
 use Rattle.update_machine.specs.Links.{serves}
 use Rattle.boot_laws.proofs.Facts.{AreKept}
 use Rattle.advert_laws.specs.Adverts.{OwnAreNewest}
-use Rattle.advert_laws.proofs.NetLinks.{own_origin, second}
+use Rattle.advert_laws.proofs.NetLinks.{ends_serve, own_origin, second}
 use Rattle.quiet_laws.specs.Converged.{LeadsOver, Reaches}
 use Rattle.quiet_laws.specs.News.{IsAsNew}
 use Rattle.quiet_laws.proofs.Changed.{AreEnds, ends_there, newest_held}
 use Rattle.quiet_laws.proofs.Floods.{known_given}
 use Rattle.quiet_laws.proofs.Givens.{HasNews, IsGiven, IsHad, IsToldTo, as_new_itself, as_new_through}
 use Rattle.quiet_laws.proofs.Lists.{IsIn, each_in, in_either, in_filter_map}
-use Rattle.quiet_laws.proofs.Near.{ends_serve, near_both}
+use Rattle.quiet_laws.proofs.Near.{near_both}
 use Rattle.quiet_laws.proofs.News.{Spread}
 use Rattle.quiet_laws.proofs.Received.{IsGot, got, heard_in_boot}
 use Rattle.quiet_laws.proofs.Sendings.{AreTraced, Course, IsInOrder, IsTraced, sendings_more, sent_by, traced_kept}

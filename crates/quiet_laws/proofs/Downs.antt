@@ -30,12 +30,10 @@ use Rattle.boot_laws.proofs.Serving.{IsKnown, known_at_first, known_kept}
 use Rattle.boot_laws.proofs.SwitchBlocks.{said_parts}
 use Rattle.mark_laws.proofs.Acks.{installed_is}
 use Rattle.mark_laws.proofs.Current.{StampsAreCurrent, current_at_first, current_kept}
-use Rattle.mark_laws.proofs.Members.{opened_same}
+use Rattle.mark_laws.proofs.Members.{opened_same, raised_above, raised_none, unraised_same}
 use Rattle.mark_laws.proofs.Switches.{is_delivered}
-use Rattle.quiet_laws.proofs.Installs.{unraised}
 use Rattle.quiet_laws.proofs.Lists.{IsIn, in_either}
 use Rattle.quiet_laws.proofs.Sendings.{IsSent, sendings_more, sent_by, sent_now, sent_stays}
-use Rattle.quiet_laws.proofs.Stamps.{raised_above, raised_closed}
 
 -- ---- what was sent
 
@@ -449,9 +447,9 @@ closed_on setting before (item.Delivered number) cause are s idle =
 
     by_raise : (b : Bool) → raises_known before s number ≡ b
         → opened_at (before ++ next ∷ []) s ≡ None
-    by_raise true e = raised_closed before number s are.current e
+    by_raise true e = raised_none before number s are.current e
     by_raise false e =
-        opened_same before next s (unraised before number s e) refl
+        opened_same before next s (unraised_same before number s e) refl
         ∙ are.closed s (idle_delivered before number s e idle)
 closed_on setting before (item.Sent n message) cause are s idle =
     opened_at_more before next s (known_more before next s)
@@ -531,7 +529,7 @@ silent_on setting before (item.Delivered number) cause are s version idle sent =
           | inr new ↦ absurd (no_delivery new.0 new.1)
         ]
     by_raise false e = silent_now setting before next cause are s version
-        (unraised before number s e) (idle_delivered before number s e idle) sent
+        (unraised_same before number s e) (idle_delivered before number s e idle) sent
 silent_on setting before next cause are s version idle sent =
     silent_now setting before next cause are s version (known_more before next s)
     (idle_was before next s refl idle) sent

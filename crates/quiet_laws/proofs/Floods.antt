@@ -27,7 +27,7 @@ use Rattle.update_machine.specs.Boots.{said_to}
 use Rattle.update_machine.specs.Causes.{HaveCauses}
 use Rattle.update_machine.specs.Deliveries.{advert_to, delivery_items, is_news_to, link_changes, passed_on, received_items, switch_items, to_controller, switches_in}
 use Rattle.update_machine.specs.LinkMasks.{near, adverts_begun, adverts_heard, other_advert}
-use Rattle.update_machine.specs.Messages.{is_deliverable, is_to_controller, sends}
+use Rattle.update_machine.specs.Messages.{is_to_controller, sends}
 use Rattle.update_machine.specs.Moves.{put}
 use Rattle.update_machine.specs.Packets.{next_packet}
 use Rattle.update_machine.specs.Pieces.{deliver_items, nothing, piece, step_items}
@@ -35,22 +35,26 @@ use Rattle.update_machine.specs.Setting.{Setting, switches_of}
 use Rattle.update_machine.specs.Settling.{to_switch}
 use Rattle.update_machine.specs.Versions.{stamp_of}
 use Rattle.update_machine.specs.Links.{serves, message_of}
-use Rattle.update_machine.proofs.CallerLemmas.{have_append, known_link_laws, links_keep, near_stays, start_laws}
+use Rattle.update_machine.proofs.CallerLemmas.{have_append, links_keep, near_stays, start_laws}
+use Rattle.boot_laws.proofs.Commands.{confirm_control, controller_control, update_control}
 use Rattle.boot_laws.proofs.Facts.{Has}
 use Rattle.boot_laws.proofs.Grown.{boot_more, heard_more, up_more}
+use Rattle.boot_laws.proofs.Sent.{resends_any}
 use Rattle.boot_laws.proofs.Serving.{IsKnown, known_kept}
+use Rattle.boot_laws.proofs.StepCases.{deliver_cases}
 use Rattle.boot_laws.proofs.SwitchBlocks.{delivery_have, said_parts, said_row}
 use Rattle.boot_laws.proofs.Traffic.{expire_work, forget_work, hop_work, lose_work, packet_works}
+use Rattle.advert_laws.proofs.AllAdverts.{is_newest}
 use Rattle.advert_laws.proofs.NetLinks.{own_origin}
 use Rattle.advert_laws.proofs.Stepping.{delivered_first, row_first}
 use Rattle.quiet_laws.specs.News.{IsAsNew}
-use Rattle.quiet_laws.proofs.Answered.{delivery_is}
+use Rattle.quiet_laws.proofs.Answered.{delivery_is, sent_items}
 use Rattle.quiet_laws.proofs.Changed.{ends_there, link_news, pay_links, sends_near, sends_still}
 use Rattle.quiet_laws.proofs.Installs.{delivery_told}
-use Rattle.quiet_laws.proofs.Givens.{HasNews, HaveNews, IsDelivered, IsGiven, IsHad, IsStill, as_new_itself, as_new_through, delivered_grows, delivered_news, given_grows, news_on, sends_tell, stills_news}
+use Rattle.quiet_laws.proofs.Givens.{HasNews, HaveNews, IsDelivered, IsGiven, IsHad, IsStill, as_new_itself, as_new_through, delivered_news, given_grows, news_on, sends_tell, stills_news}
 use Rattle.quiet_laws.proofs.Lists.{IsIn, in_either, in_filter, in_map, in_range, in_right}
-use Rattle.quiet_laws.proofs.Sendings.{IsInOrder, caused_traced, pieces_in_order}
-use Rattle.quiet_laws.proofs.News.{Spread, Still, confirm_still, controller_still, crash_spread, link_spread, owed_as, resend_still, restart_spread, row_near, still_spread, update_still, work_is_still, work_still}
+use Rattle.quiet_laws.proofs.Sendings.{IsInOrder, caused_traced, delivered_grows, pieces_in_order}
+use Rattle.quiet_laws.proofs.News.{Spread, Still, control_still, crash_spread, link_spread, owed_as, restart_spread, row_near, still_spread, work_is_still, work_still}
 
 -- ---- what a switch knows it was given
 
@@ -73,8 +77,7 @@ known_given setting journal s origin advert other small known =
     begun = option_to_list (held (adverts_begun setting journal s) origin)
 
     newest : IsNewest origin (begun ++ adverts_heard journal s) (Some advert)
-    newest = subst (IsNewest origin (begun ++ adverts_heard journal s)) known
-        (known_link_laws.newest setting journal s origin other small)
+    newest = is_newest setting journal s origin advert other small known
 
     there : IsIn advert (begun ++ adverts_heard journal s)
     there = subst (λ xs. IsIn advert xs) (sym newest.2)
@@ -325,20 +328,6 @@ unsent_items setting before number now none =
       | Some message ↦ received_items setting before number message now
     ]) none
 
-unsaid_items : (setting : Setting) (before : List Item) (number t : ℕ) (body : Body)
-    (now : List Item) → message_of before number ≡ Some (to_switch t body)
-    → said_to before t number ≡ None → delivery_items setting before number now ≡ []
-unfolding delivery_items
-unsaid_items setting before number t body now sent none =
-    ap (λ o. elim o [
-      | None ↦ []
-      | Some message ↦ received_items setting before number message now
-    ]) sent
-    ∙ ap (λ o. elim o [
-      | None ↦ []
-      | Some told ↦ switch_items setting before t told now
-    ]) none
-
 abbrev receiver_or : Receiver → ℕ
 receiver_or (receiver.Switch s) = s
 receiver_or receiver.Controller = 0
@@ -347,9 +336,10 @@ deliver_spread : (setting : Setting) (before : List Item) (row number : ℕ) (st
     → IsNet setting.net → let here = before ++ item.Row row step ∷ [] in
     IsKnown here → Spread setting here
     → Spread setting (here ++ deliver_items setting before number here)
-unfolding deliver_items
 deliver_spread setting before row number step net known spread =
-    by_test (is_deliverable before number)
+    deliver_cases (Spread setting) setting before number here
+    (still_spread setting here nothing (tt, tt) spread)
+    (by_message (message_of before number) refl)
   where
     here : List Item
     here = before ++ item.Row row step ∷ []
@@ -394,7 +384,7 @@ deliver_spread setting before row number step net known spread =
     by_receiver receiver.Controller body e =
         silent
         (subst (λ items. Still now items) (sym (delivery_told setting before number body now e))
-        (controller_still setting before body now))
+        (control_still now _ (controller_control setting before body now)))
         (λ s other said.
         let same : Some (to_switch s other) ≡ Some (to_controller body) =
         sym (sent_of s other said) ∙ e in
@@ -419,7 +409,7 @@ deliver_spread setting before row number step net known spread =
           where
             nothing_said : said_to here t number ≡ None
                 → delivery_items setting before number now ≡ []
-            nothing_said f = unsaid_items setting before number t body now e
+            nothing_said f = sent_items setting before number t body now e None
                 (sym (said_row before row t number step) ∙ f)
         by_said (Some told) f =
             let items = delivery_is setting before number now t told
@@ -438,16 +428,6 @@ deliver_spread setting before row number step net known spread =
         (λ s other said.
         let clash : None ≡ Some (to_switch s other) = sym e ∙ sent_of s other said in absurd cc)
     by_message (Some message) e = by_receiver message.to message.body e
-
-    by_test : (b : Bool) → Spread setting (here ++ elim b [
-      | false ↦ nothing
-      | true ↦ put (next ∷ []) (delivery_items setting before number) here
-    ])
-    by_test false = still_spread setting here nothing (tt, tt) spread
-    by_test true =
-        subst (Spread setting)
-        (append_assoc here (next ∷ []) (delivery_items setting before number now))
-        (by_message (message_of before number) refl)
 
 -- ---- steps
 
@@ -468,7 +448,7 @@ step_spread setting before row (Forget message) net = λ known have.
 step_spread setting before row (Expire s at) net = λ known have.
     still_spread setting _ _ (work_still setting _ _ (expire_work setting s at _)) have
 step_spread setting before row (Update file) net = λ known have.
-    still_spread setting _ _ (update_still setting file _) have
+    still_spread setting _ _ (control_still _ _ (update_control setting file _)) have
 step_spread setting before row (LinkDown one two) net =
     link_spread setting before row (LinkDown one two) one two false net
 step_spread setting before row (LinkUp one two) net =
@@ -478,9 +458,9 @@ step_spread setting before row (Crash s) net =
 step_spread setting before row (Restart s) net =
     restart_spread setting before row (Restart s) s
 step_spread setting before row (Confirm s) net = λ known have.
-    still_spread setting _ _ (confirm_still setting s _) have
+    still_spread setting _ _ (control_still _ _ (confirm_control setting s _)) have
 step_spread setting before row (Resend s) net = λ known have.
-    still_spread setting _ _ (resend_still setting s _) have
+    still_spread setting _ _ (resends_any IsStill (λ now n message. tt) setting s _ tt) have
 
 piece_spread : (setting : Setting) (before : List Item) (row : ℕ) (step : Step)
     → IsNet setting.net → IsKnown before → Spread setting before

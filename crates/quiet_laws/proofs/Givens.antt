@@ -26,7 +26,7 @@ use Rattle.boot_laws.proofs.Facts.{AreKept, fact_on}
 use Rattle.boot_laws.proofs.Grown.{boot_more, heard_more, up_more}
 use Rattle.quiet_laws.specs.News.{IsAsNew}
 use Rattle.quiet_laws.proofs.Lists.{IsIn, in_either, in_filter_map, in_left, in_right, of_filter_map}
-use Rattle.quiet_laws.proofs.Sendings.{sendings_more, sent_by}
+use Rattle.quiet_laws.proofs.Sendings.{delivered_grows, sendings_more, sent_by}
 
 -- ---- as new
 
@@ -209,16 +209,6 @@ stills_news setting Owed journal items still have =
     fact_on IsStill (HaveNews setting Owed) (still_news setting Owed) journal items still have
 
 -- ---- a delivery
-
-pub delivered_grows : (here : List Item) (number s : ℕ) (body : Body) → IsIn body (heard here s)
-    → IsIn body (heard (here ++ item.Delivered number ∷ []) s)
-delivered_grows here number s body is =
-    rw (heard_more here (item.Delivered number) s) (by_said (said_to here s number))
-  where
-    by_said : (o : Option Body)
-        → IsIn body (option_map_or (λ b. heard here s ++ b ∷ []) o (heard here s))
-    by_said None = is
-    by_said (Some b) = in_left body (heard here s) (b ∷ []) is
 
 -- an advert of another switch that is delivered to this one
 pub record IsDelivered (here : List Item) (number s : ℕ) (advert : Advert) : Type 0 where

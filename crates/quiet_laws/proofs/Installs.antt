@@ -1,10 +1,9 @@
 -- At the end of each step each switch that isn't over was sent, in its known boot, the tables of
 -- each version from the current one to the last.
 use Rattle.std.proofs.Common.{ℕ, ◌≡◌, ◌+◌, ◌-◌, ◌≤◌, ◌<◌, ◌⊎◌, ◌==◌, Bool, true, false, not, if◌then◌else◌, Option, Some, None, List, [], ◌∷◌, ◌++◌, length, refl, ap, sym, subst, ◌∙◌, append-nil, append_assoc, arith, inl, inr}
-use Rattle.std.specs.Prelude.{IsTrue, IsFalse, nat_lt, option_and_then}
+use Rattle.std.specs.Prelude.{⊤, IsTrue, IsFalse, nat_lt, option_and_then}
 use Rattle.std.specs.Option.{option_map_or}
 use Rattle.std.proofs.lemmas.Bool.{cases_eq}
-use Rattle.std.proofs.lemmas.Bool.Decides.{nat_tests}
 use Rattle.ctrl_msg.specs.declared.message.Body.{Body}
 use Rattle.ctrl_msg.specs.declared.message.Body.TheVariants.{Hello, Install}
 use Rattle.ctrl_msg.specs.declared.message.Message.{Message}
@@ -13,33 +12,35 @@ use Rattle.journal.specs.declared.item.Item.{Item}
 use Rattle.journal.specs.declared.item.Item.TheVariants as item
 use Rattle.steps.specs.declared.step.Step.{Step}
 use Rattle.steps.specs.declared.step.Step.TheVariants.{Deliver, Update, Confirm}
-use Rattle.update_machine.specs.Boots.{is_up}
 use Rattle.update_machine.specs.Concerns.{is_message_to_controller}
 use Rattle.update_machine.specs.Deliveries.{after_hello, controller_items, delivery_items, is_new_boot, received_items, to_controller}
 use Rattle.update_machine.specs.Laws.{ControllerKeeps}
 use Rattle.update_machine.specs.Marks.{current_mark, hello_boot, is_over, known_boot, raises_known, said_to_controller}
-use Rattle.update_machine.specs.Messages.{is_deliverable, sends}
+use Rattle.update_machine.specs.Messages.{sends}
 use Rattle.update_machine.specs.Moves.{put}
-use Rattle.update_machine.specs.Pieces.{confirm_items, deliver_items, nothing, piece, step_items, update_code, update_items}
+use Rattle.update_machine.specs.Pieces.{confirm_items, deliver_items, nothing, piece, step_items, update_items}
 use Rattle.update_machine.specs.Setting.{Setting, switches_of}
-use Rattle.update_machine.specs.Settling.{install_for, installs_to, installs_to_all, settling, submitted_items, to_switch, versions_from_current}
+use Rattle.update_machine.specs.Settling.{install_for, installs_to, installs_to_all, settling, to_switch, versions_from_current}
 use Rattle.update_machine.specs.Versions.{tables_at, version_count}
 use Rattle.update_machine.specs.Links.{message_of}
 use Rattle.update_machine.proofs.CallerLemmas.{start_laws}
 use Rattle.boot_laws.specs.ItemCauses.{HasItemCause}
 use Rattle.boot_laws.proofs.Boots.{hello_sent}
+use Rattle.boot_laws.proofs.Commands.{settling_settles}
 use Rattle.boot_laws.proofs.ControllerBlocks.{settling_have}
 use Rattle.boot_laws.proofs.Facts.{AreKept, Both, fact_on, have_both}
-use Rattle.boot_laws.proofs.Grown.{count_more, current_more, known_more, message_more, over_more, raised}
+use Rattle.boot_laws.proofs.Grown.{count_more, current_more, known_more, message_more, over_more}
 use Rattle.boot_laws.proofs.Sends.{each, each_map}
-use Rattle.boot_laws.proofs.SwitchBlocks.{settling_settles}
+use Rattle.boot_laws.proofs.Sent.{sends_any}
+use Rattle.boot_laws.proofs.StepCases.{confirm_cases, deliver_cases, update_cases}
+use Rattle.mark_laws.proofs.Members.{unraised_same}
 use Rattle.settle_laws.specs.Steps.{asks_controller}
 use Rattle.settle_laws.proofs.Ends.{told_is}
 use Rattle.settle_laws.proofs.Leaves.{leaves_keep}
 use Rattle.settle_laws.proofs.Others.{ReopensAlone, installs_reopen, others_keep, sends_leave}
 use Rattle.settle_laws.proofs.Settles.{grows, in_two}
 use Rattle.quiet_laws.proofs.Lists.{in_filter, in_map, in_range}
-use Rattle.quiet_laws.proofs.Plain.{IsPlain, IsSending, all_sendings, settling_plain}
+use Rattle.quiet_laws.proofs.Plain.{IsPlain, settling_plain}
 use Rattle.quiet_laws.proofs.Sendings.{IsSent, sends_all, sent_on}
 
 -- tables of the version were sent to the switch, for this boot
@@ -128,12 +129,16 @@ settling_installs setting Owed last now have =
     (settling_have setting now) (settling_plain setting now)) have
 
 -- messages leave all of it
+abbrev IsSending : List Item → Item → Type 0
+IsSending before (item.Sent number message) = ⊤
+IsSending before _ = ⊥
+
 sends_installs : (setting : Setting) (Owed : ℕ → Type 0) (last : ℕ) (now : List Item)
     (messages : List Message) → HaveInstalls setting Owed last now
     → HaveInstalls setting Owed last (now ++ sends now messages)
 sends_installs setting Owed last now messages have =
     fact_on IsSending (HaveInstalls setting Owed last) kept now (sends now messages)
-    (all_sendings now messages) have
+    (sends_any IsSending (λ before n message. tt) now messages) have
   where
     kept : AreKept IsSending (HaveInstalls setting Owed last)
     kept before (item.Sent n message) is have =
@@ -144,19 +149,6 @@ sends_installs setting Owed last now messages have =
     kept before _ is have = absurd is
 
 -- ---- a delivery
-
--- a delivery that raises no known boot leaves it
-pub unraised : (before : List Item) (number s : ℕ) → raises_known before s number ≡ false
-    → known_boot (before ++ item.Delivered number ∷ []) s ≡ known_boot before s
-unraised before number s none =
-    known_more before (item.Delivered number) s
-    ∙ same (option_and_then (hello_boot s) (said_to_controller before number)) none
-  where
-    same : (hello : Option ℕ)
-        → option_map_or (λ boot. nat_lt (known_boot before s) boot) hello false ≡ false
-        → raised (known_boot before s) hello ≡ known_boot before s
-    same None e = refl
-    same (Some boot) e = grind (arith, nat_tests)
 
 -- the switch whose known boot it raises is owed its tables
 delivered_owed : (setting : Setting) (last : ℕ) (before : List Item) (number : ℕ)
@@ -180,7 +172,7 @@ delivered_owed setting last before number have = record {
         ⊎ TablesSent (before ++ next ∷ []) s (known_boot (before ++ next ∷ []) s) version)
     by_raise s version there none above below true e = inl e
     by_raise s version there none above below false e =
-        let known = unraised before number s e in
+        let known = unraised_same before number s e in
         let over : is_over (before ++ next ∷ []) s ≡ is_over before s =
         over_more before next s ∙ ap (λ b. if b then false else is_over before s) e in
         elim (have.each s version there (sym over ∙ none)
@@ -361,8 +353,13 @@ deliver_installs : (setting : Setting) (before : List Item) (row number : ℕ)
     HaveInstalls setting (λ s. ⊥) (version_count before) here
     → HaveInstalls setting (λ s. ⊥) (version_count before)
     (here ++ deliver_items setting before number here)
-unfolding deliver_items
-deliver_installs setting before row number is have = by_test (is_deliverable before number)
+deliver_installs setting before row number is have =
+    deliver_cases (HaveInstalls setting (λ s. ⊥) last) setting before number here
+    (installs_on setting (λ s. ⊥) last here item.Nothing (record { first = tt; second = tt }) have)
+    (subst (λ items. HaveInstalls setting (λ s. ⊥) last (now ++ items))
+    (sym (delivery_told setting before number told.0 now told.1))
+    (heard_installs setting before row number (Deliver number) told.0 told.1 last same
+    (delivered_owed setting last here number have)))
   where
     here : List Item
     here = before ++ item.Row row (Deliver number) ∷ []
@@ -379,20 +376,8 @@ deliver_installs setting before row number is have = by_test (is_deliverable bef
     same : last ≡ version_count now
     same = sym (count_more here next ∙ count_more before (item.Row row (Deliver number)))
 
-    by_test : (b : Bool) → HaveInstalls setting (λ s. ⊥) last (here ++ elim b [
-      | false ↦ nothing
-      | true ↦ put (next ∷ []) (delivery_items setting before number) here
-    ])
-    by_test false = installs_on setting (λ s. ⊥) last here item.Nothing
-        (record { first = tt; second = tt }) have
-    by_test true =
-        let told = told_is before number is in
-        subst (HaveInstalls setting (λ s. ⊥) last)
-        (append_assoc here (next ∷ []) (delivery_items setting before number now))
-        (subst (λ items. HaveInstalls setting (λ s. ⊥) last (now ++ items))
-        (sym (delivery_told setting before number told.0 now told.1))
-        (heard_installs setting before row number (Deliver number) told.0 told.1 last same
-        (delivered_owed setting last here number have)))
+    told : (body : Body) × (message_of before number ≡ Some (to_controller body))
+    told = told_is before number is
 
 hello_count : (setting : Setting) (before : List Item) (body : Body) (now : List Item)
     → version_count (now ++ after_hello setting before body now) ≡ version_count now
@@ -418,33 +403,18 @@ deliver_count : (setting : Setting) (before : List Item) (row number : ℕ)
     → IsTrue (is_message_to_controller before number)
     → let here = before ++ item.Row row (Deliver number) ∷ [] in
     version_count (here ++ deliver_items setting before number here) ≡ version_count before
-unfolding deliver_items
-deliver_count setting before row number is = by_test (is_deliverable before number)
-  where
-    here : List Item
-    here = before ++ item.Row row (Deliver number) ∷ []
-
-    next : Item
-    next = item.Delivered number
-
-    now : List Item
-    now = here ++ next ∷ []
-
-    same : version_count here ≡ version_count before
-    same = count_more before (item.Row row (Deliver number))
-
-    by_test : (b : Bool) → version_count (here ++ elim b [
-      | false ↦ nothing
-      | true ↦ put (next ∷ []) (delivery_items setting before number) here
-    ]) ≡ version_count before
-    by_test false = count_more here item.Nothing ∙ same
-    by_test true =
-        let told = told_is before number is in
-        ap version_count
-        (sym (append_assoc here (next ∷ []) (delivery_items setting before number now)))
-        ∙ ap (λ items. version_count (now ++ items))
-        (delivery_told setting before number told.0 now told.1)
-        ∙ controller_count setting before told.0 now ∙ count_more here next ∙ same
+deliver_count setting before row number is =
+    let here : List Item = before ++ item.Row row (Deliver number) ∷ [] in
+    let next : Item = item.Delivered number in
+    let now : List Item = here ++ next ∷ [] in
+    let same : version_count here ≡ version_count before =
+    count_more before (item.Row row (Deliver number)) in
+    let told = told_is before number is in
+    deliver_cases (λ js. version_count js ≡ version_count before) setting before number here
+    (count_more here item.Nothing ∙ same)
+    (ap (λ items. version_count (now ++ items))
+    (delivery_told setting before number told.0 now told.1)
+    ∙ controller_count setting before told.0 now ∙ count_more here next ∙ same)
 
 -- ---- an update, and a confirmation
 
@@ -498,8 +468,15 @@ update_installs : (setting : Setting) (file : ℕ) (here : List Item)
     → HaveInstalls setting (λ s. ⊥) (version_count here) here
     → let after = here ++ update_items setting file here in
     HaveInstalls setting (λ s. ⊥) (version_count after) after
-unfolding update_items
-update_installs setting file here have = by_code (update_code setting here file)
+update_installs setting file here have =
+    update_cases (λ j. HaveInstalls setting (λ s. ⊥) (version_count j) j) setting file here
+    (λ code.
+    let refused : Item = item.Refused file code in
+    subst (λ m. HaveInstalls setting (λ s. ⊥) m (here ++ refused ∷ []))
+    (sym (count_more here refused))
+    (installs_on setting (λ s. ⊥) (version_count here) here refused
+    (record { first = tt; second = tt }) have))
+    ended
   where
     next : Item
     next = item.Submitted file (version_count here + 1)
@@ -525,28 +502,17 @@ update_installs setting file here have = by_code (update_code setting here file)
         (settling_installs setting (λ s. ⊥) (version_count here + 1) sent
         (all_installs setting (version_count here) now more submitted))
 
-    by_code : (o : Option ℕ) → let after = here ++ elim o [
-      | Some code ↦ item.Refused file code ∷ []
-      | None ↦ put (next ∷ []) (submitted_items setting) here
-    ] in HaveInstalls setting (λ s. ⊥) (version_count after) after
-    by_code (Some code) =
-        let refused : Item = item.Refused file code in
-        subst (λ m. HaveInstalls setting (λ s. ⊥) m (here ++ refused ∷ []))
-        (sym (count_more here refused))
-        (installs_on setting (λ s. ⊥) (version_count here) here refused
-        (record { first = tt; second = tt }) have)
-    by_code None =
-        subst (λ j. HaveInstalls setting (λ s. ⊥) (version_count j) j)
-        (append_assoc here (next ∷ []) (submitted_items setting now))
-        (subst (λ j. HaveInstalls setting (λ s. ⊥) (version_count j) j)
-        (sym (in_two (installs_to_all setting) (settling setting) now)) ended)
-
 confirm_installs : (setting : Setting) (s : ℕ) (here : List Item)
     → HaveInstalls setting (λ t. ⊥) (version_count here) here
     → let after = here ++ confirm_items setting s here in
     HaveInstalls setting (λ t. ⊥) (version_count after) after
-unfolding confirm_items
-confirm_installs setting s here have = by_up (is_up here s)
+confirm_installs setting s here have =
+    confirm_cases (λ j. HaveInstalls setting (λ t. ⊥) (version_count j) j) setting s here
+    (subst (λ m. HaveInstalls setting (λ t. ⊥) m (here ++ nothing))
+    (sym (count_more here item.Nothing))
+    (installs_on setting (λ t. ⊥) (version_count here) here item.Nothing
+    (record { first = tt; second = tt }) have))
+    ended
   where
     next : Item
     next = item.OverNow s
@@ -564,19 +530,6 @@ confirm_installs setting s here have = by_up (is_up here s)
     ended = subst (λ m. HaveInstalls setting (λ t. ⊥) m (now ++ settling setting now))
         (sym (settling_count setting now ∙ count_more here next))
         (settling_installs setting (λ t. ⊥) (version_count here) now over)
-
-    by_up : (b : Bool) → let after = here ++ elim b [
-      | true ↦ nothing
-      | false ↦ put (next ∷ []) (settling setting) here
-    ] in HaveInstalls setting (λ t. ⊥) (version_count after) after
-    by_up true =
-        subst (λ m. HaveInstalls setting (λ t. ⊥) m (here ++ nothing))
-        (sym (count_more here item.Nothing))
-        (installs_on setting (λ t. ⊥) (version_count here) here item.Nothing
-        (record { first = tt; second = tt }) have)
-    by_up false =
-        subst (λ j. HaveInstalls setting (λ t. ⊥) (version_count j) j)
-        (append_assoc here (next ∷ []) (settling setting now)) ended
 
 -- ---- steps
 

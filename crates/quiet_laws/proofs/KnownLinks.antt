@@ -1,14 +1,12 @@
 -- So of links that end where it reaches a switch knows exactly those that can be used.
-use Rattle.std.proofs.Common.{ℕ, ◌≡◌, ◌≢◌, ◌<◌, ◌⊎◌, ◌==◌, ◌&&◌, Bool, true, false, not, Option, None, List, [], ◌∷◌, ◌++◌, map, length, get_or, set, refl, ap, sym, subst, ◌∙◌, arith, inl, inr, get_or-set_other, get_or-set_same}
+use Rattle.std.proofs.Common.{ℕ, ◌≡◌, ◌≢◌, ◌<◌, ◌⊎◌, ◌==◌, ◌&&◌, Bool, true, false, not, None, List, [], ◌∷◌, ◌++◌, map, length, get_or, set, refl, ap, sym, subst, ◌∙◌, arith, inl, inr, get_or-set_other, get_or-set_same}
 use Rattle.std.specs.Prelude.{All, IsTrue, slice_index}
 use Rattle.std.specs.List.{AllByRecursion}
-use Rattle.std.proofs.lemmas.Bool.{cases_eq, cases_lt}
+use Rattle.std.proofs.lemmas.Bool.{cases_eq}
 use Rattle.std.proofs.lemmas.Bool.Decides.{nat_tests}
-use Rattle.std.proofs.lemmas.List.{get_or-map, get_or_past, length-map}
+use Rattle.std.proofs.lemmas.List.{length-map}
 use Rattle.std.proofs.lemmas.List.Elements.{All-from_recursion}
-use Rattle.failover.specs.Adverts.{held}
 use Rattle.failover.specs.Links.{is_link, neighbours_named, named_links, has_link, AreJoined, IsReachable, Leads}
-use Rattle.failover.specs.declared.advert.Advert.{Advert}
 use Rattle.failover.proofs.Searching.{length-known_links, straight_path}
 use Rattle.masks.specs.Masks.{has}
 use Rattle.net_file.specs.Joins.{are_linked}
@@ -19,23 +17,13 @@ use Rattle.update_machine.specs.Adverts.{adverts_known, own_advert, route_from}
 use Rattle.update_machine.specs.LinkMasks.{near, adverts_of_others, links_known}
 use Rattle.update_machine.specs.Setting.{Setting}
 use Rattle.update_machine.proofs.CallerLemmas.{has_known_link, known_places, unreached}
-use Rattle.advert_laws.proofs.NetLinks.{near_linked, second}
+use Rattle.advert_laws.proofs.NetLinks.{ends_serve, near_linked, second, told_row}
 use Rattle.quiet_laws.specs.Converged.{AreUnusable, HasConverged, LeadsOver, Reaches}
 use Rattle.quiet_laws.proofs.Changed.{ends_there}
 use Rattle.quiet_laws.proofs.Converged.{AreQuiet, HoldsOwn, IsThere, adverts_reach, reached_holds, small_of, serving_up}
-use Rattle.quiet_laws.proofs.Near.{ends_serve, near_both}
+use Rattle.quiet_laws.proofs.Near.{near_both}
 
 -- ---- what a switch is told of one that it reaches
-
-told_row : (adverts : List (Option Advert)) (one : ℕ)
-    → get_or (map neighbours_named adverts) one 0 ≡ neighbours_named (held adverts one)
-told_row adverts one = elim (cases_lt one (length adverts)) [
-  | inl within ↦ get_or-map neighbours_named adverts one None 0 within
-  | inr past ↦
-      get_or_past (map neighbours_named adverts) one 0
-      (omega (arith, past, length-map adverts neighbours_named))
-      ∙ ap neighbours_named (sym (get_or_past adverts one None past))
-]
 
 row_known : (setting : Setting) (journal : List Item) (s z : ℕ) → s < 64
     → HoldsOwn setting journal s z

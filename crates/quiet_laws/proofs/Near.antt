@@ -1,7 +1,6 @@
 -- Neighbours over links that can be used.
-use Rattle.std.proofs.Common.{ℕ, ◌≡◌, ◌<◌, Bool, true, false, List, [], ◌∷◌, refl, ap, ◌∙◌, arith}
+use Rattle.std.proofs.Common.{ℕ, ◌≡◌, ◌<◌, Bool, List, [], ◌∷◌, refl, ap, ◌∙◌, arith}
 use Rattle.std.specs.Prelude.{IsTrue, filter}
-use Rattle.std.specs.List.{list_any}
 use Rattle.std.proofs.lemmas.Bool.Decides.{nat_tests}
 use Rattle.masks.specs.Masks.{has}
 use Rattle.net_file.specs.Joins.{are_linked, joins}
@@ -13,43 +12,6 @@ use Rattle.update_machine.specs.Links.{is_link_up, is_usable, serves}
 use Rattle.update_machine.specs.Setting.{Setting}
 use Rattle.update_machine.specs.LinkMasks.{near}
 use Rattle.advert_laws.proofs.NetLinks.{linked_by_mask}
-
--- ---- both ends serve
-
-usable_serves : (journal : List Item) (s k : ℕ) (link : LinkRow) → joins s k link ≡ true
-    → is_usable journal link ≡ true → (serves journal s ≡ true) × (serves journal k ≡ true)
-usable_serves journal s k link joined usable = grind (arith, nat_tests)
-
-any_serves : (journal : List Item) (s k : ℕ) (links : List LinkRow)
-    → list_any (joins s k) (filter (is_usable journal) links) ≡ true
-    → (serves journal s ≡ true) × (serves journal k ≡ true)
-any_serves journal s k [] is = absurd cc
-any_serves journal s k (link ∷ links) is =
-    by_tests (is_usable journal link) refl (any_serves journal s k links) is
-  where
-    by_joins : (b : Bool) → joins s k link ≡ b → is_usable journal link ≡ true
-        → (list_any (joins s k) (filter (is_usable journal) links) ≡ true
-        → (serves journal s ≡ true) × (serves journal k ≡ true))
-        → list_any (joins s k) (link ∷ filter (is_usable journal) links) ≡ true
-        → (serves journal s ≡ true) × (serves journal k ≡ true)
-    by_joins true e usable rest is = usable_serves journal s k link e usable
-    by_joins false e usable rest is = rest (rw (e) at is)
-
-    by_tests : (b : Bool) → is_usable journal link ≡ b
-        → (list_any (joins s k) (filter (is_usable journal) links) ≡ true
-        → (serves journal s ≡ true) × (serves journal k ≡ true))
-        → list_any (joins s k) (filter (is_usable journal) (link ∷ links)) ≡ true
-        → (serves journal s ≡ true) × (serves journal k ≡ true)
-    by_tests true e rest is = by_joins (joins s k link) refl e rest (rw e at is)
-    by_tests false e rest is = rest (rw e at is)
-
-pub ends_serve : (setting : Setting) (journal : List Item) (s k : ℕ)
-    → IsTrue (has (near setting journal s) k)
-    → (serves journal s ≡ true) × (serves journal k ≡ true)
-unfolding near
-ends_serve setting journal s k is =
-    any_serves journal s k setting.net.links
-    (linked_by_mask (filter (is_usable journal) setting.net.links) s k is)
 
 -- ---- a link has both its ends
 

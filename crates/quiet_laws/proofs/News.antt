@@ -1,11 +1,8 @@
 -- At the end of each step what a switch has each neighbour has as new, or was sent.
-use Rattle.std.proofs.Common.{ℕ, ◌≡◌, ◌+◌, ◌≤◌, ◌⊎◌, ◌==◌, ◌&&◌, Bool, true, false, not, List, [], ◌∷◌, ◌++◌, map, min, max, refl, ap, sym, subst, ◌∙◌, append_assoc, append-nil, arith, inl, inr}
+use Rattle.std.proofs.Common.{ℕ, ◌≡◌, ◌+◌, ◌≤◌, ◌⊎◌, ◌==◌, ◌&&◌, Bool, true, false, not, List, [], ◌∷◌, ◌++◌, map, min, max, refl, ap, sym, subst, ◌∙◌, append_assoc, inl, inr}
 use Rattle.std.specs.Prelude.{IsTrue, IsFalse, unwrap_or}
 use Rattle.std.specs.Bool.{beq}
 use Rattle.std.proofs.lemmas.Bool.{eq-eqb, eqb-true}
-use Rattle.ctrl_msg.specs.declared.message.Body.{Body}
-use Rattle.ctrl_msg.specs.declared.message.Body.TheVariants.{Hello}
-use Rattle.ctrl_msg.specs.declared.message.Message.{Message}
 use Rattle.failover.specs.declared.advert.Advert.{Advert}
 use Rattle.masks.specs.Masks.{has}
 use Rattle.net_file.specs.Net.{IsNet}
@@ -16,21 +13,21 @@ use Rattle.update_machine.specs.Adverts.{own_advert}
 use Rattle.update_machine.specs.Boots.{boot_of, heard, is_up}
 use Rattle.update_machine.specs.Causes.{HaveCauses}
 use Rattle.update_machine.specs.Concerns.{concerns_links}
-use Rattle.update_machine.specs.Deliveries.{after_hello, controller_items, has_changed, link_changes}
+use Rattle.update_machine.specs.Deliveries.{has_changed, link_changes}
 use Rattle.update_machine.specs.Laws.{LinksKeep}
 use Rattle.update_machine.specs.Links.{is_link_up, tells_link, serves}
-use Rattle.update_machine.specs.Messages.{sends}
 use Rattle.update_machine.specs.Moves.{put}
 use Rattle.update_machine.specs.Travels.{packets_at}
-use Rattle.update_machine.specs.Pieces.{confirm_items, crash_items, hello_of, link_items, nothing, resend_items, restart_items, sends_or_nothing, update_items}
+use Rattle.update_machine.specs.Pieces.{crash_items, hello_of, link_items, nothing, restart_items}
 use Rattle.update_machine.specs.Setting.{Setting}
-use Rattle.update_machine.specs.Settling.{installs_to, installs_to_all, settling, submitted_items}
 use Rattle.update_machine.specs.LinkMasks.{near}
-use Rattle.update_machine.proofs.CallerLemmas.{have_in_turn, last_told_append, links_keep, near_stays}
+use Rattle.update_machine.proofs.CallerLemmas.{last_told_append, links_keep, near_stays}
+use Rattle.boot_laws.proofs.Commands.{Control, IsControl}
+use Rattle.boot_laws.proofs.Crashes.{losts_have, losts_keep}
 use Rattle.boot_laws.proofs.Facts.{have_weaker}
 use Rattle.boot_laws.proofs.Grown.{boot_more, heard_more, serving_more, up_more}
 use Rattle.boot_laws.proofs.Serving.{IsKnown}
-use Rattle.boot_laws.proofs.SwitchBlocks.{IsOfSettling, settling_settles}
+use Rattle.boot_laws.proofs.StepCases.{restart_cases}
 use Rattle.boot_laws.proofs.Traffic.{IsWork, Work}
 use Rattle.advert_laws.proofs.Stepping.{row_first}
 use Rattle.quiet_laws.proofs.Changed.{IsOwed, link_news, pay_links, sends_still}
@@ -66,67 +63,16 @@ pub work_still : (setting : Setting) (journal items : List Item) → Work settin
 work_still setting journal items work =
     have_weaker (IsWork setting) IsStill (work_is_still setting) journal items work
 
-settling_is_still : (before : List Item) (next : Item) → IsOfSettling before next
-    → IsStill before next
-settling_is_still before (item.Delivered number) of = absurd of
-settling_is_still before (item.Down s) of = absurd of
-settling_is_still before (item.Booted s boot) of = absurd of
-settling_is_still before (item.Opened s version) of = absurd of
-settling_is_still before (item.LinkIs one two up) of = absurd of
-settling_is_still before _ of = tt
+control_is_still : (before : List Item) (next : Item) → IsControl before next → IsStill before next
+control_is_still before (item.Delivered number) is = absurd is
+control_is_still before (item.Down s) is = absurd is
+control_is_still before (item.Booted s boot) is = absurd is
+control_is_still before (item.Opened s version) is = absurd is
+control_is_still before (item.LinkIs one two up) is = absurd is
+control_is_still before _ is = tt
 
-settling_still : (setting : Setting) (journal : List Item)
-    → Still journal (settling setting journal)
-settling_still setting journal =
-    have_weaker IsOfSettling IsStill settling_is_still journal _
-    (settling_settles setting journal)
-
-installs_still : (setting : Setting) (s : ℕ) (journal : List Item)
-    → Still journal (installs_to setting s journal)
-unfolding installs_to
-installs_still setting s journal = sends_still journal _
-
-hello_still : (setting : Setting) (before : List Item) (body : Body) (journal : List Item)
-    → Still journal (after_hello setting before body journal)
-hello_still setting before (Hello s boot) journal = grind (arith, installs_still)
-hello_still setting before _ journal = tt
-
-pub controller_still : (setting : Setting) (before : List Item) (body : Body) (now : List Item)
-    → Still now (controller_items setting before body now)
-unfolding controller_items
-controller_still setting before body now =
-    have_in_turn IsStill (settling setting ∷ after_hello setting before body ∷ [])
-    (settling_still setting, (hello_still setting before body, tt)) now
-
-all_still : (setting : Setting) (journal : List Item)
-    → Still journal (installs_to_all setting journal)
-unfolding installs_to_all
-all_still setting journal = sends_still journal _
-
-submitted_still : (setting : Setting) (journal : List Item)
-    → Still journal (submitted_items setting journal)
-submitted_still setting journal =
-    have_in_turn IsStill (installs_to_all setting ∷ settling setting ∷ [])
-    (all_still setting, (settling_still setting, tt)) journal
-
-pub update_still : (setting : Setting) (file : ℕ) (journal : List Item)
-    → Still journal (update_items setting file journal)
-unfolding update_items
-update_still setting file journal = grind (arith, submitted_still)
-
-pub confirm_still : (setting : Setting) (s : ℕ) (journal : List Item)
-    → Still journal (confirm_items setting s journal)
-unfolding confirm_items
-confirm_still setting s journal = grind (arith, settling_still)
-
-pub resend_still : (setting : Setting) (s : ℕ) (journal : List Item)
-    → Still journal (resend_items setting s journal)
-unfolding resend_items
-resend_still setting s journal = by_messages _
-  where
-    by_messages : (messages : List Message) → Still journal (sends_or_nothing journal messages)
-    by_messages [] = (tt, tt)
-    by_messages (message ∷ messages) = sends_still journal (message ∷ messages)
+pub control_still : (journal items : List Item) → Control journal items → Still journal items
+control_still = have_weaker IsControl IsStill control_is_still
 
 -- ---- links and switches
 
@@ -163,45 +109,13 @@ link_spread setting before row step one two up net known have =
         (link_news setting before here next (row_near setting before row step)
         (record { first = tt; second = row_first before row step }) refl known have))
 
-losts_still : (packets : List ℕ) (journal : List Item) → Still journal (map item.Lost packets)
-losts_still [] journal = tt
-losts_still (i ∷ packets) journal = (tt, losts_still packets (journal ++ item.Lost i ∷ []))
-
-none_of_still : (packets : List ℕ) (journal : List Item)
-    → HaveCauses (λ before next. IsFalse (concerns_links before next)) journal
-    (map item.Lost packets)
-none_of_still [] journal = tt
-none_of_still (i ∷ packets) journal = (refl, none_of_still packets (journal ++ item.Lost i ∷ []))
-
-losts_up : (packets : List ℕ) (journal : List Item) (s : ℕ)
-    → is_up (journal ++ map item.Lost packets) s ≡ is_up journal s
-losts_up [] journal s = ap (λ j. is_up j s) (append-nil journal)
-losts_up (i ∷ packets) journal s =
-    ap (λ j. is_up j s) (sym (append_assoc journal (item.Lost i ∷ []) (map item.Lost packets)))
-    ∙ losts_up packets (journal ++ item.Lost i ∷ []) s ∙ up_more journal (item.Lost i) s
-
-losts_boot : (packets : List ℕ) (journal : List Item) (s : ℕ)
-    → boot_of (journal ++ map item.Lost packets) s ≡ boot_of journal s
-losts_boot [] journal s = ap (λ j. boot_of j s) (append-nil journal)
-losts_boot (i ∷ packets) journal s =
-    ap (λ j. boot_of j s) (sym (append_assoc journal (item.Lost i ∷ []) (map item.Lost packets)))
-    ∙ losts_boot packets (journal ++ item.Lost i ∷ []) s ∙ boot_more journal (item.Lost i) s
-
-losts_heard : (packets : List ℕ) (journal : List Item) (s : ℕ)
-    → heard (journal ++ map item.Lost packets) s ≡ heard journal s
-losts_heard [] journal s = ap (λ j. heard j s) (append-nil journal)
-losts_heard (i ∷ packets) journal s =
-    ap (λ j. heard j s) (sym (append_assoc journal (item.Lost i ∷ []) (map item.Lost packets)))
-    ∙ losts_heard packets (journal ++ item.Lost i ∷ []) s ∙ heard_more journal (item.Lost i) s
-
 -- what is owed is so behind the packets that are lost too
 owed_later : (setting : Setting) (before now : List Item) (packets : List ℕ) (s neighbour : ℕ)
     (advert : Advert) → IsOwed setting before now s neighbour advert
     → IsOwed setting before (now ++ map item.Lost packets) s neighbour advert
 owed_later setting before now packets s neighbour advert owed =
     record {
-      changed = by_changed (is_up now s) (near setting now s) owed.changed
-          (losts_up packets now s) (keeps.near s);
+      changed = by_changed (is_up now s) (near setting now s) owed.changed up (keeps.near s);
       told = subst (λ n. 1 ≤ n) (sym (keeps.seq s)) owed.told;
       had = by_had owed.had;
       which = by_which owed.which;
@@ -211,7 +125,21 @@ owed_later setting before now packets s neighbour advert owed =
     after = now ++ map item.Lost packets
 
     keeps : LinksKeep setting now after
-    keeps = links_keep setting now (map item.Lost packets) (none_of_still packets now)
+    keeps = links_keep setting now (map item.Lost packets)
+        (losts_have (λ before next. IsFalse (concerns_links before next)) (λ before i. refl) packets
+        now)
+
+    up : is_up after s ≡ is_up now s
+    up = losts_keep (λ journal. is_up journal s) (λ journal i. up_more journal (item.Lost i) s)
+        packets now
+
+    boot : boot_of after s ≡ boot_of now s
+    boot = losts_keep (λ journal. boot_of journal s)
+        (λ journal i. boot_more journal (item.Lost i) s) packets now
+
+    same : heard after s ≡ heard now s
+    same = losts_keep (λ journal. heard journal s) (λ journal i. heard_more journal (item.Lost i) s)
+        packets now
 
     by_changed : (up : Bool) (mask : ℕ) → (up && not (near setting before s == mask)) ≡ true
         → is_up after s ≡ up → near setting after s ≡ mask
@@ -223,10 +151,8 @@ owed_later setting before now packets s neighbour advert owed =
     by_had (inr of) = inr (record {
       other = of.other;
       small = of.small;
-      given = given_grows setting now after s advert (losts_up packets now s)
-          (losts_boot packets now s)
-          (λ body is. subst (λ bodies. IsIn body bodies) (sym (losts_heard packets now s)) is)
-          of.given;
+      given = given_grows setting now after s advert up boot
+          (λ body is. subst (λ bodies. IsIn body bodies) (sym same) is) of.given;
     })
 
     by_which : (advert ≡ own_advert setting now s)
@@ -274,7 +200,8 @@ crash_spread setting before row step s net known have = by_up (is_up before s) r
     down up = pay_links setting before (now ++ losts) net
         (owed_as setting (IsOwed setting before now) (IsOwed setting before (now ++ losts))
         (now ++ losts) (owed_later setting before now packets)
-        (stills_news setting (IsOwed setting before now) now losts (losts_still packets now)
+        (stills_news setting (IsOwed setting before now) now losts
+        (losts_have IsStill (λ journal i. tt) packets now)
         (link_news setting before here next (row_near setting before row step)
         (record {
           first = up_more before (item.Row row step) s ∙ up;
@@ -305,8 +232,9 @@ booted_link here s boot one other =
 pub restart_spread : (setting : Setting) (before : List Item) (row : ℕ) (step : Step) (s : ℕ)
     → let here = before ++ item.Row row step ∷ [] in
     IsKnown here → Spread setting here → Spread setting (here ++ restart_items s here)
-unfolding restart_items
-restart_spread setting before row step s known have = by_up (is_up here s) refl
+restart_spread setting before row step s known have =
+    restart_cases (Spread setting) s here (still_spread setting here nothing (tt, tt) have)
+    (λ down. still_spread setting now _ (sends_still now (hello_of now s ∷ [])) (booted down))
   where
     here : List Item
     here = before ++ item.Row row step ∷ []
@@ -316,9 +244,6 @@ restart_spread setting before row step s known have = by_up (is_up here s) refl
 
     now : List Item
     now = here ++ next ∷ []
-
-    hello : List Item → List Item
-    hello booted = sends booted (hello_of booted s ∷ [])
 
     idle : is_up here s ≡ false → serves here s ≡ false
     idle down = by_serving (serves here s) refl
@@ -366,12 +291,3 @@ restart_spread setting before row step s known have = by_up (is_up here s) refl
           first = record { down = down; next = refl };
           second = row_first before row step;
         }) refl known have)
-
-    by_up : (b : Bool) → is_up here s ≡ b → Spread setting (here ++ elim b [
-      | true ↦ nothing
-      | false ↦ put (next ∷ []) hello here
-    ])
-    by_up true e = still_spread setting here nothing (tt, tt) have
-    by_up false e =
-        subst (Spread setting) (append_assoc here (next ∷ []) (hello now))
-        (still_spread setting now (hello now) (sends_still now (hello_of now s ∷ [])) (booted e))

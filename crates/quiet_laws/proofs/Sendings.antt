@@ -208,17 +208,17 @@ deliverable_sent journal number is = by_message (message_of journal number) refl
     by_message None e is = absurd cc
     by_message (Some message) e is = (message, e)
 
+plain_sent_first : (before : List Item) (next : Item) → plain.IsPlain before next
+    → IsSentFirst before next
+plain_sent_first before (item.Delivered number) is = absurd is
+plain_sent_first before _ is = tt
+
 sent_first_others : plain.HasOthers IsSentFirst
 sent_first_others = record {
-  plain = by_plain;
+  aside = λ before next is. plain_sent_first before next (plain.aside_is before next is);
   delivered = λ journal number is. deliverable_sent journal number is;
   booted = λ journal s down. tt;
 }
-  where
-    by_plain : (before : List Item) (next : Item) → plain.IsPlain before next
-        → IsSentFirst before next
-    by_plain before (item.Delivered number) is = absurd is
-    by_plain before _ is = tt
 
 -- the causes of items, that they take the next numbers, and that what is delivered was sent
 abbrev pub IsInOrder : Setting → List Item → Item → Type 0
@@ -229,7 +229,7 @@ pieces_in_order setting journal row step =
     have_both (HasItemCause setting) (Both TakesNext IsSentFirst) journal _
     (boots.pieces_have setting journal row step)
     (have_both TakesNext IsSentFirst journal _ (piece_next setting journal row step)
-    (plain.pieces_have IsSentFirst sent_first_others setting journal row step))
+    (plain.pieces_have IsSentFirst sent_first_others plain_sent_first setting journal row step))
 
 -- ---- items keep it
 
@@ -245,18 +245,23 @@ message_on before (item.Sent number message) x takes below is =
     rw (message_more before (item.Sent number message) x.number, apart) is
 message_on before next x takes below is = rw (message_more before next x.number) is
 
-heard_grows : (before : List Item) (next : Item) (s : ℕ) (body : Body)
-    → IsFalse (turns s next) → IsIn body (heard before s)
-    → IsIn body (heard (before ++ next ∷ []) s)
-heard_grows before (item.Down t) s body same is = grind (arith, heard_more)
-heard_grows before (item.Booted t boot) s body same is = grind (arith, heard_more)
-heard_grows before (item.Delivered number) s body same is =
+pub delivered_grows : (before : List Item) (number s : ℕ) (body : Body)
+    → IsIn body (heard before s) → IsIn body (heard (before ++ item.Delivered number ∷ []) s)
+delivered_grows before number s body is =
     rw (heard_more before (item.Delivered number) s) (by_said (said_to before s number))
   where
     by_said : (o : Option Body)
         → IsIn body (option_map_or (λ b. heard before s ++ b ∷ []) o (heard before s))
     by_said None = is
     by_said (Some b) = in_left body (heard before s) (b ∷ []) is
+
+heard_grows : (before : List Item) (next : Item) (s : ℕ) (body : Body)
+    → IsFalse (turns s next) → IsIn body (heard before s)
+    → IsIn body (heard (before ++ next ∷ []) s)
+heard_grows before (item.Down t) s body same is = grind (arith, heard_more)
+heard_grows before (item.Booted t boot) s body same is = grind (arith, heard_more)
+heard_grows before (item.Delivered number) s body same is =
+    delivered_grows before number s body is
 heard_grows before next s body same is = rw (heard_more before next s) is
 
 -- what is delivered to the switch in its boot it hears

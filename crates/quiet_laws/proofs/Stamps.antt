@@ -1,9 +1,7 @@
 -- At the end of each step each member was opened at the current version, or was told to stamp with
 -- it.
-use Rattle.std.proofs.Common.{ℕ, ◌≡◌, ◌+◌, ◌<◌, ◌⊎◌, ◌==◌, Bool, true, false, if◌then◌else◌, Option, Some, None, List, [], ◌∷◌, ◌++◌, length, map, refl, ap, sym, subst, ◌∙◌, append-nil, append_assoc, arith, inl, inr}
-use Rattle.std.specs.Prelude.{⊤, IsTrue, is_some, nat_lt, option_and_then}
-use Rattle.std.specs.Option.{option_map_or, option_or}
-use Rattle.std.proofs.lemmas.Bool.Decides.{nat_tests}
+use Rattle.std.proofs.Common.{ℕ, ◌≡◌, ◌+◌, ◌<◌, ◌⊎◌, Bool, true, false, Some, List, [], ◌∷◌, ◌++◌, length, map, refl, ap, sym, subst, ◌∙◌, append-nil, append_assoc, arith, inl, inr}
+use Rattle.std.specs.Prelude.{⊤, IsTrue, nat_lt}
 use Rattle.ctrl_msg.specs.declared.message.Body.{Body}
 use Rattle.ctrl_msg.specs.declared.message.Body.TheVariants.{Hello, Stamp}
 use Rattle.ctrl_msg.specs.declared.message.Message.{Message}
@@ -11,35 +9,34 @@ use Rattle.journal.specs.declared.item.Item.{Item}
 use Rattle.journal.specs.declared.item.Item.TheVariants as item
 use Rattle.steps.specs.declared.step.Step.{Step}
 use Rattle.steps.specs.declared.step.Step.TheVariants.{Deliver, Update, Confirm}
-use Rattle.update_machine.specs.Boots.{is_up}
 use Rattle.update_machine.specs.Causes.{HaveCauses}
 use Rattle.update_machine.specs.Concerns.{is_message_to_controller}
-use Rattle.update_machine.specs.Deliveries.{after_hello, controller_items, delivery_items, is_new_boot}
+use Rattle.update_machine.specs.Deliveries.{after_hello, controller_items, is_new_boot}
 use Rattle.update_machine.specs.Laws.{ControllerKeeps}
-use Rattle.update_machine.specs.Marks.{controller_heard, current_mark, first_number, hello_boot, is_member, is_over, known_boot, members, next_current, open_sent, opened_at, raises_known, said_to_controller}
-use Rattle.update_machine.specs.Messages.{is_deliverable, sends}
+use Rattle.update_machine.specs.Marks.{controller_heard, current_mark, is_member, is_over, known_boot, members, next_current, open_sent, opened_at}
+use Rattle.update_machine.specs.Messages.{sends}
 use Rattle.update_machine.specs.Moves.{in_turn, put}
-use Rattle.update_machine.specs.Pieces.{confirm_items, deliver_items, nothing, piece, step_items, update_code, update_items}
+use Rattle.update_machine.specs.Pieces.{confirm_items, deliver_items, nothing, piece, step_items, update_items}
 use Rattle.update_machine.specs.Setting.{Setting, switches_of}
-use Rattle.update_machine.specs.Settling.{current_items, installs_to, installs_to_all, open_items, retired_items, settling, stamp_for, submitted_items, to_switch}
+use Rattle.update_machine.specs.Settling.{current_items, installs_to, installs_to_all, open_items, retired_items, settling, stamp_for, to_switch}
 use Rattle.update_machine.specs.Versions.{version_count}
 use Rattle.update_machine.proofs.CallerLemmas.{have_first, have_in_turn}
-use Rattle.boot_laws.specs.ItemCauses.{HasItemCause, IsRightOpening}
+use Rattle.boot_laws.specs.ItemCauses.{HasItemCause}
 use Rattle.boot_laws.proofs.ControllerBlocks.{settling_have}
-use Rattle.boot_laws.proofs.Facts.{AreKept, Both, fact_on, have_both, have_weaker}
-use Rattle.boot_laws.proofs.Grown.{current_more, known_more, opened_at_more, opened_in, opened_is, opened_more, opens_by, over_more, raised}
+use Rattle.boot_laws.proofs.Facts.{AreKept, Both, fact_on, have_both}
+use Rattle.boot_laws.proofs.Grown.{current_more, known_more, over_more}
 use Rattle.boot_laws.proofs.Sends.{each, each_map}
-use Rattle.boot_laws.proofs.Serving.{member_parts}
+use Rattle.boot_laws.proofs.Sent.{sends_any}
+use Rattle.boot_laws.proofs.StepCases.{confirm_cases, deliver_cases, update_cases}
 use Rattle.mark_laws.proofs.Current.{StampsAreCurrent, current_kept}
-use Rattle.mark_laws.proofs.Members.{LeavesMember, member_was, opened_same}
+use Rattle.mark_laws.proofs.Members.{LeavesMember, delivered_cases, member_was, over_cases, quiet_leaves, sent_cases}
 use Rattle.settle_laws.specs.Steps.{asks_controller}
 use Rattle.settle_laws.proofs.Ends.{told_is}
 use Rattle.settle_laws.proofs.Leaves.{leaves_keep}
 use Rattle.settle_laws.proofs.Others.{ReopensAlone, others_keep, sends_leave}
 use Rattle.settle_laws.proofs.Settles.{in_two}
-use Rattle.quiet_laws.proofs.Installs.{all_keep, delivery_told, installs_keep, unraised}
+use Rattle.quiet_laws.proofs.Installs.{all_keep, delivery_told, installs_keep}
 use Rattle.quiet_laws.proofs.Lists.{in_filter, in_map, in_range}
-use Rattle.quiet_laws.proofs.Plain.{IsSending, all_sendings}
 use Rattle.quiet_laws.proofs.Sendings.{IsSent, sends_all, sent_on}
 
 pub record HaveStamps (setting : Setting) (journal : List Item) : Type 0 where
@@ -91,46 +88,13 @@ stamps_keep setting before items keeps have = record {
 stamped_sent : (setting : Setting) (before : List Item) (n s : ℕ) (message : Message)
     → HasItemCause setting before (item.Sent n message) → IsStamped before s
     → IsStamped (before ++ item.Sent n message ∷ []) s
-stamped_sent setting before n s message cause is = by_opened (opened_at before s) refl
-  where
-    next : Item
-    next = item.Sent n message
-
-    boot : ℕ
-    boot = known_boot before s
-
-    known : known_boot (before ++ next ∷ []) s ≡ boot
-    known = known_more before next s
-
-    after : opened_at (before ++ next ∷ []) s
-        ≡ option_or (opened_at before s) (first_number (open_sent s boot next))
-    after = opened_at_more before next s known
-
-    by_new : (o : Option ℕ) → opened_at before s ≡ None
-        → first_number (open_sent s boot next) ≡ o → opened_at (before ++ next ∷ []) s ≡ o
-        → IsStamped (before ++ next ∷ []) s
-    by_new None closed opens now = λ member.
-        let parts = member_parts (before ++ next ∷ []) s member in
-        let none : false ≡ true = sym (ap (λ o. is_some o) now) ∙ parts.1 in
-        absurd cc
-    by_new (Some w) closed opens now = λ member.
-        let new = opens_by next s boot w opens in
-        let right : IsRightOpening before s boot w =
-        subst (HasItemCause setting before) new.1 cause in
-        elim right.opens [
-          | inl first ↦ inl (now ∙ ap Some (first.current ∙ sym (current_more before next)))
-          | inr same ↦ let clash : None ≡ Some w = sym closed ∙ same in absurd cc
-        ]
-
-    by_opened : (o : Option ℕ) → opened_at before s ≡ o → IsStamped (before ++ next ∷ []) s
-    by_opened (Some w) e = stamped_leaving before next s
-        (record {
-          known = known;
-          over = over_more before next s;
-          opened = after ∙ ap (λ o. option_or o (first_number (open_sent s boot next))) e ∙ sym e;
-        }) (current_more before next) is
-    by_opened None e = by_new (first_number (open_sent s boot next)) e refl
-        (after ∙ ap (λ o. option_or o (first_number (open_sent s boot next))) e)
+stamped_sent setting before n s message cause is =
+    let next : Item = item.Sent n message in
+    sent_cases setting before n s message cause (IsStamped (before ++ next ∷ []) s)
+    (λ leaves. stamped_leaving before next s leaves (current_more before next) is)
+    (λ none member. absurd (none member))
+    (λ version first now member.
+    inl (now ∙ ap Some (first.current ∙ sym (current_more before next))))
 
 -- an item that opens none, and ends and raises no boot
 stamped_still : (before : List Item) (next : Item) (s : ℕ)
@@ -140,82 +104,23 @@ stamped_still : (before : List Item) (next : Item) (s : ℕ)
     → current_mark (before ++ next ∷ []) ≡ current_mark before
     → IsStamped before s → IsStamped (before ++ next ∷ []) s
 stamped_still before next s known over none current is =
-    stamped_leaving before next s
-    (record {
-      known = known;
-      over = over;
-      opened = opened_same before next s known none;
-    }) current is
+    stamped_leaving before next s (quiet_leaves before next s known over none) current is
 
 stamped_over : (before : List Item) (t s : ℕ) → IsStamped before s
     → IsStamped (before ++ item.OverNow t ∷ []) s
-stamped_over before t s is = by_test (t == s) refl
-  where
-    next : Item
-    next = item.OverNow t
-
-    by_test : (b : Bool) → (t == s) ≡ b → IsStamped (before ++ next ∷ []) s
-    by_test true e = λ member.
-        let parts = member_parts (before ++ next ∷ []) s member in
-        let over : is_over (before ++ next ∷ []) s ≡ true =
-        over_more before next s ∙ ap (λ b. if b then true else is_over before s) e in
-        let none : true ≡ false = sym over ∙ parts.0 in
-        absurd cc
-    by_test false e = stamped_still before next s (known_more before next s)
-        (over_more before next s ∙ ap (λ b. if b then true else is_over before s) e) refl
-        (current_more before next) is
-
--- a delivery that raises the known boot makes it a greater one
-pub raised_above : (before : List Item) (number s : ℕ) → raises_known before s number ≡ true
-    → known_boot before s < known_boot (before ++ item.Delivered number ∷ []) s
-raised_above before number s raises =
-    rw (known_more before (item.Delivered number) s)
-    (rises (option_and_then (hello_boot s) (said_to_controller before number)) raises)
-  where
-    rises : (hello : Option ℕ)
-        → option_map_or (λ boot. nat_lt (known_boot before s) boot) hello false ≡ true
-        → known_boot before s < raised (known_boot before s) hello
-    rises None e = absurd cc
-    rises (Some boot) e = grind (arith, nat_tests)
-
--- and no message opened the switch in that boot
-pub raised_closed : (before : List Item) (number s : ℕ) → StampsAreCurrent before
-    → raises_known before s number ≡ true
-    → opened_at (before ++ item.Delivered number ∷ []) s ≡ None
-raised_closed before number s are raises =
-    opened_is after s
-    ∙ opened_more before (item.Delivered number) s (known_boot after s)
-    ∙ ap (λ o. option_or o None) (by_opened (opened_in before s (known_boot after s)) refl)
-  where
-    after : List Item
-    after = before ++ item.Delivered number ∷ []
-
-    more : known_boot before s < known_boot after s
-    more = raised_above before number s raises
-
-    by_opened : (o : Option ℕ) → opened_in before s (known_boot after s) ≡ o
-        → opened_in before s (known_boot after s) ≡ None
-    by_opened None e = e
-    by_opened (Some version) e =
-        let past = (are.opened s (known_boot after s) version e).1 in
-        absurd (omega (arith, past, more))
+stamped_over before t s is =
+    let next : Item = item.OverNow t in
+    over_cases before t s (IsStamped (before ++ next ∷ []) s)
+    (λ leaves. stamped_leaving before next s leaves (current_more before next) is)
+    (λ none member. absurd (none member))
 
 stamped_delivered : (before : List Item) (number s : ℕ) → StampsAreCurrent before
     → IsStamped before s → IsStamped (before ++ item.Delivered number ∷ []) s
-stamped_delivered before number s are is = by_raise (raises_known before s number) refl
-  where
-    next : Item
-    next = item.Delivered number
-
-    by_raise : (b : Bool) → raises_known before s number ≡ b → IsStamped (before ++ next ∷ []) s
-    by_raise true e = λ member.
-        let parts = member_parts (before ++ next ∷ []) s member in
-        let none : false ≡ true =
-        sym (ap (λ o. is_some o) (raised_closed before number s are e)) ∙ parts.1 in
-        absurd cc
-    by_raise false e = stamped_still before next s (unraised before number s e)
-        (over_more before next s ∙ ap (λ b. if b then false else is_over before s) e) refl
-        (current_more before next) is
+stamped_delivered before number s are is =
+    let next : Item = item.Delivered number in
+    delivered_cases before number s are (IsStamped (before ++ next ∷ []) s)
+    (λ leaves. stamped_leaving before next s leaves (current_more before next) is)
+    (λ none member. absurd (none member))
 
 -- ---- settling
 
@@ -240,12 +145,7 @@ stamps_later setting before _ both have = absurd both.second
 
 later_sends : (journal : List Item) (messages : List Message)
     → HaveCauses IsLater journal (sends journal messages)
-later_sends journal messages =
-    have_weaker IsSending IsLater is_later journal _ (all_sendings journal messages)
-  where
-    is_later : (before : List Item) (next : Item) → IsSending before next → IsLater before next
-    is_later before (item.Sent n message) is = tt
-    is_later before _ is = absurd is
+later_sends = sends_any IsLater (λ before n message. tt)
 
 open_later : (setting : Setting) (journal : List Item)
     → HaveCauses IsLater journal (open_items setting journal)
@@ -284,11 +184,7 @@ raised_stamps setting now version = record {
         (members setting now))))
 
     leaves : (s : ℕ) → LeavesMember now next s
-    leaves s = record {
-      known = known_more now next s;
-      over = over_more now next s;
-      opened = opened_same now next s (known_more now next s) refl;
-    }
+    leaves s = quiet_leaves now next s (known_more now next s) (over_more now next s) refl
 
     was_member : (s : ℕ) → IsTrue (is_member after s) → IsTrue (is_member now s)
     was_member s member = member_was now next s (leaves s) (sym (keeps.member s) ∙ member)
@@ -392,90 +288,47 @@ still_stamps setting before next known over none current have = record {
       (have.each s there);
 }
 
+-- nothing happened
+nothing_stamps : (setting : Setting) (here : List Item) → HaveStamps setting here
+    → HaveStamps setting (here ++ nothing)
+nothing_stamps setting here have = still_stamps setting here item.Nothing
+    (known_more here item.Nothing) (over_more here item.Nothing) (λ s. refl)
+    (current_more here item.Nothing) have
+
 deliver_stamps : (setting : Setting) (before here : List Item) (number : ℕ)
     → StampsAreCurrent here → IsTrue (is_message_to_controller before number)
     → HaveStamps setting here
     → HaveStamps setting (here ++ deliver_items setting before number here)
-unfolding deliver_items
-deliver_stamps setting before here number are is have = by_test (is_deliverable before number)
-  where
-    next : Item
-    next = item.Delivered number
-
-    now : List Item
-    now = here ++ next ∷ []
-
-    by_test : (b : Bool) → HaveStamps setting (here ++ elim b [
-      | false ↦ nothing
-      | true ↦ put (next ∷ []) (delivery_items setting before number) here
-    ])
-    by_test false = still_stamps setting here item.Nothing
-        (λ s. known_more here item.Nothing s) (λ s. over_more here item.Nothing s) (λ s. refl)
-        (current_more here item.Nothing) have
-    by_test true =
-        let told = told_is before number is in
-        subst (HaveStamps setting)
-        (append_assoc here (next ∷ []) (delivery_items setting before number now))
-        (subst (λ items. HaveStamps setting (now ++ items))
-        (sym (delivery_told setting before number told.0 now told.1))
-        (heard_stamps setting before told.0 now
-        (record { each = λ s there. stamped_delivered here number s are (have.each s there) })))
+deliver_stamps setting before here number are is have =
+    let now : List Item = here ++ item.Delivered number ∷ [] in
+    let told = told_is before number is in
+    deliver_cases (HaveStamps setting) setting before number here (nothing_stamps setting here have)
+    (subst (λ items. HaveStamps setting (now ++ items))
+    (sym (delivery_told setting before number told.0 now told.1))
+    (heard_stamps setting before told.0 now
+    (record { each = λ s there. stamped_delivered here number s are (have.each s there) })))
 
 update_stamps : (setting : Setting) (file : ℕ) (here : List Item) → HaveStamps setting here
     → HaveStamps setting (here ++ update_items setting file here)
-unfolding update_items
-update_stamps setting file here have = by_code (update_code setting here file)
-  where
-    next : Item
-    next = item.Submitted file (version_count here + 1)
-
-    now : List Item
-    now = here ++ next ∷ []
-
-    sent : List Item
-    sent = now ++ installs_to_all setting now
-
-    submitted : HaveStamps setting now
-    submitted = still_stamps setting here next (λ s. known_more here next s)
-        (λ s. over_more here next s) (λ s. refl) (current_more here next) have
-
-    by_code : (o : Option ℕ) → HaveStamps setting (here ++ elim o [
-      | Some code ↦ item.Refused file code ∷ []
-      | None ↦ put (next ∷ []) (submitted_items setting) here
-    ])
-    by_code (Some code) =
-        let refused : Item = item.Refused file code in
-        still_stamps setting here refused (λ s. known_more here refused s)
-        (λ s. over_more here refused s) (λ s. refl) (current_more here refused) have
-    by_code None =
-        subst (HaveStamps setting) (append_assoc here (next ∷ []) (submitted_items setting now))
-        (subst (HaveStamps setting)
-        (sym (in_two (installs_to_all setting) (settling setting) now))
-        (settling_stamps setting sent
-        (stamps_keep setting now (installs_to_all setting now) (all_keep setting now) submitted)))
+update_stamps setting file here have =
+    let next : Item = item.Submitted file (version_count here + 1) in
+    let now : List Item = here ++ next ∷ [] in
+    update_cases (HaveStamps setting) setting file here
+    (λ code.
+    let refused : Item = item.Refused file code in
+    still_stamps setting here refused (known_more here refused) (over_more here refused) (λ s. refl)
+    (current_more here refused) have)
+    (settling_stamps setting (now ++ installs_to_all setting now)
+    (stamps_keep setting now (installs_to_all setting now) (all_keep setting now)
+    (still_stamps setting here next (known_more here next) (over_more here next) (λ s. refl)
+    (current_more here next) have)))
 
 confirm_stamps : (setting : Setting) (s : ℕ) (here : List Item) → HaveStamps setting here
     → HaveStamps setting (here ++ confirm_items setting s here)
-unfolding confirm_items
-confirm_stamps setting s here have = by_up (is_up here s)
-  where
-    next : Item
-    next = item.OverNow s
-
-    now : List Item
-    now = here ++ next ∷ []
-
-    by_up : (b : Bool) → HaveStamps setting (here ++ elim b [
-      | true ↦ nothing
-      | false ↦ put (next ∷ []) (settling setting) here
-    ])
-    by_up true = still_stamps setting here item.Nothing
-        (λ t. known_more here item.Nothing t) (λ t. over_more here item.Nothing t) (λ t. refl)
-        (current_more here item.Nothing) have
-    by_up false =
-        subst (HaveStamps setting) (append_assoc here (next ∷ []) (settling setting now))
-        (settling_stamps setting now
-        (record { each = λ t there. stamped_over here s t (have.each t there) }))
+confirm_stamps setting s here have =
+    confirm_cases (HaveStamps setting) setting s here (nothing_stamps setting here have)
+    (settling_stamps setting (here ++ item.OverNow s ∷ [])
+    (record { each = λ t there. stamped_over here s t (have.each t there) }))
 
 told_stamps : (setting : Setting) (before here : List Item) (step : Step)
     → IsTrue (asks_controller before step) → StampsAreCurrent here → HaveStamps setting here

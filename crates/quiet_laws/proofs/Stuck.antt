@@ -1,13 +1,8 @@
 -- In a quiet journal a step makes a packet stuck only where it reaches no target.
-use Rattle.std.proofs.Common.{ℕ, ◌≡◌, ◌≢◌, ◌<◌, ◌≤◌, ◌⊎◌, ◌==◌, ◌||◌, ◌^◌, Bool, true, false, if◌then◌else◌, Option, Some, None, List, [], ◌∷◌, ◌++◌, length, map, min, max, get_or, set, refl, ap, sym, subst, ◌∙◌, arith, inl, inr, get_or-set_other, get_or-set_same, length-set, bit_or}
+use Rattle.std.proofs.Common.{ℕ, ◌≡◌, ◌≢◌, ◌<◌, ◌≤◌, ◌⊎◌, ◌==◌, ◌||◌, ◌^◌, Bool, true, false, if◌then◌else◌, List, [], ◌∷◌, ◌++◌, length, min, max, get_or, set, refl, ap, sym, subst, ◌∙◌, arith, inl, inr, get_or-set_other, get_or-set_same, length-set, bit_or}
 use Rattle.std.specs.Prelude.{⊤, All, IsTrue, IsFalse}
 use Rattle.std.proofs.lemmas.Bool.{cases_eq, cases_lt}
 use Rattle.std.proofs.lemmas.List.{get_or_past}
-use Rattle.ctrl_msg.specs.declared.message.Body.{Body}
-use Rattle.ctrl_msg.specs.declared.message.Body.TheVariants.{Install, OpenAt, Stamp, Advertise, Hello}
-use Rattle.ctrl_msg.specs.declared.message.Message.{Message}
-use Rattle.ctrl_msg.specs.declared.message.Receiver.{Receiver}
-use Rattle.ctrl_msg.specs.declared.message.Receiver.TheVariants as receiver
 use Rattle.failover.specs.Links.{has_link, no_links, with_link}
 use Rattle.failover.proofs.LinkSets.{has_link-none}
 use Rattle.masks.specs.Masks.{has}
@@ -19,33 +14,32 @@ use Rattle.journal.specs.declared.item.Item.{Item}
 use Rattle.journal.specs.declared.item.Item.TheVariants as item
 use Rattle.steps.specs.Steps.{HasSwitch}
 use Rattle.steps.specs.declared.step.Step.{Step}
-use Rattle.steps.specs.declared.step.Step.TheVariants.{Packet, Hop, Lose, Deliver, Forget, Expire, Update, LinkDown, LinkUp, Crash, Restart, Confirm, Resend}
-use Rattle.update_machine.specs.Adverts.{route_from}
+use Rattle.steps.specs.declared.step.Step.TheVariants.{Packet, Hop}
+use Rattle.update_machine.specs.Adverts.{adverts_known, own_advert, route_from}
+use Rattle.update_machine.specs.Boots.{boot_of, heard, is_up}
 use Rattle.update_machine.specs.Causes.{HaveCauses}
-use Rattle.update_machine.specs.Concerns.{concerns_known, concerns_links, concerns_policies}
-use Rattle.update_machine.specs.Deliveries.{after_hello, controller_items, delivery_items, link_changes, received_items, switch_items}
+use Rattle.update_machine.specs.Concerns.{concerns_links, concerns_policies}
+use Rattle.update_machine.specs.Laws.{LinksKeep}
 use Rattle.update_machine.specs.LinkMasks.{near}
-use Rattle.update_machine.specs.Messages.{sends}
 use Rattle.update_machine.specs.Moves.{put}
 use Rattle.update_machine.specs.Packets.{next_packet}
-use Rattle.update_machine.specs.Pieces.{confirm_items, crash_items, deliver_items, expire_items, forget_items, link_items, lose_items, piece, resend_items, restart_items, sends_or_nothing, step_items, update_items}
+use Rattle.update_machine.specs.Pieces.{piece, step_items}
 use Rattle.update_machine.specs.Setting.{Setting}
-use Rattle.update_machine.specs.Settling.{installs_to, installs_to_all, settling, submitted_items}
-use Rattle.update_machine.specs.Links.{message_of}
 use Rattle.update_machine.specs.Versions.{plan_at}
 use Rattle.update_machine.specs.Ways.{changes_found, found_down, targets_in, targets_of}
-use Rattle.update_machine.proofs.CallerLemmas.{folded_append, have_first, have_in_turn, have_put, known_keeps, links_keep, policies_keep}
-use Rattle.boot_laws.proofs.Facts.{AreKept, fact_on, have_front, have_weaker}
-use Rattle.boot_laws.proofs.SwitchBlocks.{IsOfSettling, settling_settles}
+use Rattle.update_machine.proofs.CallerLemmas.{folded_append, have_first, links_keep, policies_keep}
+use Rattle.boot_laws.proofs.Facts.{AreKept, fact_on, have_front}
+use Rattle.boot_laws.proofs.Grown.{boot_more, heard_more, up_more}
+use Rattle.boot_laws.proofs.Traffic.{KnowsNoRoute}
 use Rattle.quiet_laws.specs.Converged.{AreUnusable, Reaches}
 use Rattle.quiet_laws.specs.Stuck.{GetStuckApart}
 use Rattle.quiet_laws.proofs.Changed.{ends_there}
 use Rattle.quiet_laws.proofs.Converged.{AreQuiet, small_of}
 use Rattle.quiet_laws.proofs.KnownLinks.{quiet_converged}
 use Rattle.quiet_laws.proofs.Near.{near_both}
-use Rattle.quiet_laws.proofs.Plain.{IsSending, all_sendings}
+use Rattle.quiet_laws.proofs.Plain.{HasOthers, IsAside, others_have}
 use Rattle.quiet_laws.proofs.Stamps.{have_rest}
-use Rattle.quiet_laws.proofs.Walks.{KnowsNoRoute, Walk, Walks, hop_walk, packet_walk}
+use Rattle.quiet_laws.proofs.Walks.{Walk, Walks, hop_walk, packet_walk}
 
 -- ---- steps of other kinds make no packet stuck
 
@@ -56,146 +50,16 @@ IsNoEnd before _ = ⊤
 abbrev NoEnd : List Item → List Item → Type 0
 NoEnd journal items = HaveCauses IsNoEnd journal items
 
-sends_end : (journal : List Item) (messages : List Message)
-    → NoEnd journal (sends journal messages)
-sends_end journal messages =
-    have_weaker IsSending IsNoEnd is journal _ (all_sendings journal messages)
+ends_none : HasOthers IsNoEnd
+ends_none = record {
+  aside = is_no_end;
+  delivered = λ journal number is. tt;
+  booted = λ journal s down. tt;
+}
   where
-    is : (before : List Item) (next : Item) → IsSending before next → IsNoEnd before next
-    is before (item.Sent n message) sending = tt
-    is before _ sending = absurd sending
-
-settling_end : (setting : Setting) (journal : List Item)
-    → NoEnd journal (settling setting journal)
-settling_end setting journal =
-    have_weaker IsOfSettling IsNoEnd is journal _ (settling_settles setting journal)
-  where
-    is : (before : List Item) (next : Item) → IsOfSettling before next → IsNoEnd before next
-    is before (item.Stuck i s cause leg down) of = absurd of
-    is before _ of = tt
-
-links_end : (setting : Setting) (before journal : List Item)
-    → NoEnd journal (link_changes setting before journal)
-unfolding link_changes
-links_end setting before journal = sends_end journal _
-
-switch_end : (setting : Setting) (before : List Item) (s : ℕ) (body : Body) (now : List Item)
-    → NoEnd now (switch_items setting before s body now)
-unfolding switch_items
-switch_end setting before s (Install boot tables) now = sends_end now _
-switch_end setting before s (Stamp boot version) now = sends_end now _
-switch_end setting before s (OpenAt boot version) now = grind (arith, links_end)
-switch_end setting before s (Advertise advert) now = grind (arith, sends_end)
-switch_end setting before s _ now = tt
-
-installs_end : (setting : Setting) (s : ℕ) (journal : List Item)
-    → NoEnd journal (installs_to setting s journal)
-unfolding installs_to
-installs_end setting s journal = sends_end journal _
-
-hello_end : (setting : Setting) (before : List Item) (body : Body) (journal : List Item)
-    → NoEnd journal (after_hello setting before body journal)
-hello_end setting before (Hello s boot) journal = grind (arith, installs_end)
-hello_end setting before _ journal = tt
-
-controller_end : (setting : Setting) (before : List Item) (body : Body) (now : List Item)
-    → NoEnd now (controller_items setting before body now)
-unfolding controller_items
-controller_end setting before body now =
-    have_in_turn IsNoEnd (settling setting ∷ after_hello setting before body ∷ [])
-    (settling_end setting, (hello_end setting before body, tt)) now
-
-delivery_end : (setting : Setting) (before : List Item) (number : ℕ) (now : List Item)
-    → NoEnd now (delivery_items setting before number now)
-unfolding delivery_items
-delivery_end setting before number now = by_message (message_of before number)
-  where
-    by_receiver : (to : Receiver) (body : Body) → NoEnd now
-        (received_items setting before number (record { to = to; body = body }) now)
-    by_receiver receiver.Controller body = controller_end setting before body now
-    by_receiver (receiver.Switch s) body = grind (arith, switch_end)
-
-    by_message : (o : Option Message) → NoEnd now (elim o [
-      | None ↦ []
-      | Some message ↦ received_items setting before number message now
-    ])
-    by_message None = tt
-    by_message (Some message) = by_receiver message.to message.body
-
-deliver_end : (setting : Setting) (before : List Item) (number : ℕ) (journal : List Item)
-    → NoEnd journal (deliver_items setting before number journal)
-unfolding deliver_items
-deliver_end setting before number journal = grind (arith, have_first, delivery_end)
-
-all_end : (setting : Setting) (journal : List Item)
-    → NoEnd journal (installs_to_all setting journal)
-unfolding installs_to_all
-all_end setting journal = sends_end journal _
-
-submitted_end : (setting : Setting) (journal : List Item)
-    → NoEnd journal (submitted_items setting journal)
-submitted_end setting journal =
-    have_in_turn IsNoEnd (installs_to_all setting ∷ settling setting ∷ [])
-    (all_end setting, (settling_end setting, tt)) journal
-
-update_end : (setting : Setting) (file : ℕ) (journal : List Item)
-    → NoEnd journal (update_items setting file journal)
-unfolding update_items
-update_end setting file journal = grind (arith, submitted_end)
-
-link_end : (setting : Setting) (before : List Item) (one two : ℕ) (up : Bool)
-    (journal : List Item) → NoEnd journal (link_items setting before one two up journal)
-unfolding link_items
-link_end setting before one two up journal = grind (arith, links_end)
-
-losts_end : (packets : List ℕ) (journal : List Item) → NoEnd journal (map item.Lost packets)
-losts_end [] journal = tt
-losts_end (i ∷ packets) journal = (tt, losts_end packets (journal ++ item.Lost i ∷ []))
-
-down_end : (setting : Setting) (before : List Item) (s : ℕ) (packets : List ℕ)
-    (journal : List Item) → NoEnd journal
-    (put (item.Down s ∷ map item.Lost packets) (link_changes setting before) journal)
-down_end setting before s packets journal =
-    let down : List Item = item.Down s ∷ map item.Lost packets in
-    have_put IsNoEnd down (link_changes setting before) journal
-    (tt, losts_end packets (journal ++ item.Down s ∷ []))
-    (links_end setting before (journal ++ down))
-
-crash_end : (setting : Setting) (before : List Item) (s : ℕ) (journal : List Item)
-    → NoEnd journal (crash_items setting before s journal)
-unfolding crash_items
-crash_end setting before s journal = grind (arith, down_end)
-
-restart_end : (s : ℕ) (journal : List Item) → NoEnd journal (restart_items s journal)
-unfolding restart_items
-restart_end s journal = grind (arith, have_first, sends_end)
-
-confirm_end : (setting : Setting) (s : ℕ) (journal : List Item)
-    → NoEnd journal (confirm_items setting s journal)
-unfolding confirm_items
-confirm_end setting s journal = grind (arith, settling_end)
-
-resend_end : (setting : Setting) (s : ℕ) (journal : List Item)
-    → NoEnd journal (resend_items setting s journal)
-unfolding resend_items
-resend_end setting s journal = by_messages _
-  where
-    by_messages : (messages : List Message) → NoEnd journal (sends_or_nothing journal messages)
-    by_messages [] = (tt, tt)
-    by_messages (message ∷ messages) = sends_end journal (message ∷ messages)
-
-lose_end : (i : ℕ) (journal : List Item) → NoEnd journal (lose_items i journal)
-unfolding lose_items
-lose_end i journal = grind arith
-
-forget_end : (number : ℕ) (journal : List Item) → NoEnd journal (forget_items number journal)
-unfolding forget_items
-forget_end number journal = grind arith
-
-expire_end : (setting : Setting) (s place : ℕ) (journal : List Item)
-    → NoEnd journal (expire_items setting s place journal)
-unfolding expire_items
-expire_end setting s place journal = grind arith
+    is_no_end : (before : List Item) (next : Item) → IsAside before next → IsNoEnd before next
+    is_no_end before (item.Stuck i s cause leg down) is = absurd is
+    is_no_end before _ is = tt
 
 -- ---- a set of links that were found down
 
@@ -298,15 +162,35 @@ record StaysSo (setting : Setting) (journal now : List Item) (i : ℕ) : Type 0 
   targets : (leg : Leg) → targets_of setting now leg ≡ targets_of setting journal leg
   found : AreUnusable setting journal (found_down now i)
 
-walks_known : (setting : Setting) (before : List Item) (next : Item) (s : ℕ)
-    → Walks setting before next → IsFalse (concerns_known s before next)
-walks_known setting before (item.Delivered number) s walks = absurd walks
-walks_known setting before (item.Expired t place message) s walks = absurd walks
-walks_known setting before (item.LinkIs one two up) s walks = absurd walks
-walks_known setting before (item.Down t) s walks = absurd walks
-walks_known setting before (item.Booted t boot) s walks = absurd walks
-walks_known setting before (item.Opened t version) s walks = absurd walks
-walks_known setting before _ s walks = refl
+-- the switch is up in its boot as before, and heard what it had heard
+record IsSame (before after : List Item) (s : ℕ) : Type 0 where
+  up : is_up after s ≡ is_up before s
+  boot : boot_of after s ≡ boot_of before s
+  heard : heard after s ≡ heard before s
+
+walks_same : (setting : Setting) (before : List Item) (next : Item) (s : ℕ)
+    → Walks setting before next → IsSame before (before ++ next ∷ []) s
+walks_same setting before (item.Delivered number) s walks = absurd walks
+walks_same setting before (item.Down t) s walks = absurd walks
+walks_same setting before (item.Booted t boot) s walks = absurd walks
+walks_same setting before next s walks = record {
+  up = up_more before next s;
+  boot = boot_more before next s;
+  heard = heard_more before next s;
+}
+
+-- so it knows the same routes where no links change
+same_route : (setting : Setting) (before after : List Item) (s : ℕ) → IsSame before after s
+    → LinksKeep setting before after → (targets down : List ℕ)
+    → route_from setting after s targets down ≡ route_from setting before s targets down
+unfolding route_from adverts_known
+same_route setting before after s same links targets down =
+    let up : is_up after s ≡ is_up before s = same.up in
+    let boot : boot_of after s ≡ boot_of before s = same.boot in
+    let bodies : heard after s ≡ heard before s = same.heard in
+    let advert : own_advert setting after s ≡ own_advert setting before s = links.advert s in
+    let linked : near setting after s ≡ near setting before s = links.near s in
+    rw (up, boot, bodies, advert, linked) refl
 
 walks_links : (setting : Setting) (before : List Item) (next : Item)
     → Walks setting before next → IsFalse (concerns_links before next)
@@ -346,12 +230,13 @@ stays_on : (setting : Setting) (journal : List Item) → AreQuiet setting journa
     → AreKept (Walks setting) (λ now. StaysSo setting journal now i)
 stays_on setting journal are i before next walks stays =
     let links = links_keep setting before (next ∷ []) (walks_links setting before next walks, tt) in
-    let known = λ (s : ℕ).
-    known_keeps setting s before (next ∷ []) (walks_known setting before next s walks, tt) in
     let plans = policies_keep before (next ∷ []) (walks_policies setting before next walks, tt) in
     record {
       links = λ s. links.near s ∙ stays.links s;
-      routes = λ s targets down. (known s).route targets down ∙ stays.routes s targets down;
+      routes = λ s targets down.
+          same_route setting before (before ++ next ∷ []) s (walks_same setting before next s walks)
+          links targets down
+          ∙ stays.routes s targets down;
       targets = λ leg. by_leg leg (λ v. plans.plan setting v) ∙ stays.targets leg;
       found = found_on setting journal are before next i walks stays;
     }
@@ -396,29 +281,21 @@ end_apart setting journal items front rest i s cause leg down ends is =
     (have_rest IsNoEnd journal front _ (subst (NoEnd journal) is ends)).0
 
 -- the step writes what a packet's step writes, or makes no packet stuck
-step_kinds : (setting : Setting) (before : List Item) (step : Step) (here : List Item)
-    → Walk setting here (step_items setting before step here)
+step_kinds : (setting : Setting) (before : List Item) (row : ℕ) (step : Step)
+    → let here = before ++ item.Row row step ∷ [] in
+    Walk setting here (step_items setting before step here)
     ⊎ NoEnd here (step_items setting before step here)
-step_kinds setting before (Packet s header) here =
-    inl (packet_walk setting (next_packet before) s header here)
-step_kinds setting before (Hop i) here = inl (hop_walk setting i here)
-step_kinds setting before (Lose i) here = inr (lose_end i here)
-step_kinds setting before (Deliver number) here = inr (deliver_end setting before number here)
-step_kinds setting before (Forget number) here = inr (forget_end number here)
-step_kinds setting before (Expire s place) here = inr (expire_end setting s place here)
-step_kinds setting before (Update file) here = inr (update_end setting file here)
-step_kinds setting before (LinkDown one two) here = inr (link_end setting before one two false here)
-step_kinds setting before (LinkUp one two) here = inr (link_end setting before one two true here)
-step_kinds setting before (Crash s) here = inr (crash_end setting before s here)
-step_kinds setting before (Restart s) here = inr (restart_end s here)
-step_kinds setting before (Confirm s) here = inr (confirm_end setting s here)
-step_kinds setting before (Resend s) here = inr (resend_end setting s here)
+step_kinds setting before row (Packet s header) =
+    inl (packet_walk setting (next_packet before) s header _)
+step_kinds setting before row (Hop i) = inl (hop_walk setting i _)
+step_kinds setting before row step =
+    inr (others_have IsNoEnd ends_none setting before row step refl)
 
 pub stuck_reaches_none : (setting : Setting) (journal : List Item) → AreQuiet setting journal
     → GetStuckApart setting journal
 unfolding piece
 stuck_reaches_none setting journal are row step front rest i s cause leg down is none there =
-    elim (step_kinds setting journal step (journal ++ next ∷ [])) [
+    elim (step_kinds setting journal row step) [
       | inl walk ↦ walk_apart setting journal are
           (put (next ∷ []) (step_items setting journal step) journal) front rest i s cause leg down
           (have_first (Walks setting) next (step_items setting journal step) journal tt walk) is

@@ -27,7 +27,7 @@ use Rattle.mark_laws.proofs.Switches.{turns}
 use Rattle.advert_laws.specs.Adverts.{OwnAreNewest}
 use Rattle.advert_laws.proofs.AllAdverts.{own_told}
 use Rattle.advert_laws.proofs.BothCauses.{HasBothCauses, behind_both}
-use Rattle.advert_laws.proofs.NetLinks.{own_origin}
+use Rattle.advert_laws.proofs.NetLinks.{ends_serve, own_origin}
 use Rattle.advert_laws.proofs.Newest.{own_newest, own_on}
 use Rattle.advert_laws.proofs.OwnAdverts.{same_near, same_seq}
 use Rattle.quiet_laws.specs.Converged.{HasConverged}
@@ -40,7 +40,7 @@ use Rattle.quiet_laws.proofs.Floods.{known_given, spread_at_ends}
 use Rattle.quiet_laws.proofs.Givens.{HasNews, IsGiven, IsHad, IsToldTo, as_new_itself, as_new_through}
 use Rattle.quiet_laws.proofs.KnownLinks.{quiet_converged}
 use Rattle.quiet_laws.proofs.Lists.{IsIn}
-use Rattle.quiet_laws.proofs.Near.{ends_serve, near_both}
+use Rattle.quiet_laws.proofs.Near.{near_both}
 use Rattle.quiet_laws.proofs.News.{Spread}
 use Rattle.quiet_laws.proofs.Sendings.{IsInOrder, pieces_in_order, traced_at_first}
 

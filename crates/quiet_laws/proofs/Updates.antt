@@ -1,7 +1,7 @@
 -- In a quiet journal every update has come to its end.
 use Rattle.std.proofs.Common.{ℕ, ◌≡◌, ◌+◌, ◌-◌, ◌≤◌, ◌<◌, ◌⊎◌, ◌==◌, ◌&&◌, ◌||◌, Bool, true, false, not, if◌then◌else◌, Option, Some, None, List, [], ◌∷◌, ◌++◌, length, map, min, refl, ap, sym, subst, ◌∙◌, arith, inl, inr}
 use Rattle.std.specs.Prelude.{IsTrue, IsFalse, filter_map, fold, is_some, max, nat_eq, nat_lt, unwrap_or}
-use Rattle.std.specs.List.{AllByRecursion, cons_option, list_all, list_any}
+use Rattle.std.specs.List.{AllByRecursion, list_all, list_any}
 use Rattle.std.proofs.lemmas.Bool.{cases_lt, eq-eqb}
 use Rattle.std.proofs.lemmas.Bool.Decides.{nat_tests}
 use Rattle.std.proofs.lemmas.List.Elements.{All-from_recursion}
@@ -36,7 +36,7 @@ use Rattle.quiet_laws.specs.Updated.{IsUpdated}
 use Rattle.quiet_laws.proofs.Answered.{HaveSpoken, piece_spoken, spoken_at_first}
 use Rattle.quiet_laws.proofs.Downs.{AreRecorded, caused_recorded}
 use Rattle.quiet_laws.proofs.Installs.{HaveInstalls, installs_at_first, piece_installs}
-use Rattle.quiet_laws.proofs.Lists.{IsIn, all_in, each_of_in, in_range, in_right, of_filter, of_range}
+use Rattle.quiet_laws.proofs.Lists.{IsIn, all_in, each_of_in, in_filter_map, in_range, in_right, of_filter, of_range}
 use Rattle.quiet_laws.proofs.Received.{WasHeard, heard_of, told_of}
 use Rattle.quiet_laws.proofs.Sendings.{AreTraced, IsInOrder, IsSent, caused_traced, pieces_in_order}
 use Rattle.quiet_laws.proofs.Stamps.{HaveStamps, piece_stamps, stamps_at_first}
@@ -64,21 +64,6 @@ least_same : (c : ℕ) (xs : List ℕ) → AllByRecursion (λ x. x ≡ c) xs
     → unwrap_or (least xs) c ≡ c
 least_same c [] all = refl
 least_same c (x ∷ xs) all = fold_least c x xs all.0 all.1
-
--- what bodies tell
-in_told : (reads : Body → Option ℕ) (body : Body) (v : ℕ) (bodies : List Body)
-    → IsIn body bodies → reads body ≡ Some v → IsIn v (filter_map reads bodies)
-in_told reads body v [] is told = absurd is
-in_told reads body v (x ∷ bodies) is told = elim is [
-  | inl here ↦
-      let read : reads x ≡ Some v = ap reads here ∙ told in rw read (inl refl)
-  | inr later ↦ by_read (reads x) (in_told reads body v bodies later told)
-]
-  where
-    by_read : (o : Option ℕ) → IsIn v (filter_map reads bodies)
-        → IsIn v (cons_option o (filter_map reads bodies))
-    by_read None is = is
-    by_read (Some w) is = inr is
 
 any_in : (v : ℕ) (xs : List ℕ) → IsIn v xs → IsTrue (list_any (nat_eq v) xs)
 any_in v [] is = absurd is
@@ -189,7 +174,7 @@ unfolding known_boot
 hello_known journal s boot is =
     let same : (s == s) ≡ true = eq-eqb s s refl in
     in_fold 1 boot (filter_map (hello_boot s) (controller_heard journal))
-    (in_told (hello_boot s) (Hello s boot) boot (controller_heard journal) is (rw same refl))
+    (in_filter_map (hello_boot s) (Hello s boot) boot (controller_heard journal) is (rw same refl))
 
 -- the controller knows the boot of each switch that is up
 known_own : (setting : Setting) (journal : List Item) → AreReady setting journal
@@ -226,8 +211,9 @@ installed_acked journal s version is =
     ((if known_boot journal s == 1 then 1 ∷ [] else [])
     ++ filter_map (installed_in s (known_boot journal s)) (controller_heard journal))
     (in_right version (if known_boot journal s == 1 then 1 ∷ [] else []) _
-    (in_told (installed_in s (known_boot journal s)) (Installed s (known_boot journal s) version)
-    version (controller_heard journal) is (rw (here, own) refl)))
+    (in_filter_map (installed_in s (known_boot journal s))
+    (Installed s (known_boot journal s) version) version (controller_heard journal) is
+    (rw (here, own) refl)))
 
 first_acked : (journal : List Item) (s : ℕ) → known_boot journal s ≡ 1
     → IsTrue (has_acked journal s 1)
@@ -412,7 +398,7 @@ unfolding stamp_of
 heard_stamp journal s version body is stamp =
     in_fold 0 version (first_stamp journal s ++ filter_map stamp_in (heard journal s))
     (in_right version (first_stamp journal s) (filter_map stamp_in (heard journal s))
-    (in_told stamp_in body version (heard journal s) is stamp))
+    (in_filter_map stamp_in body version (heard journal s) is stamp))
 
 first_stamped : (journal : List Item) (s : ℕ) → IsTrue (is_up journal s)
     → boot_of journal s ≡ 1 → 1 ≤ stamp_of journal s
@@ -454,7 +440,7 @@ stamped_acked journal s version is =
     eq-eqb (known_boot journal s) (known_boot journal s) refl in
     in_fold (open_version journal s) version
     (filter_map (stamped_in s (known_boot journal s)) (controller_heard journal))
-    (in_told (stamped_in s (known_boot journal s)) (Stamped s (known_boot journal s) version)
+    (in_filter_map (stamped_in s (known_boot journal s)) (Stamped s (known_boot journal s) version)
     version (controller_heard journal) is (rw (here, own) refl))
 
 -- a switch that is up stamps with the current version, and is known to

@@ -34,7 +34,9 @@ use Rattle.update_machine.specs.Pieces.{confirm_items, expire_items, forget_item
 use Rattle.update_machine.specs.Setting.{Setting, switches_of}
 use Rattle.update_machine.specs.Settling.{collect_for, current_items, install_for, installs_to, installs_to_all, open_items, resent_by_controller, resent_to_member, retired_items, settling, stamp_for, submitted_items, unacked, versions_from_current}
 use Rattle.update_machine.specs.Versions.{version_count}
-use Rattle.update_machine.proofs.CallerLemmas.{count_of_append, have_first, have_in_turn, policies_keep}
+use Rattle.update_machine.proofs.CallerLemmas.{count_of_append, policies_keep}
+use Rattle.boot_laws.proofs.Commands.{IsOfSettling, settling_settles}
+use Rattle.boot_laws.proofs.Facts.{have_weaker}
 use Rattle.send_laws.proofs.LinkSends.{held_few}
 use Rattle.send_laws.proofs.Sums.{length_filter_less, sum_each}
 
@@ -165,36 +167,29 @@ each_few setting net journal to test =
       switches_few setting net test,
     )
 
-mark_few : (setting : Setting) → IsNet setting.net → (journal : List Item) (to : ℕ → Message)
-    (test : ℕ → Bool) (next : Item) → is_sending next ≡ false
-    → sent (put (next ∷ []) (λ raised. sends raised (map to (filter test (switches_of setting))))
-    journal) ≤ 64
-mark_few setting net journal to test next none =
+-- a mark that rises is told to the members
+mark_few : (setting : Setting) → IsNet setting.net → (journal : List Item) (next : Item)
+    → is_sending next ≡ false → (to : ℕ → Message) (rises : Bool) → sent (elim rises [
+      | false ↦ []
+      | true ↦ put (next ∷ []) (λ raised. sends raised (map to (members setting journal))) journal
+    ]) ≤ 64
+mark_few setting net journal next none to false = omega arith
+mark_few setting net journal next none to true =
     let alone : sent (next ∷ []) ≡ 0 = rw none refl in
     omega (
       arith,
-      put_few (next ∷ [])
-          (λ raised. sends raised (map to (filter test (switches_of setting)))) journal,
+      put_few (next ∷ []) (λ raised. sends raised (map to (members setting journal))) journal,
       alone,
-      each_few setting net (journal ++ next ∷ []) to test,
+      each_few setting net (journal ++ next ∷ []) to (is_member journal),
     )
 
 current_few : (setting : Setting) → IsNet setting.net → (journal : List Item)
     → sent (current_items setting journal) ≤ 64
 unfolding current_items
 current_few setting net journal =
-    by_test (nat_lt (current_mark journal) (next_current setting journal))
-  where
-    by_test : (b : Bool) → sent (elim b [
-      | false ↦ []
-      | true ↦ put (item.Current (next_current setting journal) ∷ [])
-          (λ raised. sends raised (map (stamp_for journal (next_current setting journal))
-          (members setting journal))) journal
-    ]) ≤ 64
-    by_test false = omega arith
-    by_test true =
-        mark_few setting net journal (stamp_for journal (next_current setting journal))
-        (is_member journal) (item.Current (next_current setting journal)) refl
+    let version : ℕ = next_current setting journal in
+    mark_few setting net journal (item.Current version) refl (stamp_for journal version)
+    (nat_lt (current_mark journal) version)
 
 open_few : (setting : Setting) → IsNet setting.net → (journal : List Item)
     → sent (open_items setting journal) ≤ 64
@@ -205,18 +200,9 @@ retired_few : (setting : Setting) → IsNet setting.net → (journal : List Item
     → sent (retired_items setting journal) ≤ 64
 unfolding retired_items
 retired_few setting net journal =
-    by_test (nat_lt (retired_mark journal) (next_retired setting journal))
-  where
-    by_test : (b : Bool) → sent (elim b [
-      | false ↦ []
-      | true ↦ put (item.Retired (next_retired setting journal) ∷ [])
-          (λ raised. sends raised (map (collect_for journal (next_retired setting journal))
-          (members setting journal))) journal
-    ]) ≤ 64
-    by_test false = omega arith
-    by_test true =
-        mark_few setting net journal (collect_for journal (next_retired setting journal))
-        (is_member journal) (item.Retired (next_retired setting journal)) refl
+    let version : ℕ = next_retired setting journal in
+    mark_few setting net journal (item.Retired version) refl (collect_for journal version)
+    (nat_lt (retired_mark journal) version)
 
 pub settling_few : (setting : Setting) → IsNet setting.net → (journal : List Item)
     → sent (settling setting journal) ≤ 192
@@ -454,40 +440,16 @@ passed_few setting net journal s advert =
 
 -- ---- what the controller does: settling submits nothing
 
-no_version_sent : (messages : List Message) (journal : List Item) (n : ℕ)
-    → NoneConcern concerns_policies journal (sent_from n messages)
-unfolding sent_from
-no_version_sent [] journal n = tt
-no_version_sent (message ∷ messages) journal n =
-    (refl, no_version_sent messages (journal ++ item.Sent n message ∷ []) (n + 1))
-
-no_versions : (journal : List Item) (messages : List Message)
-    → NoneConcern concerns_policies journal (sends journal messages)
-no_versions journal messages = no_version_sent messages journal (next_message journal)
-
-current_submitless : (setting : Setting) (journal : List Item)
-    → NoneConcern concerns_policies journal (current_items setting journal)
-unfolding current_items
-current_submitless setting journal = grind (arith, have_first, no_versions)
-
-open_submitless : (setting : Setting) (journal : List Item)
-    → NoneConcern concerns_policies journal (open_items setting journal)
-unfolding open_items
-open_submitless setting journal = no_versions journal _
-
-retired_submitless : (setting : Setting) (journal : List Item)
-    → NoneConcern concerns_policies journal (retired_items setting journal)
-unfolding retired_items
-retired_submitless setting journal = grind (arith, have_first, no_versions)
+settling_submits_none : (before : List Item) (next : Item) → IsOfSettling before next
+    → IsFalse (concerns_policies before next)
+settling_submits_none before (item.Submitted file version) of = absurd of
+settling_submits_none before _ of = refl
 
 settling_submitless : (setting : Setting) (journal : List Item)
     → NoneConcern concerns_policies journal (settling setting journal)
-unfolding settling
 settling_submitless setting journal =
-    have_in_turn (λ before next. IsFalse (concerns_policies before next))
-    (current_items setting ∷ open_items setting ∷ retired_items setting ∷ [])
-    (current_submitless setting, (open_submitless setting, (retired_submitless setting, tt)))
-    journal
+    have_weaker IsOfSettling (λ before next. IsFalse (concerns_policies before next))
+    settling_submits_none journal _ (settling_settles setting journal)
 
 hello_few : (setting : Setting) (before : List Item) (body : Body) (journal : List Item)
     → sent (after_hello setting before body journal) ≤ version_count journal + 1

@@ -1,6 +1,7 @@
 -- What a step does to links, and how many messages it sends: links stay as they are, or those of
 -- one switch change and are told of, or a switch begins a boot.
 use Rattle.std.proofs.Common.{ℕ, ◌≡◌, ◌+◌, ◌≤◌, length, Bool, true, false, ◌⊎◌, min, max, Option, Some, None, List, [], ◌∷◌, ◌++◌, map, refl, ap, sym, subst, ◌∙◌, arith, inl, inr, append_assoc, append-nil}
+use Rattle.std.specs.Prelude.{IsFalse}
 use Rattle.std.specs.Bool.{beq}
 use Rattle.ctrl_msg.specs.declared.message.Body.{Body}
 use Rattle.ctrl_msg.specs.declared.message.Body.TheVariants.{Install, OpenAt, Stamp, Advertise}
@@ -19,14 +20,16 @@ use Rattle.update_machine.specs.Links.{is_link_up, serves, message_of}
 use Rattle.update_machine.specs.Messages.{is_deliverable, sends}
 use Rattle.update_machine.specs.Moves.{put}
 use Rattle.update_machine.specs.Packets.{next_packet}
-use Rattle.update_machine.specs.Pieces.{crash_items, deliver_items, hello_of, link_items, nothing, piece, resend_items, resent_by_switch, restart_items, sends_or_nothing, step_items}
+use Rattle.update_machine.specs.Pieces.{crash_items, deliver_items, hello_of, link_items, nothing, piece, resend_items, restart_items, step_items}
 use Rattle.update_machine.specs.Setting.{Setting}
-use Rattle.update_machine.specs.Settling.{resent_by_controller}
 use Rattle.update_machine.specs.Versions.{stamp_of, version_count}
 use Rattle.update_machine.specs.Travels.{packets_at}
+use Rattle.boot_laws.proofs.Commands.{confirm_control, controller_control, update_control}
+use Rattle.boot_laws.proofs.Crashes.{losts_have}
 use Rattle.boot_laws.proofs.Grown.{count_more}
+use Rattle.boot_laws.proofs.Sent.{resends_any}
 use Rattle.advert_laws.proofs.LinkCauses.{ChangedNoLinks}
-use Rattle.advert_laws.proofs.Plain.{confirm_plain, controller_plain, expire_plain, forget_plain, hop_plain, lose_plain, packet_plain, plain_keeps_links, sends_silent, update_plain}
+use Rattle.advert_laws.proofs.Plain.{control_plain, expire_plain, forget_plain, hop_plain, lose_plain, packet_plain, plain_keeps_links, sends_silent}
 use Rattle.advert_laws.proofs.Stepping.{delivered_first, row_first}
 use Rattle.send_laws.proofs.Counts.{confirm_few, controller_few, expire_few, forget_few, hop_few, lose_few, packet_few, passed_few, put_few, resend_few, sends_count, sent, sent_more, update_few}
 use Rattle.send_laws.proofs.LinkSends.{all_told, changes_few}
@@ -126,12 +129,6 @@ link_kind setting before row step one two up = by_test (beq (is_link_up before o
         (sym (append-nil ((before ++ item.Row row step ∷ [])
         ++ item.LinkIs (min one two) (max one two) up ∷ []))))))
 
-lost_silent : (packets : List ℕ) (journal : List Item)
-    → NoneConcern concerns_links journal (map item.Lost packets)
-lost_silent [] journal = tt
-lost_silent (i ∷ packets) journal =
-    (refl, lost_silent packets (journal ++ item.Lost i ∷ []))
-
 lost_unsent : (packets : List ℕ) → sent (map item.Lost packets) ≡ 0
 lost_unsent [] = refl
 lost_unsent (i ∷ packets) =
@@ -151,7 +148,8 @@ crash_kind setting before row step s = by_up (is_up before s)
     by_up false = nothing_happens setting before row step
     by_up true = inr (inl (link_piece setting before (item.Row row step ∷ []) (item.Down s)
         (map item.Lost (packets_at before s)) s refl (row_first before row step) (refl, tt)
-        (lost_silent (packets_at before s) ((before ++ item.Row row step ∷ []) ++ item.Down s ∷ []))
+        (losts_have (λ now next. IsFalse (concerns_links now next)) (λ now i. refl)
+        (packets_at before s) ((before ++ item.Row row step ∷ []) ++ item.Down s ∷ []))
         (sent_more (item.Row row step) (item.Down s ∷ map item.Lost (packets_at before s))
         ∙ omega (
           arith,
@@ -282,7 +280,8 @@ received_kind setting before row number step message = by_receiver message.to
     by_receiver receiver.Controller =
         behind_delivered setting before row number step
         (controller_items setting before message.body now)
-        (plain_keeps_links now _ (controller_plain setting before message.body now))
+        (plain_keeps_links now _
+        (control_plain now _ (controller_control setting before message.body now)))
         (λ net versions. omega (
           arith,
           versions,
@@ -319,14 +318,9 @@ deliver_kind setting before row number step =
 
 resend_silent : (setting : Setting) (s : ℕ) (journal : List Item)
     → NoneConcern concerns_links journal (resend_items setting s journal)
-unfolding resend_items
 resend_silent setting s journal =
-    by_messages (resent_by_switch setting journal s ++ resent_by_controller setting journal s)
-  where
-    by_messages : (messages : List Message)
-        → NoneConcern concerns_links journal (sends_or_nothing journal messages)
-    by_messages [] = (refl, tt)
-    by_messages (message ∷ messages) = sends_silent journal (message ∷ messages)
+    resends_any (λ before next. IsFalse (concerns_links before next)) (λ before n message. refl)
+    setting s journal refl
 
 step_kind : (setting : Setting) (before : List Item) (row : ℕ) (step : Step)
     → let here = before ++ item.Row row step ∷ [] in
@@ -365,7 +359,7 @@ step_kind setting before row (Expire s place) = behind_row setting before row _ 
           (before ++ item.Row row (Expire s place) ∷ []),
     ))
 step_kind setting before row (Update file) = behind_row setting before row _ _
-    (plain_keeps_links _ _ (update_plain setting file _))
+    (plain_keeps_links _ _ (control_plain _ _ (update_control setting file _)))
     (λ net versions. omega (
       arith,
       update_few setting net file
@@ -378,7 +372,7 @@ step_kind setting before row (LinkUp one two) =
 step_kind setting before row (Crash s) = crash_kind setting before row (Crash s) s
 step_kind setting before row (Restart s) = restart_kind setting before row (Restart s) s
 step_kind setting before row (Confirm s) = behind_row setting before row _ _
-    (plain_keeps_links _ _ (confirm_plain setting s _))
+    (plain_keeps_links _ _ (control_plain _ _ (confirm_control setting s _)))
     (λ net versions. omega (
       arith,
       confirm_few setting net s

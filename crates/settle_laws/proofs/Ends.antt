@@ -12,16 +12,14 @@ use Rattle.journal.specs.declared.item.Item.TheVariants as item
 use Rattle.steps.specs.declared.step.Step.{Step}
 use Rattle.steps.specs.declared.step.Step.TheVariants.{Deliver, Update, Confirm}
 use Rattle.update_machine.specs.Answers.{StepOfRow, after_steps}
-use Rattle.update_machine.specs.Boots.{is_up}
 use Rattle.update_machine.specs.Causes.{HaveCauses}
 use Rattle.update_machine.specs.Concerns.{is_message_to_controller}
 use Rattle.update_machine.specs.Deliveries.{after_hello, controller_items, delivery_items, received_items, to_controller}
 use Rattle.update_machine.specs.Marks.{AreSettled, is_member, is_over}
-use Rattle.update_machine.specs.Messages.{is_deliverable}
 use Rattle.update_machine.specs.Moves.{put}
-use Rattle.update_machine.specs.Pieces.{confirm_items, deliver_items, nothing, piece, step_items, update_code, update_items}
+use Rattle.update_machine.specs.Pieces.{confirm_items, deliver_items, nothing, piece, step_items, update_items}
 use Rattle.update_machine.specs.Setting.{Setting, switches_of}
-use Rattle.update_machine.specs.Settling.{installs_to, installs_to_all, settling, submitted_items, versions_from_current}
+use Rattle.update_machine.specs.Settling.{installs_to, installs_to_all, settling, versions_from_current}
 use Rattle.update_machine.specs.Versions.{version_count}
 use Rattle.update_machine.specs.Links.{message_of}
 use Rattle.update_machine.proofs.CallerLemmas.{have_append, start_laws}
@@ -31,6 +29,7 @@ use Rattle.boot_laws.proofs.Behind.{at_ends}
 use Rattle.boot_laws.proofs.Facts.{have_front}
 use Rattle.boot_laws.proofs.Pieces.{pieces_have}
 use Rattle.boot_laws.proofs.Sends.{each}
+use Rattle.boot_laws.proofs.StepCases.{confirm_cases, deliver_cases, update_cases}
 use Rattle.mark_laws.proofs.Current.{current_at_first, next_below}
 use Rattle.mark_laws.proofs.Marks.{bounded}
 use Rattle.settle_laws.specs.Steps.{asks_controller}
@@ -115,93 +114,40 @@ delivered_settled setting before number now is =
       | Some message ↦ received_items setting before number message now
     ])) (sym told.1) (heard_settled setting before told.0 now)
 
+-- where the items have their causes the marks are settled
+abbrev Settles : Setting → List Item → Type 0
+Settles setting journal = AreCaused setting journal → AreSettled setting journal
+
 deliver_settled : (setting : Setting) (before : List Item) (number : ℕ) (here : List Item)
     → IsTrue (is_message_to_controller before number) → AreSettled setting here
-    → AreCaused setting (here ++ deliver_items setting before number here)
-    → AreSettled setting (here ++ deliver_items setting before number here)
-unfolding deliver_items
-deliver_settled setting before number here is settled = by_test (is_deliverable before number)
-  where
-    next : Item
-    next = item.Delivered number
-
-    now : List Item
-    now = here ++ next ∷ []
-
-    by_test : (b : Bool) → AreCaused setting (here ++ elim b [
-      | false ↦ nothing
-      | true ↦ put (next ∷ []) (delivery_items setting before number) here
-    ]) → AreSettled setting (here ++ elim b [
-      | false ↦ nothing
-      | true ↦ put (next ∷ []) (delivery_items setting before number) here
-    ])
-    by_test false = λ have. left_settled setting here nothing (tt, tt) settled
-    by_test true =
-        subst (λ js. AreCaused setting js → AreSettled setting js)
-        (append_assoc here (next ∷ []) (delivery_items setting before number now))
-        (delivered_settled setting before number now is)
+    → Settles setting (here ++ deliver_items setting before number here)
+deliver_settled setting before number here is settled =
+    deliver_cases (Settles setting) setting before number here
+    (λ have. left_settled setting here nothing (tt, tt) settled)
+    (delivered_settled setting before number (here ++ item.Delivered number ∷ []) is)
 
 -- ---- an update, and a confirmation
 
-submitted_settled : (setting : Setting) (now : List Item)
-    → AreCaused setting (now ++ submitted_items setting now)
-    → AreSettled setting (now ++ submitted_items setting now)
-submitted_settled setting now =
-    subst (λ js. AreCaused setting js → AreSettled setting js)
-    (sym (in_two (installs_to_all setting) (settling setting) now))
+update_settled : (setting : Setting) (file : ℕ) (here : List Item) → AreSettled setting here
+    → Settles setting (here ++ update_items setting file here)
+update_settled setting file here settled =
+    let now : List Item = here ++ item.Submitted file (version_count here + 1) ∷ [] in
+    update_cases (Settles setting) setting file here
+    (λ code have. left_settled setting here (item.Refused file code ∷ []) (tt, tt) settled)
     (settled_in setting (now ++ installs_to_all setting now))
 
-update_settled : (setting : Setting) (file : ℕ) (here : List Item) → AreSettled setting here
-    → AreCaused setting (here ++ update_items setting file here)
-    → AreSettled setting (here ++ update_items setting file here)
-unfolding update_items
-update_settled setting file here settled = by_code (update_code setting here file)
-  where
-    next : Item
-    next = item.Submitted file (version_count here + 1)
-
-    by_code : (o : Option ℕ) → AreCaused setting (here ++ elim o [
-      | Some code ↦ item.Refused file code ∷ []
-      | None ↦ put (next ∷ []) (submitted_items setting) here
-    ]) → AreSettled setting (here ++ elim o [
-      | Some code ↦ item.Refused file code ∷ []
-      | None ↦ put (next ∷ []) (submitted_items setting) here
-    ])
-    by_code (Some code) = λ have.
-        left_settled setting here (item.Refused file code ∷ []) (tt, tt) settled
-    by_code None =
-        subst (λ js. AreCaused setting js → AreSettled setting js)
-        (append_assoc here (next ∷ []) (submitted_items setting (here ++ next ∷ [])))
-        (submitted_settled setting (here ++ next ∷ []))
-
 confirm_settled : (setting : Setting) (s : ℕ) (here : List Item) → AreSettled setting here
-    → AreCaused setting (here ++ confirm_items setting s here)
-    → AreSettled setting (here ++ confirm_items setting s here)
-unfolding confirm_items
-confirm_settled setting s here settled = by_up (is_up here s)
-  where
-    next : Item
-    next = item.OverNow s
-
-    by_up : (b : Bool) → AreCaused setting (here ++ elim b [
-      | true ↦ nothing
-      | false ↦ put (next ∷ []) (settling setting) here
-    ]) → AreSettled setting (here ++ elim b [
-      | true ↦ nothing
-      | false ↦ put (next ∷ []) (settling setting) here
-    ])
-    by_up true = λ have. left_settled setting here nothing (tt, tt) settled
-    by_up false =
-        subst (λ js. AreCaused setting js → AreSettled setting js)
-        (append_assoc here (next ∷ []) (settling setting (here ++ next ∷ [])))
-        (settled_in setting (here ++ next ∷ []))
+    → Settles setting (here ++ confirm_items setting s here)
+confirm_settled setting s here settled =
+    confirm_cases (Settles setting) setting s here
+    (λ have. left_settled setting here nothing (tt, tt) settled)
+    (settled_in setting (here ++ item.OverNow s ∷ []))
 
 -- ---- steps
 
 told_settled : (setting : Setting) (before here : List Item) (step : Step)
     → IsTrue (asks_controller before step) → AreSettled setting here
-    → AreCaused setting (here ++ step_items setting before step here)
-    → AreSettled setting (here ++ step_items setting before step here)
+    → Settles setting (here ++ step_items setting before step here)
 told_settled setting before here (Deliver number) is settled =
     deliver_settled setting before number here is settled
 told_settled setting before here (Update file) is settled =

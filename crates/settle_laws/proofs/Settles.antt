@@ -17,11 +17,13 @@ use Rattle.update_machine.specs.Moves.{in_turn, put}
 use Rattle.update_machine.specs.Setting.{Setting, switches_of}
 use Rattle.update_machine.specs.Settling.{collect_for, current_items, open_for, open_items, opening, retired_items, settling, stamp_for}
 use Rattle.update_machine.specs.Versions.{version_count}
+use Rattle.boot_laws.proofs.Commands.{IsCommand, IsOfSettling, current_settles, each_command, open_settles, retired_settles}
 use Rattle.boot_laws.proofs.Facts.{AreKept, fact_on}
 use Rattle.boot_laws.proofs.Grown.{count_more, current_more, known_more, opened_at_more, over_more, retired_more, told_more}
 use Rattle.boot_laws.proofs.Sends.{acked_same, each_range}
+use Rattle.boot_laws.proofs.Sent.{sent_each}
 use Rattle.boot_laws.proofs.Serving.{member_of, member_on, own_opening, still_opened}
-use Rattle.boot_laws.proofs.SwitchBlocks.{IsOfSettling, current_settles, open_settles, retired_settles, sent_settle}
+pub use Rattle.boot_laws.proofs.StepCases.{in_two}
 use Rattle.mark_laws.proofs.Members.{opened_same}
 use Rattle.mark_laws.proofs.Told.{each_in_range}
 use Rattle.settle_laws.proofs.Leaves.{leaves_keep, member_same, stamp_same}
@@ -280,7 +282,9 @@ all_opened (t ∷ switches) base journal n version same =
     (λ now. AllByRecursion (λ s. IsTrue (is_some (opened_at now s))) (t ∷ switches))
     (append_assoc journal (next ∷ []) rest) (
       opened_stays (journal ++ next ∷ []) rest t
-          (sent_settle messages (journal ++ next ∷ []) (n + 1))
+          (sent_each IsOfSettling (λ message. IsCommand message.body) (λ before m message is. is)
+          messages (journal ++ next ∷ []) (n + 1)
+          (each_command (open_for base version) (λ s. tt) switches))
           (opens_now base journal t n version (same t)),
       all_opened switches base (journal ++ next ∷ []) (n + 1) version
           (λ s. known_more journal next s ∙ same s),
@@ -510,13 +514,6 @@ retired_is setting journal =
 -- ---- together
 
 -- blocks in turn
-pub in_two : (a b : List Item → List Item) (journal : List Item)
-    → let one = journal ++ a journal in journal ++ in_turn (a ∷ b ∷ []) journal ≡ one ++ b one
-in_two a b journal =
-    let one : List Item = journal ++ a journal in
-    sym (append_assoc journal (a journal) (in_turn (b ∷ []) one))
-    ∙ ap (λ items. one ++ items) (append-nil (b one))
-
 pub in_three : (a b c : List Item → List Item) (journal : List Item)
     → let one = journal ++ a journal in let two = one ++ b one in
     journal ++ in_turn (a ∷ b ∷ c ∷ []) journal ≡ two ++ c two
