@@ -1,27 +1,28 @@
 -- Steps that aren't of packets bring no packet on and tell no cache rule.
-use Rattle.std.proofs.Common.{ℕ, ◌+◌, ◌-◌, Bool, true, false, List, [], ◌∷◌, ◌++◌, map, arith}
-use Rattle.std.specs.Prelude.{⊤, ◌==◌, nat_lt, if◌then◌else◌, filter}
-use Rattle.std.specs.List.{AllByRecursion, flat_map, range_with_len}
+use Rattle.std.proofs.Common.{ℕ, Bool, true, false, List, [], ◌∷◌, ◌++◌, map, arith}
+use Rattle.std.specs.Prelude.{⊤, filter}
+use Rattle.std.specs.List.{AllByRecursion}
 use Rattle.ctrl_msg.specs.declared.message.Body.{Body}
-use Rattle.ctrl_msg.specs.declared.message.Body.TheVariants.{Install, OpenAt, Stamp, CacheRule, Advertise, Hello}
+use Rattle.ctrl_msg.specs.declared.message.Body.TheVariants.{Install, OpenAt, Stamp, CacheRule, Advertise}
 use Rattle.ctrl_msg.specs.declared.message.Message.{Message}
 use Rattle.masks.specs.Masks.{has}
 use Rattle.journal.specs.declared.item.Item.{Item}
 use Rattle.journal.specs.declared.item.Item.TheVariants as item
 use Rattle.update_machine.specs.Adverts.{held_adverts, own_advert}
-use Rattle.update_machine.specs.Boots.{is_up}
 use Rattle.update_machine.specs.Causes.{HaveCauses}
-use Rattle.update_machine.specs.Deliveries.{advert_to, after_hello, controller_items, delivery_items, has_changed, link_changes, passed_on, received_items, switch_items, messages_of, messages_over, switches_in}
+use Rattle.update_machine.specs.Deliveries.{advert_to, has_changed, link_changes, passed_on, switch_items, messages_of, messages_over, switches_in}
 use Rattle.update_machine.specs.LinkMasks.{near}
-use Rattle.update_machine.specs.Marks.{acked_stamp, current_mark, retired_mark}
-use Rattle.update_machine.specs.Messages.{next_message, sends, sent_from}
-use Rattle.update_machine.specs.Pieces.{confirm_items, deliver_items, expire_items, forget_items, hello_of, link_items, resend_items, resent_by_switch, restart_items, sends_or_nothing, update_items}
+use Rattle.update_machine.specs.Messages.{sends}
+use Rattle.update_machine.specs.Pieces.{deliver_items, expire_items, forget_items, link_items, resend_items, restart_items}
 use Rattle.update_machine.specs.Setting.{Setting, switches_of}
-use Rattle.update_machine.specs.Settling.{collect_for, current_items, install_for, installs_to, installs_to_all, open_for, open_items, resent_by_controller, resent_to_member, retired_items, settling, stamp_for, submitted_items, unacked}
-use Rattle.update_machine.specs.Versions.{version_count}
-use Rattle.update_machine.proofs.CallerLemmas.{have_first, have_in_turn}
+use Rattle.update_machine.specs.Settling.{install_for, unacked, versions_from_current}
+use Rattle.update_machine.proofs.CallerLemmas.{have_first}
+use Rattle.boot_laws.proofs.Commands.{Control, IsCommand, IsControl, controller_control}
+use Rattle.boot_laws.proofs.Delivered.{deliver_has, delivery_has}
 use Rattle.boot_laws.proofs.Facts.{have_weaker}
-use Rattle.boot_laws.proofs.Sends.{each, each_append, each_flat_map, each_map}
+use Rattle.boot_laws.proofs.Resent.{each_by_controller, each_to_member, later_versions, resent_has}
+use Rattle.boot_laws.proofs.Sends.{each, each_flat_map, each_map}
+use Rattle.boot_laws.proofs.Sent.{each_by_switch, sends_each}
 use Rattle.way_laws.specs.WayCauses.{WayCause}
 
 -- ---- items
@@ -79,24 +80,20 @@ aside_ways setting journal items aside =
 
 -- ---- messages
 
-abbrev AreOther : List Message → Type 0
-AreOther messages = AllByRecursion (λ message. IsOther message.body) messages
+abbrev TellsOther : Message → Type 0
+TellsOther message = IsOther message.body
 
-sent_aside : (messages : List Message) (journal : List Item) (n : ℕ) → AreOther messages
-    → AreAside journal (sent_from n messages)
-unfolding sent_from
-sent_aside [] journal n others = tt
-sent_aside (message ∷ messages) journal n others =
-    (others.0, sent_aside messages (journal ++ item.Sent n message ∷ []) (n + 1) others.1)
+abbrev AreOther : List Message → Type 0
+AreOther messages = AllByRecursion TellsOther messages
 
 sends_aside : (journal : List Item) (messages : List Message) → AreOther messages
     → AreAside journal (sends journal messages)
-sends_aside journal messages others = sent_aside messages journal (next_message journal) others
+sends_aside = sends_each IsAside TellsOther (λ before n message is. is)
 
 each_other : {X : Type 0} (to : X → Message) → ((x : X) → IsOther (to x).body) → (xs : List X)
     → AreOther (map to xs)
 each_other to other xs =
-    each_map (λ message. IsOther message.body) to xs
+    each_map TellsOther to xs
     (each (λ x. IsOther (to x).body) other xs)
 
 to_each : {X : Type 0} (journal : List Item) (to : X → Message)
@@ -105,69 +102,22 @@ to_each journal to other xs = sends_aside journal (map to xs) (each_other to oth
 
 -- ---- the controller
 
-current_aside : (setting : Setting) (journal : List Item)
-    → AreAside journal (current_items setting journal)
-unfolding current_items
-current_aside setting journal = grind (arith, have_first, sends_aside, each_other)
+command_other : (body : Body) → IsCommand body → IsOther body
+command_other (CacheRule version word rule action) is = absurd is
+command_other _ is = tt
 
-retired_aside : (setting : Setting) (journal : List Item)
-    → AreAside journal (retired_items setting journal)
-unfolding retired_items
-retired_aside setting journal = grind (arith, have_first, sends_aside, each_other)
+control_is_aside : (before : List Item) (next : Item) → IsControl before next → IsAside before next
+control_is_aside before (item.Sent number message) is = command_other message.body is
+control_is_aside before (item.Submitted file version) is = tt
+control_is_aside before (item.Refused file code) is = tt
+control_is_aside before (item.Current version) is = tt
+control_is_aside before (item.Retired version) is = tt
+control_is_aside before (item.OverNow s) is = tt
+control_is_aside before item.Nothing is = tt
+control_is_aside before _ is = absurd is
 
-open_aside : (setting : Setting) (journal : List Item)
-    → AreAside journal (open_items setting journal)
-unfolding open_items
-open_aside setting journal =
-    to_each journal (open_for journal (current_mark journal)) (λ s. tt) _
-
-settling_aside : (setting : Setting) (journal : List Item)
-    → AreAside journal (settling setting journal)
-unfolding settling
-settling_aside setting journal =
-    have_in_turn IsAside
-    (current_items setting ∷ open_items setting ∷ retired_items setting ∷ [])
-    (current_aside setting, (open_aside setting, (retired_aside setting, tt))) journal
-
-installs_aside : (setting : Setting) (s : ℕ) (journal : List Item)
-    → AreAside journal (installs_to setting s journal)
-unfolding installs_to
-installs_aside setting s journal =
-    to_each journal (λ version. install_for setting journal version s) (λ version. tt) _
-
-all_installs_aside : (setting : Setting) (journal : List Item)
-    → AreAside journal (installs_to_all setting journal)
-unfolding installs_to_all
-all_installs_aside setting journal =
-    to_each journal (install_for setting journal (version_count journal)) (λ s. tt) _
-
-submitted_aside : (setting : Setting) (journal : List Item)
-    → AreAside journal (submitted_items setting journal)
-submitted_aside setting journal =
-    have_in_turn IsAside (installs_to_all setting ∷ settling setting ∷ [])
-    (all_installs_aside setting, (settling_aside setting, tt)) journal
-
-pub update_aside : (setting : Setting) (file : ℕ) (journal : List Item)
-    → AreAside journal (update_items setting file journal)
-unfolding update_items
-update_aside setting file journal = grind (arith, have_first, submitted_aside)
-
-pub confirm_aside : (setting : Setting) (s : ℕ) (journal : List Item)
-    → AreAside journal (confirm_items setting s journal)
-unfolding confirm_items
-confirm_aside setting s journal = grind (arith, have_first, settling_aside)
-
-hello_aside : (setting : Setting) (before : List Item) (body : Body) (journal : List Item)
-    → AreAside journal (after_hello setting before body journal)
-hello_aside setting before (Hello s boot) journal = grind (arith, installs_aside)
-hello_aside setting before _ journal = tt
-
-controller_aside : (setting : Setting) (before : List Item) (body : Body)
-    (journal : List Item) → AreAside journal (controller_items setting before body journal)
-unfolding controller_items
-controller_aside setting before body journal =
-    have_in_turn IsAside (settling setting ∷ after_hello setting before body ∷ [])
-    (settling_aside setting, (hello_aside setting before body, tt)) journal
+pub control_aside : (journal items : List Item) → Control journal items → AreAside journal items
+control_aside = have_weaker IsControl IsAside control_is_aside
 
 -- ---- links and switches
 
@@ -187,8 +137,8 @@ pub changes_aside : (setting : Setting) (before journal : List Item)
 unfolding link_changes
 changes_aside setting before journal =
     sends_aside journal _
-    (each_flat_map (λ (m : Message). IsOther m.body) (messages_of setting before journal)
-    (λ s. each_flat_map (λ (m : Message). IsOther m.body) (messages_over setting before journal s)
+    (each_flat_map TellsOther (messages_of setting before journal)
+    (λ s. each_flat_map TellsOther (messages_over setting before journal s)
     (λ neighbour. over_other setting before journal s neighbour)
     (switches_in setting (near setting journal s)))
     (filter (has_changed setting before journal) (switches_of setting)))
@@ -227,21 +177,14 @@ switch_aside setting before s (Advertise advert) journal =
     grind (arith, passed)
 switch_aside setting before s _ journal = tt
 
-received_aside : (setting : Setting) (before : List Item) (number : ℕ) (message : Message)
-    (journal : List Item)
-    → AreAside journal (received_items setting before number message journal)
-received_aside setting before number message journal =
-    grind (arith, controller_aside, switch_aside)
-
-delivery_aside : (setting : Setting) (before : List Item) (number : ℕ) (journal : List Item)
-    → AreAside journal (delivery_items setting before number journal)
-unfolding delivery_items
-delivery_aside setting before number journal = grind (arith, received_aside)
-
 pub deliver_aside : (setting : Setting) (before : List Item) (number : ℕ) (journal : List Item)
     → AreAside journal (deliver_items setting before number journal)
-unfolding deliver_items
-deliver_aside setting before number journal = grind (arith, have_first, delivery_aside)
+deliver_aside setting before number journal =
+    let now : List Item = journal ++ item.Delivered number ∷ [] in
+    deliver_has IsAside setting before number journal tt tt
+    (delivery_has (AreAside now) setting before number now tt
+    (λ body sent. control_aside now _ (controller_control setting before body now))
+    (λ s body said. switch_aside setting before s body now))
 
 -- ---- sending again
 
@@ -250,72 +193,16 @@ unacked_other : (setting : Setting) (journal : List Item) (s : ℕ) (versions : 
 unacked_other setting journal s versions =
     each_other (λ version. install_for setting journal version s) (λ version. tt) _
 
-member_other : (setting : Setting) (journal : List Item) (s : ℕ)
-    → AreOther (resent_to_member setting journal s)
-member_other setting journal s = (
-  tt,
-  each_append (λ (m : Message). IsOther m.body)
-      (unacked setting journal s later
-      ++ (if nat_lt (acked_stamp journal s) (current_mark journal)
-      then stamp_for journal (current_mark journal) s ∷ [] else []))
-      (if retired_mark journal == 0
-      then [] else collect_for journal (retired_mark journal) s ∷ [])
-      (each_append (λ (m : Message). IsOther m.body) (unacked setting journal s later)
-      (if nat_lt (acked_stamp journal s) (current_mark journal)
-      then stamp_for journal (current_mark journal) s ∷ [] else [])
-      (unacked_other setting journal s later)
-      (by_stamp (nat_lt (acked_stamp journal s) (current_mark journal))))
-      (by_retired (retired_mark journal == 0)),
-)
-  where
-    later : List ℕ
-    later = range_with_len (current_mark journal + 1) (version_count journal - current_mark journal)
-
-    by_stamp : (b : Bool) → AreOther (if b then stamp_for journal (current_mark journal) s ∷ []
-        else [])
-    by_stamp true = (tt, tt)
-    by_stamp false = tt
-
-    by_retired : (b : Bool)
-        → AreOther (if b then [] else collect_for journal (retired_mark journal) s ∷ [])
-    by_retired true = tt
-    by_retired false = (tt, tt)
-
-controller_other : (setting : Setting) (journal : List Item) (s : ℕ)
-    → AreOther (resent_by_controller setting journal s)
-unfolding resent_by_controller
-controller_other setting journal s = grind (arith, member_other, unacked_other)
-
-by_switch_other : (setting : Setting) (journal : List Item) (s : ℕ)
-    → AreOther (resent_by_switch setting journal s)
-by_switch_other setting journal s = by_up (is_up journal s)
-  where
-    by_up : (b : Bool) → AreOther (elim b [
-      | false ↦ []
-      | true ↦ hello_of journal s
-          ∷ flat_map (λ neighbour. map (advert_to neighbour) (held_adverts setting journal s))
-          (switches_in setting (near setting journal s))
-    ])
-    by_up false = tt
-    by_up true = (
-      tt,
-      each_flat_map (λ (m : Message). IsOther m.body)
-          (λ neighbour. map (advert_to neighbour) (held_adverts setting journal s))
-          (λ neighbour. each_other (advert_to neighbour) (λ advert. tt) _)
-          (switches_in setting (near setting journal s)),
-    )
-
-resent_aside : (journal : List Item) (messages : List Message) → AreOther messages
-    → AreAside journal (sends_or_nothing journal messages)
-resent_aside journal [] others = (tt, tt)
-resent_aside journal (message ∷ messages) others =
-    sends_aside journal (message ∷ messages) others
-
 pub resend_aside : (setting : Setting) (s : ℕ) (journal : List Item)
     → AreAside journal (resend_items setting s journal)
-unfolding resend_items
 resend_aside setting s journal =
-    resent_aside journal (resent_by_switch setting journal s ++ resent_by_controller setting journal s)
-    (each_append (λ (m : Message). IsOther m.body) (resent_by_switch setting journal s)
-    (resent_by_controller setting journal s) (by_switch_other setting journal s)
-    (controller_other setting journal s))
+    resent_has IsAside TellsOther setting s journal tt (sends_aside journal)
+    (each_by_switch TellsOther setting journal s (λ up. tt)
+    (each_flat_map TellsOther
+    (λ neighbour. map (advert_to neighbour) (held_adverts setting journal s))
+    (λ neighbour. each_other (advert_to neighbour) (λ advert. tt) _)
+    (switches_in setting (near setting journal s))))
+    (each_by_controller TellsOther setting journal s
+    (λ none member. each_to_member TellsOther setting journal s tt
+    (unacked_other setting journal s (later_versions journal)) tt (λ some. tt))
+    (λ none. unacked_other setting journal s (versions_from_current journal)))

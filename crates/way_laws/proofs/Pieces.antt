@@ -19,10 +19,11 @@ use Rattle.update_machine.specs.Setting.{Setting}
 use Rattle.update_machine.specs.Causes.{present_step, tells_step}
 use Rattle.update_machine.specs.Travels.{is_at, packets_at, travels, travels_at}
 use Rattle.update_machine.proofs.CallerLemmas.{have_first, have_put, last_told_append, packet_keeps, packets_keep, step_stays}
+use Rattle.boot_laws.proofs.Commands.{confirm_control, update_control}
 use Rattle.boot_laws.proofs.Grown.{serving_more, up_more}
 use Rattle.way_laws.specs.Rest.{AreResting, IsServed}
 use Rattle.way_laws.specs.WayCauses.{WayCause, ends_with_row, fallen, tells_fall, tells_row}
-use Rattle.way_laws.proofs.OtherBlocks.{aside_ways, changes_aside, confirm_aside, deliver_aside, expire_aside, forget_aside, link_aside, resend_aside, restart_aside, update_aside}
+use Rattle.way_laws.proofs.OtherBlocks.{aside_ways, changes_aside, control_aside, deliver_aside, expire_aside, forget_aside, link_aside, resend_aside, restart_aside}
 use Rattle.way_laws.proofs.PacketBlocks.{Ways, hop_ways, lose_ways, packet_ways, stage_stays}
 
 -- ---- a crash
@@ -191,7 +192,7 @@ step_ways setting before row (Forget number) rests =
 step_ways setting before row (Expire s place) rests =
     aside_ways setting _ _ (expire_aside setting s place _)
 step_ways setting before row (Update file) rests =
-    aside_ways setting _ _ (update_aside setting file _)
+    aside_ways setting _ _ (control_aside _ _ (update_control setting file _))
 step_ways setting before row (LinkDown one two) rests =
     aside_ways setting _ _ (link_aside setting before one two false _)
 step_ways setting before row (LinkUp one two) rests =
@@ -204,7 +205,7 @@ step_ways setting before row (Crash s) rests =
     (keeps.travels, keeps.place))
 step_ways setting before row (Restart s) rests = aside_ways setting _ _ (restart_aside s _)
 step_ways setting before row (Confirm s) rests =
-    aside_ways setting _ _ (confirm_aside setting s _)
+    aside_ways setting _ _ (control_aside _ _ (confirm_control setting s _))
 step_ways setting before row (Resend s) rests =
     aside_ways setting _ _ (resend_aside setting s _)
 

@@ -21,6 +21,7 @@ use Rattle.update_machine.specs.Versions.{stamp_of}
 use Rattle.update_machine.specs.Travels.{travels}
 use Rattle.update_machine.proofs.CallerLemmas.{have_append, last_told_append, packet_keeps}
 use Rattle.boot_laws.specs.ItemCauses.{HasItemCause}
+use Rattle.boot_laws.proofs.Commands.{confirm_control, update_control}
 use Rattle.boot_laws.proofs.Facts.{Both, fact_on, have_both, have_weaker}
 use Rattle.boot_laws.proofs.Grown.{serving_more}
 use Rattle.boot_laws.proofs.Pieces.{pieces_have}
@@ -35,7 +36,7 @@ use Rattle.way_laws.specs.WayCauses.{WayCause}
 use Rattle.way_laws.proofs.CrashServed.{crash_served}
 use Rattle.way_laws.proofs.Done.{hop_done, packet_done}
 use Rattle.way_laws.proofs.Lookups.{FindsRule, authority_told, rule_there, stamped}
-use Rattle.way_laws.proofs.OtherBlocks.{AreAside, IsAside, confirm_aside, deliver_aside, expire_aside, forget_aside, link_aside, resend_aside, restart_aside, update_aside}
+use Rattle.way_laws.proofs.OtherBlocks.{AreAside, IsAside, control_aside, deliver_aside, expire_aside, forget_aside, link_aside, resend_aside, restart_aside}
 use Rattle.way_laws.proofs.Others.{IsInStep, IsNoRow, Spares, SparesAll, aside_spares, crash_spares, hop_spares, in_step, lose_spares, packet_spares, spare, spared}
 use Rattle.way_laws.proofs.Pieces.{piece_ways, row_rests}
 use Rattle.way_laws.proofs.Served.{AreNumbered, HaveLegs, IsCausedUp, NotDown, legs_kept, numbered_kept, served_kept}
@@ -166,7 +167,7 @@ others_spare setting j before row (Forget number) none apart =
 others_spare setting j before row (Expire s place) none apart =
     aside_spares j _ _ (expire_aside setting s place _)
 others_spare setting j before row (Update file) none apart =
-    aside_spares j _ _ (update_aside setting file _)
+    aside_spares j _ _ (control_aside _ _ (update_control setting file _))
 others_spare setting j before row (LinkDown one two) none apart =
     aside_spares j _ _ (link_aside setting before one two false _)
 others_spare setting j before row (LinkUp one two) none apart =
@@ -174,7 +175,7 @@ others_spare setting j before row (LinkUp one two) none apart =
 others_spare setting j before row (Crash s) none apart = crash_spares setting j before s _
 others_spare setting j before row (Restart s) none apart = aside_spares j _ _ (restart_aside s _)
 others_spare setting j before row (Confirm s) none apart =
-    aside_spares j _ _ (confirm_aside setting s _)
+    aside_spares j _ _ (control_aside _ _ (confirm_control setting s _))
 others_spare setting j before row (Resend s) none apart =
     aside_spares j _ _ (resend_aside setting s _)
 
@@ -322,7 +323,8 @@ step_served setting before row step settled = by_kind step
     by_kind (Deliver number) = aside_served (Deliver number) (deliver_aside setting before number _)
     by_kind (Forget number) = aside_served (Forget number) (forget_aside number _)
     by_kind (Expire s place) = aside_served (Expire s place) (expire_aside setting s place _)
-    by_kind (Update file) = aside_served (Update file) (update_aside setting file _)
+    by_kind (Update file) =
+        aside_served (Update file) (control_aside _ _ (update_control setting file _))
     by_kind (LinkDown one two) =
         aside_served (LinkDown one two) (link_aside setting before one two false _)
     by_kind (LinkUp one two) =
@@ -335,7 +337,8 @@ step_served setting before row step settled = by_kind step
         let keeps = packet_keeps i before (item.Row row (Crash s) ∷ []) (refl, tt) in
         (keeps.travels, keeps.place))
     by_kind (Restart s) = aside_served (Restart s) (restart_aside s _)
-    by_kind (Confirm s) = aside_served (Confirm s) (confirm_aside setting s _)
+    by_kind (Confirm s) =
+        aside_served (Confirm s) (control_aside _ _ (confirm_control setting s _))
     by_kind (Resend s) = aside_served (Resend s) (resend_aside setting s _)
 
 step_moving : (setting : Setting) (before : List Item) (row : ℕ) (step : Step)

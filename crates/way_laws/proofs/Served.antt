@@ -1,14 +1,10 @@
 -- Travelling packets stand at switches that serve, behind each item but those of a crash; and what
 -- else each item keeps of packets' numbers and legs.
 use Rattle.std.proofs.Common.{ℕ, ◌≡◌, ◌+◌, ◌<◌, ◌≤◌, ◌==◌, Bool, true, false, Option, Some, None, List, [], ◌∷◌, ◌++◌, refl, ap, sym, subst, ◌∙◌, arith, inl, inr, ◌⊎◌}
-use Rattle.std.specs.Prelude.{⊤, IsTrue, IsFalse, filter, unwrap_or}
-use Rattle.std.specs.List.{list_any}
+use Rattle.std.specs.Prelude.{⊤, IsTrue, IsFalse, unwrap_or}
 use Rattle.std.specs.Option.{option_or}
 use Rattle.std.proofs.lemmas.Bool.{eqb-true}
-use Rattle.std.proofs.lemmas.Bool.Decides.{nat_tests}
 use Rattle.masks.specs.Masks.{has}
-use Rattle.net_file.specs.Joins.{joins}
-use Rattle.net_file.specs.declared.net.LinkRow.{LinkRow}
 use Rattle.five_tuple.specs.declared.header.Header.{Header}
 use Rattle.policy_rules.specs.declared.packet.Leg.{Leg}
 use Rattle.policy_rules.specs.declared.packet.Leg.TheVariants.{Seek, Exit}
@@ -16,57 +12,20 @@ use Rattle.journal.specs.declared.item.Item.{Item}
 use Rattle.journal.specs.declared.item.Item.TheVariants as item
 use Rattle.update_machine.specs.Boots.{is_up}
 use Rattle.update_machine.specs.Folds.{count_of, last_told}
-use Rattle.update_machine.specs.Links.{is_usable, serves, tells_serving}
+use Rattle.update_machine.specs.Links.{serves, tells_serving}
 use Rattle.update_machine.specs.Packets.{is_packet, next_packet, standing, tells_standing}
 use Rattle.update_machine.specs.Setting.{Setting}
 use Rattle.update_machine.specs.Travels.{changes_leg, exit_port, leg_of, tells_travelling, travels}
-use Rattle.update_machine.specs.LinkMasks.{near}
 use Rattle.update_machine.proofs.CallerLemmas.{count_of_append, folded_append, last_told_append}
 use Rattle.boot_laws.specs.BootLaws.{ServingIsKnown}
 use Rattle.boot_laws.specs.ItemCauses.{HasItemCause}
 use Rattle.boot_laws.proofs.Facts.{AreKept}
 use Rattle.boot_laws.proofs.Grown.{serving_more}
-use Rattle.advert_laws.proofs.NetLinks.{linked_by_mask}
+use Rattle.advert_laws.proofs.NetLinks.{ends_serve}
 use Rattle.way_laws.specs.Rest.{AreServed, IsServed}
 use Rattle.way_laws.specs.Stages.{OnWay, stage_of, tells_stage}
 use Rattle.way_laws.specs.WayCauses.{WayCause}
 use Rattle.way_laws.proofs.Others.{ends_or_not}
-
--- ---- the end of a link that can be used serves
-
-usable_serves : (journal : List Item) (s k : ℕ) (link : LinkRow) → joins s k link ≡ true
-    → is_usable journal link ≡ true → (serves journal s ≡ true) × (serves journal k ≡ true)
-usable_serves journal s k link joined usable = grind (arith, nat_tests)
-
-any_serves : (journal : List Item) (s k : ℕ) (links : List LinkRow)
-    → list_any (joins s k) (filter (is_usable journal) links) ≡ true
-    → (serves journal s ≡ true) × (serves journal k ≡ true)
-any_serves journal s k [] is = absurd cc
-any_serves journal s k (link ∷ links) is =
-    by_tests (is_usable journal link) refl (any_serves journal s k links) is
-  where
-    by_joins : (b : Bool) → joins s k link ≡ b → is_usable journal link ≡ true
-        → (list_any (joins s k) (filter (is_usable journal) links) ≡ true
-        → (serves journal s ≡ true) × (serves journal k ≡ true))
-        → list_any (joins s k) (link ∷ filter (is_usable journal) links) ≡ true
-        → (serves journal s ≡ true) × (serves journal k ≡ true)
-    by_joins true e usable rest is = usable_serves journal s k link e usable
-    by_joins false e usable rest is = rest (rw e at is)
-
-    by_tests : (b : Bool) → is_usable journal link ≡ b
-        → (list_any (joins s k) (filter (is_usable journal) links) ≡ true
-        → (serves journal s ≡ true) × (serves journal k ≡ true))
-        → list_any (joins s k) (filter (is_usable journal) (link ∷ links)) ≡ true
-        → (serves journal s ≡ true) × (serves journal k ≡ true)
-    by_tests true e rest is = by_joins (joins s k link) refl e rest (rw e at is)
-    by_tests false e rest is = rest (rw e at is)
-
-pub near_serves : (setting : Setting) (journal : List Item) (s k : ℕ)
-    → IsTrue (has (near setting journal s) k) → serves journal k ≡ true
-unfolding near
-near_serves setting journal s k is =
-    (any_serves journal s k setting.net.links
-    (linked_by_mask (filter (is_usable journal) setting.net.links) s k is)).1
 
 -- ---- what one more item makes of words
 
@@ -206,7 +165,7 @@ served_kept setting before (item.Entered packet s header) is served i travelling
     comes_served before packet s i header served is.caused.way.1 travelling
 served_kept setting before (item.Hopped packet s) is served i travelling =
     hops_served before packet s i served
-    (near_serves setting before is.caused.way.switch s is.caused.way.usable) travelling
+    (ends_serve setting before is.caused.way.switch s is.caused.way.usable).1 travelling
 served_kept setting before (item.Down s) is served i travelling = absurd is.not_down
 served_kept setting before (item.Booted switch boot) is served i travelling =
     stays_served before (item.Booted switch boot) i refl (inl refl)
