@@ -403,12 +403,6 @@ pub expire_traffic : (setting : Setting) (s at : ℕ) (journal : List Item)
 expire_traffic setting s at journal =
     traffic_of setting journal _ (expire_work setting s at journal)
 
-pub lost_traffic : (setting : Setting) (packets : List ℕ) (journal : List Item)
-    → Traffic setting journal (map item.Lost packets)
-lost_traffic setting [] journal = tt
-lost_traffic setting (i ∷ packets) journal =
-    (tt, lost_traffic setting packets (journal ++ item.Lost i ∷ []))
-
 -- ---- adverts
 
 -- an advert to a switch of the network

@@ -24,19 +24,20 @@ use Rattle.update_machine.specs.Marks.{acked_stamp, current_mark, has_acked, hel
 use Rattle.update_machine.specs.Messages.{next_message, sends, sent_from}
 use Rattle.update_machine.specs.Moves.{in_turn, put}
 use Rattle.update_machine.specs.Packets.{next_packet}
-use Rattle.update_machine.specs.Pieces.{confirm_items, crash_items, deliver_items, hello_of, link_items, piece, resend_items, resent_by_switch, restart_items, sends_or_nothing, step_items, update_items}
+use Rattle.update_machine.specs.Pieces.{confirm_items, deliver_items, hello_of, piece, resend_items, resent_by_switch, restart_items, sends_or_nothing, step_items, update_items}
 use Rattle.update_machine.specs.Setting.{Setting, switches_of}
 use Rattle.update_machine.specs.Settling.{collect_for, current_items, install_for, installs_to, installs_to_all, open_for, open_items, opening, resent_by_controller, resent_to_member, retired_items, settling, stamp_for, submitted_items, to_switch, unacked, versions_from_current}
 use Rattle.update_machine.specs.Versions.{is_version, version_count}
 use Rattle.update_machine.specs.Links.{message_of}
 use Rattle.update_machine.proofs.CallerLemmas.{have_first, have_in_turn, have_put}
 use Rattle.boot_laws.proofs.Boots.{known_rises}
+use Rattle.boot_laws.proofs.Crashes.{crash_has, link_traffic}
 use Rattle.boot_laws.proofs.Facts.{AreKept, fact_on, have_weaker}
 use Rattle.boot_laws.proofs.Grown.{known_more, message_more, raised}
 use Rattle.boot_laws.proofs.Reached.{NamesOwn, OwnPiecesHave}
 use Rattle.boot_laws.proofs.Sends.{each_append, each_kept, each_map}
 use Rattle.boot_laws.proofs.SwitchBlocks.{said_parts}
-use Rattle.boot_laws.proofs.Traffic.{IsAdvert, IsAdvertTo, IsBetween, IsIngress, IsTraffic, Traffic, adverts_to, each_told, expire_traffic, forget_traffic, hop_traffic, links_traffic, lose_traffic, lost_traffic, masked_there, packet_has, passed_traffic, switches_there}
+use Rattle.boot_laws.proofs.Traffic.{IsAdvert, IsAdvertTo, IsBetween, IsIngress, IsTraffic, Traffic, adverts_to, each_told, expire_traffic, forget_traffic, hop_traffic, links_traffic, lose_traffic, masked_there, packet_has, passed_traffic, switches_there}
 use Rattle.mark_laws.proofs.Greatest.{known_first}
 use Rattle.mark_laws.proofs.Told.{each_weaker}
 
@@ -411,28 +412,6 @@ update_name : (setting : Setting) (file : ℕ) (journal : List Item)
 unfolding update_items
 update_name setting file journal = grind (arith, submitted_name)
 
-link_name : (setting : Setting) (before : List Item) (one two : ℕ) (up : Bool)
-    (journal : List Item) → Name setting journal (link_items setting before one two up journal)
-unfolding link_items
-link_name setting before one two up journal = grind (arith, links_name)
-
-down_name : (setting : Setting) (before : List Item) (s : ℕ) (packets : List ℕ)
-    (journal : List Item) → Name setting journal
-    (put (item.Down s ∷ map item.Lost packets) (link_changes setting before) journal)
-down_name setting before s packets journal =
-    let down : List Item = item.Down s ∷ map item.Lost packets in
-    have_put (NamesRightly setting) down (link_changes setting before) journal (
-      tt,
-      traffic_name setting (journal ++ item.Down s ∷ []) (map item.Lost packets)
-          (lost_traffic setting packets (journal ++ item.Down s ∷ [])),
-    )
-    (links_name setting before (journal ++ down))
-
-crash_name : (setting : Setting) (before : List Item) (s : ℕ) (journal : List Item)
-    → Name setting journal (crash_items setting before s journal)
-unfolding crash_items
-crash_name setting before s journal = grind (arith, down_name)
-
 restart_name : (setting : Setting) (s : ℕ) (journal : List Item)
     → s < length setting.net.switches → Name setting journal (restart_items s journal)
 unfolding restart_items sent_from
@@ -566,9 +545,11 @@ step_name setting before row (Expire s at) own =
     traffic_name setting _ _ (expire_traffic setting s at _)
 step_name setting before row (Update file) own = update_name setting file _
 step_name setting before row (LinkDown one two) own =
-    link_name setting before one two false _
-step_name setting before row (LinkUp one two) own = link_name setting before one two true _
-step_name setting before row (Crash s) own = crash_name setting before s _
+    traffic_name setting _ _ (link_traffic setting before one two false _)
+step_name setting before row (LinkUp one two) own =
+    traffic_name setting _ _ (link_traffic setting before one two true _)
+step_name setting before row (Crash s) own =
+    crash_has setting (NamesRightly setting) (traffic_names setting) before s _ (λ up. tt)
 step_name setting before row (Restart s) own = restart_name setting s _ own
 step_name setting before row (Confirm s) own = confirm_name setting s _
 step_name setting before row (Resend s) own = resend_name setting s _ own
