@@ -6,7 +6,7 @@ use Rattle.std.proofs.lemmas.Bool.{eq-eqb}
 use Rattle.std.proofs.lemmas.Bool.Decides.{nat_tests}
 use Rattle.ctrl_msg.specs.Bodies.{body_boot}
 use Rattle.ctrl_msg.specs.declared.message.Body.{Body}
-use Rattle.ctrl_msg.specs.declared.message.Body.TheVariants.{Install, OpenAt, Stamp, Collect, CacheRule, Advertise, Hello, Installed, Stamped}
+use Rattle.ctrl_msg.specs.declared.message.Body.TheVariants.{Install, OpenAt, Stamp, Advertise, Hello, Installed, Stamped}
 use Rattle.ctrl_msg.specs.Kinds.{is_for_controller}
 use Rattle.failover.specs.Adverts.{after_hearing}
 use Rattle.journal.specs.declared.item.Item.{Item}
@@ -55,24 +55,14 @@ pub controller_kept : (switch : SwitchValue) (n : ℕ) (body : Body) → is_for_
 controller_kept switch n (Hello s boot) is = refl
 controller_kept switch n (Installed s boot version) is = refl
 controller_kept switch n (Stamped s boot version) is = refl
-controller_kept switch n (Install boot tables) is = absurd cc
-controller_kept switch n (OpenAt boot version) is = absurd cc
-controller_kept switch n (Stamp boot version) is = absurd cc
-controller_kept switch n (Collect boot version) is = absurd cc
-controller_kept switch n (CacheRule version word rule action) is = absurd cc
-controller_kept switch n (Advertise advert) is = absurd cc
+controller_kept switch n _ is = absurd cc
 
 pub controller_silent : (switch : SwitchValue) (near : ℕ) (body : Body)
     → is_for_controller body ≡ true → replies_to switch near body ≡ []
 controller_silent switch near (Hello s boot) is = refl
 controller_silent switch near (Installed s boot version) is = refl
 controller_silent switch near (Stamped s boot version) is = refl
-controller_silent switch near (Install boot tables) is = absurd cc
-controller_silent switch near (OpenAt boot version) is = absurd cc
-controller_silent switch near (Stamp boot version) is = absurd cc
-controller_silent switch near (Collect boot version) is = absurd cc
-controller_silent switch near (CacheRule version word rule action) is = absurd cc
-controller_silent switch near (Advertise advert) is = absurd cc
+controller_silent switch near _ is = absurd cc
 
 pub controller_shut : (switch : SwitchValue) (body : Body) → is_for_controller body ≡ true
     → opened_by switch body ≡ None

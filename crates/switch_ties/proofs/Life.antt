@@ -1,5 +1,5 @@
 -- A switch that goes down and one that boots have forgotten what they learnt.
-use Rattle.std.proofs.Common.{ℕ, zero, suc, ◌≡◌, ◌+◌, ◌<◌, ◌≤◌, ◌==◌, Bool, true, false, if◌then◌else◌, Option, Some, None, unwrap_or, List, [], ◌∷◌, ◌++◌, set, refl, ap, sym, ◌∙◌, arith}
+use Rattle.std.proofs.Common.{ℕ, zero, suc, ◌≡◌, ◌+◌, ◌<◌, ◌≤◌, ◌==◌, Bool, true, false, if◌then◌else◌, Option, Some, None, List, [], ◌∷◌, ◌++◌, set, refl, ap, sym, ◌∙◌, arith}
 use Rattle.std.specs.Prelude.{count_by, option_map, replicate, slice_get}
 use Rattle.std.proofs.lemmas.Bool.{eq-eqb, ne_eqb}
 use Rattle.failover.specs.Adverts.{no_adverts}
@@ -74,18 +74,11 @@ crash_is setting journal s =
     let now : List Item = journal ++ next ∷ [] in
     let own : (s == s) ≡ true = eq-eqb s s refl in
     let boot : boot_of now s ≡ boot_of journal s = boot_more journal next s in
-    let up : is_up now s ≡ false =
-    up_more journal next s
-    ∙ ap (λ b. unwrap_or (if b then Some false else None) (is_up journal s)) own in
-    let serving : serves now s ≡ false =
-    serving_more journal next s
-    ∙ ap (λ b. unwrap_or (if b then Some false else None) (serves journal s)) own in
-    let bodies : heard now s ≡ [] =
-    heard_more journal next s ∙ ap (λ b. if b then [] else heard journal s) own in
+    let up : is_up now s ≡ false = rw (up_more journal next s, own) refl in
+    let serving : serves now s ≡ false = rw (serving_more journal next s, own) refl in
+    let bodies : heard now s ≡ [] = rw (heard_more journal next s, own) refl in
     let cache : cache_of setting now s ≡ cleared (cache_of setting journal s) =
-    cache_more setting journal next s
-    ∙ ap (λ b. if b then cleared (cache_of setting journal s) else cache_of setting journal s)
-    own in
+    rw (cache_more setting journal next s, own) refl in
     let seq : own_seq setting now s ≡ 0 = down_none setting now s up in
     let handled : handled_count now s ≡ handled_count journal s =
     calls_stay s journal (next ∷ []) (refl, tt) in
@@ -114,22 +107,12 @@ restart_is setting journal s have =
     let next : Item = item.Booted s (boot_of journal s + 1) in
     let now : List Item = journal ++ next ∷ [] in
     let own : (s == s) ≡ true = eq-eqb s s refl in
-    let boot : boot_of now s ≡ boot_of journal s + 1 =
-    boot_more journal next s
-    ∙ ap (λ b. unwrap_or (if b then Some (boot_of journal s + 1) else None) (boot_of journal s))
-    own in
-    let up : is_up now s ≡ true =
-    up_more journal next s
-    ∙ ap (λ b. unwrap_or (if b then Some true else None) (is_up journal s)) own in
-    let serving : serves now s ≡ false =
-    serving_more journal next s
-    ∙ ap (λ b. unwrap_or (if b then Some false else None) (serves journal s)) own in
-    let bodies : heard now s ≡ [] =
-    heard_more journal next s ∙ ap (λ b. if b then [] else heard journal s) own in
+    let boot : boot_of now s ≡ boot_of journal s + 1 = rw (boot_more journal next s, own) refl in
+    let up : is_up now s ≡ true = rw (up_more journal next s, own) refl in
+    let serving : serves now s ≡ false = rw (serving_more journal next s, own) refl in
+    let bodies : heard now s ≡ [] = rw (heard_more journal next s, own) refl in
     let cache : cache_of setting now s ≡ cleared (cache_of setting journal s) =
-    cache_more setting journal next s
-    ∙ ap (λ b. if b then cleared (cache_of setting journal s) else cache_of setting journal s)
-    own in
+    rw (cache_more setting journal next s, own) refl in
     let later : (boot_of journal s + 1 == 1) ≡ false =
     ne_eqb (boot_of journal s + 1) 1 (λ same. absurd (omega (
       arith,
