@@ -1,10 +1,11 @@
 -- What the controller writes has its causes.
 use Rattle.std.proofs.Common.{ℕ, ◌≡◌, ◌+◌, ◌-◌, ◌<◌, ◌≤◌, ◌&&◌, Bool, true, false, not, zero, suc, None, List, [], ◌∷◌, ◌++◌, length, map, refl, ap, sym, ◌∙◌, arith, inl, inr}
 use Rattle.std.specs.Prelude.{IsTrue, IsFalse, cond, take_while}
-use Rattle.std.specs.List.{AllByRecursion, range_with_len}
+use Rattle.std.specs.List.{range_with_len}
 use Rattle.std.proofs.lemmas.Bool.{cases_eq}
 use Rattle.std.proofs.lemmas.Bool.Decides.{nat_tests}
 use Rattle.std.proofs.lemmas.List.Sums.{take_while-cons}
+use Rattle.ctrl_msg.specs.declared.message.Message.{Message}
 use Rattle.journal.specs.declared.item.Item.{Item}
 use Rattle.journal.specs.declared.item.Item.TheVariants as item
 use Rattle.update_machine.specs.Marks.{MayRise, all_acked, current_mark, has_acked, is_joining, is_member, is_over, known_boot, members, next_current, next_retired, opened_at, retired_mark}
@@ -69,41 +70,39 @@ may_rise setting journal rises =
 
 -- ---- settling
 
--- a member stays one while the marks rise, in the boot that was known
-member_for : (before : List Item) (next : Item) (s : ℕ)
-    → known_boot (before ++ next ∷ []) s ≡ known_boot before s
-    → IsTrue (is_member (before ++ next ∷ []) s)
-    → IsForKnown (before ++ next ∷ []) s (known_boot before s)
-member_for before next s known member =
-    record { known = sym known; not_over = (member_parts (before ++ next ∷ []) s member).0 }
-
-stamps_right : (setting : Setting) (journal : List Item) (version : ℕ)
-    → AllByRecursion (IsRight setting (journal ++ item.Current version ∷ []))
-    (map (stamp_for journal version) (members setting journal))
-stamps_right setting journal version =
-    let raised = journal ++ item.Current version ∷ [] in
-    each_map (IsRight setting raised) (stamp_for journal version) (members setting journal)
-    (each_filter (λ s. IsRight setting raised (stamp_for journal version s)) (is_member journal)
+-- a member stays one while a mark rises, in the boot that was known, and is told of it
+rise_has : (setting : Setting) (journal : List Item) (next : Item) (message : ℕ → Message)
+    → ((s : ℕ) → known_boot (journal ++ next ∷ []) s ≡ known_boot journal s)
+    → ((s : ℕ) → is_over (journal ++ next ∷ []) s ≡ is_over journal s)
+    → ((s : ℕ) → IsForKnown (journal ++ next ∷ []) s (known_boot journal s)
+    → IsTrue (is_member (journal ++ next ∷ []) s)
+    → IsRight setting (journal ++ next ∷ []) (message s))
+    → HasItemCause setting journal next → Has setting journal
+    (put (next ∷ []) (λ raised. sends raised (map message (members setting journal))) journal)
+rise_has setting journal next message known over right may =
+    let raised : List Item = journal ++ next ∷ [] in
+    have_first (HasItemCause setting) next
+    (λ raised. sends raised (map message (members setting journal))) journal may
+    (sends_have setting raised _
+    (each_map (IsRight setting raised) message (members setting journal)
+    (each_filter (λ s. IsRight setting raised (message s)) (is_member journal)
     (λ s member.
-    let stays : IsTrue (is_member raised s) = member_on journal (item.Current version) s
-    (known_more journal (item.Current version) s) (over_more journal (item.Current version) s)
-    member in
-    record {
-      to = member_for journal (item.Current version) s
-          (known_more journal (item.Current version) s) stays;
-      member = stays;
-      current = sym (current_more journal (item.Current version));
-    }) (switches_of setting))
+    let stays : IsTrue (is_member raised s) = member_on journal next s (known s) (over s) member in
+    right s (record { known = sym (known s); not_over = (member_parts raised s stays).0 }) stays)
+    (switches_of setting))))
 
 raise_has : (setting : Setting) (journal : List Item) (version : ℕ)
     → MayRise setting journal version → Has setting journal
     (put (item.Current version ∷ [])
     (λ raised. sends raised (map (stamp_for journal version) (members setting journal))) journal)
-raise_has setting journal version may =
-    have_first (HasItemCause setting) (item.Current version)
-    (λ raised. sends raised (map (stamp_for journal version) (members setting journal))) journal may
-    (sends_have setting (journal ++ item.Current version ∷ []) _
-    (stamps_right setting journal version))
+raise_has setting journal version =
+    rise_has setting journal (item.Current version) (stamp_for journal version)
+    (known_more journal (item.Current version)) (over_more journal (item.Current version))
+    (λ s to member. record {
+      to = to;
+      member = member;
+      current = sym (current_more journal (item.Current version));
+    })
 
 current_have : (setting : Setting) (journal : List Item)
     → Has setting journal (current_items setting journal)
@@ -133,34 +132,18 @@ open_have setting journal =
       opens = inl (record { closed = parts.1; current = refl; acked = parts.2 });
     }) (switches_of setting)))
 
-collects_right : (setting : Setting) (journal : List Item) (version : ℕ)
-    → AllByRecursion (IsRight setting (journal ++ item.Retired version ∷ []))
-    (map (collect_for journal version) (members setting journal))
-collects_right setting journal version =
-    let raised = journal ++ item.Retired version ∷ [] in
-    each_map (IsRight setting raised) (collect_for journal version) (members setting journal)
-    (each_filter (λ s. IsRight setting raised (collect_for journal version s)) (is_member journal)
-    (λ s member.
-    let stays : IsTrue (is_member raised s) = member_on journal (item.Retired version) s
-    (known_more journal (item.Retired version) s) (over_more journal (item.Retired version) s)
-    member in
-    record {
-      to = member_for journal (item.Retired version) s
-          (known_more journal (item.Retired version) s) stays;
-      member = stays;
-      retired = sym (retired_more journal (item.Retired version));
-    }) (switches_of setting))
-
 retire_has : (setting : Setting) (journal : List Item) (version : ℕ)
     → RetiresRightly setting journal version → Has setting journal
     (put (item.Retired version ∷ [])
     (λ raised. sends raised (map (collect_for journal version) (members setting journal))) journal)
-retire_has setting journal version may =
-    have_first (HasItemCause setting) (item.Retired version)
-    (λ raised. sends raised (map (collect_for journal version) (members setting journal))) journal
-    may
-    (sends_have setting (journal ++ item.Retired version ∷ []) _
-    (collects_right setting journal version))
+retire_has setting journal version =
+    rise_has setting journal (item.Retired version) (collect_for journal version)
+    (known_more journal (item.Retired version)) (over_more journal (item.Retired version))
+    (λ s to member. record {
+      to = to;
+      member = member;
+      retired = sym (retired_more journal (item.Retired version));
+    })
 
 may_retire : (setting : Setting) (journal : List Item)
     → retired_mark journal < next_retired setting journal

@@ -8,11 +8,13 @@ use Rattle.journal.specs.declared.item.Item.{Item}
 use Rattle.journal.specs.declared.item.Item.TheVariants as item
 use Rattle.update_machine.specs.Boots.{said_to}
 use Rattle.update_machine.specs.Causes.{HaveCauses}
-use Rattle.update_machine.specs.Deliveries.{controller_items, delivery_items, received_items, switch_items, to_controller}
+use Rattle.update_machine.specs.Deliveries.{after_hello, controller_items, delivery_items, received_items, switch_items, to_controller}
 use Rattle.update_machine.specs.Links.{message_of}
+use Rattle.update_machine.specs.Moves.{in_turn}
 use Rattle.update_machine.specs.Pieces.{deliver_items}
 use Rattle.update_machine.specs.Setting.{Setting}
-use Rattle.update_machine.proofs.CallerLemmas.{have_first}
+use Rattle.update_machine.specs.Settling.{settling}
+use Rattle.update_machine.proofs.CallerLemmas.{have_first, have_put}
 
 pub delivery_has : (Have : List Item → Type 0) (setting : Setting) (before : List Item)
     (number : ℕ) (now : List Item) → Have []
@@ -57,3 +59,16 @@ deliver_has cause setting before number here nothing delivered have =
     let first = have_first cause (item.Delivered number) (delivery_items setting before number)
     here delivered have in
     grind arith
+
+-- the controller settles first, and then answers a hello
+pub controller_has : (cause : List Item → Item → Type 0) (setting : Setting)
+    (before now : List Item) (body : Body)
+    → HaveCauses cause now (settling setting now)
+    → (let settled = now ++ settling setting now in
+    HaveCauses cause settled (after_hello setting before body settled))
+    → HaveCauses cause now (controller_items setting before body now)
+unfolding controller_items
+controller_has cause setting before now body settles hello =
+    let settled : List Item = now ++ settling setting now in
+    have_put cause (settling setting now) (in_turn (after_hello setting before body ∷ [])) now
+    settles (have_put cause (after_hello setting before body settled) (in_turn []) settled hello tt)

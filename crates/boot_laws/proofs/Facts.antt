@@ -1,12 +1,9 @@
--- Causes of items and facts of journals: what each item keeps, a journal has; whatever causes each
--- piece has, the journal of any steps has.
+-- Causes of items and facts of journals: what each item keeps, a journal has.
 use Rattle.std.proofs.Common.{List, [], ◌∷◌, ◌++◌, append-nil, append_assoc, sym, subst}
 use Rattle.journal.specs.declared.item.Item.{Item}
-use Rattle.update_machine.specs.Answers.{StepOfRow, after_steps}
 use Rattle.update_machine.specs.Causes.{HaveCauses}
-use Rattle.update_machine.specs.Pieces.{piece}
 use Rattle.update_machine.specs.Setting.{Setting}
-use Rattle.update_machine.proofs.CallerLemmas.{PiecesHave, have_append}
+pub use Rattle.update_machine.proofs.CallerLemmas.{steps_have}
 use Rattle.boot_laws.specs.ItemCauses.{HasItemCause}
 
 -- the items have their causes behind the journal
@@ -71,13 +68,3 @@ with_fact cause fact kept before (item ∷ items) have known = (
   record { caused = have.0; known = known },
   with_fact cause fact kept (before ++ item ∷ []) items have.1 (kept before item have.0 known),
 )
-
--- the journal of any steps has the causes that each piece has
-pub steps_have : (cause : List Item → Item → Type 0) (setting : Setting) → PiecesHave cause setting
-    → (before : List Item) (steps : List StepOfRow) → HaveCauses cause [] before
-    → HaveCauses cause [] (after_steps setting before steps)
-steps_have cause setting pieces before [] have = have
-steps_have cause setting pieces before (next ∷ steps) have =
-    steps_have cause setting pieces (before ++ piece setting before next.row next.step) steps
-    (have_append cause [] before (piece setting before next.row next.step) have
-    (pieces before next.row next.step))

@@ -1,5 +1,6 @@
 pub mod Grown
 pub mod Facts
+pub mod Picked
 pub mod Versions
 pub mod Boots
 pub mod Serving

@@ -22,6 +22,7 @@ use Rattle.update_machine.proofs.CallerLemmas.{PiecesHave, begun_has, have_first
 use Rattle.boot_laws.specs.Always.{HoldsAlways}
 use Rattle.boot_laws.specs.ItemCauses.{HasItemCause, SubmitsRightly}
 use Rattle.boot_laws.proofs.ControllerBlocks.{settling_have, submitted_have}
+use Rattle.boot_laws.proofs.Delivered.{deliver_has}
 use Rattle.boot_laws.proofs.Facts.{Has, steps_have}
 use Rattle.boot_laws.proofs.Grown.{up_more}
 use Rattle.boot_laws.proofs.Sends.{sends_have}
@@ -33,10 +34,9 @@ use Rattle.boot_laws.proofs.Crashes.{crash_has, link_traffic}
 deliver_have : (setting : Setting) (before : List Item) (row number : ℕ) (step : Step)
     → let here = before ++ item.Row row step ∷ [] in
     Has setting here (deliver_items setting before number here)
-unfolding deliver_items
 deliver_have setting before row number step =
-    let delivery = delivery_have setting before row number step in
-    grind arith
+    deliver_has (HasItemCause setting) setting before number (before ++ item.Row row step ∷ []) tt
+    tt (delivery_have setting before row number step)
 
 -- a policy that isn't refused is there and has a plan, and neither limit is met
 may_submit : (setting : Setting) (file : ℕ) (journal : List Item)

@@ -1,22 +1,22 @@
 -- What is sent again has its causes.
-use Rattle.std.proofs.Common.{ℕ, ◌≡◌, ◌+◌, ◌-◌, ◌≤◌, ◌==◌, Bool, true, false, not, if◌then◌else◌, Option, Some, None, List, [], ◌∷◌, ◌++◌, map, refl, arith, inr}
-use Rattle.std.specs.Prelude.{IsTrue, IsFalse, is_some, filter, nat_lt, unwrap_or}
-use Rattle.std.specs.List.{AllByRecursion, flat_map, range_with_len}
-use Rattle.ctrl_msg.specs.declared.message.Message.{Message}
+use Rattle.std.proofs.Common.{ℕ, ◌≡◌, ◌+◌, ◌-◌, ◌≤◌, Bool, true, false, not, Option, Some, None, List, [], ◌∷◌, map, refl, arith, inr}
+use Rattle.std.specs.Prelude.{IsTrue, IsFalse, is_some, filter, unwrap_or}
+use Rattle.std.specs.List.{AllByRecursion, flat_map}
 use Rattle.failover.specs.declared.advert.Advert.{Advert}
 use Rattle.journal.specs.declared.item.Item.{Item}
 use Rattle.update_machine.specs.Adverts.{held_adverts}
 use Rattle.update_machine.specs.Boots.{is_up}
 use Rattle.update_machine.specs.Deliveries.{advert_to, switches_in}
 use Rattle.update_machine.specs.LinkMasks.{near}
-use Rattle.update_machine.specs.Marks.{acked_stamp, current_mark, has_acked, is_member, is_over, known_boot, open_version, opened_at, retired_mark}
-use Rattle.update_machine.specs.Pieces.{hello_of, resend_items, resent_by_switch, sends_or_nothing}
+use Rattle.update_machine.specs.Marks.{current_mark, has_acked, is_member, is_over, known_boot, open_version, opened_at}
+use Rattle.update_machine.specs.Pieces.{hello_of, resend_items, resent_by_switch}
 use Rattle.update_machine.specs.Setting.{Setting}
-use Rattle.update_machine.specs.Settling.{collect_for, install_for, resent_by_controller, resent_to_member, stamp_for, unacked, versions_from_current}
+use Rattle.update_machine.specs.Settling.{install_for, resent_by_controller, resent_to_member, unacked, versions_from_current}
 use Rattle.update_machine.specs.Versions.{version_count}
-use Rattle.boot_laws.specs.ItemCauses.{IsForKnown}
+use Rattle.boot_laws.specs.ItemCauses.{HasItemCause, IsForKnown}
 use Rattle.boot_laws.proofs.Facts.{Has}
-use Rattle.boot_laws.proofs.Sends.{IsRight, each, each_append, each_flat_map, each_kept, each_map, each_range, sends_have}
+use Rattle.boot_laws.proofs.Resent.{each_by_controller, each_to_member, later_versions, resent_has}
+use Rattle.boot_laws.proofs.Sends.{IsRight, each, each_flat_map, each_kept, each_map, each_range, sends_have}
 use Rattle.boot_laws.proofs.Serving.{member_parts}
 
 -- adverts may be sent at any time
@@ -81,77 +81,31 @@ member_resent : (setting : Setting) (journal : List Item) (s : ℕ) → IsTrue (
 member_resent setting journal s member =
     let parts = member_parts journal s member in
     let known : IsForKnown journal s (known_boot journal s) =
-    record { known = refl; not_over = parts.0 } in (
-      record { to = known; opens = inr (opening_is journal s parts.1) },
-      each_append (IsRight setting journal) (unacked setting journal s later ++ stamp) _
-          (each_append (IsRight setting journal) (unacked setting journal s later) stamp
-          (unacked_right setting journal s later
-          (each_range (λ version. IsRight setting journal (install_for setting journal version s))
-          (current_mark journal + 1) (version_count journal - current_mark journal)
-          (λ version above below. tables_right setting journal s version parts.0
-          (omega (arith, above)) (omega (arith, above, below)))))
-          (by_stamp known (nat_lt (acked_stamp journal s) (current_mark journal))))
-          (by_mark known (retired_mark journal == 0)),
-    )
-  where
-    later : List ℕ
-    later = range_with_len (current_mark journal + 1) (version_count journal - current_mark journal)
-
-    stamp : List Message
-    stamp = if nat_lt (acked_stamp journal s) (current_mark journal)
-        then stamp_for journal (current_mark journal) s ∷ [] else []
-
-    by_stamp : IsForKnown journal s (known_boot journal s) → (behind : Bool)
-        → AllByRecursion (IsRight setting journal)
-        (if behind then stamp_for journal (current_mark journal) s ∷ [] else [])
-    by_stamp known true = (record { to = known; member = member; current = refl }, tt)
-    by_stamp known false = tt
-
-    by_mark : IsForKnown journal s (known_boot journal s) → (none : Bool)
-        → AllByRecursion (IsRight setting journal)
-        (if none then [] else collect_for journal (retired_mark journal) s ∷ [])
-    by_mark known true = tt
-    by_mark known false = (record { to = known; member = member; retired = refl }, tt)
+    record { known = refl; not_over = parts.0 } in
+    each_to_member (IsRight setting journal) setting journal s
+    (record { to = known; opens = inr (opening_is journal s parts.1) })
+    (unacked_right setting journal s (later_versions journal)
+    (each_range (λ version. IsRight setting journal (install_for setting journal version s))
+    (current_mark journal + 1) (version_count journal - current_mark journal)
+    (λ version above below. tables_right setting journal s version parts.0
+    (omega (arith, above)) (omega (arith, above, below)))))
+    (record { to = known; member = member; current = refl })
+    (λ some. record { to = known; member = member; retired = refl })
 
 resend_by_controller : (setting : Setting) (journal : List Item) (s : ℕ)
     → AllByRecursion (IsRight setting journal) (resent_by_controller setting journal s)
-unfolding resent_by_controller
-resend_by_controller setting journal s = by_over (is_over journal s) refl
-  where
-    by_member : IsFalse (is_over journal s) → (member : Bool) → is_member journal s ≡ member
-        → AllByRecursion (IsRight setting journal) (elim member [
-          | true ↦ resent_to_member setting journal s
-          | false ↦ unacked setting journal s (versions_from_current journal)
-        ])
-    by_member none true e = member_resent setting journal s e
-    by_member none false e = unacked_right setting journal s (versions_from_current journal)
-        (each_range (λ version. IsRight setting journal (install_for setting journal version s))
-        (current_mark journal) (version_count journal + 1 - current_mark journal)
-        (λ version above below. tables_right setting journal s version none above
-        (omega (arith, above, below))))
-
-    by_over : (over : Bool) → is_over journal s ≡ over
-        → AllByRecursion (IsRight setting journal) (elim over [
-          | true ↦ []
-          | false ↦ elim (is_member journal s) [
-            | true ↦ resent_to_member setting journal s
-            | false ↦ unacked setting journal s (versions_from_current journal)
-          ]
-        ])
-    by_over true e = tt
-    by_over false e = by_member e (is_member journal s) refl
+resend_by_controller setting journal s =
+    each_by_controller (IsRight setting journal) setting journal s
+    (λ none member. member_resent setting journal s member)
+    (λ none. unacked_right setting journal s (versions_from_current journal)
+    (each_range (λ version. IsRight setting journal (install_for setting journal version s))
+    (current_mark journal) (version_count journal + 1 - current_mark journal)
+    (λ version above below. tables_right setting journal s version none above
+    (omega (arith, above, below)))))
 
 pub resend_have : (setting : Setting) (s : ℕ) (journal : List Item)
     → Has setting journal (resend_items setting s journal)
-unfolding resend_items
 resend_have setting s journal =
-    by_messages (resent_by_switch setting journal s ++ resent_by_controller setting journal s)
-    (each_append (IsRight setting journal) (resent_by_switch setting journal s)
-    (resent_by_controller setting journal s) (resend_by_switch setting journal s)
-    (resend_by_controller setting journal s))
-  where
-    by_messages : (messages : List Message) → AllByRecursion (IsRight setting journal) messages
-        → Has setting journal (sends_or_nothing journal messages)
-    by_messages [] right = (tt, tt)
-    by_messages (message ∷ messages) right =
-        sends_have setting journal (message ∷ messages) right
+    resent_has (HasItemCause setting) (IsRight setting journal) setting s journal tt
+    (sends_have setting journal) (resend_by_switch setting journal s)
+    (resend_by_controller setting journal s)

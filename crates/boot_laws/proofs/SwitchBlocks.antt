@@ -1,5 +1,5 @@
 -- What a delivery causes has its causes.
-use Rattle.std.proofs.Common.{ℕ, ◌≡◌, ◌≤◌, ◌==◌, Bool, true, false, if◌then◌else◌, Option, Some, None, List, [], ◌∷◌, ◌++◌, ◌||◌, refl, ap, sym, subst, ◌∙◌, arith}
+use Rattle.std.proofs.Common.{ℕ, ◌≡◌, ◌≤◌, ◌==◌, Bool, true, false, if◌then◌else◌, Some, List, [], ◌∷◌, ◌++◌, ◌||◌, refl, ap, sym, subst, ◌∙◌, arith}
 use Rattle.std.specs.Prelude.{⊤, IsTrue, IsFalse, nat_lt, option_and_then}
 use Rattle.std.specs.List.{list_any}
 use Rattle.std.specs.Option.{option_map_or}
@@ -8,23 +8,19 @@ use Rattle.std.proofs.lemmas.Bool.Decides.{nat_tests}
 use Rattle.std.proofs.lemmas.List.Folds.{list_any-append}
 use Rattle.ctrl_msg.specs.declared.message.Body.{Body}
 use Rattle.ctrl_msg.specs.declared.message.Body.TheVariants.{Install, OpenAt, Stamp, Advertise, Hello, Installed, Stamped}
-use Rattle.ctrl_msg.specs.declared.message.Message.{Message}
-use Rattle.ctrl_msg.specs.declared.message.Receiver.{Receiver}
-use Rattle.ctrl_msg.specs.declared.message.Receiver.TheVariants as receiver
 use Rattle.journal.specs.declared.item.Item.{Item}
 use Rattle.journal.specs.declared.item.Item.TheVariants as item
 use Rattle.steps.specs.declared.step.Step.{Step}
 use Rattle.update_machine.specs.Boots.{boot_of, heard, is_for_boot, is_up, said_to}
-use Rattle.update_machine.specs.Deliveries.{after_hello, controller_items, delivery_items, is_new_boot, received_items, switch_items, to_controller}
+use Rattle.update_machine.specs.Deliveries.{after_hello, controller_items, delivery_items, is_new_boot, switch_items, to_controller}
 use Rattle.update_machine.specs.Marks.{is_over, known_boot, hello_boot, raises_known, said_to_controller}
-use Rattle.update_machine.specs.Moves.{in_turn}
 use Rattle.update_machine.specs.Setting.{Setting}
 use Rattle.update_machine.specs.Settling.{installs_to, settling, to_switch}
 use Rattle.update_machine.specs.Versions.{installs, stamp_in, stamp_of}
 use Rattle.update_machine.specs.Links.{message_of}
-use Rattle.update_machine.proofs.CallerLemmas.{have_put}
 use Rattle.boot_laws.specs.ItemCauses.{HasItemCause, OpensRightly}
 use Rattle.boot_laws.proofs.ControllerBlocks.{installs_have, settling_have}
+use Rattle.boot_laws.proofs.Delivered.{controller_has, delivery_has}
 use Rattle.boot_laws.proofs.Facts.{AreKept, Has, fact_on}
 use Rattle.boot_laws.proofs.Grown.{boot_more, heard_more, known_more, message_more, over_more, raised, stamp_told, up_more}
 use Rattle.boot_laws.proofs.Traffic.{links_have, passed_traffic, traffic_has}
@@ -169,17 +165,25 @@ hello_have setting before now _ ends settled stays = tt
 
 controller_have : (setting : Setting) (before now : List Item) (body : Body)
     → HelloEnds before now body → Has setting now (controller_items setting before body now)
-unfolding controller_items
 controller_have setting before now body ends =
-    let settled : List Item = now ++ settling setting now in
-    have_put (HasItemCause setting) (settling setting now)
-    (in_turn (after_hello setting before body ∷ [])) now (settling_have setting now)
-    (have_put (HasItemCause setting) (after_hello setting before body settled) (in_turn []) settled
-    (hello_have setting before now body ends settled
+    controller_has (HasItemCause setting) setting before now body (settling_have setting now)
+    (hello_have setting before now body ends (now ++ settling setting now)
     (λ s none. fact_on IsOfSettling (λ journal. IsFalse (is_over journal s)) (over_kept s) now
-    (settling setting now) (settling_settles setting now) none)) tt)
+    (settling setting now) (settling_settles setting now) none))
 
 -- ---- a delivery
+
+-- a hello is said to the controller behind the row of its delivery
+pub hello_said : (before : List Item) (row number s boot : ℕ) (step : Step)
+    → message_of before number ≡ Some (to_controller (Hello s boot))
+    → option_and_then (hello_boot s)
+    (said_to_controller (before ++ item.Row row step ∷ []) number) ≡ Some boot
+hello_said before row number s boot step sent =
+    let own : (s == s) ≡ true = eq-eqb s s refl in
+    let still : message_of (before ++ item.Row row step ∷ []) number
+    ≡ Some (to_controller (Hello s boot)) =
+    message_more before (item.Row row step) number ∙ sent in
+    rw (still, said_to_controller, own) refl
 
 hello_ends : (before : List Item) (row number : ℕ) (step : Step) (body : Body)
     → message_of before number ≡ Some (to_controller body)
@@ -187,11 +191,8 @@ hello_ends : (before : List Item) (row number : ℕ) (step : Step) (body : Body)
 hello_ends before row number step (Hello s boot) sent =
     λ new.
     let here = before ++ item.Row row step ∷ [] in
-    let own : (s == s) ≡ true = eq-eqb s s refl in
-    let still : message_of here number ≡ Some (to_controller (Hello s boot)) =
-    message_more before (item.Row row step) number ∙ sent in
     let hello : option_and_then (hello_boot s) (said_to_controller here number) ≡ Some boot =
-    rw (still, said_to_controller, own) refl in
+    hello_said before row number s boot step sent in
     let known : known_boot here s ≡ known_boot before s =
     known_more before (item.Row row step) s in
     let raises : raises_known here s number ≡ true =
@@ -204,32 +205,11 @@ hello_ends before row number step _ sent = tt
 pub delivery_have : (setting : Setting) (before : List Item) (row number : ℕ) (step : Step)
     → let now = (before ++ item.Row row step ∷ []) ++ item.Delivered number ∷ [] in
     Has setting now (delivery_items setting before number now)
-unfolding delivery_items
-delivery_have setting before row number step = by_message (message_of before number) refl
-  where
-    here : List Item
-    here = before ++ item.Row row step ∷ []
-
-    now : List Item
-    now = here ++ item.Delivered number ∷ []
-
-    said_have : (s : ℕ) (body : Body) → said_to before s number ≡ Some body
-        → Has setting now (switch_items setting before s body now)
-    said_have s body said = switch_have setting before now s number body
-        (delivered_heard here s number body (said_row before row s number step ∙ said))
-
-    by_receiver : (to : Receiver) (body : Body)
-        → message_of before number ≡ Some (record { to = to; body = body })
-        → Has setting now
-        (received_items setting before number (record { to = to; body = body }) now)
-    by_receiver receiver.Controller body e =
-        controller_have setting before now body (hello_ends before row number step body e)
-    by_receiver (receiver.Switch s) body e = grind (arith, said_have)
-
-    by_message : (o : Option Message) → message_of before number ≡ o
-        → Has setting now (elim o [
-          | None ↦ []
-          | Some message ↦ received_items setting before number message now
-        ])
-    by_message None e = tt
-    by_message (Some message) e = by_receiver message.to message.body e
+delivery_have setting before row number step =
+    let here : List Item = before ++ item.Row row step ∷ [] in
+    let now : List Item = here ++ item.Delivered number ∷ [] in
+    delivery_has (Has setting now) setting before number now tt
+    (λ body sent. controller_have setting before now body
+    (hello_ends before row number step body sent))
+    (λ s body said. switch_have setting before now s number body
+    (delivered_heard here s number body (said_row before row s number step ∙ said)))

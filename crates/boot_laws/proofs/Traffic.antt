@@ -91,16 +91,8 @@ IsBetween setting before to body = IsRuleTo before to body
 abbrev pub IsTraffic : Setting → List Item → Item → Type 0
 IsTraffic setting before (item.Sent number message) =
     IsBetween setting before message.to message.body
-IsTraffic setting before (item.Entered packet s header) = ⊥
-IsTraffic setting before (item.Delivered number) = ⊥
-IsTraffic setting before (item.Down s) = ⊥
-IsTraffic setting before (item.Booted s boot) = ⊥
-IsTraffic setting before (item.Opened s version) = ⊥
-IsTraffic setting before (item.OverNow s) = ⊥
-IsTraffic setting before (item.Submitted file version) = ⊥
-IsTraffic setting before (item.Current version) = ⊥
-IsTraffic setting before (item.Retired version) = ⊥
-IsTraffic setting before _ = ⊤
+IsTraffic setting before (item.LinkIs one two up) = ⊤
+IsTraffic setting before next = IsWork setting before next
 
 abbrev pub Traffic : Setting → List Item → List Item → Type 0
 Traffic setting journal items = HaveCauses (IsTraffic setting) journal items
@@ -142,17 +134,8 @@ work_is_traffic : (setting : Setting) (before : List Item) (next : Item)
     → IsWork setting before next → IsTraffic setting before next
 work_is_traffic setting before (item.Sent number message) is =
     rule_between setting before message.to message.body is
-work_is_traffic setting before (item.Entered packet s header) is = absurd is
-work_is_traffic setting before (item.Delivered number) is = absurd is
 work_is_traffic setting before (item.LinkIs one two up) is = absurd is
-work_is_traffic setting before (item.Down s) is = absurd is
-work_is_traffic setting before (item.Booted s boot) is = absurd is
-work_is_traffic setting before (item.Opened s version) is = absurd is
-work_is_traffic setting before (item.OverNow s) is = absurd is
-work_is_traffic setting before (item.Submitted file version) is = absurd is
-work_is_traffic setting before (item.Current version) is = absurd is
-work_is_traffic setting before (item.Retired version) is = absurd is
-work_is_traffic setting before _ is = tt
+work_is_traffic setting before next is = is
 
 traffic_of : (setting : Setting) (journal items : List Item) → Work setting journal items
     → Traffic setting journal items

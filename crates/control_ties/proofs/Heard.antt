@@ -15,7 +15,7 @@ use Rattle.journal.specs.declared.item.Item.{Item}
 use Rattle.journal.specs.declared.item.Item.TheVariants as item
 use Rattle.update_machine.specs.Causes.{HaveCauses}
 use Rattle.update_machine.specs.Marks as machine
-use Rattle.update_machine.specs.Marks.{acked_stamp, controller_heard, hello_boot, installed_in, known_boot, open_version, opened_at, raises_known, said_to_controller, stamped_in}
+use Rattle.update_machine.specs.Marks.{acked_stamp, hello_boot, installed_in, known_boot, open_version, opened_at, said_to_controller, stamped_in}
 use Rattle.update_machine.specs.Setting.{Setting}
 use Rattle.boot_laws.specs.ItemCauses.{HasItemCause}
 use Rattle.boot_laws.proofs.Facts.{fact_on}
@@ -99,6 +99,32 @@ stamp_told here n t body said known =
     ∙ ap (fold max (fold max (open_version here t) told))
     (tells_said (stamped_in t (known_boot here t)) here n body said))
 
+-- what a body that is no hello leaves as it was
+record AckStays (here after : List Item) (s : ℕ) : Type 0 where
+  boot : known_boot after s ≡ known_boot here s
+  over : machine.is_over after s ≡ machine.is_over here s
+  opened : opened_at after s ≡ opened_at here s
+  member : machine.is_member after s ≡ machine.is_member here s
+
+ack_stays : (here : List Item) (n s : ℕ) (body : Body) → said_to_controller here n ≡ Some body
+    → hello_boot s body ≡ None → AckStays here (here ++ delivered n ∷ []) s
+ack_stays here n s body said no_hello =
+    let after : List Item = here ++ delivered n ∷ [] in
+    let boot : known_boot after s ≡ known_boot here s =
+    boot_told here n s body said ∙ ap (raised (known_boot here s)) no_hello in
+    let over : machine.is_over after s ≡ machine.is_over here s =
+    over_told here n s body said
+    ∙ ap (λ o. if option_map_or (λ boot. nat_lt (known_boot here s) boot) o false
+    then false else machine.is_over here s) no_hello in
+    let opened : opened_at after s ≡ opened_at here s =
+    opened_same here (delivered n) s boot refl in
+    record {
+      boot = boot;
+      over = over;
+      opened = opened;
+      member = member_same here after s over opened;
+    }
+
 -- ---- a body that tells nothing of a switch
 
 untold : (here : List Item) (n t : ℕ) (body : Body) → said_to_controller here n ≡ Some body
@@ -106,18 +132,15 @@ untold : (here : List Item) (n t : ℕ) (body : Body) → said_to_controller her
     → stamped_in t (known_boot here t) body ≡ None
     → StaysKnown here (here ++ delivered n ∷ []) t
 untold here n t body said hello installed stamped =
-    let known : known_boot (here ++ delivered n ∷ []) t ≡ known_boot here t =
-    boot_told here n t body said ∙ ap (raised (known_boot here t)) hello in
+    let stays : AckStays here (here ++ delivered n ∷ []) t = ack_stays here n t body said hello in
     record {
-      boot = known;
-      over = over_told here n t body said
-          ∙ ap (λ o. if option_map_or (λ boot. nat_lt (known_boot here t) boot) o false
-          then false else machine.is_over here t) hello;
-      opened = opened_same here (delivered n) t known refl;
-      acked = λ v. acked_told here n t v body said known
+      boot = stays.boot;
+      over = stays.over;
+      opened = stays.opened;
+      acked = λ v. acked_told here n t v body said stays.boot
           ∙ ap (λ o. machine.has_acked here t v || list_any (nat_eq v) (option_to_list o)) installed
           ∙ or-false (machine.has_acked here t v);
-      stamp = stamp_told here n t body said known
+      stamp = stamp_told here n t body said stays.boot
           ∙ ap (λ o. fold max (acked_stamp here t) (option_to_list o)) stamped;
     }
 
@@ -252,6 +275,24 @@ own_boot here s boot known test same passes =
     ∙ ap (λ b. b == boot) same ∙ eq_swap (known_boot here s) boot
     ∙ ap (λ b. b && boot == known_boot here s) (sym (eq-eqb s s refl))
 
+-- so of the record only what it acknowledged may be another
+known_as : (here after : List Item) (s : ℕ) (known next : SwitchRecord) → AckStays here after s
+    → IsKnown here s known → next.boot ≡ known.boot → next.phase ≡ known.phase
+    → next.open_version ≡ known.open_version
+    → (IsFalse (machine.is_over after s)
+    → (w : ℕ) → 1 ≤ w → has_acked next w ≡ machine.has_acked after s w)
+    → (IsTrue (machine.is_member after s) → next.acked_stamp ≡ acked_stamp after s)
+    → IsKnown after s next
+known_as here after s known next stays is boot phase version acked stamp = record {
+  boot = boot ∙ is.boot ∙ sym stays.boot;
+  over = ap is_over phase ∙ is.over ∙ sym stays.over;
+  member = ap is_member phase ∙ is.member ∙ sym stays.member;
+  acked = acked;
+  opened = λ now. version ∙ is.opened (sym stays.member ∙ now)
+      ∙ sym (ap (λ opened. unwrap_or opened 0) stays.opened);
+  stamp = stamp;
+}
+
 installed_known : (here : List Item) (n s boot v : ℕ) (known : SwitchRecord) → 1 ≤ v
     → said_to_controller here n ≡ Some (Installed s boot v) → IsKnown here s known
     → IsKnown (here ++ delivered n ∷ []) s (after_installed boot v known)
@@ -263,20 +304,8 @@ installed_known here n s boot v known there said is = by_taken (takes_installed 
     body : Body
     body = Installed s boot v
 
-    same : known_boot after s ≡ known_boot here s
-    same = boot_told here n s body said
-
-    over : machine.is_over after s ≡ machine.is_over here s
-    over = over_told here n s body said
-
-    opened : opened_at after s ≡ opened_at here s
-    opened = opened_same here (delivered n) s same refl
-
-    member : machine.is_member after s ≡ machine.is_member here s
-    member = member_same here after s over opened
-
-    stamp : acked_stamp after s ≡ acked_stamp here s
-    stamp = stamp_told here n s body said same
+    stays : AckStays here after s
+    stays = ack_stays here n s body said refl
 
     by_own : (b : Bool) (w : ℕ) → (b && w == v)
         ≡ list_any (nat_eq w) (option_to_list (if b then Some v else None))
@@ -288,7 +317,7 @@ installed_known here n s boot v known there said is = by_taken (takes_installed 
         → has_acked (if b then record known { acked = bit_or known.acked (2 ^ (v - 1)) }
         else known) w ≡ machine.has_acked after s w
     acked b e none w low =
-        let here_none : machine.is_over here s ≡ false = sym over ∙ none in
+        let here_none : machine.is_over here s ≡ false = sym stays.over ∙ none in
         let not_over : not (is_over known.phase) ≡ true = ap not (is.over ∙ here_none) in
         subst (λ c. has_acked (if c then record known { acked = bit_or known.acked (2 ^ (v - 1)) }
         else known) w ≡ machine.has_acked after s w) e
@@ -298,28 +327,18 @@ installed_known here n s boot v known there said is = by_taken (takes_installed 
         (own_boot here s boot known (not (is_over known.phase)) is.boot not_over)
         ∙ ap (λ c. machine.has_acked here s w || c)
         (by_own (s == s && boot == known_boot here s) w)
-        ∙ sym (acked_told here n s w body said same))
+        ∙ sym (acked_told here n s w body said stays.boot))
+
+    stamp : IsTrue (machine.is_member after s) → known.acked_stamp ≡ acked_stamp after s
+    stamp now = is.stamp (sym stays.member ∙ now) ∙ sym (stamp_told here n s body said stays.boot)
 
     by_taken : (b : Bool) → takes_installed boot known ≡ b → IsKnown after s
         (if b then record known { acked = bit_or known.acked (2 ^ (v - 1)) } else known)
-    by_taken true e = record {
-      boot = is.boot ∙ sym same;
-      over = is.over ∙ sym over;
-      member = is.member ∙ sym member;
-      acked = acked true e;
-      opened = λ here. is.opened (sym member ∙ here)
-          ∙ sym (ap (λ opened. unwrap_or opened 0) opened);
-      stamp = λ here. is.stamp (sym member ∙ here) ∙ sym stamp;
-    }
-    by_taken false e = record {
-      boot = is.boot ∙ sym same;
-      over = is.over ∙ sym over;
-      member = is.member ∙ sym member;
-      acked = acked false e;
-      opened = λ here. is.opened (sym member ∙ here)
-          ∙ sym (ap (λ opened. unwrap_or opened 0) opened);
-      stamp = λ here. is.stamp (sym member ∙ here) ∙ sym stamp;
-    }
+    by_taken true e =
+        known_as here after s known (record known { acked = bit_or known.acked (2 ^ (v - 1)) }) stays
+        is refl refl refl (acked true e) stamp
+    by_taken false e =
+        known_as here after s known known stays is refl refl refl (acked false e) stamp
 
 stamped_known : (here : List Item) (n s boot v : ℕ) (known : SwitchRecord)
     → said_to_controller here n ≡ Some (Stamped s boot v) → IsKnown here s known
@@ -332,22 +351,13 @@ stamped_known here n s boot v known said is = by_taken (takes_stamped boot known
     body : Body
     body = Stamped s boot v
 
-    same : known_boot after s ≡ known_boot here s
-    same = boot_told here n s body said
-
-    over : machine.is_over after s ≡ machine.is_over here s
-    over = over_told here n s body said
-
-    opened : opened_at after s ≡ opened_at here s
-    opened = opened_same here (delivered n) s same refl
-
-    member : machine.is_member after s ≡ machine.is_member here s
-    member = member_same here after s over opened
+    stays : AckStays here after s
+    stays = ack_stays here n s body said refl
 
     acked : IsFalse (machine.is_over after s) → (w : ℕ) → 1 ≤ w
         → has_acked known w ≡ machine.has_acked after s w
-    acked none w low = is.acked (sym over ∙ none) w low
-        ∙ sym (acked_told here n s w body said same ∙ or-false (machine.has_acked here s w))
+    acked none w low = is.acked (sym stays.over ∙ none) w low
+        ∙ sym (acked_told here n s w body said stays.boot ∙ or-false (machine.has_acked here s w))
 
     by_own : (b : Bool) (a : ℕ) → (if b then max a v else a)
         ≡ fold max a (option_to_list (if b then Some v else None))
@@ -357,35 +367,22 @@ stamped_known here n s boot v known said is = by_taken (takes_stamped boot known
     stamp : (b : Bool) → takes_stamped boot known ≡ b → IsTrue (machine.is_member after s)
         → (if b then max known.acked_stamp v else known.acked_stamp) ≡ acked_stamp after s
     stamp b e now =
-        let here_member : machine.is_member here s ≡ true = sym member ∙ now in
+        let here_member : machine.is_member here s ≡ true = sym stays.member ∙ now in
         subst (λ c. (if c then max known.acked_stamp v else known.acked_stamp)
         ≡ acked_stamp after s) e
         (ap (λ a. if takes_stamped boot known then max a v else a) (is.stamp here_member)
         ∙ ap (λ c. if c then max (acked_stamp here s) v else acked_stamp here s)
         (own_boot here s boot known (is_member known.phase) is.boot (is.member ∙ here_member))
         ∙ by_own (s == s && boot == known_boot here s) (acked_stamp here s)
-        ∙ sym (stamp_told here n s body said same))
+        ∙ sym (stamp_told here n s body said stays.boot))
 
     by_taken : (b : Bool) → takes_stamped boot known ≡ b → IsKnown after s
         (if b then record known { acked_stamp = max known.acked_stamp v } else known)
-    by_taken true e = record {
-      boot = is.boot ∙ sym same;
-      over = is.over ∙ sym over;
-      member = is.member ∙ sym member;
-      acked = acked;
-      opened = λ here. is.opened (sym member ∙ here)
-          ∙ sym (ap (λ opened. unwrap_or opened 0) opened);
-      stamp = stamp true e;
-    }
-    by_taken false e = record {
-      boot = is.boot ∙ sym same;
-      over = is.over ∙ sym over;
-      member = is.member ∙ sym member;
-      acked = acked;
-      opened = λ here. is.opened (sym member ∙ here)
-          ∙ sym (ap (λ opened. unwrap_or opened 0) opened);
-      stamp = stamp false e;
-    }
+    by_taken true e =
+        known_as here after s known (record known { acked_stamp = max known.acked_stamp v }) stays is
+        refl refl refl acked (stamp true e)
+    by_taken false e =
+        known_as here after s known known stays is refl refl refl acked (stamp false e)
 
 -- ---- all marks
 

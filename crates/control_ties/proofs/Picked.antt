@@ -1,9 +1,9 @@
 -- Numbers of a range that are picked by a test, and what is made of them.
-use Rattle.std.proofs.Common.{ℕ, zero, suc, ◌≡◌, ◌+◌, ◌<◌, ◌≤◌, ◌==◌, Bool, true, false, if◌then◌else◌, List, [], ◌∷◌, length, map, refl, ap, sym, subst, ◌∙◌, arith, inl, inr}
-use Rattle.std.specs.Prelude.{◌||◌, IsTrue, IsFalse, cond, filter, take_while}
-use Rattle.std.specs.List.{list_any, range_with_len}
-use Rattle.std.proofs.lemmas.Bool.{cases_eq, eq-eqb, ne_eqb}
+use Rattle.std.proofs.Common.{ℕ, zero, suc, ◌≡◌, ◌+◌, ◌<◌, ◌≤◌, Bool, true, false, if◌then◌else◌, List, [], ◌∷◌, length, map, refl, ap, subst, ◌∙◌, arith}
+use Rattle.std.specs.Prelude.{IsTrue, IsFalse, cond, filter, take_while}
+use Rattle.std.specs.List.{range_with_len}
 use Rattle.std.proofs.lemmas.List.Sums.{take_while-cons}
+pub use Rattle.boot_laws.proofs.Picked.{any_picked}
 
 -- ---- lists that are made of others
 
@@ -68,45 +68,3 @@ passing_is test low (suc n) (suc k) few all stops =
     (passing_is test (low + 1) n k (omega (arith, few))
     (λ v above below. all v (omega (arith, above)) (omega (arith, below)))
     (λ more. subst (λ v. IsFalse (test v)) (omega arith) (stops (omega (arith, more)))))
-
-any_below : (test : ℕ → Bool) (s low n : ℕ) → s < low
-    → list_any (λ x. x == s) (filter test (range_with_len low n)) ≡ false
-any_below test s low zero below = refl
-any_below test s low (suc n) below =
-    by_test (test low) (any_below test s (low + 1) n (omega (arith, below)))
-  where
-    rest : List ℕ
-    rest = filter test (range_with_len (low + 1) n)
-
-    by_test : (b : Bool) → list_any (λ x. x == s) rest ≡ false
-        → list_any (λ x. x == s) (if b then low ∷ rest else rest) ≡ false
-    by_test true none =
-        ap (λ c. c || list_any (λ x. x == s) rest) (ne_eqb low s (λ e. omega (arith, below, e)))
-        ∙ none
-    by_test false none = none
-
--- a number of the range is among those that pass where it passes
-pub any_picked : (test : ℕ → Bool) (s low n : ℕ) → low ≤ s → s < low + n
-    → list_any (λ x. x == s) (filter test (range_with_len low n)) ≡ test s
-any_picked test s low zero above below = absurd (omega arith)
-any_picked test s low (suc n) above below = elim (cases_eq s low) [
-  | inl own ↦ here own (test low) refl
-  | inr apart ↦ later apart (test low)
-      ∙ any_picked test s (low + 1) n (omega (arith, above, apart)) (omega (arith, below))
-]
-  where
-    rest : List ℕ
-    rest = filter test (range_with_len (low + 1) n)
-
-    here : s ≡ low → (b : Bool) → test low ≡ b
-        → list_any (λ x. x == s) (if b then low ∷ rest else rest) ≡ test s
-    here own true e =
-        ap (λ c. c || list_any (λ x. x == s) rest) (eq-eqb low s (sym own))
-        ∙ sym (ap test own ∙ e)
-    here own false e = any_below test s (low + 1) n (omega (arith, own)) ∙ sym (ap test own ∙ e)
-
-    later : (s ≡ low → ⊥) → (b : Bool)
-        → list_any (λ x. x == s) (if b then low ∷ rest else rest) ≡ list_any (λ x. x == s) rest
-    later apart true =
-        ap (λ c. c || list_any (λ x. x == s) rest) (ne_eqb low s (λ e. apart (sym e)))
-    later apart false = refl

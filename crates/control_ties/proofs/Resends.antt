@@ -10,7 +10,7 @@ use Rattle.ctrl_msg.specs.declared.message.Message.{Message}
 use Rattle.journal.specs.declared.item.Item.{Item}
 use Rattle.update_machine.specs.Deliveries.{to_controller}
 use Rattle.update_machine.specs.Marks as machine
-use Rattle.update_machine.specs.Marks.{acked_stamp, current_mark, known_boot, open_version, retired_mark}
+use Rattle.update_machine.specs.Marks.{acked_stamp, current_mark, open_version, retired_mark}
 use Rattle.update_machine.specs.Links.{message_of}
 use Rattle.update_machine.specs.Setting.{Setting}
 use Rattle.update_machine.specs.Settling.{collect_for, install_for, open_for, resent_by_controller, resent_to_member, stamp_for, to_switch, unacked, versions_from_current}
@@ -24,7 +24,7 @@ use Rattle.version_update.specs.declared.record.Phase.TheVariants.{Joining, Memb
 use Rattle.version_update.specs.declared.record.SwitchRecord.{SwitchRecord}
 use Rattle.controller.specs.Controller.{ControllerValue}
 use Rattle.controller.specs.Sends as acts
-use Rattle.controller.specs.Sends.{NamesThere, install_act, is_missing, missing_installs, resending, resending_to}
+use Rattle.controller.specs.Sends.{NamesBoth, NamesThere, install_act, is_missing, missing_installs, resending, resending_to}
 use Rattle.controller.specs.declared.sends.Act.{Act}
 use Rattle.controller.specs.declared.sends.Act.TheVariants.{Post}
 use Rattle.control_ties.specs.Controller.{IsControllerOf, planned}
@@ -34,6 +34,17 @@ use Rattle.control_ties.proofs.Settled.{AreCaused}
 
 -- ---- what is told to the controller names what it knows
 
+names_both : (setting : Setting) (journal : List Item) (s v : ℕ) (marks : MarksValue)
+    → AreMarksOf setting journal marks → s < length setting.net.switches
+    → (1 ≤ v) × (v ≤ version_count journal) → NamesBoth s v marks
+names_both setting journal s v marks are there version =
+    let last = are.count in
+    record {
+      switch_is = omega (arith, there, are.many);
+      first = version.0;
+      last = omega (arith, version.1, last);
+    }
+
 pub names_there : (setting : Setting) (journal : List Item) (n : ℕ) (body : Body)
     (marks : MarksValue) → BodiesNameThere setting journal → AreMarksOf setting journal marks
     → message_of journal n ≡ Some (to_controller body) → NamesThere body marks
@@ -42,20 +53,10 @@ names_there setting journal n (Hello s boot) marks names are sent =
     omega (arith, named.addressed, are.many)
 names_there setting journal n (Installed s boot v) marks names are sent =
     let named = names.sent n (to_controller (Installed s boot v)) sent in
-    let last = are.count in
-    record {
-      switch_is = omega (arith, named.addressed, are.many);
-      first = named.version.0;
-      last = omega (arith, named.version.1, last);
-    }
+    names_both setting journal s v marks are named.addressed named.version
 names_there setting journal n (Stamped s boot v) marks names are sent =
     let named = names.sent n (to_controller (Stamped s boot v)) sent in
-    let last = are.count in
-    record {
-      switch_is = omega (arith, named.addressed, are.many);
-      first = named.version.0;
-      last = omega (arith, named.version.1, last);
-    }
+    names_both setting journal s v marks are named.addressed named.version
 names_there setting journal n body marks names are sent = tt
 
 -- ---- sending again
@@ -175,50 +176,38 @@ module _ (setting : Setting) (journal : List Item) (s : ℕ) (controller : Contr
       ∙ ap (λ xs. Post (open_for journal (open_version journal s) s) ∷ xs)
       (sym (map-append Post (first ++ stamp) collect))
 
-  by_phase : (phase : Phase) → known.phase ≡ phase → resending_to phase controller s
+  -- by what it knows of the switch
+  abbrev sent_by : Bool → Bool → List Message
+  sent_by over member = elim over [
+    | true ↦ []
+    | false ↦ elim member [
+      | true ↦ resent_to_member setting journal s
+      | false ↦ unacked setting journal s versions
+    ]
+  ]
+
+  sent_in : (phase : Phase) → known.phase ≡ phase
+      → map Post (sent_by (is_over phase) (is_member phase))
       ≡ map Post (resent_by_controller setting journal s)
   unfolding resent_by_controller
-  by_phase Over e =
-      let over : true ≡ machine.is_over journal s = sym (ap is_over e) ∙ own.over in
-      ap (λ b. map Post (elim b [
-        | true ↦ []
-        | false ↦ elim (machine.is_member journal s) [
-          | true ↦ resent_to_member setting journal s
-          | false ↦ unacked setting journal s versions
-        ]
-      ])) over
+  sent_in phase e =
+      ap (λ over. map Post (sent_by over (is_member phase))) (sym (ap is_over e) ∙ own.over)
+      ∙ ap (λ member. map Post (sent_by (machine.is_over journal s) member))
+      (sym (ap is_member e) ∙ own.member)
+
+  by_phase : (phase : Phase) → known.phase ≡ phase → resending_to phase controller s
+      ≡ map Post (resent_by_controller setting journal s)
+  by_phase Over e = sent_in Over e
   by_phase Joining e =
-      let over : false ≡ machine.is_over journal s = sym (ap is_over e) ∙ own.over in
-      let member : false ≡ machine.is_member journal s = sym (ap is_member e) ∙ own.member in
+      let none : false ≡ machine.is_over journal s = sym (ap is_over e) ∙ own.over in
       ap (missing_installs controller s) is.marks.current ∙ of_versions low
-      ∙ from_on (sym over) low (version_count journal + 1 - low)
+      ∙ from_on (sym none) low (version_count journal + 1 - low)
       (bounded setting journal have).first
-      ∙ ap (λ b. map Post (elim b [
-        | true ↦ resent_to_member setting journal s
-        | false ↦ unacked setting journal s versions
-      ])) member
-      ∙ ap (λ b. map Post (elim b [
-        | true ↦ []
-        | false ↦ elim (machine.is_member journal s) [
-          | true ↦ resent_to_member setting journal s
-          | false ↦ unacked setting journal s versions
-        ]
-      ])) over
+      ∙ sent_in Joining e
   by_phase Member e =
-      let over : false ≡ machine.is_over journal s = sym (ap is_over e) ∙ own.over in
+      let none : false ≡ machine.is_over journal s = sym (ap is_over e) ∙ own.over in
       let member : true ≡ machine.is_member journal s = sym (ap is_member e) ∙ own.member in
-      to_member (sym member) (sym over)
-      ∙ ap (λ b. map Post (elim b [
-        | true ↦ resent_to_member setting journal s
-        | false ↦ unacked setting journal s versions
-      ])) member
-      ∙ ap (λ b. map Post (elim b [
-        | true ↦ []
-        | false ↦ elim (machine.is_member journal s) [
-          | true ↦ resent_to_member setting journal s
-          | false ↦ unacked setting journal s versions
-        ]
-      ])) over
+      to_member (sym member) (sym none) ∙ sent_in Member e
 
 pub resends : (setting : Setting) (journal : List Item) (s : ℕ) (controller : ControllerValue)
     → AreCaused setting journal → IsControllerOf setting journal controller

@@ -9,13 +9,14 @@ use Rattle.std.proofs.lemmas.List.{get_or-map, length-map}
 use Rattle.std.proofs.lemmas.List.Folds.{list_all-map}
 use Rattle.std.proofs.lemmas.List.FromFn.{fill_by_all}
 use Rattle.std.proofs.lemmas.Option.{slice_get-get_or}
+use Rattle.ctrl_msg.specs.declared.message.Body.{Body}
 use Rattle.ctrl_msg.specs.declared.message.Body.TheVariants.{Collect, OpenAt, Stamp}
 use Rattle.ctrl_msg.specs.declared.message.Message.{Message}
 use Rattle.journal.specs.declared.item.Item.{Item}
 use Rattle.journal.specs.declared.item.Item.TheVariants as item
 use Rattle.update_machine.specs.Causes.{HaveCauses}
 use Rattle.update_machine.specs.Marks as machine
-use Rattle.update_machine.specs.Marks.{acked_stamp, controller_heard, current_mark, first_number, known_boot, least, next_current, next_retired, open_in, open_sent, open_version, opened_at, retired_mark}
+use Rattle.update_machine.specs.Marks.{acked_stamp, controller_heard, current_mark, first_number, known_boot, least, next_current, next_retired, open_in, open_version, opened_at, retired_mark}
 use Rattle.update_machine.specs.Messages.{next_message, sends, sent_from}
 use Rattle.update_machine.specs.Moves.{put}
 use Rattle.update_machine.specs.Setting.{Setting, switches_of}
@@ -49,7 +50,7 @@ use Rattle.controller.specs.Sends.{boot_recorded, tell, those}
 use Rattle.controller.specs.declared.sends.Act.{Act}
 use Rattle.controller.specs.declared.sends.Act.TheVariants.{Current, Post, Retired}
 use Rattle.control_ties.specs.Marks.{AreMarksOf, IsKnown}
-use Rattle.control_ties.specs.Written.{written}
+use Rattle.control_ties.specs.Written.{item_of, written}
 use Rattle.control_ties.proofs.Kept.{current_on, known_on, marks_on, retired_on}
 use Rattle.control_ties.proofs.Picked.{any_picked, filter_made, map_twice, passing_is, picked_same}
 use Rattle.control_ties.proofs.Written.{posted, written_in_three}
@@ -153,6 +154,44 @@ rises_same setting now before current are rises =
 abbrev SameBoots : List Item → MarksValue → ℕ → Type 0
 SameBoots journal after n = (s : ℕ) → s < n → boot_recorded after s ≡ known_boot journal s
 
+-- a mark rises, members are told of it, and the marks are the risen ones; or it stays
+rises_on : (setting : Setting) (journal : List Item) (after value risen : MarksValue) (act : Act)
+    (body : ℕ → Body) (message : ℕ → Message)
+    → AreMarksOf setting journal value
+    → ((s : ℕ) → s < length value.switches
+    → acts.post s (body (boot_recorded after s)) ≡ Post (message s))
+    → ((s : ℕ) → ReopensAlone (journal ++ item_of journal act ∷ []) (message s))
+    → AreMarksOf setting (journal ++ item_of journal act ∷ []) risen
+    → (b : Bool) → (b ≡ false → AreMarksOf setting journal risen)
+    → (written journal (if b
+    then act ∷ tell after body (those (λ known. is_member known.phase) value.switches)
+    else []) ≡ elim b [
+      | false ↦ []
+      | true ↦ put (item_of journal act ∷ [])
+          (λ raised. sends raised (map message (machine.members setting journal))) journal
+    ])
+    × AreMarksOf setting (journal ++ elim b [
+      | false ↦ []
+      | true ↦ put (item_of journal act ∷ [])
+          (λ raised. sends raised (map message (machine.members setting journal))) journal
+    ]) risen
+rises_on setting journal after value risen act body message are posts leaves rises false stays = (
+  refl,
+  subst (λ js. AreMarksOf setting js risen) (sym (append-nil journal)) (stays refl),
+)
+rises_on setting journal after value risen act body message are posts leaves rises true stays =
+    let next : Item = item_of journal act in
+    let raised : List Item = journal ++ next ∷ [] in (
+      ap (λ items. next ∷ items)
+          (told_posted (λ s. acts.post s (body (boot_recorded after s))) message
+          (λ known. is_member known.phase) (machine.is_member journal) setting raised value are.many
+          (λ s there. (are.each s there).member) posts),
+      subst (λ js. AreMarksOf setting js risen)
+          (append_assoc journal (next ∷ [])
+          (sends raised (map message (machine.members setting journal))))
+          (leave_on setting raised risen message (machine.members setting journal) leaves rises),
+    )
+
 raises_on : (setting : Setting) (now : List Item) (before after : MarksValue)
     → AreMarksOf setting now before → before.current ≤ after.current
     → after.current ≡ next_current setting now
@@ -162,7 +201,10 @@ raises_on : (setting : Setting) (now : List Item) (before after : MarksValue)
     (record before { current = after.current })
 unfolding current_items
 raises_on setting now before after are up is boots =
-    let both = by_test (nat_lt (current_mark now) version) refl in (
+    let both = rises_on setting now after before (record before { current = version })
+    (Current version) (λ boot. Stamp boot version) (stamp_for now version) are
+    (λ s there. ap (λ boot. Post (to_switch s (Stamp boot version))) (boots s there)) (λ s. tt)
+    (current_on setting now version before are) (nat_lt (current_mark now) version) stays in (
       ap (written now)
           (ap (λ low. stamped low after.current) are.current ∙ ap (stamped (current_mark now)) is)
           ∙ both.0,
@@ -179,48 +221,17 @@ raises_on setting now before after are up is boots =
         (those (λ known. is_member known.phase) before.switches)
         else []
 
-    raised : List Item
-    raised = now ++ item.Current version ∷ []
-
-    stamps : List Message
-    stamps = map (stamp_for now version) (machine.members setting now)
-
-    by_test : (b : Bool) → nat_lt (current_mark now) version ≡ b
-        → (written now (if b then Current version ∷ tell after (λ boot. Stamp boot version)
-        (those (λ known. is_member known.phase) before.switches) else []) ≡ elim b [
-          | false ↦ []
-          | true ↦ put (item.Current version ∷ []) (λ raised. sends raised stamps) now
-        ])
-        × AreMarksOf setting (now ++ elim b [
-          | false ↦ []
-          | true ↦ put (item.Current version ∷ []) (λ raised. sends raised stamps) now
-        ]) (record before { current = version })
-    by_test false e = (
-      refl,
-      subst (λ js. AreMarksOf setting js (record before { current = version }))
-          (sym (append-nil now))
-          (record {
-            count = are.count;
-            current =
-                let first = are.current in
-                grind (arith, nat_tests);
-            retired = are.retired;
-            many = are.many;
-            each = are.each;
-          }),
-    )
-    by_test true e = (
-      ap (λ items. item.Current version ∷ items)
-          (told_posted (λ s. acts.post s (Stamp (boot_recorded after s) version)) (stamp_for now version)
-          (λ known. is_member known.phase) (machine.is_member now) setting raised before are.many
-          (λ s there. (are.each s there).member)
-          (λ s there. ap (λ boot. Post (to_switch s (Stamp boot version))) (boots s there))),
-      subst (λ js. AreMarksOf setting js (record before { current = version }))
-          (append_assoc now (item.Current version ∷ []) (sends raised stamps))
-          (leave_on setting raised (record before { current = version }) (stamp_for now version)
-          (machine.members setting now) (λ s. tt)
-          (current_on setting now version before are)),
-    )
+    stays : nat_lt (current_mark now) version ≡ false
+        → AreMarksOf setting now (record before { current = version })
+    stays e = record {
+      count = are.count;
+      current =
+          let first = are.current in
+          grind (arith, nat_tests);
+      retired = are.retired;
+      many = are.many;
+      each = are.each;
+    }
 
 -- ---- joining switches open
 
@@ -472,7 +483,10 @@ retires_on : (setting : Setting) (two : List Item) (before after : MarksValue)
     × AreMarksOf setting (two ++ retired_items setting two) after
 unfolding retired_items
 retires_on setting two before after are is least_is boots =
-    let both = by_test (nat_lt (retired_mark two) version) refl in (
+    let both = rises_on setting two after value (record after { retired = version })
+    (Retired version) (λ boot. Collect boot version) (collect_for two version) are
+    (λ s there. ap (λ boot. Post (to_switch s (Collect boot version))) (boots s there)) (λ s. tt)
+    (retired_on setting two version value are) (nat_lt (retired_mark two) version) stays in (
       ap (written two)
           (ap (λ low. collected low after.retired) are.retired
           ∙ ap (collected (retired_mark two)) is) ∙ both.0,
@@ -492,46 +506,15 @@ retires_on setting two before after are is least_is boots =
         (those (λ known. is_member known.phase) after.switches)
         else []
 
-    raised : List Item
-    raised = two ++ item.Retired version ∷ []
-
-    told : List Message
-    told = map (collect_for two version) (machine.members setting two)
-
-    by_test : (b : Bool) → nat_lt (retired_mark two) version ≡ b
-        → (written two (if b then Retired version ∷ tell after (λ boot. Collect boot version)
-        (those (λ known. is_member known.phase) after.switches) else []) ≡ elim b [
-          | false ↦ []
-          | true ↦ put (item.Retired version ∷ []) (λ raised. sends raised told) two
-        ])
-        × AreMarksOf setting (two ++ elim b [
-          | false ↦ []
-          | true ↦ put (item.Retired version ∷ []) (λ raised. sends raised told) two
-        ]) (record after { retired = version })
-    by_test false e = (
-      refl,
-      subst (λ js. AreMarksOf setting js (record after { retired = version }))
-          (sym (append-nil two))
-          (record {
-            count = are.count;
-            current = are.current;
-            retired = grind (arith, nat_tests);
-            many = are.many;
-            each = are.each;
-          }),
-    )
-    by_test true e = (
-      ap (λ items. item.Retired version ∷ items)
-          (told_posted (λ s. acts.post s (Collect (boot_recorded after s) version))
-          (collect_for two version) (λ known. is_member known.phase) (machine.is_member two) setting
-          raised value are.many (λ s there. (are.each s there).member)
-          (λ s there. ap (λ boot. Post (to_switch s (Collect boot version))) (boots s there))),
-      subst (λ js. AreMarksOf setting js (record after { retired = version }))
-          (append_assoc two (item.Retired version ∷ []) (sends raised told))
-          (leave_on setting raised (record after { retired = version }) (collect_for two version)
-          (machine.members setting two) (λ s. tt)
-          (retired_on setting two version value are)),
-    )
+    stays : nat_lt (retired_mark two) version ≡ false
+        → AreMarksOf setting two (record after { retired = version })
+    stays e = record {
+      count = are.count;
+      current = are.current;
+      retired = grind (arith, nat_tests);
+      many = are.many;
+      each = are.each;
+    }
 
 -- ---- together
 

@@ -1,16 +1,14 @@
 -- The packet rows of the steps of events are those of the events.
-use Rattle.std.specs.Prelude.{◌-◌, ◌≤◌, option_map, take}
-use Rattle.std.proofs.Common.{ℕ, suc, ◌≡◌, ◌+◌, ◌⊎◌, inl, inr, Option, Some, None, List, [], ◌∷◌, ◌++◌, refl, ap, sym, subst, ◌∙◌, append_assoc, append-nil, arith}
+use Rattle.std.specs.Prelude.{◌-◌, ◌≤◌, take}
+use Rattle.std.proofs.Common.{ℕ, suc, ◌≡◌, ◌+◌, ◌⊎◌, inl, inr, Option, List, [], ◌∷◌, ◌++◌, refl, ap, sym, subst, ◌∙◌, append_assoc, append-nil, arith}
 use Rattle.journal.specs.declared.item.Item.{Item}
 use Rattle.steps.specs.declared.step.Event.{Event}
 use Rattle.steps.specs.declared.step.Event.TheVariants.{One, Flush, Drain}
 use Rattle.steps.specs.declared.step.Step.{Step}
-use Rattle.steps.specs.declared.step.Step.TheVariants.{Deliver, Hop}
-use Rattle.update_machine.specs.Answers.{AreAll, AreFirstSteps, AreFirstStepsOf, AreSome, AreSteps, AreStepsOf, StepOfRow, after_steps, next_delivery, next_hop}
-use Rattle.update_machine.specs.Messages.{next_waiting}
-use Rattle.update_machine.specs.Travels.{next_travelling}
+use Rattle.update_machine.specs.Answers.{AreFirstSteps, AreFirstStepsOf, AreSome, AreSteps, AreStepsOf, StepOfRow, after_steps, next_delivery, next_hop}
 use Rattle.update_machine.specs.Pieces.{piece}
 use Rattle.update_machine.specs.Setting.{Setting}
+use Rattle.update_machine.proofs.CallerLemmas.{AreOf, HasNexts, all_first, event_steps_are, firsts_are}
 use Rattle.entry_laws.specs.Entries.{PacketRow, event_row, packet_row, packet_rows}
 use Rattle.entry_laws.proofs.Pieces.{rows_of}
 
@@ -25,71 +23,25 @@ rows_append (next ∷ one) two =
 abbrev BringsNone : Step → Type 0
 BringsNone step = (row : ℕ) → packet_row row step ≡ []
 
-abbrev NextsBringNone : (List Item → Option Step) → Type 0
-NextsBringNone next = (before : List Item) (step : Step) → next before ≡ Some step
-    → BringsNone step
+nexts_bring_none : HasNexts BringsNone
+nexts_bring_none = record { delivery = λ number row. refl; hop = λ packet row. refl }
 
-hops_bring_none : NextsBringNone next_hop
-hops_bring_none before step = by (next_travelling before)
-  where
-    by : (o : Option ℕ) → option_map Hop o ≡ Some step → BringsNone step
-    by None e = absurd cc
-    by (Some i) e = let same : Hop i ≡ step = cc in subst BringsNone same (λ row. refl)
-
-deliveries_bring_none : NextsBringNone next_delivery
-deliveries_bring_none before step = by (next_waiting before)
-  where
-    by : (o : Option ℕ) → option_map Deliver o ≡ Some step → BringsNone step
-    by None e = absurd cc
-    by (Some n) e = let same : Deliver n ≡ step = cc in subst BringsNone same (λ row. refl)
-
--- the next ones behind a journal, of one row: all that come, or the first ones of these
-module _ (setting : Setting) (next : List Item → Option Step) (none : NextsBringNone next)
-    (row : ℕ) where
-  some_rows : (before : List Item) (steps : List StepOfRow) → AreSome setting next row before steps
-      → rows_of steps ≡ []
-  some_rows before [] some = refl
-  some_rows before (first ∷ steps) some =
-      ap (λ rows. rows ++ rows_of steps) (none before first.step some.1 first.row)
-      ∙ some_rows (before ++ piece setting before first.row first.step) steps some.2
-
-  some_last : (before : List Item) (steps : List StepOfRow) (last : StepOfRow)
-      → AreSome setting next row before (steps ++ last ∷ []) → last.row ≡ row
-  some_last before [] last some = some.0
-  some_last before (first ∷ steps) last some =
-      some_last (before ++ piece setting before first.row first.step) steps last some.2
-
-  all_some : (before : List Item) (steps : List StepOfRow) → AreAll setting next row before steps
-      → AreSome setting next row before steps
-  all_some before [] all = tt
-  all_some before (first ∷ steps) all = (
-    all.0,
-    all.1,
-    all_some (before ++ piece setting before first.row first.step) steps all.2,
-  )
+none_rows : (steps : List StepOfRow) → AreOf BringsNone steps → rows_of steps ≡ []
+none_rows [] none = refl
+none_rows (next ∷ steps) none =
+    ap (λ rows. rows ++ rows_of steps) (none.0 next.row) ∙ none_rows steps none.1
 
 -- ---- one event
-
-all_first : (setting : Setting) (row : ℕ) (event : Event) (before : List Item)
-    (steps : List StepOfRow) → AreStepsOf setting row event before steps
-    → AreFirstStepsOf setting row event before steps
-all_first setting row (One step) before steps all = inr all
-all_first setting row Flush before steps all =
-    all_some setting next_delivery deliveries_bring_none row before steps all
-all_first setting row Drain before steps all =
-    all_some setting next_hop hops_bring_none row before steps all
 
 event_rows : (setting : Setting) (row : ℕ) (event : Event) (before : List Item)
     (steps : List StepOfRow) → AreStepsOf setting row event before steps
     → rows_of steps ≡ event_row row event
 event_rows setting row (One step) before steps all =
     ap rows_of all ∙ append-nil (packet_row row step)
-event_rows setting row Flush before steps all =
-    some_rows setting next_delivery deliveries_bring_none row before steps
-    (all_some setting next_delivery deliveries_bring_none row before steps all)
-event_rows setting row Drain before steps all =
-    some_rows setting next_hop hops_bring_none row before steps
-    (all_some setting next_hop hops_bring_none row before steps all)
+event_rows setting row Flush before steps all = none_rows steps
+    (event_steps_are BringsNone nexts_bring_none setting row Flush before steps tt all)
+event_rows setting row Drain before steps all = none_rows steps
+    (event_steps_are BringsNone nexts_bring_none setting row Drain before steps tt all)
 
 -- what stands in front of a step of the event
 record Front (row : ℕ) (steps : List StepOfRow) (last : StepOfRow) : Type 0 where
@@ -113,17 +65,21 @@ one_front row one (first ∷ steps) last is e = absurd (no_front steps last (ap 
     tail_of [] = []
     tail_of (x ∷ xs) = xs
 
-some_front : (setting : Setting) (next : List Item → Option Step) → NextsBringNone next
-    → (row : ℕ) (before : List Item) (steps : List StepOfRow) (last : StepOfRow)
-    → AreSome setting next row before (steps ++ last ∷ []) → Front row steps last
-some_front setting next none row before steps last some =
-    let all : rows_of steps ++ rows_of (last ∷ []) ≡ [] =
-    sym (rows_append steps (last ∷ []))
-    ∙ some_rows setting next none row before (steps ++ last ∷ []) some in
-    record {
-      none = first_empty (rows_of steps) (rows_of (last ∷ [])) all;
-      of_row = some_last setting next none row before steps last some;
-    }
+some_last : (setting : Setting) (next : List Item → Option Step) (row : ℕ) (before : List Item)
+    (steps : List StepOfRow) (last : StepOfRow)
+    → AreSome setting next row before (steps ++ last ∷ []) → last.row ≡ row
+some_last setting next row before [] last some = some.0
+some_last setting next row before (first ∷ steps) last some =
+    some_last setting next row (before ++ piece setting before first.row first.step) steps last
+    some.2
+
+none_front : (row : ℕ) (steps : List StepOfRow) (last : StepOfRow)
+    → AreOf BringsNone (steps ++ last ∷ []) → last.row ≡ row → Front row steps last
+none_front row steps last none is = record {
+  none = first_empty (rows_of steps) (rows_of (last ∷ []))
+      (sym (rows_append steps (last ∷ [])) ∙ none_rows (steps ++ last ∷ []) none);
+  of_row = is;
+}
   where
     first_empty : (xs ys : List PacketRow) → xs ++ ys ≡ [] → xs ≡ []
     first_empty [] ys e = refl
@@ -136,9 +92,13 @@ event_front setting row (One step) before steps last (inl e) = absurd (no_front 
 event_front setting row (One step) before steps last (inr e) =
     one_front row (record { row = row; step = step }) steps last refl e
 event_front setting row Flush before steps last some =
-    some_front setting next_delivery deliveries_bring_none row before steps last some
+    none_front row steps last
+    (firsts_are BringsNone nexts_bring_none setting row Flush before (steps ++ last ∷ []) tt some)
+    (some_last setting next_delivery row before steps last some)
 event_front setting row Drain before steps last some =
-    some_front setting next_hop hops_bring_none row before steps last some
+    none_front row steps last
+    (firsts_are BringsNone nexts_bring_none setting row Drain before (steps ++ last ∷ []) tt some)
+    (some_last setting next_hop row before steps last some)
 
 -- ---- all events
 

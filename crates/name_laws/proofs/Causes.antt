@@ -1,8 +1,7 @@
 -- Each piece of a step of the network names what is there, as far as its items alone tell.
-use Rattle.std.proofs.Common.{ℕ, ◌≡◌, ◌+◌, ◌-◌, ◌<◌, ◌≤◌, ◌==◌, ◌⊎◌, ◌&&◌, Bool, true, false, if◌then◌else◌, Option, Some, None, List, [], ◌∷◌, ◌++◌, length, map, refl, ap, ◌∙◌, arith, inl, inr}
-use Rattle.std.specs.Prelude.{⊤, IsTrue, not, nat_lt, filter, option_and_then}
-use Rattle.std.specs.List.{AllByRecursion, flat_map, range_with_len}
-use Rattle.std.proofs.lemmas.Bool.{eq-eqb}
+use Rattle.std.proofs.Common.{ℕ, ◌≡◌, ◌+◌, ◌<◌, ◌≤◌, ◌⊎◌, ◌&&◌, Bool, true, false, Some, List, [], ◌∷◌, ◌++◌, length, map, refl, ap, ◌∙◌, arith, inl, inr}
+use Rattle.std.specs.Prelude.{⊤, IsTrue, not, filter, option_and_then}
+use Rattle.std.specs.List.{AllByRecursion, flat_map}
 use Rattle.std.proofs.lemmas.Bool.Decides.{nat_tests}
 use Rattle.ctrl_msg.specs.declared.message.Body.{Body}
 use Rattle.ctrl_msg.specs.declared.message.Body.TheVariants.{Install, OpenAt, Stamp, Collect, CacheRule, Advertise, Hello, Installed, Stamped}
@@ -16,27 +15,29 @@ use Rattle.journal.specs.declared.item.Item.TheVariants as item
 use Rattle.steps.specs.declared.step.Step.{Step}
 use Rattle.steps.specs.declared.step.Step.TheVariants.{Packet, Hop, Lose, Deliver, Forget, Expire, Update, LinkDown, LinkUp, Crash, Restart, Confirm, Resend}
 use Rattle.update_machine.specs.Adverts.{held_adverts}
-use Rattle.update_machine.specs.Boots.{is_up, said_to}
+use Rattle.update_machine.specs.Boots.{is_up}
 use Rattle.update_machine.specs.Causes.{HaveCauses}
-use Rattle.update_machine.specs.Deliveries.{advert_to, after_hello, controller_items, delivery_items, is_new_boot, link_changes, passed_on, received_items, switch_items, to_controller, switches_in}
+use Rattle.update_machine.specs.Deliveries.{advert_to, after_hello, controller_items, is_new_boot, link_changes, passed_on, switch_items, to_controller, switches_in}
 use Rattle.update_machine.specs.LinkMasks.{near}
-use Rattle.update_machine.specs.Marks.{acked_stamp, current_mark, has_acked, hello_boot, is_joining, is_member, is_over, known_boot, members, retired_mark, said_to_controller}
+use Rattle.update_machine.specs.Marks.{current_mark, has_acked, hello_boot, is_joining, is_member, is_over, known_boot, members, retired_mark, said_to_controller}
 use Rattle.update_machine.specs.Messages.{next_message, sends, sent_from}
-use Rattle.update_machine.specs.Moves.{in_turn, put}
+use Rattle.update_machine.specs.Moves.{put}
 use Rattle.update_machine.specs.Packets.{next_packet}
-use Rattle.update_machine.specs.Pieces.{confirm_items, deliver_items, hello_of, piece, resend_items, resent_by_switch, restart_items, sends_or_nothing, step_items, update_items}
+use Rattle.update_machine.specs.Pieces.{confirm_items, deliver_items, hello_of, piece, resend_items, resent_by_switch, restart_items, step_items, update_items}
 use Rattle.update_machine.specs.Setting.{Setting, switches_of}
-use Rattle.update_machine.specs.Settling.{collect_for, current_items, install_for, installs_to, installs_to_all, open_for, open_items, opening, resent_by_controller, resent_to_member, retired_items, settling, stamp_for, submitted_items, to_switch, unacked, versions_from_current}
+use Rattle.update_machine.specs.Settling.{collect_for, current_items, install_for, installs_to, installs_to_all, open_for, open_items, opening, resent_by_controller, resent_to_member, retired_items, settling, stamp_for, submitted_items, to_switch, versions_from_current}
 use Rattle.update_machine.specs.Versions.{is_version, version_count}
 use Rattle.update_machine.specs.Links.{message_of}
-use Rattle.update_machine.proofs.CallerLemmas.{have_first, have_in_turn, have_put}
+use Rattle.update_machine.proofs.CallerLemmas.{have_first, have_in_turn}
 use Rattle.boot_laws.proofs.Boots.{known_rises}
 use Rattle.boot_laws.proofs.Crashes.{crash_has, link_traffic}
+use Rattle.boot_laws.proofs.Delivered.{controller_has, deliver_has, delivery_has}
 use Rattle.boot_laws.proofs.Facts.{AreKept, fact_on, have_weaker}
 use Rattle.boot_laws.proofs.Grown.{known_more, message_more, raised}
 use Rattle.boot_laws.proofs.Reached.{NamesOwn, OwnPiecesHave}
-use Rattle.boot_laws.proofs.Sends.{each_append, each_kept, each_map}
-use Rattle.boot_laws.proofs.SwitchBlocks.{said_parts}
+use Rattle.boot_laws.proofs.Resent.{each_by_controller, each_to_member, later_versions, resent_has}
+use Rattle.boot_laws.proofs.Sends.{each_kept, each_map}
+use Rattle.boot_laws.proofs.SwitchBlocks.{hello_said, said_parts}
 use Rattle.boot_laws.proofs.Traffic.{IsAdvert, IsAdvertTo, IsBetween, IsIngress, IsTraffic, Traffic, adverts_to, each_told, expire_traffic, forget_traffic, hop_traffic, links_traffic, lose_traffic, masked_there, packet_has, passed_traffic, switches_there}
 use Rattle.mark_laws.proofs.Greatest.{known_first}
 use Rattle.mark_laws.proofs.Told.{each_weaker}
@@ -330,15 +331,11 @@ all_any before (next ∷ items) = (tt, all_any (before ++ next ∷ []) items)
 
 controller_name : (setting : Setting) (before now : List Item) (body : Body)
     → HelloIsKnown before now body → Name setting now (controller_items setting before body now)
-unfolding controller_items
 controller_name setting before now body known =
-    let settled : List Item = now ++ settling setting now in
-    have_put (NamesRightly setting) (settling setting now)
-    (in_turn (after_hello setting before body ∷ [])) now (settling_name setting now)
-    (have_put (NamesRightly setting) (after_hello setting before body settled) (in_turn []) settled
-    (hello_name setting before now body known settled
+    controller_has (NamesRightly setting) setting before now body (settling_name setting now)
+    (hello_name setting before now body known (now ++ settling setting now)
     (λ s above. fact_on (λ before next. ⊤) (λ journal. 1 < known_boot journal s) (known_stays s) now
-    (settling setting now) (all_any now (settling setting now)) above)) tt)
+    (settling setting now) (all_any now (settling setting now)) above))
 
 -- ---- a delivery
 
@@ -348,11 +345,8 @@ hello_known : (before : List Item) (row number : ℕ) (step : Step) (body : Body
 hello_known before row number step (Hello s boot) sent =
     λ new.
     let here = before ++ item.Row row step ∷ [] in
-    let own : (s == s) ≡ true = eq-eqb s s refl in
-    let still : message_of here number ≡ Some (to_controller (Hello s boot)) =
-    message_more before (item.Row row step) number ∙ sent in
     let hello : option_and_then (hello_boot s) (said_to_controller here number) ≡ Some boot =
-    rw (still, said_to_controller, own) refl in
+    hello_said before row number s boot step sent in
     let knows : known_boot (here ++ item.Delivered number ∷ []) s
     ≡ raised (known_boot here s) (Some boot) =
     known_more here (item.Delivered number) s ∙ ap (raised (known_boot here s)) hello in
@@ -360,50 +354,22 @@ hello_known before row number step (Hello s boot) sent =
     omega (arith, knows, rises, known_first before s)
 hello_known before row number step _ sent = tt
 
-delivery_name : (setting : Setting) (before : List Item) (row number : ℕ) (step : Step)
-    → let now = (before ++ item.Row row step ∷ []) ++ item.Delivered number ∷ [] in
-    Name setting now (delivery_items setting before number now)
-unfolding delivery_items
-delivery_name setting before row number step = by_message (message_of before number) refl
-  where
-    here : List Item
-    here = before ++ item.Row row step ∷ []
-
-    now : List Item
-    now = here ++ item.Delivered number ∷ []
-
-    said_name : (s : ℕ) (body : Body) → said_to before s number ≡ Some body
-        → Name setting now (switch_items setting before s body now)
-    said_name s body said = switch_name setting before now s body (record {
+deliver_name : (setting : Setting) (before : List Item) (row number : ℕ) (step : Step)
+    → let here = before ++ item.Row row step ∷ [] in
+    Name setting here (deliver_items setting before number here)
+deliver_name setting before row number step =
+    let here : List Item = before ++ item.Row row step ∷ [] in
+    let now : List Item = here ++ item.Delivered number ∷ [] in
+    deliver_has (NamesRightly setting) setting before number here tt tt
+    (delivery_has (Name setting now) setting before number now tt
+    (λ body sent. controller_name setting before now body
+    (hello_known before row number step body sent))
+    (λ s body said. switch_name setting before now s body (record {
       number = number;
       sent = message_more here (item.Delivered number) number
           ∙ message_more before (item.Row row step) number
           ∙ (said_parts before s number body said).sent;
-    })
-
-    by_receiver : (to : Receiver) (body : Body)
-        → message_of before number ≡ Some (record { to = to; body = body })
-        → Name setting now
-        (received_items setting before number (record { to = to; body = body }) now)
-    by_receiver receiver.Controller body e =
-        controller_name setting before now body (hello_known before row number step body e)
-    by_receiver (receiver.Switch s) body e = grind (arith, said_name)
-
-    by_message : (o : Option Message) → message_of before number ≡ o
-        → Name setting now (elim o [
-          | None ↦ []
-          | Some message ↦ received_items setting before number message now
-        ])
-    by_message None e = tt
-    by_message (Some message) e = by_receiver message.to message.body e
-
-deliver_name : (setting : Setting) (before : List Item) (row number : ℕ) (step : Step)
-    → let here = before ++ item.Row row step ∷ [] in
-    Name setting here (deliver_items setting before number here)
-unfolding deliver_items
-deliver_name setting before row number step =
-    let delivery = delivery_name setting before row number step in
-    grind arith
+    })))
 
 -- ---- links and switches
 
@@ -457,72 +423,27 @@ switch_own setting journal s there = by_up (is_up journal s)
 member_own : (setting : Setting) (journal : List Item) (s : ℕ)
     → IsKnownSwitch setting journal s
     → AllByRecursion (IsOwn setting journal) (resent_to_member setting journal s)
-member_own setting journal s known = (
-  known,
-  each_append (IsOwn setting journal) (unacked setting journal s later ++ stamp) _
-      (each_append (IsOwn setting journal) (unacked setting journal s later) stamp
-      (installs_own setting journal s
-      (filter (λ version. not (has_acked journal s version)) later) known)
-      (by_stamp (nat_lt (acked_stamp journal s) (current_mark journal))))
-      (by_mark (retired_mark journal == 0) refl),
-)
-  where
-    later : List ℕ
-    later = range_with_len (current_mark journal + 1) (version_count journal - current_mark journal)
-
-    stamp : List Message
-    stamp = if nat_lt (acked_stamp journal s) (current_mark journal)
-        then stamp_for journal (current_mark journal) s ∷ [] else []
-
-    by_stamp : (behind : Bool) → AllByRecursion (IsOwn setting journal)
-        (if behind then stamp_for journal (current_mark journal) s ∷ [] else [])
-    by_stamp true = (known, tt)
-    by_stamp false = tt
-
-    by_mark : (none : Bool) → (retired_mark journal == 0) ≡ none
-        → AllByRecursion (IsOwn setting journal)
-        (if none then [] else collect_for journal (retired_mark journal) s ∷ [])
-    by_mark true e = tt
-    by_mark false e = ((grind (arith, nat_tests), known), tt)
+member_own setting journal s known =
+    each_to_member (IsOwn setting journal) setting journal s known
+    (installs_own setting journal s
+    (filter (λ version. not (has_acked journal s version)) (later_versions journal)) known)
+    known (λ some. (grind (arith, nat_tests), known))
 
 controller_own : (setting : Setting) (journal : List Item) (s : ℕ)
     → IsKnownSwitch setting journal s
     → AllByRecursion (IsOwn setting journal) (resent_by_controller setting journal s)
-unfolding resent_by_controller
-controller_own setting journal s known = by_over (is_over journal s)
-  where
-    by_member : (member : Bool) → AllByRecursion (IsOwn setting journal) (elim member [
-      | true ↦ resent_to_member setting journal s
-      | false ↦ unacked setting journal s (versions_from_current journal)
-    ])
-    by_member true = member_own setting journal s known
-    by_member false = installs_own setting journal s
-        (filter (λ version. not (has_acked journal s version)) (versions_from_current journal))
-        known
-
-    by_over : (over : Bool) → AllByRecursion (IsOwn setting journal) (elim over [
-      | true ↦ []
-      | false ↦ elim (is_member journal s) [
-        | true ↦ resent_to_member setting journal s
-        | false ↦ unacked setting journal s (versions_from_current journal)
-      ]
-    ])
-    by_over true = tt
-    by_over false = by_member (is_member journal s)
+controller_own setting journal s known =
+    each_by_controller (IsOwn setting journal) setting journal s
+    (λ none member. member_own setting journal s known)
+    (λ none. installs_own setting journal s
+    (filter (λ version. not (has_acked journal s version)) (versions_from_current journal)) known)
 
 resend_name : (setting : Setting) (s : ℕ) (journal : List Item)
     → s < length setting.net.switches → Name setting journal (resend_items setting s journal)
-unfolding resend_items
 resend_name setting s journal there =
-    by_messages (resent_by_switch setting journal s ++ resent_by_controller setting journal s)
-    (each_append (IsOwn setting journal) (resent_by_switch setting journal s)
-    (resent_by_controller setting journal s) (switch_own setting journal s there)
-    (controller_own setting journal s (inl there)))
-  where
-    by_messages : (messages : List Message) → AllByRecursion (IsOwn setting journal) messages
-        → Name setting journal (sends_or_nothing journal messages)
-    by_messages [] all = (tt, tt)
-    by_messages (message ∷ messages) all = sends_name setting journal (message ∷ messages) all
+    resent_has (NamesRightly setting) (IsOwn setting journal) setting s journal tt
+    (sends_name setting journal) (switch_own setting journal s there)
+    (controller_own setting journal s (inl there))
 
 -- ---- steps of the network
 

@@ -22,7 +22,8 @@ abbrev pub PiecesHave : (List Item → Item → Type 0) → Setting → Type 0
 PiecesHave cause setting = (journal : List Item) (row : ℕ) (step : Step)
     → HaveCauses cause journal (piece setting journal row step)
 
-steps_have : (cause : List Item → Item → Type 0) (setting : Setting) → PiecesHave cause setting
+-- so the journal of any steps has them
+pub steps_have : (cause : List Item → Item → Type 0) (setting : Setting) → PiecesHave cause setting
     → (before : List Item) (steps : List StepOfRow) → HaveCauses cause [] before
     → HaveCauses cause [] (after_steps setting before steps)
 steps_have cause setting pieces before [] causes = causes

@@ -7,7 +7,7 @@ use Rattle.steps.specs.declared.step.Step.{Step}
 use Rattle.update_machine.specs.Answers.{AnswersSoFar, AreAll, AreFirstSteps, AreFirstStepsOf, AreSome, AreSteps, AreStepsOf, StepOfRow, after_steps, next_delivery, next_hop}
 use Rattle.update_machine.specs.Pieces.{piece}
 use Rattle.update_machine.specs.Setting.{Setting}
-use Rattle.update_machine.proofs.OneAnswer.{event_same, same_step, some_injective}
+use Rattle.update_machine.proofs.OneAnswer.{event_same, same_next}
 
 -- the second list is the first, and then these
 pub record Begins (xs ys : List StepOfRow) : Type 0 where
@@ -55,8 +55,7 @@ some_of_all setting next row before [] all first second = begins_nil all
 some_of_all setting next row before (x ∷ one) [] first second =
     let clash : None ≡ Some x.step = sym second ∙ first.1 in cc
 some_of_all setting next row before (x ∷ one) (y ∷ all) first second =
-    let same : x ≡ y = same_step x y (first.0 ∙ sym second.0)
-    (some_injective x.step y.step (sym first.1 ∙ second.1)) in
+    let same : x ≡ y = same_next (next before) row x y first.0 second.0 first.1 second.1 in
     let onward : AreAll setting next row (before ++ piece setting before x.row x.step) all =
     subst (λ z. AreAll setting next row (before ++ piece setting before z.row z.step) all)
     (sym same) second.2 in
@@ -77,8 +76,7 @@ some_either : (setting : Setting) (next : List Item → Option Step) (row : ℕ)
 some_either setting next row before [] other first second = inl (begins_nil other)
 some_either setting next row before (x ∷ one) [] first second = inr (begins_nil (x ∷ one))
 some_either setting next row before (x ∷ one) (y ∷ other) first second =
-    let same : x ≡ y = same_step x y (first.0 ∙ sym second.0)
-    (some_injective x.step y.step (sym first.1 ∙ second.1)) in
+    let same : x ≡ y = same_next (next before) row x y first.0 second.0 first.1 second.1 in
     let onward : AreSome setting next row (before ++ piece setting before x.row x.step) other =
     subst (λ z. AreSome setting next row (before ++ piece setting before z.row z.step) other)
     (sym same) second.2 in

@@ -10,7 +10,7 @@ pub use Rattle.update_machine.proofs.SilentController.{controller_keeps}
 pub use Rattle.update_machine.proofs.Policies.{file_append, file_kept, numbered_at_first, of_its_file, other_more, plan_kept, policy_kept, submitted_more, version_kept}
 pub use Rattle.update_machine.proofs.Start.{start_laws}
 pub use Rattle.update_machine.proofs.CauseLemmas.{BlocksHave, have_append, have_first, have_in_turn, have_put}
-pub use Rattle.update_machine.proofs.AnswerCauses.{PiecesHave, begun_has, have_take}
+pub use Rattle.update_machine.proofs.AnswerCauses.{PiecesHave, begun_has, have_take, steps_have}
 pub use Rattle.update_machine.proofs.OneAnswer.{one_answer, one_list_of_steps}
 pub use Rattle.update_machine.proofs.Existence.{HasEnd, Nears, after_append, answer_exists, answer_goes_on, answered_where, loop_ends, none_answered}
 pub use Rattle.update_machine.proofs.NumberPieces.{piece_next}
@@ -19,7 +19,7 @@ pub use Rattle.update_machine.proofs.Enclosed.{ends_within}
 pub use Rattle.update_machine.proofs.KnownLinks.{has_known_link, heard_by_origin, known_link_laws, known_places, unreached}
 pub use Rattle.update_machine.proofs.Beginnings.{one_by_steps}
 pub use Rattle.update_machine.proofs.WholeAnswers.{answers_so_far, begins_itself}
-pub use Rattle.update_machine.proofs.EventSteps.{AreOf, HasNexts, IsEventOf, are_both, event_steps_are, first_steps_are}
+pub use Rattle.update_machine.proofs.EventSteps.{AreOf, HasNexts, IsEventOf, all_first, are_both, event_steps_are, first_steps_are, firsts_are}
 pub use Rattle.update_machine.proofs.OnePlay.{full_by_count, one_play, rooms_append}
 pub use Rattle.update_machine.proofs.SomePlay.{first_front, play_exists, stop_begins, stop_so_far}
 pub use Rattle.update_machine.proofs.Claims.{link_found, link_not_found, near_usable, plan_is, usable_linked}

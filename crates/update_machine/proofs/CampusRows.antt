@@ -1,13 +1,14 @@
 -- A whole day of a small campus, computed: cache rules, a link that fails, an update.
 use Rattle.std.proofs.Common.{◌≡◌, Some, None, [], ◌∷◌, refl, false}
 use Rattle.policy_rules.specs.declared.policy.Action.TheVariants.{Drop, Out}
+use Rattle.policy_rules.specs.declared.rules.Rule.{Rule}
 use Rattle.policy_rules.specs.declared.packet.How.TheVariants as how
 use Rattle.ctrl_msg.specs.declared.message.Body.TheVariants as body
 use Rattle.steps.specs.declared.step.Step.TheVariants as step
 use Rattle.journal.specs.declared.item.Item.TheVariants as item
 use Rattle.update_machine.specs.Answers.{after_steps}
-use Rattle.update_machine.proofs.Examples.{advert, at, by_action, leaving, link, on, out_or_drop, rule, switch, to, to_controller, tables_of}
-use Rattle.std.proofs.Common.{List}
+use Rattle.update_machine.proofs.Examples.{advert, any_word, at, by_action, leaving, link, on, out_or_drop, rule, switch, to, to_controller, tables_of}
+use Rattle.std.proofs.Common.{ℕ, List}
 use Rattle.std.specs.Prelude.{Ok, codes}
 use Rattle.five_tuple.specs.HeaderNumbers.{header_of}
 use Rattle.five_tuple.specs.declared.header.Header.{Header}
@@ -63,42 +64,19 @@ word_1 = record { value = 184468014682165328646; mask = 4722366481770150363135 }
 abbrev word_2 : WordValue
 word_2 = record { value = 792281625142643375935439516945; mask = 20282100118678742567025962385407 }
 
--- the rules of the first policy, and of the second, on b and c
-abbrev plan_1 : List Placed
-plan_1 =
-    on (1 ∷ 2 ∷ [])
-    (rule (record { value = 184468014682165328646; mask = 4722366481770150363135 })
-    0 (Some 600) (Out 2)
-    ∷ rule (record {
-      value = 792282834252930994268843021830;
-      mask = 20282408399448217011795093618687;
-    })
-    1 (Some 500) (Out 2)
-    ∷ rule (record {
-      value = 792282834252930994286022891014;
-      mask = 20282408399448217011777913749503;
-    })
-    2 (Some 500) (Out 2)
-    ∷ rule (record {
-      value = 792282834252930994320382629382;
-      mask = 20282408399448217011743554011135;
-    })
-    3 (Some 500) (Out 2)
-    ∷ rule (record {
-      value = 792282834252930994389102106118;
-      mask = 20282408399448217011674834534399;
-    })
-    4 (Some 500) (Out 2)
-    ∷ rule (record {
-      value = 792282834252930994526541059590;
-      mask = 20282408399448217011537395580927;
-    })
-    5 (Some 500) (Out 2)
-    ∷ rule (record {
-      value = 792282834252930994801418966534;
-      mask = 20282408399448217011262517673983;
-    })
-    6 (Some 500) (Out 2)
+-- the rule of row 500, in parts; the first policy and the second differ in their first rule, and
+-- their plans are on b and c
+abbrev to_web : ℕ → ℕ → ℕ → Rule
+to_web rank value mask = rule (record { value = value; mask = mask }) rank (Some 500) (Out 2)
+
+abbrev later_rules : List Rule
+later_rules =
+    to_web 1 792282834252930994268843021830 20282408399448217011795093618687
+    ∷ to_web 2 792282834252930994286022891014 20282408399448217011777913749503
+    ∷ to_web 3 792282834252930994320382629382 20282408399448217011743554011135
+    ∷ to_web 4 792282834252930994389102106118 20282408399448217011674834534399
+    ∷ to_web 5 792282834252930994526541059590 20282408399448217011537395580927
+    ∷ to_web 6 792282834252930994801418966534 20282408399448217011262517673983
     ∷ rule (record { value = 184468003687048937472; mask = 4722366201394668503040 })
     7 (Some 400) Drop
     ∷ rule (record {
@@ -111,58 +89,13 @@ plan_1 =
       mask = 20282100118641849078878526504960;
     })
     9 (Some 200) (Out 3)
-    ∷ rule (record { value = 0; mask = 0 })
-    10 None Drop ∷ [])
+    ∷ rule any_word 10 None Drop ∷ []
+
+abbrev plan_1 : List Placed
+plan_1 = on (1 ∷ 2 ∷ []) (rule word_1 0 (Some 600) (Out 2) ∷ later_rules)
 
 abbrev plan_2 : List Placed
-plan_2 =
-    on (1 ∷ 2 ∷ [])
-    (rule (record { value = 184468014682165328646; mask = 4722366481770150363135 })
-    0 (Some 600) Drop
-    ∷ rule (record {
-      value = 792282834252930994268843021830;
-      mask = 20282408399448217011795093618687;
-    })
-    1 (Some 500) (Out 2)
-    ∷ rule (record {
-      value = 792282834252930994286022891014;
-      mask = 20282408399448217011777913749503;
-    })
-    2 (Some 500) (Out 2)
-    ∷ rule (record {
-      value = 792282834252930994320382629382;
-      mask = 20282408399448217011743554011135;
-    })
-    3 (Some 500) (Out 2)
-    ∷ rule (record {
-      value = 792282834252930994389102106118;
-      mask = 20282408399448217011674834534399;
-    })
-    4 (Some 500) (Out 2)
-    ∷ rule (record {
-      value = 792282834252930994526541059590;
-      mask = 20282408399448217011537395580927;
-    })
-    5 (Some 500) (Out 2)
-    ∷ rule (record {
-      value = 792282834252930994801418966534;
-      mask = 20282408399448217011262517673983;
-    })
-    6 (Some 500) (Out 2)
-    ∷ rule (record { value = 184468003687048937472; mask = 4722366201394668503040 })
-    7 (Some 400) Drop
-    ∷ rule (record {
-      value = 792281625142643375935439516945;
-      mask = 20282100118641849078878543282175;
-    })
-    8 (Some 300) (Out 3)
-    ∷ rule (record {
-      value = 792281625142643375935439503360;
-      mask = 20282100118641849078878526504960;
-    })
-    9 (Some 200) (Out 3)
-    ∷ rule (record { value = 0; mask = 0 })
-    10 None Drop ∷ [])
+plan_2 = on (1 ∷ 2 ∷ []) (rule word_1 0 (Some 600) Drop ∷ later_rules)
 
 abbrev campus_net : Net
 campus_net = record {

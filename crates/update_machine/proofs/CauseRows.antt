@@ -1,6 +1,6 @@
 -- The causes of packets' ends, computed.
 use Rattle.std.proofs.Common.{ℕ, ◌≡◌, Bool, false, true, nat_le, inl, inr, Some, List, [], ◌∷◌, refl, subst, arith}
-use Rattle.std.specs.Prelude.{IsTrue, take}
+use Rattle.std.specs.Prelude.{⊤, IsTrue, take}
 use Rattle.std.proofs.lemmas.Bool.{cases_eq, leb-true}
 use Rattle.std.proofs.lemmas.Bool.Decides.{nat_tests}
 use Rattle.std.proofs.lemmas.List.Elements.{All-from_recursion}
@@ -18,6 +18,10 @@ use Rattle.update_machine.specs.Links.{claim_of, is_link_up, serves, message_of}
 use Rattle.update_machine.specs.Packets.{header_in, standing, decision_of}
 use Rattle.ternary.specs.Word.{holds}
 
+-- an item that needs no cause, and those behind it
+free : {causes : Type 0} → causes → ⊤ × causes
+free behind = (tt, behind)
+
 -- a packet leaves by the port of the switch where it is decided
 pub left_has_cause :
     EndsHaveCauses shielded
@@ -25,26 +29,18 @@ pub left_has_cause :
     ∷ item.Decided 1 1 (Some 100) (Out 2) (how.Authority 1 0)
     ∷ item.Left 1 2 (leaving 1 one 1 (Some 100)) ∷ [])
 unfolding standing header_in decision_of
-left_has_cause = (
-  tt,
-  (
-    tt,
-    (
+left_has_cause =
+    free (free (free (
+      record {
+        switch = 1;
+        stands = refl;
+        has_port = refl;
+        number = refl;
+        header = refl;
+        decided = refl;
+      },
       tt,
-      (
-        record {
-          switch = 1;
-          stands = refl;
-          has_port = refl;
-          number = refl;
-          header = refl;
-          decided = refl;
-        },
-        tt,
-      ),
-    ),
-  ),
-)
+    )))
 
 -- in the ring a packet finds two links down, and is stuck at the second one
 abbrev behind : List Item
@@ -95,74 +91,23 @@ own_leg_there = (
 
 pub stuck_has_cause : EndsHaveCauses ring round
 unfolding standing serves is_link_up
-stuck_has_cause = (
-  tt,
-  (
-    tt,
-    (
-      tt,
-      (
-        tt,
+stuck_has_cause =
+    free (free (free (free (free (free (free (free (free (free (
+      record { stands = refl; unusable = refl },
+      free (free (free (free (free (free (free (
+        record { stands = refl; unusable = refl },
         (
+          record {
+            stands = refl;
+            serving = refl;
+            targets = 3 ∷ [];
+            own_leg = own_leg_there;
+            no_path = All-from_recursion no_way_to (3 ∷ []) (no_path_left, tt);
+          },
           tt,
-          (
-            tt,
-            (
-              tt,
-              (
-                tt,
-                (
-                  tt,
-                  (
-                    tt,
-                    (
-                      record { stands = refl; unusable = refl },
-                      (
-                        tt,
-                        (
-                          tt,
-                          (
-                            tt,
-                            (
-                              tt,
-                              (
-                                tt,
-                                (
-                                  tt,
-                                  (
-                                    tt,
-                                    (
-                                      record { stands = refl; unusable = refl },
-                                      (
-                                        record {
-                                          stands = refl;
-                                          serving = refl;
-                                          targets = 3 ∷ [];
-                                          own_leg = own_leg_there;
-                                          no_path = All-from_recursion no_way_to (3 ∷ [])
-                                              (no_path_left, tt);
-                                        },
-                                        tt,
-                                      ),
-                                    ),
-                                  ),
-                                ),
-                              ),
-                            ),
-                          ),
-                        ),
-                      ),
-                    ),
-                  ),
-                ),
-              ),
-            ),
-          ),
         ),
-      ),
-    ),
-  ),
-)
+      ))))))),
+    ))))))))))
 
 -- one packet is lost by its row, and another one with its switch
 pub lost_has_cause :
@@ -170,25 +115,8 @@ pub lost_has_cause :
     (item.Entered 1 0 one ∷ item.Entered 2 0 one ∷ item.Row 3 (step.Lose 1) ∷ item.Lost 1
     ∷ item.Row 4 (step.Crash 0) ∷ item.Down 0 ∷ item.Lost 2 ∷ [])
 unfolding standing present_step
-lost_has_cause = (
-  tt,
-  (
-    tt,
-    (
-      tt,
-      (
-        inl refl,
-        (
-          tt,
-          (
-            tt,
-            (
-              inr (record { switch = 0; crashes = refl; stands = refl }),
-              tt,
-            ),
-          ),
-        ),
-      ),
-    ),
-  ),
-)
+lost_has_cause =
+    free (free (free (
+      inl refl,
+      free (free (inr (record { switch = 0; crashes = refl; stands = refl }), tt)),
+    )))

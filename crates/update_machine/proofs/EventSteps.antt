@@ -37,29 +37,16 @@ are_both Is (next ∷ mine) rest one other = (one.0, are_both Is mine rest one.1
 abbrev IsNext : (Step → Type 0) → (List Item → Option Step) → Type 0
 IsNext Is next = (before : List Item) (step : Step) → next before ≡ Some step → Is step
 
+next_is : (Is : Step → Type 0) (make : ℕ → Step) → ((n : ℕ) → Is (make n)) → (o : Option ℕ)
+    (step : Step) → option_map make o ≡ Some step → Is step
+next_is Is make all None step e = absurd cc
+next_is Is make all (Some n) step e = let same : make n ≡ step = cc in subst Is same (all n)
+
 hops : (Is : Step → Type 0) → HasNexts Is → IsNext Is next_hop
-hops Is has before step = by (next_travelling before)
-  where
-    by : (o : Option ℕ) → option_map Hop o ≡ Some step → Is step
-    by None e = absurd cc
-    by (Some i) e = let same : Hop i ≡ step = cc in subst Is same (has.hop i)
+hops Is has before = next_is Is Hop has.hop (next_travelling before)
 
 deliveries : (Is : Step → Type 0) → HasNexts Is → IsNext Is next_delivery
-deliveries Is has before step = by (next_waiting before)
-  where
-    by : (o : Option ℕ) → option_map Deliver o ≡ Some step → Is step
-    by None e = absurd cc
-    by (Some n) e = let same : Deliver n ≡ step = cc in subst Is same (has.delivery n)
-
-all_are : (Is : Step → Type 0) (setting : Setting) (next : List Item → Option Step)
-    → IsNext Is next → (row : ℕ) (before : List Item) (steps : List StepOfRow)
-    → AreAll setting next row before steps → AreOf Is steps
-all_are Is setting next are row before [] all = tt
-all_are Is setting next are row before (first ∷ steps) all = (
-  are before first.step all.1,
-  all_are Is setting next are row (before ++ piece setting before first.row first.step) steps
-      all.2,
-)
+deliveries Is has before = next_is Is Deliver has.delivery (next_waiting before)
 
 some_are : (Is : Step → Type 0) (setting : Setting) (next : List Item → Option Step)
     → IsNext Is next → (row : ℕ) (before : List Item) (steps : List StepOfRow)
@@ -71,17 +58,7 @@ some_are Is setting next are row before (first ∷ steps) some = (
       some.2,
 )
 
-pub event_steps_are : (Is : Step → Type 0) → HasNexts Is → (setting : Setting) (row : ℕ)
-    (event : Event) (before : List Item) (steps : List StepOfRow) → IsEventOf Is event
-    → AreStepsOf setting row event before steps → AreOf Is steps
-event_steps_are Is has setting row (One step) before steps is are =
-    subst (AreOf Is) (sym are) (is, tt)
-event_steps_are Is has setting row Flush before steps is are =
-    all_are Is setting next_delivery (deliveries Is has) row before steps are
-event_steps_are Is has setting row Drain before steps is are =
-    all_are Is setting next_hop (hops Is has) row before steps are
-
-firsts_are : (Is : Step → Type 0) → HasNexts Is → (setting : Setting) (row : ℕ) (event : Event)
+pub firsts_are : (Is : Step → Type 0) → HasNexts Is → (setting : Setting) (row : ℕ) (event : Event)
     (before : List Item) (steps : List StepOfRow) → IsEventOf Is event
     → AreFirstStepsOf setting row event before steps → AreOf Is steps
 firsts_are Is has setting row (One step) before steps is (inl none) =
@@ -92,6 +69,31 @@ firsts_are Is has setting row Flush before steps is are =
     some_are Is setting next_delivery (deliveries Is has) row before steps are
 firsts_are Is has setting row Drain before steps is are =
     some_are Is setting next_hop (hops Is has) row before steps are
+
+-- all steps are first ones
+all_some : (setting : Setting) (next : List Item → Option Step) (row : ℕ) (before : List Item)
+    (steps : List StepOfRow) → AreAll setting next row before steps
+    → AreSome setting next row before steps
+all_some setting next row before [] all = tt
+all_some setting next row before (first ∷ steps) all = (
+  all.0,
+  all.1,
+  all_some setting next row (before ++ piece setting before first.row first.step) steps all.2,
+)
+
+pub all_first : (setting : Setting) (row : ℕ) (event : Event) (before : List Item)
+    (steps : List StepOfRow) → AreStepsOf setting row event before steps
+    → AreFirstStepsOf setting row event before steps
+all_first setting row (One step) before steps all = inr all
+all_first setting row Flush before steps all =
+    all_some setting next_delivery row before steps all
+all_first setting row Drain before steps all = all_some setting next_hop row before steps all
+
+pub event_steps_are : (Is : Step → Type 0) → HasNexts Is → (setting : Setting) (row : ℕ)
+    (event : Event) (before : List Item) (steps : List StepOfRow) → IsEventOf Is event
+    → AreStepsOf setting row event before steps → AreOf Is steps
+event_steps_are Is has setting row event before steps is all =
+    firsts_are Is has setting row event before steps is (all_first setting row event before steps all)
 
 -- and so are the first steps of events
 pub first_steps_are : (Is : Step → Type 0) → HasNexts Is → (setting : Setting) (row : ℕ)

@@ -16,12 +16,13 @@ use Rattle.policy_rules.specs.declared.policy.Action.TheVariants.{Drop, Out}
 use Rattle.policy_rules.specs.declared.policy.Row.{Row}
 use Rattle.policy_rules.specs.Placed.{NoPlan, TooManyLeaves}
 use Rattle.ctrl_msg.specs.declared.message.Body.{Body}
-use Rattle.ctrl_msg.specs.declared.message.Body.TheVariants.{Advertise}
+use Rattle.ctrl_msg.specs.declared.message.Body.TheVariants.{Advertise, Hello, Install, Installed, OpenAt}
 use Rattle.ctrl_msg.specs.declared.message.Message.{Message}
 use Rattle.ctrl_msg.specs.declared.message.Receiver.TheVariants as receiver
 use Rattle.journal.specs.declared.item.Item.{Item}
 use Rattle.journal.specs.declared.item.Item.TheVariants as item
 use Rattle.steps.specs.declared.step.Step.{Step}
+use Rattle.steps.specs.declared.step.Step.TheVariants as step
 use Rattle.update_machine.specs.Setting.{Setting}
 use Rattle.update_machine.specs.Answers.{StepOfRow}
 pub use Rattle.switch_table.specs.Tables.{tables_of}
@@ -193,3 +194,18 @@ solo = record {
   policies = out_or_drop;
   plan = λ rows. Ok plan_s;
 }
+
+-- ---- in the open network a crashes, begins boot 2, and is sent tables and its opening
+
+abbrev pub rebooting : List StepOfRow
+rebooting =
+    at 1 (step.Crash 0) ∷ at 2 (step.Restart 0) ∷ at 3 (step.Deliver 1) ∷ at 4 (step.Deliver 2)
+    ∷ at 5 (step.Deliver 3) ∷ []
+
+abbrev pub rebooted : List Item
+rebooted =
+    item.Row 1 (step.Crash 0) ∷ item.Down 0 ∷ item.Row 2 (step.Restart 0) ∷ item.Booted 0 2
+    ∷ item.Sent 1 (to_controller (Hello 0 2)) ∷ item.Row 3 (step.Deliver 1) ∷ item.Delivered 1
+    ∷ item.Sent 2 (to 0 (Install 2 (tables_of plan_p 1 0))) ∷ item.Row 4 (step.Deliver 2)
+    ∷ item.Delivered 2 ∷ item.Sent 3 (to_controller (Installed 0 2 1))
+    ∷ item.Row 5 (step.Deliver 3) ∷ item.Delivered 3 ∷ item.Sent 4 (to 0 (OpenAt 2 1)) ∷ []

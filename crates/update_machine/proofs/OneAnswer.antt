@@ -11,10 +11,13 @@ use Rattle.update_machine.specs.Setting.{Setting}
 pub some_injective : {X : Type 0} (x y : X) → Some x ≡ Some y → x ≡ y
 some_injective x y e = cc
 
-pub same_step : (x y : StepOfRow) → x.row ≡ y.row → x.step ≡ y.step → x ≡ y
-same_step x y rows steps =
-    ap (λ row. record { row = row; step = x.step }) rows
-    ∙ ap (λ step. record { row = y.row; step = step }) steps
+-- two steps of the row, each of which is the next one
+pub same_next : (next : Option Step) (row : ℕ) (x y : StepOfRow) → x.row ≡ row → y.row ≡ row
+    → next ≡ Some x.step → next ≡ Some y.step → x ≡ y
+same_next next row x y mine yours first second =
+    ap (λ row. record { row = row; step = x.step }) (mine ∙ sym yours)
+    ∙ ap (λ step. record { row = y.row; step = step })
+    (some_injective x.step y.step (sym first ∙ second))
 
 -- a flush, or a drain, has one list of steps
 all_same : (setting : Setting) (next : List Item → Option Step) (row : ℕ) (before : List Item)
@@ -26,8 +29,7 @@ all_same setting next row before [] (y ∷ other) first second =
 all_same setting next row before (x ∷ one) [] first second =
     let clash : None ≡ Some x.step = sym second ∙ first.1 in cc
 all_same setting next row before (x ∷ one) (y ∷ other) first second =
-    let same : x ≡ y = same_step x y (first.0 ∙ sym second.0)
-    (some_injective x.step y.step (sym first.1 ∙ second.1)) in
+    let same : x ≡ y = same_next (next before) row x y first.0 second.0 first.1 second.1 in
     let onward : AreAll setting next row (before ++ piece setting before x.row x.step) other =
     subst (λ z. AreAll setting next row (before ++ piece setting before z.row z.step) other)
     (sym same) second.2 in

@@ -1,10 +1,10 @@
 -- A switch that is over, computed.
-use Rattle.std.proofs.Common.{◌≡◌, [], ◌∷◌, refl}
+use Rattle.std.proofs.Common.{◌≡◌, [], ◌∷◌, ◌++◌, refl}
 use Rattle.ctrl_msg.specs.declared.message.Body.TheVariants as body
 use Rattle.steps.specs.declared.step.Step.TheVariants as step
 use Rattle.journal.specs.declared.item.Item.TheVariants as item
 use Rattle.update_machine.specs.Answers.{after_steps}
-use Rattle.update_machine.proofs.Examples.{at, one, open_net, plan_p, tables_of, to, to_controller}
+use Rattle.update_machine.proofs.Examples.{at, one, open_net, plan_p, rebooted, rebooting, tables_of, to, to_controller}
 -- ---- names that compute
 use Rattle.update_machine.specs.Adverts.{own_seq, own_advert, adverts_known, held_adverts, route_from, is_cut_off}
 use Rattle.update_machine.specs.Boots.{boot_of, is_up, heard}
@@ -39,17 +39,11 @@ use Rattle.switch_table.specs.Cache.{same_key}
 -- by an old message
 pub over_rows :
     after_steps open_net []
-    (at 1 (step.Crash 0) ∷ at 2 (step.Restart 0) ∷ at 3 (step.Deliver 1) ∷ at 4 (step.Deliver 2)
-    ∷ at 5 (step.Deliver 3) ∷ at 6 (step.Crash 0) ∷ at 7 (step.Update 1)
+    (rebooting ++ at 6 (step.Crash 0) ∷ at 7 (step.Update 1)
     ∷ at 8 (step.Confirm 0) ∷ at 9 (step.Restart 0) ∷ at 10 (step.Deliver 4)
     ∷ at 11 (step.Packet 0 one) ∷ at 12 (step.Deliver 6) ∷ at 13 (step.Deliver 8) ∷ [])
     ≡
-    item.Row 1 (step.Crash 0) ∷ item.Down 0 ∷ item.Row 2 (step.Restart 0) ∷ item.Booted 0 2
-    ∷ item.Sent 1 (to_controller (body.Hello 0 2)) ∷ item.Row 3 (step.Deliver 1)
-    ∷ item.Delivered 1 ∷ item.Sent 2 (to 0 (body.Install 2 (tables_of plan_p 1 0)))
-    ∷ item.Row 4 (step.Deliver 2) ∷ item.Delivered 2
-    ∷ item.Sent 3 (to_controller (body.Installed 0 2 1)) ∷ item.Row 5 (step.Deliver 3)
-    ∷ item.Delivered 3 ∷ item.Sent 4 (to 0 (body.OpenAt 2 1)) ∷ item.Row 6 (step.Crash 0)
+    rebooted ++ item.Row 6 (step.Crash 0)
     ∷ item.Down 0 ∷ item.Row 7 (step.Update 1) ∷ item.Submitted 1 2
     ∷ item.Sent 5 (to 0 (body.Install 2 (tables_of plan_p 2 0)))
     ∷ item.Sent 6 (to 1 (body.Install 1 (tables_of plan_p 2 1))) ∷ item.Row 8 (step.Confirm 0)

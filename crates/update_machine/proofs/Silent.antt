@@ -1,11 +1,28 @@
 -- Items that don't concern a word leave it as it is: for each of the folds.
 use Rattle.std.proofs.Common.{◌≡◌, ◌+◌, Bool, true, false, Option, None, List, [], ◌∷◌, ◌++◌, refl, ap, sym, ◌∙◌, append_assoc, append-nil, add-zero}
-use Rattle.std.specs.Prelude.{◌||◌, IsFalse}
+use Rattle.std.specs.Prelude.{◌||◌, IsFalse, unwrap_or}
 use Rattle.std.specs.Option.{option_or}
 use Rattle.journal.specs.declared.item.Item.{Item}
 use Rattle.update_machine.specs.Concerns.{NoneConcern}
 use Rattle.update_machine.specs.Folds.{all_given, count_of, first_told, folded, last_told}
 use Rattle.update_machine.proofs.FoldLemmas.{all_given_append, count_of_append, first_told_append, folded_append, last_told_append, or_none}
+
+-- of items that don't concern a word nothing is said, and its value stays as it is
+abbrev pub Silent : {X : Type 0} (concerns : List Item → Item → Bool) (says : Item → X)
+    (nothing : X) → Type 0
+Silent concerns says nothing =
+    (before : List Item) (item : Item) → IsFalse (concerns before item) → says item ≡ nothing
+
+abbrev pub Keeps : {X : Type 0} (concerns : List Item → Item → Bool)
+    (changes : List Item → X → Item → X) → Type 0
+Keeps {X} concerns changes = (before : List Item) (value : X) (item : Item)
+    → IsFalse (concerns before item) → changes before value item ≡ value
+
+-- and so does the word itself, behind many of them
+abbrev pub Stays : {X : Type 0} (concerns : List Item → Item → Bool) (word : List Item → X)
+    → Type 0
+Stays concerns word = (before items : List Item) → NoneConcern concerns before items
+    → word (before ++ items) ≡ word before
 
 -- items that don't concern more than it don't concern it either
 pub fewer : (less more : List Item → Item → Bool) →
@@ -24,78 +41,52 @@ neither_right true c none = cc
 neither_right false c none = none
 
 -- a word that one item that doesn't concern it leaves as it is, is left as it is by many
-pub stays : {X : Type 0} (word : List Item → X) (concerns : List Item → Item → Bool) →
-    ((before : List Item) (item : Item) → IsFalse (concerns before item)
-    → word (before ++ item ∷ []) ≡ word before) →
-    (before items : List Item) → NoneConcern concerns before items
-    → word (before ++ items) ≡ word before
+pub stays : {X : Type 0} (word : List Item → X) (concerns : List Item → Item → Bool)
+    → ((before : List Item) (item : Item) → IsFalse (concerns before item)
+    → word (before ++ item ∷ []) ≡ word before)
+    → Stays concerns word
 stays word concerns one before [] none = ap word (append-nil before)
 stays word concerns one before (item ∷ items) none =
     ap word (sym (append_assoc before (item ∷ []) items))
     ∙ stays word concerns one (before ++ item ∷ []) items none.1 ∙ one before item none.0
 
-pub last_stays : {X : Type 0} (tells : Item → Option X) (concerns : List Item → Item → Bool) →
-    ((before : List Item) (item : Item) → IsFalse (concerns before item) → tells item ≡ None) →
-    (before items : List Item) → NoneConcern concerns before items
-    → last_told tells (before ++ items) ≡ last_told tells before
-last_stays tells concerns silent before items none = stays (last_told tells) concerns one before
-    items none
-  where
-    one : (js : List Item) (item : Item) → IsFalse (concerns js item)
-        → last_told tells (js ++ item ∷ []) ≡ last_told tells js
-    one js item apart = last_told_append tells js (item ∷ [])
-        ∙ ap (λ o. option_or o (last_told tells js)) (silent js item apart)
+pub last_stays : {X : Type 0} (tells : Item → Option X) (concerns : List Item → Item → Bool)
+    → Silent concerns tells None → Stays concerns (last_told tells)
+last_stays tells concerns silent = stays (last_told tells) concerns
+    (λ js item apart. last_told_append tells js (item ∷ [])
+    ∙ ap (λ o. option_or o (last_told tells js)) (silent js item apart))
 
-pub first_stays : {X : Type 0} (tells : Item → Option X) (concerns : List Item → Item → Bool) →
-    ((before : List Item) (item : Item) → IsFalse (concerns before item) → tells item ≡ None) →
-    (before items : List Item) → NoneConcern concerns before items
-    → first_told tells (before ++ items) ≡ first_told tells before
-first_stays tells concerns silent before items none = stays (first_told tells) concerns one before
-    items none
-  where
-    one : (js : List Item) (item : Item) → IsFalse (concerns js item)
-        → first_told tells (js ++ item ∷ []) ≡ first_told tells js
-    one js item apart = first_told_append tells js (item ∷ [])
-        ∙ ap (λ o. option_or (first_told tells js) (option_or o None)) (silent js item apart)
-        ∙ or_none (first_told tells js)
+pub last_or_stays : {X : Type 0} (tells : Item → Option X) (other : X)
+    (concerns : List Item → Item → Bool) → Silent concerns tells None
+    → Stays concerns (λ js. unwrap_or (last_told tells js) other)
+last_or_stays tells other concerns silent before items none =
+    ap (λ o. unwrap_or o other) (last_stays tells concerns silent before items none)
 
-pub count_stays : (test : Item → Bool) (concerns : List Item → Item → Bool) →
-    ((before : List Item) (item : Item) → IsFalse (concerns before item) → test item ≡ false) →
-    (before items : List Item) → NoneConcern concerns before items → count_of test (before ++ items)
-    ≡ count_of test before
-count_stays test concerns silent before items none = stays (count_of test) concerns one before items
-    none
-  where
-    one : (js : List Item) (item : Item) → IsFalse (concerns js item)
-        → count_of test (js ++ item ∷ []) ≡ count_of test js
-    one js item apart =
-        let none_counted : count_of test (item ∷ []) ≡ 0 = rw (silent js item apart) refl in
-        count_of_append test js (item ∷ []) ∙ ap (λ k. count_of test js + k) none_counted
-        ∙ add-zero (count_of test js)
+pub first_stays : {X : Type 0} (tells : Item → Option X) (concerns : List Item → Item → Bool)
+    → Silent concerns tells None → Stays concerns (first_told tells)
+first_stays tells concerns silent = stays (first_told tells) concerns
+    (λ js item apart. first_told_append tells js (item ∷ [])
+    ∙ ap (λ o. option_or (first_told tells js) (option_or o None)) (silent js item apart)
+    ∙ or_none (first_told tells js))
 
-pub given_stays : {X : Type 0} (gives : Item → List X) (concerns : List Item → Item → Bool) →
-    ((before : List Item) (item : Item) → IsFalse (concerns before item) → gives item ≡ []) →
-    (before items : List Item) → NoneConcern concerns before items
-    → all_given gives (before ++ items) ≡ all_given gives before
-given_stays gives concerns silent before items none = stays (all_given gives) concerns one before
-    items none
-  where
-    one : (js : List Item) (item : Item) → IsFalse (concerns js item)
-        → all_given gives (js ++ item ∷ []) ≡ all_given gives js
-    one js item apart =
-        all_given_append gives js (item ∷ []) ∙ ap (λ xs. all_given gives js ++ (xs ++ []))
-        (silent js item apart) ∙ append-nil (all_given gives js)
+pub count_stays : (test : Item → Bool) (concerns : List Item → Item → Bool)
+    → Silent concerns test false → Stays concerns (count_of test)
+count_stays test concerns silent = stays (count_of test) concerns
+    (λ js item apart.
+    let none_counted : count_of test (item ∷ []) ≡ 0 = rw (silent js item apart) refl in
+    count_of_append test js (item ∷ []) ∙ ap (λ k. count_of test js + k) none_counted
+    ∙ add-zero (count_of test js))
+
+pub given_stays : {X : Type 0} (gives : Item → List X) (concerns : List Item → Item → Bool)
+    → Silent concerns gives [] → Stays concerns (all_given gives)
+given_stays gives concerns silent = stays (all_given gives) concerns
+    (λ js item apart. all_given_append gives js (item ∷ [])
+    ∙ ap (λ xs. all_given gives js ++ (xs ++ [])) (silent js item apart)
+    ∙ append-nil (all_given gives js))
 
 pub folded_stays : {X : Type 0} (changes : List Item → X → Item → X) (start : X)
-    (concerns : List Item → Item → Bool) →
-    ((before : List Item) (value : X) (item : Item) → IsFalse (concerns before item)
-    → changes before value item ≡ value) →
-    (before items : List Item) → NoneConcern concerns before items
-    → folded changes start (before ++ items) ≡ folded changes start before
-folded_stays changes start concerns silent before items none = stays (folded changes start) concerns
-    one before items none
-  where
-    one : (js : List Item) (item : Item) → IsFalse (concerns js item)
-        → folded changes start (js ++ item ∷ []) ≡ folded changes start js
-    one js item apart = folded_append changes start js (item ∷ [])
-        ∙ silent js (folded changes start js) item apart
+    (concerns : List Item → Item → Bool) → Keeps concerns changes
+    → Stays concerns (folded changes start)
+folded_stays changes start concerns silent = stays (folded changes start) concerns
+    (λ js item apart. folded_append changes start js (item ∷ [])
+    ∙ silent js (folded changes start js) item apart)

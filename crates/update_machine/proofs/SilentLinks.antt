@@ -17,34 +17,28 @@ use Rattle.update_machine.specs.Quiet.{is_waited_for, tells_waited_for}
 use Rattle.update_machine.specs.Setting.{Setting, policy_of_file}
 use Rattle.update_machine.specs.Steps.{StepItems, steps_in}
 use Rattle.update_machine.specs.Versions.{is_submission, policy_at, stamp_of, version_count, placed_in, file_of, plan_at, tells_file}
-use Rattle.update_machine.proofs.Silent.{count_stays, fewer, first_stays, last_stays, neither_left, neither_right, stays}
+use Rattle.update_machine.proofs.Silent.{Silent, Stays, count_stays, fewer, first_stays, last_or_stays, neither_left, neither_right, stays}
 use Rattle.update_machine.proofs.SilentSteps.{weight_stays}
 use Rattle.update_machine.proofs.SilentSwitches.{link_stays, near_stays, switch_keeps}
 
 -- ---- the number of the own advert
 
-boot_silent : (s : ℕ) (before : List Item) (item : Item) → IsFalse (concerns_links before item)
-    → tells_boot s item ≡ None
+boot_silent : (s : ℕ) → Silent concerns_links (tells_boot s) None
 boot_silent s before (item.Booted switch boot) apart = cc
 boot_silent s before _ apart = refl
 
-up_silent : (s : ℕ) (before : List Item) (item : Item) → IsFalse (concerns_links before item)
-    → tells_up s item ≡ None
+up_silent : (s : ℕ) → Silent concerns_links (tells_up s) None
 up_silent s before (item.Booted switch boot) apart = cc
 up_silent s before (item.Down switch) apart = cc
 up_silent s before _ apart = refl
 
-boot_stays : (s : ℕ) (before items : List Item) → NoneConcern concerns_links before items
-    → boot_of (before ++ items) s ≡ boot_of before s
+boot_stays : (s : ℕ) → Stays concerns_links (λ js. boot_of js s)
 unfolding boot_of
-boot_stays s before items none = ap (λ o. unwrap_or o 1)
-    (last_stays (tells_boot s) concerns_links (boot_silent s) before items none)
+boot_stays s = last_or_stays (tells_boot s) 1 concerns_links (boot_silent s)
 
-up_stays : (s : ℕ) (before items : List Item) → NoneConcern concerns_links before items
-    → is_up (before ++ items) s ≡ is_up before s
+up_stays : (s : ℕ) → Stays concerns_links (λ js. is_up js s)
 unfolding is_up
-up_stays s before items none = ap (λ o. unwrap_or o true)
-    (last_stays (tells_up s) concerns_links (up_silent s) before items none)
+up_stays s = last_or_stays (tells_up s) true concerns_links (up_silent s)
 
 same_number : (n m : ℕ) → n ≡ m → (n == m) ≡ true
 same_number n m e = rw e (grind arith)
@@ -102,15 +96,11 @@ seq_stay setting s before item apart =
           (change_more setting s (boot_of before s) before item same newest ends);
     }))
 
-seq_stays : (setting : Setting) (s : ℕ) (before items : List Item)
-    → NoneConcern concerns_links before items
-    → own_seq setting (before ++ items) s ≡ own_seq setting before s
+seq_stays : (setting : Setting) (s : ℕ) → Stays concerns_links (λ js. own_seq setting js s)
 seq_stays setting s before items none =
     stays (λ js. own_seq setting js s) concerns_links (seq_stay setting s) before items none
 
-advert_stays : (setting : Setting) (s : ℕ) (before items : List Item)
-    → NoneConcern concerns_links before items
-    → own_advert setting (before ++ items) s ≡ own_advert setting before s
+advert_stays : (setting : Setting) (s : ℕ) → Stays concerns_links (λ js. own_advert setting js s)
 unfolding own_advert
 advert_stays setting s before items none =
     let boot : boot_of (before ++ items) s ≡ boot_of before s = boot_stays s before items none in
@@ -173,13 +163,11 @@ known_keeps setting s before items none =
 
 -- ---- policies, and what a switch says of a header
 
-file_silent : (v : ℕ) (before : List Item) (item : Item) → IsFalse (concerns_policies before item)
-    → tells_file v item ≡ None
+file_silent : (v : ℕ) → Silent concerns_policies (tells_file v) None
 file_silent v before (item.Submitted file version) apart = cc
 file_silent v before _ apart = refl
 
-count_silent : (before : List Item) (item : Item) → IsFalse (concerns_policies before item)
-    → is_submission item ≡ false
+count_silent : Silent concerns_policies is_submission false
 count_silent before item apart = apart
 
 file_stays : (before items : List Item) → NoneConcern concerns_policies before items → (v : ℕ)
@@ -193,8 +181,7 @@ file_stays before items none v = by_test (v == 1)
     by_test false =
         first_stays (tells_file v) concerns_policies (file_silent v) before items none
 
-policy_count_stays : (before items : List Item) → NoneConcern concerns_policies before items
-    → version_count (before ++ items) ≡ version_count before
+policy_count_stays : Stays concerns_policies version_count
 unfolding version_count
 policy_count_stays before items none =
     let count = count_stays is_submission concerns_policies count_silent before items none in
@@ -213,9 +200,8 @@ policies_keep before items none = record {
       (file_stays before items none v);
 }
 
-pub lookup_stays : (setting : Setting) (s : ℕ) (header : Header) (before items : List Item)
-    → NoneConcern (concerns_lookups s) before items
-    → lookup_at setting (before ++ items) s header ≡ lookup_at setting before s header
+pub lookup_stays : (setting : Setting) (s : ℕ) (header : Header)
+    → Stays (concerns_lookups s) (λ js. lookup_at setting js s header)
 unfolding lookup_at plan_at
 lookup_stays setting s header before items none =
     let switch : SwitchKeeps setting s before (before ++ items) =
@@ -234,13 +220,10 @@ lookup_stays setting s header before items none =
 
 -- ---- switches that are waited for
 
-waited_silent : (s : ℕ) (before : List Item) (item : Item)
-    → IsFalse (concerns_waiting s before item) → tells_waited_for s item ≡ None
+waited_silent : (s : ℕ) → Silent (concerns_waiting s) (tells_waited_for s) None
 waited_silent s before (item.Down switch) apart = rw apart refl
 waited_silent s before (item.OverNow switch) apart = rw apart refl
 waited_silent s before _ apart = refl
 
-pub waited_stays : (s : ℕ) (before items : List Item) → NoneConcern (concerns_waiting s) before
-    items → is_waited_for (before ++ items) s ≡ is_waited_for before s
-waited_stays s before items none = ap (λ o. unwrap_or o false)
-    (last_stays (tells_waited_for s) (concerns_waiting s) (waited_silent s) before items none)
+pub waited_stays : (s : ℕ) → Stays (concerns_waiting s) (λ js. is_waited_for js s)
+waited_stays s = last_or_stays (tells_waited_for s) false (concerns_waiting s) (waited_silent s)

@@ -1,7 +1,7 @@
 -- Items that don't concern a message, all messages, all packets or the steps leave their words as
 -- they are.
 use Rattle.std.proofs.Common.{ℕ, ◌+◌, ◌≡◌, Bool, false, None, List, [], ◌∷◌, ◌++◌, refl, ap, ◌∙◌}
-use Rattle.std.specs.Prelude.{nat_lt, find, IsFalse, unwrap_or}
+use Rattle.std.specs.Prelude.{nat_lt, find, IsFalse}
 use Rattle.std.specs.List.{range_with_len}
 use Rattle.journal.specs.declared.item.Item.{Item}
 use Rattle.journal.specs.declared.item.Item.TheVariants as item
@@ -10,50 +10,41 @@ use Rattle.update_machine.specs.Folds.{count_of}
 use Rattle.update_machine.specs.Laws.{MessageKeeps, MessagesKeep, PacketsKeep}
 use Rattle.update_machine.specs.Messages.{is_deliverable, is_delivery, is_forgetting, is_forgotten, is_sending, is_waiting, next_message, next_waiting, was_delivered}
 use Rattle.update_machine.specs.Packets.{is_packet, next_packet}
-use Rattle.update_machine.specs.Quiet.{Sending, changes_sendings, sendings}
+use Rattle.update_machine.specs.Quiet.{changes_sendings, sendings}
 use Rattle.update_machine.specs.Causes.{present_step, tells_step}
 use Rattle.update_machine.specs.Links.{message_of, tells_message}
 use Rattle.update_machine.specs.Travels.{next_travelling, tells_travelling, travels}
-use Rattle.update_machine.proofs.Silent.{count_stays, fewer, folded_stays, last_stays}
+use Rattle.update_machine.proofs.Silent.{Keeps, Silent, Stays, count_stays, fewer, folded_stays, last_or_stays, last_stays}
 
 -- ---- a message
 
-message_silent : (n : ℕ) (before : List Item) (item : Item)
-    → IsFalse (concerns_message n before item) → tells_message n item ≡ None
+message_silent : (n : ℕ) → Silent (concerns_message n) (tells_message n) None
 message_silent n before (item.Sent number message) apart = rw apart refl
 message_silent n before _ apart = refl
 
-delivery_silent : (n : ℕ) (before : List Item) (item : Item)
-    → IsFalse (concerns_message n before item) → is_delivery n item ≡ false
+delivery_silent : (n : ℕ) → Silent (concerns_message n) (is_delivery n) false
 delivery_silent n before (item.Delivered number) apart = apart
 delivery_silent n before _ apart = refl
 
-forgetting_silent : (n : ℕ) (before : List Item) (item : Item)
-    → IsFalse (concerns_message n before item) → is_forgetting n item ≡ false
+forgetting_silent : (n : ℕ) → Silent (concerns_message n) (is_forgetting n) false
 forgetting_silent n before (item.Forgotten number) apart = apart
 forgetting_silent n before _ apart = refl
 
-message_stays : (n : ℕ) (before items : List Item) → NoneConcern (concerns_message n) before items
-    → message_of (before ++ items) n ≡ message_of before n
+message_stays : (n : ℕ) → Stays (concerns_message n) (λ js. message_of js n)
 unfolding message_of
-message_stays n before items none =
-    last_stays (tells_message n) (concerns_message n) (message_silent n) before items none
+message_stays n = last_stays (tells_message n) (concerns_message n) (message_silent n)
 
-delivered_stays : (n : ℕ) (before items : List Item) → NoneConcern (concerns_message n) before items
-    → was_delivered (before ++ items) n ≡ was_delivered before n
+delivered_stays : (n : ℕ) → Stays (concerns_message n) (λ js. was_delivered js n)
 unfolding was_delivered
 delivered_stays n before items none = ap (nat_lt 0)
     (count_stays (is_delivery n) (concerns_message n) (delivery_silent n) before items none)
 
-forgotten_stays : (n : ℕ) (before items : List Item) → NoneConcern (concerns_message n) before items
-    → is_forgotten (before ++ items) n ≡ is_forgotten before n
+forgotten_stays : (n : ℕ) → Stays (concerns_message n) (λ js. is_forgotten js n)
 unfolding is_forgotten
 forgotten_stays n before items none = ap (nat_lt 0)
     (count_stays (is_forgetting n) (concerns_message n) (forgetting_silent n) before items none)
 
-deliverable_stays : (n : ℕ) (before items : List Item)
-    → NoneConcern (concerns_message n) before items
-    → is_deliverable (before ++ items) n ≡ is_deliverable before n
+deliverable_stays : (n : ℕ) → Stays (concerns_message n) (λ js. is_deliverable js n)
 unfolding is_deliverable
 deliverable_stays n before items none =
     let message : message_of (before ++ items) n ≡ message_of before n =
@@ -73,13 +64,11 @@ message_keeps n before items none = record {
 
 -- ---- all messages
 
-sending_silent : (before : List Item) (item : Item) → IsFalse (concerns_messages before item)
-    → is_sending item ≡ false
+sending_silent : Silent concerns_messages is_sending false
 sending_silent before (item.Sent number message) apart = apart
 sending_silent before _ apart = refl
 
-sendings_silent : (before : List Item) (sent : List Sending) (item : Item)
-    → IsFalse (concerns_messages before item) → changes_sendings before sent item ≡ sent
+sendings_silent : Keeps concerns_messages changes_sendings
 sendings_silent before sent (item.Sent number message) apart = cc
 sendings_silent before sent _ apart = refl
 
@@ -97,27 +86,30 @@ find_same p q same (x ∷ xs) =
     let rest : find p xs ≡ find q xs = find_same p q same xs in
     rw (here, rest) refl
 
-sent_count_stays : (before items : List Item) → NoneConcern concerns_messages before items
-    → count_of is_sending (before ++ items) ≡ count_of is_sending before
-sent_count_stays before items none =
-    count_stays is_sending concerns_messages sending_silent before items none
+sent_count_stays : Stays concerns_messages (count_of is_sending)
+sent_count_stays = count_stays is_sending concerns_messages sending_silent
 
-waiting_same : (before items : List Item) → NoneConcern concerns_messages before items → (n : ℕ)
-    → is_waiting (before ++ items) n ≡ is_waiting before n
-waiting_same before items none n =
+-- so the first number that passes a test of words that stay is the same
+first_stays_of : (count : List Item → ℕ) (test : List Item → ℕ → Bool)
+    (concerns : List Item → Item → Bool) → Stays concerns count
+    → ((n : ℕ) → Stays concerns (λ js. test js n))
+    → Stays concerns (λ js. find (test js) (range_with_len 1 (count js)))
+first_stays_of count test concerns counts tests before items none =
+    ap (λ k. find (test (before ++ items)) (range_with_len 1 k)) (counts before items none)
+    ∙ find_same (test (before ++ items)) (test before) (λ n. tests n before items none)
+    (range_with_len 1 (count before))
+
+waiting_same : (n : ℕ) → Stays concerns_messages (λ js. is_waiting js n)
+waiting_same n before items none =
     let keeps : MessageKeeps n before (before ++ items) =
     message_keeps n before items
     (fewer (concerns_message n) concerns_messages (each_silent n) before items none) in
     rw (keeps.deliverable, keeps.delivered) refl
 
-waiting_stays : (before items : List Item) → NoneConcern concerns_messages before items
-    → next_waiting (before ++ items) ≡ next_waiting before
+waiting_stays : Stays concerns_messages next_waiting
 unfolding next_waiting
-waiting_stays before items none =
-    ap (λ count. find (is_waiting (before ++ items)) (range_with_len 1 count))
-    (sent_count_stays before items none)
-    ∙ find_same (is_waiting (before ++ items)) (is_waiting before) (waiting_same before items none)
-    (range_with_len 1 (count_of is_sending before))
+waiting_stays =
+    first_stays_of (count_of is_sending) is_waiting concerns_messages sent_count_stays waiting_same
 
 pub messages_keep : (before items : List Item) → NoneConcern concerns_messages before items
     → MessagesKeep before (before ++ items)
@@ -130,14 +122,12 @@ messages_keep before items none = record {
 
 -- ---- all packets
 
-packet_silent : (before : List Item) (item : Item) → IsFalse (concerns_packets before item)
-    → is_packet item ≡ false
+packet_silent : Silent concerns_packets is_packet false
 packet_silent before (item.Entered packet switch header) apart = apart
 packet_silent before (item.Closed packet switch) apart = apart
 packet_silent before _ apart = refl
 
-travel_silent : (i : ℕ) (before : List Item) (item : Item) → IsFalse (concerns_packets before item)
-    → tells_travelling i item ≡ None
+travel_silent : (i : ℕ) → Silent concerns_packets (tells_travelling i) None
 travel_silent i before (item.Entered packet switch header) apart = cc
 travel_silent i before (item.Dropped packet) apart = cc
 travel_silent i before (item.Left packet port leaving) apart = cc
@@ -145,25 +135,17 @@ travel_silent i before (item.Lost packet) apart = cc
 travel_silent i before (item.Stuck packet switch cause leg down) apart = cc
 travel_silent i before _ apart = refl
 
-travels_stay : (before items : List Item) → NoneConcern concerns_packets before items → (i : ℕ)
-    → travels (before ++ items) i ≡ travels before i
+travels_stay : (i : ℕ) → Stays concerns_packets (λ js. travels js i)
 unfolding travels
-travels_stay before items none i = ap (λ o. unwrap_or o false)
-    (last_stays (tells_travelling i) concerns_packets (travel_silent i) before items none)
+travels_stay i = last_or_stays (tells_travelling i) false concerns_packets (travel_silent i)
 
-packet_count_stays : (before items : List Item) → NoneConcern concerns_packets before items
-    → count_of is_packet (before ++ items) ≡ count_of is_packet before
-packet_count_stays before items none =
-    count_stays is_packet concerns_packets packet_silent before items none
+packet_count_stays : Stays concerns_packets (count_of is_packet)
+packet_count_stays = count_stays is_packet concerns_packets packet_silent
 
-travelling_stays : (before items : List Item) → NoneConcern concerns_packets before items
-    → next_travelling (before ++ items) ≡ next_travelling before
+travelling_stays : Stays concerns_packets next_travelling
 unfolding next_travelling
-travelling_stays before items none =
-    ap (λ count. find (travels (before ++ items)) (range_with_len 1 count))
-    (packet_count_stays before items none)
-    ∙ find_same (travels (before ++ items)) (travels before) (travels_stay before items none)
-    (range_with_len 1 (count_of is_packet before))
+travelling_stays =
+    first_stays_of (count_of is_packet) travels concerns_packets packet_count_stays travels_stay
 
 pub packets_keep : (before items : List Item) → NoneConcern concerns_packets before items
     → PacketsKeep before (before ++ items)
@@ -175,13 +157,10 @@ packets_keep before items none = record {
 
 -- ---- steps
 
-step_silent : (before : List Item) (item : Item) → IsFalse (concerns_steps before item)
-    → tells_step item ≡ None
+step_silent : Silent concerns_steps tells_step None
 step_silent before (item.Row row step) apart = cc
 step_silent before _ apart = refl
 
-pub step_stays : (before items : List Item) → NoneConcern concerns_steps before items
-    → present_step (before ++ items) ≡ present_step before
+pub step_stays : Stays concerns_steps present_step
 unfolding present_step
-step_stays before items none =
-    last_stays tells_step concerns_steps step_silent before items none
+step_stays = last_stays tells_step concerns_steps step_silent

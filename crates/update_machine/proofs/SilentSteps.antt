@@ -6,13 +6,13 @@ use Rattle.std.proofs.lemmas.List.Sums.{sum_by-cons}
 use Rattle.journal.specs.declared.item.Item.{Item}
 use Rattle.journal.specs.declared.item.Item.TheVariants as item
 use Rattle.steps.specs.declared.step.Step.TheVariants.{Hop}
-use Rattle.update_machine.specs.Concerns.{NoneConcern, concerns_calls}
+use Rattle.update_machine.specs.Concerns.{concerns_calls}
 use Rattle.update_machine.specs.Folds.{count_of, folded_from}
 use Rattle.update_machine.specs.Handled.{handled_count, hop_calls, is_entry_at, is_move, stays_on_way, stuck_at_link}
 use Rattle.update_machine.specs.Travels.{travels_at}
 use Rattle.update_machine.specs.Steps.{StepItems, changes_steps, steps_in, with_item}
 use Rattle.update_machine.proofs.FoldLemmas.{folded_append}
-use Rattle.update_machine.proofs.Silent.{count_stays, stays}
+use Rattle.update_machine.proofs.Silent.{Silent, Stays, count_stays, stays}
 
 -- ---- the newest step ends where the journal does
 
@@ -139,8 +139,7 @@ calls_alone s before (item.Row row (Hop packet)) apart = rw apart refl
 calls_alone s before (item.Row row other) apart = refl
 calls_alone s before _ apart = refl
 
-entry_silent : (s : ℕ) (before : List Item) (item : Item) → IsFalse (concerns_calls s before item)
-    → is_entry_at s item ≡ false
+entry_silent : (s : ℕ) → Silent (concerns_calls s) (is_entry_at s) false
 entry_silent s before (item.Entered packet switch header) apart = apart
 entry_silent s before (item.Closed packet switch) apart = apart
 entry_silent s before _ apart = refl
@@ -161,7 +160,6 @@ call_stays s before item apart =
     }) in
     rw (entries, calls) refl
 
-pub calls_stay : (s : ℕ) (before items : List Item) → NoneConcern (concerns_calls s) before items
-    → handled_count (before ++ items) s ≡ handled_count before s
+pub calls_stay : (s : ℕ) → Stays (concerns_calls s) (λ js. handled_count js s)
 calls_stay s before items none =
     stays (λ js. handled_count js s) (concerns_calls s) (call_stays s) before items none

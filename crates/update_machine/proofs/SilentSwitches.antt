@@ -1,8 +1,6 @@
 -- Items that don't concern a switch, or the links, leave its words as they are.
 use Rattle.std.proofs.Common.{ℕ, ◌≡◌, Bool, true, None, List, [], ◌∷◌, ◌++◌, refl, ap, arith}
 use Rattle.std.specs.Prelude.{IsFalse, filter, unwrap_or}
-use Rattle.ctrl_msg.specs.declared.message.Body.{Body}
-use Rattle.switch_table.specs.Cache.{CacheValue}
 use Rattle.net_file.specs.Owners.{links_of}
 use Rattle.net_file.specs.declared.net.LinkRow.{LinkRow}
 use Rattle.journal.specs.declared.item.Item.{Item}
@@ -15,21 +13,18 @@ use Rattle.update_machine.specs.Links.{is_link_up, is_usable, tells_link, serves
 use Rattle.update_machine.specs.Setting.{Setting}
 use Rattle.update_machine.specs.Versions.{holds_version, stamp_of}
 use Rattle.update_machine.specs.LinkMasks.{near}
-use Rattle.update_machine.proofs.Silent.{folded_stays, last_stays}
+use Rattle.update_machine.proofs.Silent.{Keeps, Silent, Stays, folded_stays, last_or_stays, last_stays}
 
-boot_silent : (s : ℕ) (before : List Item) (item : Item) → IsFalse (concerns_switch s before item)
-    → tells_boot s item ≡ None
+boot_silent : (s : ℕ) → Silent (concerns_switch s) (tells_boot s) None
 boot_silent s before (item.Booted switch boot) apart = rw apart refl
 boot_silent s before _ apart = refl
 
-up_silent : (s : ℕ) (before : List Item) (item : Item) → IsFalse (concerns_switch s before item)
-    → tells_up s item ≡ None
+up_silent : (s : ℕ) → Silent (concerns_switch s) (tells_up s) None
 up_silent s before (item.Booted switch boot) apart = rw apart refl
 up_silent s before (item.Down switch) apart = rw apart refl
 up_silent s before _ apart = refl
 
-serving_silent : (s : ℕ) (before : List Item) (item : Item)
-    → IsFalse (concerns_switch s before item) → tells_serving s item ≡ None
+serving_silent : (s : ℕ) → Silent (concerns_switch s) (tells_serving s) None
 serving_silent s before (item.Booted switch boot) apart = rw apart refl
 serving_silent s before (item.Down switch) apart = rw apart refl
 serving_silent s before (item.Opened switch version) apart = rw apart refl
@@ -40,16 +35,14 @@ said_nothing : (before : List Item) (s number : ℕ) → IsFalse (is_message_to 
     → said_to before s number ≡ None
 said_nothing before s number apart = grind arith
 
-heard_silent : (s : ℕ) (before : List Item) (bodies : List Body) (item : Item)
-    → IsFalse (concerns_switch s before item) → changes_heard s before bodies item ≡ bodies
+heard_silent : (s : ℕ) → Keeps (concerns_switch s) (changes_heard s)
 heard_silent s before bodies (item.Booted switch boot) apart = rw apart refl
 heard_silent s before bodies (item.Down switch) apart = rw apart refl
 heard_silent s before bodies (item.Delivered number) apart = rw (said_nothing before s number apart)
     refl
 heard_silent s before bodies _ apart = refl
 
-cache_silent : (s : ℕ) (before : List Item) (cache : CacheValue) (item : Item)
-    → IsFalse (concerns_switch s before item) → changes_cache s before cache item ≡ cache
+cache_silent : (s : ℕ) → Keeps (concerns_switch s) (changes_cache s)
 cache_silent s before cache (item.Booted switch boot) apart = rw apart refl
 cache_silent s before cache (item.Down switch) apart = rw apart refl
 cache_silent s before cache (item.Expired switch place message) apart = rw apart refl
@@ -57,32 +50,23 @@ cache_silent s before cache (item.Delivered number) apart = rw (said_nothing bef
     refl
 cache_silent s before cache _ apart = refl
 
-boot_stays : (s : ℕ) (before items : List Item) → NoneConcern (concerns_switch s) before items
-    → boot_of (before ++ items) s ≡ boot_of before s
+boot_stays : (s : ℕ) → Stays (concerns_switch s) (λ js. boot_of js s)
 unfolding boot_of
-boot_stays s before items none = ap (λ o. unwrap_or o 1)
-    (last_stays (tells_boot s) (concerns_switch s) (boot_silent s) before items none)
+boot_stays s = last_or_stays (tells_boot s) 1 (concerns_switch s) (boot_silent s)
 
-up_stays : (s : ℕ) (before items : List Item) → NoneConcern (concerns_switch s) before items
-    → is_up (before ++ items) s ≡ is_up before s
+up_stays : (s : ℕ) → Stays (concerns_switch s) (λ js. is_up js s)
 unfolding is_up
-up_stays s before items none = ap (λ o. unwrap_or o true)
-    (last_stays (tells_up s) (concerns_switch s) (up_silent s) before items none)
+up_stays s = last_or_stays (tells_up s) true (concerns_switch s) (up_silent s)
 
-serving_stays : (s : ℕ) (before items : List Item) → NoneConcern (concerns_switch s) before items
-    → serves (before ++ items) s ≡ serves before s
+serving_stays : (s : ℕ) → Stays (concerns_switch s) (λ js. serves js s)
 unfolding serves
-serving_stays s before items none = ap (λ o. unwrap_or o true)
-    (last_stays (tells_serving s) (concerns_switch s) (serving_silent s) before items none)
+serving_stays s = last_or_stays (tells_serving s) true (concerns_switch s) (serving_silent s)
 
-heard_stays : (s : ℕ) (before items : List Item) → NoneConcern (concerns_switch s) before items
-    → heard (before ++ items) s ≡ heard before s
+heard_stays : (s : ℕ) → Stays (concerns_switch s) (λ js. heard js s)
 unfolding heard
-heard_stays s before items none = folded_stays (changes_heard s) [] (concerns_switch s)
-    (heard_silent s) before items none
+heard_stays s = folded_stays (changes_heard s) [] (concerns_switch s) (heard_silent s)
 
-stamp_stays : (s : ℕ) (before items : List Item) → NoneConcern (concerns_switch s) before items
-    → stamp_of (before ++ items) s ≡ stamp_of before s
+stamp_stays : (s : ℕ) → Stays (concerns_switch s) (λ js. stamp_of js s)
 unfolding stamp_of
 stamp_stays s before items none =
     let boot : boot_of (before ++ items) s ≡ boot_of before s = boot_stays s before items none in
@@ -90,8 +74,7 @@ stamp_stays s before items none =
     let bodies : heard (before ++ items) s ≡ heard before s = heard_stays s before items none in
     rw (boot, up, bodies) refl
 
-version_stays : (s v : ℕ) (before items : List Item) → NoneConcern (concerns_switch s) before items
-    → holds_version (before ++ items) s v ≡ holds_version before s v
+version_stays : (s v : ℕ) → Stays (concerns_switch s) (λ js. holds_version js s v)
 unfolding holds_version
 version_stays s v before items none =
     let boot : boot_of (before ++ items) s ≡ boot_of before s = boot_stays s before items none in
@@ -99,13 +82,10 @@ version_stays s v before items none =
     let bodies : heard (before ++ items) s ≡ heard before s = heard_stays s before items none in
     rw (boot, up, bodies) refl
 
-cache_stays : (setting : Setting) (s : ℕ) (before items : List Item)
-    → NoneConcern (concerns_switch s) before items → cache_of setting (before ++ items) s ≡ cache_of
-    setting before s
+cache_stays : (setting : Setting) (s : ℕ) → Stays (concerns_switch s) (λ js. cache_of setting js s)
 unfolding cache_of
-cache_stays setting s before items none =
-    folded_stays (changes_cache s) (record { entries = []; capacity = setting.net.cache })
-    (concerns_switch s) (cache_silent s) before items none
+cache_stays setting s =
+    folded_stays (changes_cache s) (record { entries = []; capacity = setting.net.cache }) (concerns_switch s) (cache_silent s)
 
 pub switch_keeps : (setting : Setting) (s : ℕ) (before items : List Item)
     → NoneConcern (concerns_switch s) before items → SwitchKeeps setting s before (before ++ items)
@@ -121,15 +101,13 @@ switch_keeps setting s before items none = record {
 
 -- ---- links
 
-served_silent : (s : ℕ) (before : List Item) (item : Item) → IsFalse (concerns_links before item)
-    → tells_serving s item ≡ None
+served_silent : (s : ℕ) → Silent concerns_links (tells_serving s) None
 served_silent s before (item.Booted switch boot) apart = cc
 served_silent s before (item.Down switch) apart = cc
 served_silent s before (item.Opened switch version) apart = cc
 served_silent s before _ apart = refl
 
-link_silent : (low high : ℕ) (before : List Item) (item : Item)
-    → IsFalse (concerns_links before item) → tells_link low high item ≡ None
+link_silent : (low high : ℕ) → Silent concerns_links (tells_link low high) None
 link_silent low high before (item.LinkIs one two up) apart = cc
 link_silent low high before _ apart = refl
 
@@ -163,9 +141,7 @@ filter_same p q same (x ∷ xs) =
     let rest : filter p xs ≡ filter q xs = filter_same p q same xs in
     rw (here, rest) refl
 
-pub near_stays : (setting : Setting) (s : ℕ) (before items : List Item)
-    → NoneConcern concerns_links before items → near setting (before ++ items) s ≡ near setting
-    before s
+pub near_stays : (setting : Setting) (s : ℕ) → Stays concerns_links (λ js. near setting js s)
 unfolding near
 near_stays setting s before items none =
     ap (λ links. links_of links s)

@@ -6,12 +6,13 @@ use Rattle.journal.specs.declared.item.Item.{Item}
 use Rattle.steps.specs.declared.step.Event.{Event}
 use Rattle.steps.specs.declared.step.Event.TheVariants.{One, Flush, Drain}
 use Rattle.steps.specs.declared.step.Step.{Step}
-use Rattle.update_machine.specs.Answers.{AnswersSoFar, AreAll, AreAnswered, AreFirstSteps, AreFirstStepsOf, AreSome, AreStepsOf, BeginsAnswer, StepOfRow, after_steps, next_delivery, next_hop}
+use Rattle.update_machine.specs.Answers.{AnswersSoFar, AreAnswered, AreFirstSteps, AreFirstStepsOf, AreSome, BeginsAnswer, StepOfRow, after_steps, next_delivery, next_hop}
 use Rattle.update_machine.specs.Full.{HasPlay, HaveRoom, IsFull, StopsFull, full_at}
 use Rattle.update_machine.specs.Messages.{next_message}
 use Rattle.update_machine.specs.Pieces.{piece}
 use Rattle.update_machine.specs.Setting.{Setting}
 use Rattle.update_machine.proofs.Beginnings.{Begins, begins_cons, begins_nil}
+use Rattle.update_machine.proofs.EventSteps.{all_first}
 use Rattle.update_machine.proofs.OnePlay.{nil_front}
 use Rattle.update_machine.proofs.WholeAnswers.{all_are_first, begins_itself}
 
@@ -26,25 +27,6 @@ some_front setting next row before (x ∷ xs) ys some = (
   some.1,
   some_front setting next row (before ++ piece setting before x.row x.step) xs ys some.2,
 )
-
-all_are_some : (setting : Setting) (next : List Item → Option Step) (row : ℕ) (before : List Item)
-    (steps : List StepOfRow) → AreAll setting next row before steps
-    → AreSome setting next row before steps
-all_are_some setting next row before [] all = tt
-all_are_some setting next row before (x ∷ steps) all = (
-  all.0,
-  all.1,
-  all_are_some setting next row (before ++ piece setting before x.row x.step) steps all.2,
-)
-
-event_first : (setting : Setting) (row : ℕ) (event : Event) (before : List Item)
-    (steps : List StepOfRow) → AreStepsOf setting row event before steps
-    → AreFirstStepsOf setting row event before steps
-event_first setting row (One step) before steps all = inr all
-event_first setting row Flush before steps all =
-    all_are_some setting next_delivery row before steps all
-event_first setting row Drain before steps all =
-    all_are_some setting next_hop row before steps all
 
 one_front : (step : StepOfRow) (xs ys : List StepOfRow)
     → (xs ++ ys ≡ []) ⊎ (xs ++ ys ≡ step ∷ []) → (xs ≡ []) ⊎ (xs ≡ step ∷ [])
@@ -109,7 +91,7 @@ first_front setting row (event ∷ events) before xs ys (inr first) =
     by onward (inl begins) =
         inl (event_front setting row event before xs begins.rest
         (subst (AreFirstStepsOf setting row event before) begins.is
-        (event_first setting row event before first.0 first.3)))
+        (all_first setting row event before first.0 first.3)))
     by onward (inr past) = inr (
       first.0,
       past.more,

@@ -1,8 +1,7 @@
 -- Behind a crash the packets that still travel stand at switches that serve.
-use Rattle.std.proofs.Common.{ℕ, zero, suc, ◌≡◌, ◌≢◌, ◌+◌, ◌<◌, ◌≤◌, ◌==◌, ◌||◌, Bool, true, false, Some, List, [], ◌∷◌, ◌++◌, map, refl, ap, sym, subst, ◌∙◌, append-nil, append_assoc, arith, inl, inr, ◌⊎◌}
-use Rattle.std.specs.Prelude.{IsTrue, IsFalse, filter, if◌then◌else◌}
-use Rattle.std.specs.List.{list_any, range_with_len}
-use Rattle.std.proofs.lemmas.Bool.{cases_eq, eq-eqb}
+use Rattle.std.proofs.Common.{ℕ, ◌≡◌, ◌+◌, ◌<◌, ◌≤◌, ◌==◌, Bool, true, false, Some, List, [], ◌∷◌, ◌++◌, map, refl, sym, subst, ◌∙◌, append-nil, append_assoc, arith, inl}
+use Rattle.std.specs.Prelude.{IsTrue, IsFalse}
+use Rattle.std.specs.List.{list_any}
 use Rattle.std.proofs.lemmas.Bool.Decides.{nat_tests}
 use Rattle.ctrl_msg.specs.declared.message.Message.{Message}
 use Rattle.journal.specs.declared.item.Item.{Item}
@@ -17,7 +16,9 @@ use Rattle.update_machine.specs.Pieces.{crash_items, nothing}
 use Rattle.update_machine.specs.Setting.{Setting}
 use Rattle.update_machine.specs.Travels.{packets_at, travels, travels_at}
 use Rattle.update_machine.specs.Links.{serves}
+use Rattle.boot_laws.proofs.Crashes.{losts_keep}
 use Rattle.boot_laws.proofs.Grown.{serving_more}
+use Rattle.boot_laws.proofs.Picked.{any_picked}
 use Rattle.way_laws.specs.Rest.{AreServed, IsServed}
 use Rattle.way_laws.proofs.Served.{AreNumbered, place_more, stays_served, still_serves, travels_more}
 
@@ -80,46 +81,13 @@ spared_by (k ∷ packets) journal i travelling =
 -- losses move no packet and change no switch
 lost_place : (packets : List ℕ) (journal : List Item) (i : ℕ)
     → standing (journal ++ map item.Lost packets) i ≡ standing journal i
-lost_place [] journal i = ap (λ js. standing js i) (append-nil journal)
-lost_place (k ∷ packets) journal i =
-    ap (λ js. standing js i) (sym (append_assoc journal (item.Lost k ∷ []) (map item.Lost packets)))
-    ∙ lost_place packets (journal ++ item.Lost k ∷ []) i ∙ place_more journal (item.Lost k) i
+lost_place packets journal i =
+    losts_keep (λ js. standing js i) (λ js k. place_more js (item.Lost k) i) packets journal
 
 lost_serves : (packets : List ℕ) (journal : List Item) (s : ℕ)
     → serves (journal ++ map item.Lost packets) s ≡ serves journal s
-lost_serves [] journal s = ap (λ js. serves js s) (append-nil journal)
-lost_serves (k ∷ packets) journal s =
-    ap (λ js. serves js s) (sym (append_assoc journal (item.Lost k ∷ []) (map item.Lost packets)))
-    ∙ lost_serves packets (journal ++ item.Lost k ∷ []) s ∙ serving_more journal (item.Lost k) s
-
--- each number of the range that passes is among those that pass
-passes : (test : ℕ → Bool) (low n i : ℕ) → test i ≡ true → low ≤ i → i < low + n
-    → among i (filter test (range_with_len low n)) ≡ true
-unfolding among
-passes test low zero i is above below = absurd (omega (arith, above, below))
-passes test low (suc n) i is above below =
-    by_first (cases_eq low i)
-    (λ later. passes test (low + 1) n i is later (omega (arith, below)))
-  where
-    rest : List ℕ
-    rest = filter test (range_with_len (low + 1) n)
-
-    or_right : (b c : Bool) → c ≡ true → (b || c) ≡ true
-    or_right true c e = refl
-    or_right false c e = e
-
-    with_first : (b : Bool) → list_any (λ k. k == i) rest ≡ true
-        → list_any (λ k. k == i) (if b then low ∷ rest else rest) ≡ true
-    with_first true e = or_right (low == i) (list_any (λ k. k == i) rest) e
-    with_first false e = e
-
-    by_first : (low ≡ i) ⊎ (low ≢ i)
-        → ((low + 1) ≤ i → list_any (λ k. k == i) rest ≡ true)
-        → list_any (λ k. k == i) (if test low then low ∷ rest else rest) ≡ true
-    by_first (inl same) later =
-        let passed : test low ≡ true = ap test same ∙ is in
-        rw (passed, eq-eqb low i same) refl
-    by_first (inr apart) later = with_first (test low) (later (omega (arith, above, apart)))
+lost_serves packets journal s =
+    losts_keep (λ js. serves js s) (λ js k. serving_more js (item.Lost k) s) packets journal
 
 -- ---- the crash
 
@@ -127,6 +95,7 @@ passes test low (suc n) i is above below =
 left_elsewhere : (before : List Item) (s i place : ℕ) → IsTrue (travels before i)
     → standing before i ≡ Some place → 1 ≤ i → i < 1 + count_of is_packet before
     → IsFalse (among i (packets_at before s)) → (s == place) ≡ false
+unfolding among
 left_elsewhere before s i place travelling stands first last apart =
     by_place (place == s) refl
   where
@@ -135,7 +104,7 @@ left_elsewhere before s i place travelling stands first last apart =
     by_place true e =
         let here : travels_at before s i ≡ true = rw (travelling, stands, e) refl in
         let there : among i (packets_at before s) ≡ true =
-        passes (travels_at before s) 1 (count_of is_packet before) i here first last in
+        any_picked (travels_at before s) i 1 (count_of is_packet before) first last ∙ here in
         absurd cc
 
 fallen_served : (before journal : List Item) (s : ℕ) → AreNumbered before → AreServed journal

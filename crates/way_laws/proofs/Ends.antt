@@ -34,9 +34,9 @@ use Rattle.way_laws.specs.OnWay.{IsExiting, IsOnWay, IsPartitionOf, IsSeeking}
 use Rattle.way_laws.specs.Words.{PacketWords, words_of}
 use Rattle.way_laws.specs.Kept.{IsJudged}
 use Rattle.way_laws.specs.Stages.{stage_of}
-use Rattle.way_laws.specs.WayCauses.{FindsNoRoute, IsAtPort, IsBlockedOn, IsLostHere, LeavesHere, MeetsDown, TakesLeg, WayCause}
-use Rattle.way_laws.proofs.Here.{IsHere, decision_in, exiting_of, header_in_words, here_of, leg_in, next_in, place_in, seeking_of, some_same}
-use Rattle.way_laws.proofs.Kept.{Knows, port_named, redirected_to}
+use Rattle.way_laws.specs.WayCauses.{FindsNoRoute, IsAt, IsAtPort, IsBlockedOn, IsLostHere, LeavesHere, MeetsDown, TakesLeg, WayCause}
+use Rattle.way_laws.proofs.Here.{IsHere, decision_in, exiting_of, header_in_words, leg_in, next_in, place_in, seeking_of, some_same}
+use Rattle.way_laws.proofs.Kept.{Knows, here_known, port_named, redirected_to}
 use Rattle.way_laws.proofs.OpenWays.{Sees, none_leads, open_joined}
 
 pub decision_out : (journal : List Item) (i : ℕ) (decision : Option Decision)
@@ -49,6 +49,11 @@ stands_at : (setting : Setting) (before : List Item) (i s : ℕ) → IsHere sett
 stands_at setting before i s here =
     place_in before i here.under.place here.under.stands ∙ ap Some (sym here.at)
 
+stands_known : (setting : Setting) (before : List Item) (i s : ℕ)
+    → Knows setting before i (stage_of before i) → IsAt before i s → standing before i ≡ Some s
+stands_known setting before i s knows at =
+    stands_at setting before i s (here_known setting before i s knows at)
+
 entered_as : (setting : Setting) (before : List Item) (i s : ℕ)
     → (here : IsHere setting before i s) → header_in before i ≡ Some here.under.header
 entered_as setting before i s here =
@@ -60,10 +65,8 @@ pub finds_next_down : (setting : Setting) (before : List Item) (i one two : ℕ)
     → Knows setting before i (stage_of before i) → MeetsDown setting before i one two
     → FindsNextDown setting before i one two
 finds_next_down setting before i one two knows meets =
-    let here : IsHere setting before i one =
-    here_of setting before i one (stage_of before i) knows.is knows.have knows.kept meets.at in
     record {
-      stands = stands_at setting before i one here;
+      stands = stands_known setting before i one knows meets.at;
       next = meets.goes_on;
       unusable = meets.unusable;
     }
@@ -131,7 +134,7 @@ pub stuck_rightly : (setting : Setting) (before : List Item) (i s : ℕ) (cause 
     → FindsNoPath setting before i s leg
 stuck_rightly setting before i s cause leg down knows finds =
     let here : IsHere setting before i s =
-    here_of setting before i s (stage_of before i) knows.is knows.have knows.kept finds.at in
+    here_known setting before i s knows finds.at in
     record {
       stands = stands_at setting before i s here;
       own_leg = own_leg setting before i s leg knows here finds.on;
@@ -149,10 +152,8 @@ pub finds_down : (setting : Setting) (before : List Item) (i one two : ℕ)
     → Knows setting before i (stage_of before i) → MeetsDown setting before i one two
     → FindsDown setting before i one two
 finds_down setting before i one two knows meets =
-    let here : IsHere setting before i one =
-    here_of setting before i one (stage_of before i) knows.is knows.have knows.kept meets.at in
     record {
-      stands = stands_at setting before i one here;
+      stands = stands_known setting before i one knows meets.at;
       unusable = unusable (can_use setting before one two) refl;
     }
   where
@@ -229,7 +230,7 @@ pub stuck_by_claims : (setting : Setting) (before : List Item) (i s : ℕ) (caus
     → FindsNoRoute setting before i s cause leg down → IsStuckRightly setting before i s leg
 stuck_by_claims setting before i s cause leg down knows finds =
     let here : IsHere setting before i s =
-    here_of setting before i s (stage_of before i) knows.is knows.have knows.kept finds.at in
+    here_known setting before i s knows finds.at in
     let exact : FindsNoPath setting before i s leg =
     stuck_rightly setting before i s cause leg down knows finds in
     let links : List ℕ = links_known setting before s (found_down before i) in
@@ -351,7 +352,7 @@ pub leaves_rightly : (setting : Setting) (before : List Item) (i port : ℕ) (le
 leaves_rightly setting before i port leaving knows way =
     let s : ℕ = way.switch in
     let here : IsHere setting before i s =
-    here_of setting before i s (stage_of before i) knows.is knows.have knows.kept way.at in
+    here_known setting before i s knows way.at in
     let by : LeavesBy setting before i s port =
     leaves_by setting before i port leaving knows way here in
     let decision : Decision = by.decision in

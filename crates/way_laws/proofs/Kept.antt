@@ -46,9 +46,9 @@ use Rattle.advert_laws.proofs.BothCauses.{HasBothCauses}
 use Rattle.way_laws.specs.Rules.{IsRightEntry}
 use Rattle.way_laws.specs.OnWay.{IsExiting, IsOnLeg, IsOnWay, IsPartitionOf, IsSeeking, IsUnderWay, LeadsTo}
 use Rattle.way_laws.specs.Words.{PacketWords, port_decided, words_after, words_of}
-use Rattle.way_laws.specs.Kept.{IsJudged, IsKept, IsSought}
+use Rattle.way_laws.specs.Kept.{Avoids, IsJudged, IsKept, IsSought}
 use Rattle.way_laws.specs.Stages.{Blocked, CameIn, Judged, OnWay, Stage, stage_of}
-use Rattle.way_laws.specs.WayCauses.{AuthorityDecides, CacheDecides, DecidesBy, IsDecided, IsRedirected, MeetsDown, MovesOver, TakesDetour, TakesExit, TakesRoute}
+use Rattle.way_laws.specs.WayCauses.{AuthorityDecides, CacheDecides, DecidesBy, IsAt, IsDecided, IsRedirected, MeetsDown, MovesOver, TakesDetour, TakesExit, TakesRoute}
 use Rattle.way_laws.proofs.Here.{IsHere, Rules, found_in, here_of, leg_in, next_in, decision_in, rules_of, seeking_of, some_same}
 use Rattle.way_laws.proofs.Lookups.{FindsTargets, redirect_told}
 use Rattle.way_laws.proofs.PacketBlocks.{WhenDecided}
@@ -63,6 +63,12 @@ pub record Knows (setting : Setting) (before : List Item) (i : ℕ) (stage : Opt
     pub both : HaveCauses (HasBothCauses setting) [] before
     pub links : LinksAreThere setting before
     pub kept : IsKept setting before (words_of before i) stage
+
+-- where it stands
+pub here_known : (setting : Setting) (before : List Item) (i s : ℕ)
+    → Knows setting before i (stage_of before i) → IsAt before i s → IsHere setting before i s
+here_known setting before i s knows at =
+    here_of setting before i s (stage_of before i) knows.is knows.have knows.kept at
 
 -- words that leave it under way as it was
 abbrev under_as : (setting : Setting) (before : List Item) (one other : PacketWords)
@@ -79,6 +85,18 @@ under_as setting before one other header ingress place mark under = record {
   stands = place ∙ under.stands;
   now = under.now;
   mark = subst (λ m. m ≤ retired_mark before) (sym mark) under.mark;
+}
+
+-- a packet that moves on
+moving_on : (setting : Setting) (before : List Item) (words : PacketWords)
+    → IsOnWay setting before words → Avoids words.found words.route
+    → IsKept setting before words (Some OnWay)
+moving_on setting before words on avoids = record {
+  under_way = λ travels. on.under_way;
+  came_in = λ travels is. absurd cc;
+  judged = λ travels is header entered. absurd cc;
+  on_way = λ travels is. on;
+  avoids = λ travels is. avoids;
 }
 
 -- a packet that doesn't travel
@@ -193,6 +211,14 @@ redirected_to setting before i s version partition here takes =
           }),
     )
 
+-- whose targets the leg to it has
+seek_targets : (setting : Setting) (before : List Item) (header : Header)
+    (version partition : ℕ) (placed : Placed)
+    → IsPartitionOf setting before header version partition placed
+    → targets_of setting before (Seek version partition) ≡ placed.1
+seek_targets setting before header version partition placed own =
+    ap (λ o. unwrap_or (option_map (λ (p : Placed). p.1) o) []) own.found
+
 pub seeking_after : (setting : Setting) (before : List Item) (i mark version partition : ℕ)
     (route : List ℕ) → Knows setting before i (stage_of before i)
     → TakesRoute setting before i (Seek version partition) route
@@ -203,40 +229,34 @@ seeking_after setting before i mark version partition route knows takes =
     let after : PacketWords = words_after mark (item.Seeking i version partition route) words in
     let s : ℕ = takes.switch in
     let here : IsHere setting before i s =
-    here_of setting before i s (stage_of before i) knows.is knows.have knows.kept takes.at in
+    here_known setting before i s knows takes.at in
     let under : IsUnderWay setting before after =
     under_as setting before words after refl refl refl refl here.under in
     let part = redirected_to setting before i s version partition here takes.takes in
     let placed : Placed = part.0 in
     let own : IsPartitionOf setting before here.under.header version partition placed = part.1 in
     let targets : targets_of setting before (Seek version partition) ≡ placed.1 =
-    ap (λ o. unwrap_or (option_map (λ (p : Placed). p.1) o) []) own.found in
+    seek_targets setting before here.under.header version partition placed own in
     let way : IsWay setting s placed.1 words.found route =
     route_way setting before s placed.1 words.found route knows.links
     (subst (λ down. route_from setting before s placed.1 down ≡ Some route) (found_in before i)
     (ap (λ all. route_from setting before s all (found_down before i)) (sym targets)
     ∙ takes.leads)) in
-    record {
-      under_way = λ travels. under;
-      came_in = λ travels is. absurd cc;
-      judged = λ travels is header entered. absurd cc;
-      on_way = λ travels is. record {
-        under_way = under;
-        leg = Seek version partition;
-        takes = refl;
-        on_leg = record {
-          undecided = undecided_of setting before i s (stage_of before i) knows.kept here
-              (stage_when before i s 0 (inl takes.takes.looked_up));
-          not_retired = omega (arith, here.under.mark, here.stamped.retired, takes.takes.stamp);
-          current = omega (arith, here.stamped.current, takes.takes.stamp);
-          placed = placed;
-          own = own;
-          leads = way.leads;
-        };
-        stands = way.begins ∙ ap Some here.at;
+    moving_on setting before after (record {
+      under_way = under;
+      leg = Seek version partition;
+      takes = refl;
+      on_leg = record {
+        undecided = undecided_of setting before i s (stage_of before i) knows.kept here
+            (stage_when before i s 0 (inl takes.takes.looked_up));
+        not_retired = omega (arith, here.under.mark, here.stamped.retired, takes.takes.stamp);
+        current = omega (arith, here.stamped.current, takes.takes.stamp);
+        placed = placed;
+        own = own;
+        leads = way.leads;
       };
-      avoids = λ travels is. way.avoids;
-    }
+      stands = way.begins ∙ ap Some here.at;
+    }) way.avoids
 
 is_home : (o : Option ℕ) → IsTrue (is_some o) → o ≡ Some (unwrap_or o no_switch)
 is_home None e = absurd cc
@@ -257,7 +277,7 @@ exiting_after setting before i mark route knows exits =
     let s : ℕ = exits.by.switch in
     let out = exits.by.takes in
     let here : IsHere setting before i s =
-    here_of setting before i s (stage_of before i) knows.is knows.have knows.kept exits.by.at in
+    here_known setting before i s knows exits.by.at in
     let under : IsUnderWay setting before after =
     under_as setting before words after refl refl refl refl here.under in
     let judged : IsJudged setting before words here.under.header =
@@ -282,19 +302,13 @@ exiting_after setting before i mark route knows exits =
       has_port = has_port;
       leads = way.leads;
     } in
-    record {
-      under_way = λ travels. under;
-      came_in = λ travels is. absurd cc;
-      judged = λ travels is header entered. absurd cc;
-      on_way = λ travels is. record {
-        under_way = under;
-        leg = Exit (port_decided words.decision);
-        takes = refl;
-        on_leg = subst (IsExiting setting after) (sym port) exiting;
-        stands = way.begins ∙ ap Some here.at;
-      };
-      avoids = λ travels is. way.avoids;
-    }
+    moving_on setting before after (record {
+      under_way = under;
+      leg = Exit (port_decided words.decision);
+      takes = refl;
+      on_leg = subst (IsExiting setting after) (sym port) exiting;
+      stands = way.begins ∙ ap Some here.at;
+    }) way.avoids
 
 -- on its leg with another route
 leg_by : (setting : Setting) (before : List Item) (words after : PacketWords) (header : Header)
@@ -309,7 +323,7 @@ leg_by setting before words after header (Seek version partition) decision mark 
   placed = on.placed;
   own = on.own;
   leads = subst (λ targets. LeadsTo setting targets after.route)
-      (ap (λ o. unwrap_or (option_map (λ (p : Placed). p.1) o) []) on.own.found) leads;
+      (seek_targets setting before header version partition on.placed on.own) leads;
 }
 leg_by setting before words after header (Exit port) decision mark on leads = record {
   decision = on.decision;
@@ -329,7 +343,7 @@ rerouted_after setting before i mark route knows turns =
     let after : PacketWords = words_after mark (item.Rerouted i route) words in
     let s : ℕ = turns.switch in
     let here : IsHere setting before i s =
-    here_of setting before i s (stage_of before i) knows.is knows.have knows.kept turns.at in
+    here_known setting before i s knows turns.at in
     let under : IsUnderWay setting before after =
     under_as setting before words after refl refl refl refl here.under in
     let was : IsOnWay setting before words =
@@ -344,44 +358,35 @@ rerouted_after setting before i mark route knows turns =
     route_way setting before s (targets_of setting before turns.leg) words.found route knows.links
     (subst (λ down. route_from setting before s (targets_of setting before turns.leg) down
     ≡ Some route) (found_in before i) turns.leads) in
-    record {
-      under_way = λ travels. under;
-      came_in = λ travels is. absurd cc;
-      judged = λ travels is h entered. absurd cc;
-      on_way = λ travels is. record {
-        under_way = under;
-        leg = turns.leg;
-        takes = was.takes ∙ ap Some leg;
-        on_leg = leg_by setting before words after here.under.header turns.leg refl refl
-            (subst (λ l. IsOnLeg setting before words here.under.header l) leg
-            (subst (λ h. IsOnLeg setting before words h was.leg) header was.on_leg)) way.leads;
-        stands = way.begins ∙ ap Some here.at;
-      };
-      avoids = λ travels is. way.avoids;
-    }
+    moving_on setting before after (record {
+      under_way = under;
+      leg = turns.leg;
+      takes = was.takes ∙ ap Some leg;
+      on_leg = leg_by setting before words after here.under.header turns.leg refl refl
+          (subst (λ l. IsOnLeg setting before words here.under.header l) leg
+          (subst (λ h. IsOnLeg setting before words h was.leg) header was.on_leg)) way.leads;
+      stands = way.begins ∙ ap Some here.at;
+    }) way.avoids
 
 -- on its leg and its route as it was
+leads_on : (setting : Setting) (before : List Item) (words : PacketWords) (header : Header)
+    (leg : Leg) → IsOnLeg setting before words header leg
+    → LeadsTo setting (targets_of setting before leg) words.route
+leads_on setting before words header (Seek version partition) on =
+    subst (λ targets. LeadsTo setting targets words.route)
+    (sym (seek_targets setting before header version partition on.placed on.own)) on.leads
+leads_on setting before words header (Exit port) on =
+    subst (λ home. LeadsTo setting (home ∷ []) words.route)
+    (sym (ap (λ o. unwrap_or o no_switch) on.has_port)) on.leads
+
 leg_same : (setting : Setting) (before : List Item) (words after : PacketWords) (header : Header)
     (leg : Leg) → after.decision ≡ words.decision → after.mark ≡ words.mark
     → after.route ≡ words.route → IsOnLeg setting before words header leg
     → IsOnLeg setting before after header leg
-leg_same setting before words after header (Seek version partition) decision mark route on =
-    record {
-      undecided = decision ∙ on.undecided;
-      not_retired = subst (λ m. m < version) (sym mark) on.not_retired;
-      current = on.current;
-      placed = on.placed;
-      own = on.own;
-      leads = subst (LeadsTo setting on.placed.1) (sym route) on.leads;
-    }
-leg_same setting before words after header (Exit port) decision mark route on = record {
-  decision = on.decision;
-  decided = decision ∙ on.decided;
-  action = on.action;
-  owner = on.owner;
-  has_port = on.has_port;
-  leads = subst (LeadsTo setting (on.owner ∷ [])) (sym route) on.leads;
-}
+leg_same setting before words after header leg decision mark route on =
+    leg_by setting before words after header leg decision mark on
+    (subst (LeadsTo setting (targets_of setting before leg)) (sym route)
+    (leads_on setting before words header leg on))
 
 pub hopped_after : (setting : Setting) (before : List Item) (i mark next : ℕ)
     → Knows setting before i (stage_of before i) → MovesOver setting before i next
@@ -391,7 +396,7 @@ hopped_after setting before i mark next knows moves =
     let after : PacketWords = words_after mark (item.Hopped i next) words in
     let s : ℕ = moves.switch in
     let here : IsHere setting before i s =
-    here_of setting before i s (stage_of before i) knows.is knows.have knows.kept moves.at in
+    here_known setting before i s knows moves.at in
     let was : IsOnWay setting before words = knows.kept.on_way here.travelling (inl moves.moving) in
     let under : IsUnderWay setting before after = record {
       header = was.under_way.header;
@@ -406,20 +411,14 @@ hopped_after setting before i mark next knows moves =
           (knows.links.usable s next moves.usable);
       mark = was.under_way.mark;
     } in
-    record {
-      under_way = λ travels. under;
-      came_in = λ travels is. absurd cc;
-      judged = λ travels is header entered. absurd cc;
-      on_way = λ travels is. record {
-        under_way = under;
-        leg = was.leg;
-        takes = was.takes;
-        on_leg = leg_same setting before words after was.under_way.header was.leg refl refl refl
-            was.on_leg;
-        stands = sym (next_in before i) ∙ moves.goes_on;
-      };
-      avoids = λ travels is. knows.kept.avoids here.travelling moves.moving;
-    }
+    moving_on setting before after (record {
+      under_way = under;
+      leg = was.leg;
+      takes = was.takes;
+      on_leg = leg_same setting before words after was.under_way.header was.leg refl refl refl
+          was.on_leg;
+      stands = sym (next_in before i) ∙ moves.goes_on;
+    }) (knows.kept.avoids here.travelling moves.moving)
 
 pub found_after : (setting : Setting) (before : List Item) (i mark one two : ℕ)
     → Knows setting before i (stage_of before i) → MeetsDown setting before i one two
@@ -429,7 +428,7 @@ found_after setting before i mark one two knows meets =
     let words : PacketWords = words_of before i in
     let after : PacketWords = words_after mark (item.FoundDown i one two) words in
     let here : IsHere setting before i one =
-    here_of setting before i one (stage_of before i) knows.is knows.have knows.kept meets.at in
+    here_known setting before i one knows meets.at in
     let was : IsOnWay setting before words = knows.kept.on_way here.travelling (inl meets.moving) in
     let under : IsUnderWay setting before after =
     under_as setting before words after refl refl refl refl was.under_way in
@@ -624,7 +623,7 @@ decided_after setting before i mark version rule act by knows right decided =
     let after : PacketWords = words_after mark (item.Decided i version rule act by) words in
     let s : ℕ = decided.switch in
     let here : IsHere setting before i s =
-    here_of setting before i s (stage_of before i) knows.is knows.have knows.kept decided.at in
+    here_known setting before i s knows decided.at in
     let now : IsDecidedNow setting before i s version rule act here.under.header =
     decided_now setting before i s version rule act by knows here (right s) decided.by in
     let judged : IsJudged setting before after here.under.header = record {

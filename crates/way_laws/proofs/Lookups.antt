@@ -8,7 +8,7 @@ use Rattle.policy_rules.specs.Rules.{is_held}
 use Rattle.policy_rules.specs.declared.policy.Row.{Row}
 use Rattle.policy_rules.specs.declared.rules.Rule.{Rule}
 use Rattle.switch_table.specs.Cache.{first_entry}
-use Rattle.switch_table.specs.Lookup.{authority_of, table_lookup}
+use Rattle.switch_table.specs.Lookup.{authority_of, lookup_in, table_lookup}
 use Rattle.switch_table.specs.Tables.{Placed, has_target, part_of}
 use Rattle.switch_table.specs.declared.cache.CacheEntry.{CacheEntry}
 use Rattle.switch_table.specs.declared.search.Found.{Found}
@@ -85,6 +85,30 @@ table_says setting journal s header other told none =
     (cache_of setting journal s).entries)
     (table_lookup (tables_at setting journal (stamp_of journal s) s) header) other told none
 
+-- what a lookup says that no cached rule answers, by a partition of the plan of the stamp
+abbrev LooksUpAt : Setting → List Item → ℕ → Header → Type 0
+LooksUpAt setting journal s header =
+    LooksUp (policy_at setting journal (stamp_of journal s))
+    (plan_at setting journal (stamp_of journal s)) (stamp_of journal s) s header
+
+record SaysOf (setting : Setting) (journal : List Item) (s : ℕ) (header : Header) (what : Found)
+    : Type 0 where
+  looks : LooksUpAt setting journal s header
+  is : lookup_in s header looks.placed ≡ what
+
+says_of : (setting : Setting) (journal : List Item) (s : ℕ) (header : Header) (what : Found)
+    → IsStamped setting journal s → IsHeader header → lookup_at setting journal s header ≡ what
+    → ((entry : CacheEntry) → found.Cached entry ≡ what → ⊥)
+    → SaysOf setting journal s header what
+says_of setting journal s header what stamped sound told none =
+    let looks = looks_up setting (policy_at setting journal (stamp_of journal s))
+    (plan_at setting journal (stamp_of journal s)) (stamp_of journal s) s header stamped.planned
+    sound in
+    record {
+      looks = looks;
+      is = sym looks.says ∙ table_says setting journal s header what told none;
+    }
+
 pub record FindsRule (setting : Setting) (journal : List Item) (s : ℕ) (header : Header)
     (partition place : ℕ) : Type 0 where
   pub part : FindsPart setting journal s header partition
@@ -96,23 +120,16 @@ pub authority_told : (setting : Setting) (journal : List Item) (s : ℕ) (header
     → lookup_at setting journal s header ≡ found.Authority partition place
     → FindsRule setting journal s header partition place
 authority_told setting journal s header partition at stamped sound told =
-    by_target (has_target s looks.placed) refl (sym looks.says ∙ said)
+    let says : SaysOf setting journal s header (found.Authority partition at) =
+    says_of setting journal s header (found.Authority partition at) stamped sound told
+    (λ entry e. absurd cc) in
+    by_target says.looks (has_target s says.looks.placed) refl says.is
   where
-    looks : LooksUp (policy_at setting journal (stamp_of journal s))
-        (plan_at setting journal (stamp_of journal s)) (stamp_of journal s) s header
-    looks = looks_up setting (policy_at setting journal (stamp_of journal s))
-        (plan_at setting journal (stamp_of journal s)) (stamp_of journal s) s header
-        stamped.planned sound
-
-    said : table_lookup (tables_at setting journal (stamp_of journal s) s) header
-        ≡ found.Authority partition at
-    said = table_says setting journal s header (found.Authority partition at) told
-        (λ entry e. absurd cc)
-
-    by_target : (b : Bool) → has_target s looks.placed ≡ b → (if b then authority_of header (part_of looks.placed)
+    by_target : (looks : LooksUpAt setting journal s header) (b : Bool)
+        → has_target s looks.placed ≡ b → (if b then authority_of header (part_of looks.placed)
         else found.Redirect looks.placed.0.number looks.placed.1) ≡ found.Authority partition at
         → FindsRule setting journal s header partition at
-    by_target true is e =
+    by_target looks true is e =
         let place : unwrap_or (position (is_held (number_of header)) looks.placed.0.rules) 0 ≡ at =
         cc in
         record {
@@ -120,7 +137,7 @@ authority_told setting journal s header partition at stamped sound told =
           found_at = sym looks.finds.position ∙ place;
           target = is;
         }
-    by_target false is e = absurd cc
+    by_target looks false is e = absurd cc
 
 pub record FindsTargets (setting : Setting) (journal : List Item) (s : ℕ) (header : Header)
     (partition : ℕ) (targets : List ℕ) : Type 0 where
@@ -132,25 +149,18 @@ pub redirect_told : (setting : Setting) (journal : List Item) (s : ℕ) (header 
     → lookup_at setting journal s header ≡ found.Redirect partition targets
     → FindsTargets setting journal s header partition targets
 redirect_told setting journal s header partition targets stamped sound told =
-    by_target (has_target s looks.placed) (sym looks.says ∙ said)
+    let says : SaysOf setting journal s header (found.Redirect partition targets) =
+    says_of setting journal s header (found.Redirect partition targets) stamped sound told
+    (λ entry e. absurd cc) in
+    by_target says.looks (has_target s says.looks.placed) says.is
   where
-    looks : LooksUp (policy_at setting journal (stamp_of journal s))
-        (plan_at setting journal (stamp_of journal s)) (stamp_of journal s) s header
-    looks = looks_up setting (policy_at setting journal (stamp_of journal s))
-        (plan_at setting journal (stamp_of journal s)) (stamp_of journal s) s header
-        stamped.planned sound
-
-    said : table_lookup (tables_at setting journal (stamp_of journal s) s) header
-        ≡ found.Redirect partition targets
-    said = table_says setting journal s header (found.Redirect partition targets) told
-        (λ entry e. absurd cc)
-
-    by_target : (b : Bool) → (if b then authority_of header (part_of looks.placed)
+    by_target : (looks : LooksUpAt setting journal s header) (b : Bool)
+        → (if b then authority_of header (part_of looks.placed)
         else found.Redirect looks.placed.0.number looks.placed.1)
         ≡ found.Redirect partition targets
         → FindsTargets setting journal s header partition targets
-    by_target true e = absurd cc
-    by_target false e = record {
+    by_target looks true e = absurd cc
+    by_target looks false e = record {
       part = record { placed = looks.placed; finds = looks.finds; number = cc };
       own = cc;
     }

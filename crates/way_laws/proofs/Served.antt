@@ -267,99 +267,72 @@ pub stage_next : (before : List Item) (next : Item) (i : ℕ)
 unfolding stage_of
 stage_next before next i = last_told_append (tells_stage i) before (next ∷ [])
 
+-- a packet has a leg behind an item: its own one where the item is of another packet
+leg_behind : (before : List Item) (next : Item) (packet i : ℕ) → HaveLegs before
+    → ((packet == i) ≡ true → (leg : Leg) × (leg_of (before ++ next ∷ []) i ≡ Some leg))
+    → ((packet == i) ≡ false → (tells_stage i next ≡ None)
+    × (changes_leg i before (leg_of before i) next ≡ leg_of before i))
+    → stage_of (before ++ next ∷ []) i ≡ Some OnWay
+    → (leg : Leg) × (leg_of (before ++ next ∷ []) i ≡ Some leg)
+leg_behind before next packet i has own other moving = by_same (packet == i) refl
+  where
+    by_same : (b : Bool) → (packet == i) ≡ b
+        → (leg : Leg) × (leg_of (before ++ next ∷ []) i ≡ Some leg)
+    by_same true e = own e
+    by_same false e =
+        let silent = other e in
+        let there = has i (ap (λ o. option_or o (stage_of before i)) (sym silent.0)
+        ∙ sym (stage_next before next i) ∙ moving) in
+        (there.0, leg_more before next i ∙ silent.1 ∙ there.1)
+
 pub legs_kept : (setting : Setting) → AreKept (WayCause setting) HaveLegs
 legs_kept setting before (item.Seeking packet version partition route) way has i moving =
-    by_same (packet == i) refl
-  where
-    next : Item
-    next = item.Seeking packet version partition route
-
-    by_same : (b : Bool) → (packet == i) ≡ b
-        → (leg : Leg) × (leg_of (before ++ next ∷ []) i ≡ Some leg)
-    by_same true e = (Seek version partition, rw (leg_more before next i, e) refl)
-    by_same false e =
-        let there = has i (rw (stage_next before next i, e) at moving) in
-        (there.0, rw (leg_more before next i, e) there.1)
+    let next : Item = item.Seeking packet version partition route in
+    leg_behind before next packet i has
+    (λ e. (Seek version partition, rw (leg_more before next i, e) refl))
+    (λ e. (rw e refl, rw e refl)) moving
 legs_kept setting before (item.Exiting packet route) way has i moving =
-    by_same (packet == i) refl
-  where
-    next : Item
-    next = item.Exiting packet route
-
-    by_same : (b : Bool) → (packet == i) ≡ b
-        → (leg : Leg) × (leg_of (before ++ next ∷ []) i ≡ Some leg)
-    by_same true e = (Exit (exit_port before i), rw (leg_more before next i, e) refl)
-    by_same false e =
-        let there = has i (rw (stage_next before next i, e) at moving) in
-        (there.0, rw (leg_more before next i, e) there.1)
+    let next : Item = item.Exiting packet route in
+    leg_behind before next packet i has
+    (λ e. (Exit (exit_port before i), rw (leg_more before next i, e) refl))
+    (λ e. (rw e refl, rw e refl)) moving
 legs_kept setting before (item.Rerouted packet route) way has i moving =
-    by_same (packet == i) refl
-  where
-    next : Item
-    next = item.Rerouted packet route
-
-    by_same : (b : Bool) → (packet == i) ≡ b
-        → (leg : Leg) × (leg_of (before ++ next ∷ []) i ≡ Some leg)
-    by_same true e = (
+    let next : Item = item.Rerouted packet route in
+    leg_behind before next packet i has
+    (λ e. (
       way.leg,
       leg_more before next i
           ∙ subst (λ k. leg_of before k ≡ Some way.leg) (eqb-true packet i e) way.blocked.takes,
-    )
-    by_same false e =
-        let there = has i (rw (stage_next before next i, e) at moving) in
-        (there.0, rw (leg_more before next i) there.1)
-legs_kept setting before (item.Hopped packet s) way has i moving = by_same (packet == i) refl
-  where
-    next : Item
-    next = item.Hopped packet s
-
-    by_same : (b : Bool) → (packet == i) ≡ b
-        → (leg : Leg) × (leg_of (before ++ next ∷ []) i ≡ Some leg)
-    by_same true e =
-        let there = has packet way.moving in (
-          there.0,
-          leg_more before next i
-              ∙ subst (λ k. leg_of before k ≡ Some there.0) (eqb-true packet i e) there.1,
-        )
-    by_same false e =
-        let there = has i (rw (stage_next before next i, e) at moving) in
-        (there.0, rw (leg_more before next i) there.1)
+    ))
+    (λ e. (rw e refl, refl)) moving
+legs_kept setting before (item.Hopped packet s) way has i moving =
+    let next : Item = item.Hopped packet s in
+    leg_behind before next packet i has
+    (λ e.
+    let there = has packet way.moving in (
+      there.0,
+      leg_more before next i
+          ∙ subst (λ k. leg_of before k ≡ Some there.0) (eqb-true packet i e) there.1,
+    ))
+    (λ e. (rw e refl, refl)) moving
 legs_kept setting before (item.Entered packet s header) way has i moving =
-    by_same (packet == i) refl
-  where
-    next : Item
-    next = item.Entered packet s header
-
-    by_same : (b : Bool) → (packet == i) ≡ b
-        → (leg : Leg) × (leg_of (before ++ next ∷ []) i ≡ Some leg)
-    by_same true e = let other : Some _ ≡ Some OnWay = rw (stage_next before next i, e) at moving in absurd cc
-    by_same false e =
-        let there = has i (rw (stage_next before next i, e) at moving) in
-        (there.0, rw (leg_more before next i) there.1)
+    let next : Item = item.Entered packet s header in
+    leg_behind before next packet i has
+    (λ e.
+    let other : Some _ ≡ Some OnWay = rw (stage_next before next i, e) at moving in absurd cc)
+    (λ e. (rw e refl, refl)) moving
 legs_kept setting before (item.Decided packet version rule act by) way has i moving =
-    by_same (packet == i) refl
-  where
-    next : Item
-    next = item.Decided packet version rule act by
-
-    by_same : (b : Bool) → (packet == i) ≡ b
-        → (leg : Leg) × (leg_of (before ++ next ∷ []) i ≡ Some leg)
-    by_same true e = let other : Some _ ≡ Some OnWay = rw (stage_next before next i, e) at moving in absurd cc
-    by_same false e =
-        let there = has i (rw (stage_next before next i, e) at moving) in
-        (there.0, rw (leg_more before next i) there.1)
+    let next : Item = item.Decided packet version rule act by in
+    leg_behind before next packet i has
+    (λ e.
+    let other : Some _ ≡ Some OnWay = rw (stage_next before next i, e) at moving in absurd cc)
+    (λ e. (rw e refl, refl)) moving
 legs_kept setting before (item.FoundDown packet one two) way has i moving =
-    by_same (packet == i) refl
-  where
-    next : Item
-    next = item.FoundDown packet one two
-
-    by_same : (b : Bool) → (packet == i) ≡ b
-        → (leg : Leg) × (leg_of (before ++ next ∷ []) i ≡ Some leg)
-    by_same true e = let other : Some _ ≡ Some OnWay = rw (stage_next before next i, e) at moving in absurd cc
-    by_same false e =
-        let there = has i (rw (stage_next before next i, e) at moving) in
-        (there.0, rw (leg_more before next i) there.1)
+    let next : Item = item.FoundDown packet one two in
+    leg_behind before next packet i has
+    (λ e.
+    let other : Some _ ≡ Some OnWay = rw (stage_next before next i, e) at moving in absurd cc)
+    (λ e. (rw e refl, refl)) moving
 legs_kept setting before next way has i moving =
     let there = has i (rw (stage_next before next i) at moving) in
     (there.0, rw (leg_more before next i) there.1)

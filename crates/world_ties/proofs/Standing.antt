@@ -1,9 +1,9 @@
 -- The packets that stand at a switch: those of the table are those of the journal.
-use Rattle.std.proofs.Common.{ℕ, zero, suc, ◌≡◌, ◌+◌, ◌<◌, ◌≤◌, ◌==◌, ◌⊎◌, inl, inr, Bool, true, false, ◌&&◌, cond, if◌then◌else◌, Some, None, List, [], ◌∷◌, refl, ap, sym, ◌∙◌, length, get_or, filter, arith}
-use Rattle.std.specs.Prelude.{◌||◌}
+use Rattle.std.proofs.Common.{ℕ, suc, ◌≡◌, ◌+◌, ◌<◌, ◌≤◌, ◌==◌, ◌⊎◌, inl, inr, Bool, true, false, ◌&&◌, if◌then◌else◌, Some, None, List, [], refl, ap, sym, ◌∙◌, length, get_or, filter, arith}
 use Rattle.std.specs.List.{list_any, range_with_len}
-use Rattle.std.proofs.lemmas.Bool.{cases_lt, eq-eqb, eqb-true}
+use Rattle.std.proofs.lemmas.Bool.{cases_lt, eqb-true}
 use Rattle.std.proofs.lemmas.List.Elements.{filter_agree}
+use Rattle.std.proofs.lemmas.Map.Views.{any-filter_same}
 use Rattle.journal.specs.declared.item.Item.{Item}
 use Rattle.switch_core.specs.State.{SwitchValue}
 use Rattle.update_machine.specs.Folds.{count_of}
@@ -20,6 +20,7 @@ use Rattle.travelling.specs.declared.travelling.Traveller.{Traveller}
 use Rattle.travelling.proofs.Numbers.{beyond, none_between}
 use Rattle.log_ties.proofs.Known.{Known, reached_known}
 use Rattle.log_ties.proofs.OnWay.{IsStanding, got}
+use Rattle.control_ties.proofs.Picked.{any_picked}
 use Rattle.world_ties.proofs.Asking.{standing_of}
 
 -- ---- numbers that pass a test
@@ -44,59 +45,6 @@ same_numbers test one other zero_fails none none_other =
     ∙ none_between test (suc other) one (λ i above below. none_other i above)
     ∙ first_passes_not test other zero_fails
 
--- one that doesn't pass isn't among those that do
-fails_not_among : (test : ℕ → Bool) (numbers : List ℕ) (i : ℕ) → test i ≡ false
-    → among i (filter test numbers) ≡ false
-fails_not_among test [] i fails = refl
-fails_not_among test (k ∷ numbers) i fails =
-    by_test (test k) refl (fails_not_among test numbers i fails)
-  where
-    rest : List ℕ
-    rest = filter test numbers
-
-    by_same : (b : Bool) → (k == i) ≡ b → test k ≡ true → among i rest ≡ false
-        → among i (k ∷ rest) ≡ false
-    by_same true e passes later =
-        let clash : true ≡ false = sym passes ∙ ap test (eqb-true k i e) ∙ fails in cc
-    by_same false e passes later = rw e later
-
-    by_test : (b : Bool) → test k ≡ b → among i rest ≡ false
-        → among i (cond b (k ∷ rest) rest) ≡ false
-    by_test true e later = by_same (k == i) refl e later
-    by_test false e later = later
-
--- one that passes is, where it is in the range
-passes_among : (test : ℕ → Bool) (low n i : ℕ) → test i ≡ true → low ≤ i → i < low + n
-    → among i (filter test (range_with_len low n)) ≡ true
-passes_among test low zero i passes above below = absurd (omega (arith, above, below))
-passes_among test low (suc n) i passes above below =
-    by_first (low == i) refl
-    (λ later. passes_among test (low + 1) n i passes later (omega (arith, below)))
-  where
-    rest : List ℕ
-    rest = filter test (range_with_len (low + 1) n)
-
-    or_right : (b c : Bool) → c ≡ true → (b || c) ≡ true
-    or_right true c e = refl
-    or_right false c e = e
-
-    with_first : (b : Bool) → among i rest ≡ true → among i (cond b (low ∷ rest) rest) ≡ true
-    with_first true e = or_right (low == i) (among i rest) e
-    with_first false e = e
-
-    by_first : (b : Bool) → (low == i) ≡ b → ((low + 1) ≤ i → among i rest ≡ true)
-        → among i (cond (test low) (low ∷ rest) rest) ≡ true
-    by_first true e later =
-        let passed : test low ≡ true = ap test (eqb-true low i e) ∙ passes in
-        rw (passed, e) refl
-    by_first false e later = with_first (test low) (later (further (cases_lt low i)))
-      where
-        further : (low < i) ⊎ (i ≤ low) → (low + 1) ≤ i
-        further (inl less) = omega (arith, less)
-        further (inr not_less) =
-            let same : (low == i) ≡ true = eq-eqb low i (omega (arith, above, not_less)) in
-            absurd (let clash : true ≡ false = sym same ∙ e in cc)
-
 -- ---- the table
 
 -- a packet is among those that stand at the switch where it stands there
@@ -110,10 +58,11 @@ among_numbers before s i = by_test (test i) refl
 
     by_test : (b : Bool) → test i ≡ b
         → among i (filter test (range_with_len 0 (length before))) ≡ test i
-    by_test false e = fails_not_among test (range_with_len 0 (length before)) i e ∙ sym e
+    by_test false e =
+        any-filter_same (λ k. k == i) test false (λ k same. ap test (eqb-true k i same) ∙ e)
+        (range_with_len 0 (length before)) ∙ sym e
     by_test true e =
-        passes_among test 0 (length before) i e (omega arith) (within (cases_lt i (length before)))
-        ∙ sym e
+        any_picked test i 0 (length before) (omega arith) (within (cases_lt i (length before)))
       where
         within : (i < length before) ⊎ (length before ≤ i) → i < 0 + length before
         within (inl less) = omega (arith, less)
