@@ -15,7 +15,7 @@ use Rattle.update_machine.specs.Setting.{Setting}
 use Rattle.update_machine.proofs.CallerLemmas.{all_given_append}
 use Rattle.way_laws.proofs.Others.{IsInStep, IsNoRow, lookup_in_step}
 use Rattle.way_laws.proofs.Rests.{no_entries, no_rows}
-use Rattle.entry_laws.specs.Entries.{EachEnters, PacketRow, gives_row, packet_row, packet_rows_in}
+use Rattle.entry_laws.specs.Entries.{EachEnters, StepRow, gives_row, step_row, step_rows_in}
 
 -- none of the items is a row
 abbrev NoRows : List Item → List Item → Type 0
@@ -23,33 +23,33 @@ NoRows before items = HaveCauses (λ js next. IsNoRow next) before items
 
 -- ---- the rows
 
-none_given : (before items : List Item) → NoRows before items → packet_rows_in items ≡ []
+none_given : (before items : List Item) → NoRows before items → step_rows_in items ≡ []
 none_given before [] none = refl
 none_given before (item.Row row step ∷ items) none = absurd none.0
 none_given before (first ∷ items) none = none_given (before ++ first ∷ []) items none.1
 
 piece_rows : (setting : Setting) (before : List Item) (row : ℕ) (step : Step)
-    → packet_rows_in (piece setting before row step) ≡ packet_row row step
+    → step_rows_in (piece setting before row step) ≡ step_row row step
 unfolding piece
 piece_rows setting before row step =
-    ap (λ rows. packet_row row step ++ rows) (none_given _ _ (no_rows setting before row step))
-    ∙ append-nil (packet_row row step)
+    ap (λ rows. step_row row step ++ rows) (none_given _ _ (no_rows setting before row step))
+    ∙ append-nil (step_row row step)
 
 -- the packet rows of steps
-abbrev pub rows_of : List StepOfRow → List PacketRow
+abbrev pub rows_of : List StepOfRow → List StepRow
 rows_of [] = []
-rows_of (next ∷ steps) = packet_row next.row next.step ++ rows_of steps
+rows_of (next ∷ steps) = step_row next.row next.step ++ rows_of steps
 
 pub steps_rows : (setting : Setting) (before : List Item) (steps : List StepOfRow)
-    → packet_rows_in (after_steps setting before steps) ≡ packet_rows_in before ++ rows_of steps
-steps_rows setting before [] = sym (append-nil (packet_rows_in before))
+    → step_rows_in (after_steps setting before steps) ≡ step_rows_in before ++ rows_of steps
+steps_rows setting before [] = sym (append-nil (step_rows_in before))
 steps_rows setting before (next ∷ steps) =
     steps_rows setting (before ++ piece setting before next.row next.step) steps
     ∙ ap (λ rows. rows ++ rows_of steps)
     (all_given_append gives_row before (piece setting before next.row next.step)
-    ∙ ap (λ rows. packet_rows_in before ++ rows)
+    ∙ ap (λ rows. step_rows_in before ++ rows)
     (piece_rows setting before next.row next.step))
-    ∙ append_assoc (packet_rows_in before) (packet_row next.row next.step) (rows_of steps)
+    ∙ append_assoc (step_rows_in before) (step_row next.row next.step) (rows_of steps)
 
 -- ---- the entries
 
@@ -65,7 +65,7 @@ none_enter before journal (first ∷ items) none =
 packet_enters : (setting : Setting) (before : List Item) (row s : ℕ) (header : Header)
     → EachEnters before (piece setting before row (Packet s header))
 unfolding piece packet_items
-packet_enters setting before row s header = by_serving (serves here s)
+packet_enters setting before row s header = by_serving (serves here s) refl
   where
     i : ℕ
     i = next_packet before
@@ -73,13 +73,13 @@ packet_enters setting before row s header = by_serving (serves here s)
     here : List Item
     here = before ++ item.Row row (Packet s header) ∷ []
 
-    by_serving : (b : Bool) → EachEnters before (item.Row row (Packet s header) ∷ elim b [
+    by_serving : (b : Bool) → serves here s ≡ b → EachEnters before (item.Row row (Packet s header) ∷ elim b [
       | false ↦ item.Closed i s ∷ []
       | true ↦ put (item.Entered i s header ∷ []) (lookup_items setting i s) here
     ])
-    by_serving false = ((refl, refl), tt)
-    by_serving true =
-        ((refl, refl, refl), none_enter _ _ _ (lookup_in_step setting i s _))
+    by_serving false is = ((refl, refl, is), tt)
+    by_serving true is =
+        ((refl, refl, refl, is), none_enter _ _ _ (lookup_in_step setting i s _))
 
 piece_enters : (setting : Setting) (before : List Item) (row : ℕ) (step : Step)
     → EachEnters before (piece setting before row step)

@@ -6,12 +6,12 @@ use Rattle.steps.specs.declared.step.Event.{Event}
 use Rattle.update_machine.specs.Answers.{StepOfRow, after_steps}
 use Rattle.update_machine.specs.Full.{IsPlay}
 use Rattle.update_machine.specs.Setting.{Setting}
-use Rattle.entry_laws.specs.Entries.{AreEntered, PacketRow, packet_rows, rows_played}
+use Rattle.entry_laws.specs.Entries.{AreEntered, StepRow, step_rows, rows_played}
 use Rattle.entry_laws.proofs.Pieces.{rows_of, steps_enter, steps_rows}
 use Rattle.entry_laws.proofs.Rows.{all_steps_rows, steps_in_front}
 
 steps_entered : (setting : Setting) (steps : List StepOfRow) (journal : List Item)
-    (rows : List PacketRow) → journal ≡ after_steps setting [] steps → rows_of steps ≡ rows
+    (rows : List StepRow) → journal ≡ after_steps setting [] steps → rows_of steps ≡ rows
     → AreEntered rows journal
 steps_entered setting steps journal rows written are =
     subst (AreEntered rows) (sym written) (record {
@@ -23,9 +23,9 @@ pub play_entered : (setting : Setting) (events : List Event) (journal : List Ite
     (full : Option ℕ) → IsPlay setting events journal full
     → AreEntered (rows_played full events) journal
 play_entered setting events journal None play =
-    steps_entered setting play.answers.steps journal (packet_rows 1 events) play.answers.written
+    steps_entered setting play.answers.steps journal (step_rows 1 events) play.answers.written
     (all_steps_rows setting 1 events [] play.answers.steps play.answers.allowed)
 play_entered setting events journal (Some row) play =
-    steps_entered setting play.steps journal (packet_rows 1 (take (row - 1) events)) play.written
+    steps_entered setting play.steps journal (step_rows 1 (take (row - 1) events)) play.written
     ((steps_in_front setting 1 events [] play.steps play.next play.allowed).rows
-    ∙ ap (λ r. packet_rows 1 (take (r - 1) events)) play.of_row)
+    ∙ ap (λ r. step_rows 1 (take (r - 1) events)) play.of_row)

@@ -9,19 +9,19 @@ use Rattle.update_machine.specs.Answers.{AreFirstSteps, AreFirstStepsOf, AreSome
 use Rattle.update_machine.specs.Pieces.{piece}
 use Rattle.update_machine.specs.Setting.{Setting}
 use Rattle.update_machine.proofs.CallerLemmas.{AreOf, HasNexts, all_first, event_steps_are, firsts_are}
-use Rattle.entry_laws.specs.Entries.{PacketRow, event_row, packet_row, packet_rows}
+use Rattle.entry_laws.specs.Entries.{StepRow, event_row, step_row, step_rows}
 use Rattle.entry_laws.proofs.Pieces.{rows_of}
 
 pub rows_append : (one two : List StepOfRow) → rows_of (one ++ two) ≡ rows_of one ++ rows_of two
 rows_append [] two = refl
 rows_append (next ∷ one) two =
-    ap (λ rows. packet_row next.row next.step ++ rows) (rows_append one two)
-    ∙ sym (append_assoc (packet_row next.row next.step) (rows_of one) (rows_of two))
+    ap (λ rows. step_row next.row next.step ++ rows) (rows_append one two)
+    ∙ sym (append_assoc (step_row next.row next.step) (rows_of one) (rows_of two))
 
 -- ---- deliveries and hops bring no packet in
 
 abbrev BringsNone : Step → Type 0
-BringsNone step = (row : ℕ) → packet_row row step ≡ []
+BringsNone step = (row : ℕ) → step_row row step ≡ []
 
 nexts_bring_none : HasNexts BringsNone
 nexts_bring_none = record { delivery = λ number row. refl; hop = λ packet row. refl }
@@ -37,7 +37,7 @@ event_rows : (setting : Setting) (row : ℕ) (event : Event) (before : List Item
     (steps : List StepOfRow) → AreStepsOf setting row event before steps
     → rows_of steps ≡ event_row row event
 event_rows setting row (One step) before steps all =
-    ap rows_of all ∙ append-nil (packet_row row step)
+    ap rows_of all ∙ append-nil (step_row row step)
 event_rows setting row Flush before steps all = none_rows steps
     (event_steps_are BringsNone nexts_bring_none setting row Flush before steps tt all)
 event_rows setting row Drain before steps all = none_rows steps
@@ -81,7 +81,7 @@ none_front row steps last none is = record {
   of_row = is;
 }
   where
-    first_empty : (xs ys : List PacketRow) → xs ++ ys ≡ [] → xs ≡ []
+    first_empty : (xs ys : List StepRow) → xs ++ ys ≡ [] → xs ≡ []
     first_empty [] ys e = refl
     first_empty (x ∷ xs) ys e = absurd cc
 
@@ -104,7 +104,7 @@ event_front setting row Drain before steps last some =
 
 pub all_steps_rows : (setting : Setting) (row : ℕ) (events : List Event) (before : List Item)
     (steps : List StepOfRow) → AreSteps setting row events before steps
-    → rows_of steps ≡ packet_rows row events
+    → rows_of steps ≡ step_rows row events
 all_steps_rows setting row [] before steps all = ap rows_of all
 all_steps_rows setting row (event ∷ events) before steps (mine, rest, split, all, others) =
     ap rows_of split.split ∙ rows_append mine rest
@@ -147,7 +147,7 @@ where_ends (first ∷ steps) last (one ∷ mine) rest e =
 pub record PlayedTo (row : ℕ) (events : List Event) (steps : List StepOfRow) (last : StepOfRow)
     : Type 0 where
   pub from : row ≤ last.row
-  pub rows : rows_of steps ≡ packet_rows row (take (last.row - row) events)
+  pub rows : rows_of steps ≡ step_rows row (take (last.row - row) events)
 
 of_front : (row : ℕ) (events : List Event) (steps : List StepOfRow) (last : StepOfRow)
     → Front row steps last → PlayedTo row events steps last
@@ -155,7 +155,7 @@ of_front row events steps last front =
     let none : last.row - row ≡ 0 = omega (arith, front.of_row) in
     record {
       from = omega (arith, front.of_row);
-      rows = front.none ∙ ap (λ n. packet_rows row (take n events)) (sym none);
+      rows = front.none ∙ ap (λ n. step_rows row (take n events)) (sym none);
     }
 
 -- the last step is of this event, or of one behind it
@@ -179,7 +179,7 @@ front_played setting row event events before steps last mine rest all others
       rows = ap rows_of first ∙ rows_append mine front
           ∙ ap (λ rows. rows ++ rows_of front) (event_rows setting row event before mine all)
           ∙ ap (λ rows. event_row row event ++ rows) more.rows
-          ∙ ap (λ n. packet_rows row (take n (event ∷ events))) one;
+          ∙ ap (λ n. step_rows row (take n (event ∷ events))) one;
     }
 
 pub steps_in_front : (setting : Setting) (row : ℕ) (events : List Event) (before : List Item)

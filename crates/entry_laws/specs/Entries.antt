@@ -1,57 +1,62 @@
--- The packets of a journal are the packet rows of its schedule that were played, one by one: a
--- journal without packets is that of a play without packet rows. The notion is our own.
-use Rattle.std.specs.Prelude.{⊤, ℕ, ◌≡◌, ◌+◌, ◌-◌, Option, Some, None, List, [], ◌∷◌, ◌++◌, take}
+-- The steps that a journal was asked for are the rows of its schedule that were played, one by one,
+-- but for the hops and deliveries that rows of a drain or a flush ask for as well. Each packet that
+-- came in or was refused is that of a packet row: a journal without packets is that of a play
+-- without packet rows. The notion is our own.
+use Rattle.std.specs.Prelude.{⊤, ℕ, Bool, IsTrue, IsFalse, ◌≡◌, ◌+◌, ◌-◌, Option, Some, None, List, [], ◌∷◌, ◌++◌, take}
 use Rattle.five_tuple.specs.declared.header.Header.{Header}
 use Rattle.journal.specs.declared.item.Item.{Item}
 use Rattle.journal.specs.declared.item.Item.TheVariants as item
 use Rattle.steps.specs.declared.step.Event.{Event}
 use Rattle.steps.specs.declared.step.Event.TheVariants.{One}
 use Rattle.steps.specs.declared.step.Step.{Step}
-use Rattle.steps.specs.declared.step.Step.TheVariants.{Packet}
+use Rattle.steps.specs.declared.step.Step.TheVariants.{Packet, Hop, Deliver}
 use Rattle.update_machine.specs.Folds.{all_given}
+use Rattle.update_machine.specs.Links.{serves}
 use Rattle.update_machine.specs.Packets.{next_packet}
 
--- a packet row of a schedule
-pub record PacketRow : Type 0 where
+-- a row of a schedule that asks for one step by itself
+pub record StepRow : Type 0 where
   pub row : ℕ
-  pub switch : ℕ
-  pub header : Header
+  pub step : Step
 
-abbrev pub packet_row : ℕ → Step → List PacketRow
-packet_row row (Packet s header) = record { row = row; switch = s; header = header } ∷ []
-packet_row row _ = []
+-- hops and deliveries aside, which are the steps of a drain or a flush too
+abbrev pub step_row : ℕ → Step → List StepRow
+step_row row (Hop packet) = []
+step_row row (Deliver message) = []
+step_row row step = record { row = row; step = step } ∷ []
 
-abbrev pub event_row : ℕ → Event → List PacketRow
-event_row row (One step) = packet_row row step
+abbrev pub event_row : ℕ → Event → List StepRow
+event_row row (One step) = step_row row step
 event_row row _ = []
 
--- the packet rows of these events, the first of which has this row
-abbrev pub packet_rows : ℕ → List Event → List PacketRow
-packet_rows row [] = []
-packet_rows row (event ∷ events) = event_row row event ++ packet_rows (row + 1) events
+-- the rows of these events, the first of which has this row
+abbrev pub step_rows : ℕ → List Event → List StepRow
+step_rows row [] = []
+step_rows row (event ∷ events) = event_row row event ++ step_rows (row + 1) events
 
 -- those that were played: all, or those in front of the row at which the play stopped full
-abbrev pub rows_played : Option ℕ → List Event → List PacketRow
-rows_played None events = packet_rows 1 events
-rows_played (Some row) events = packet_rows 1 (take (row - 1) events)
+abbrev pub rows_played : Option ℕ → List Event → List StepRow
+rows_played None events = step_rows 1 events
+rows_played (Some row) events = step_rows 1 (take (row - 1) events)
 
 -- ---- in a journal
 
-abbrev pub gives_row : Item → List PacketRow
-gives_row (item.Row row step) = packet_row row step
+abbrev pub gives_row : Item → List StepRow
+gives_row (item.Row row step) = step_row row step
 gives_row _ = []
 
--- the packet rows that a journal has, in order
-abbrev pub packet_rows_in : List Item → List PacketRow
-packet_rows_in journal = all_given gives_row journal
+-- those that a journal has, in order
+abbrev pub step_rows_in : List Item → List StepRow
+step_rows_in journal = all_given gives_row journal
 
--- the item says that packet i came in at the switch with this header, or that the switch was closed
--- to it
-abbrev pub IsEntryOf : ℕ → ℕ → Header → Item → Type 0
-IsEntryOf i s header (item.Entered packet switch came) =
-    (packet ≡ i) × (switch ≡ s) × (came ≡ header)
-IsEntryOf i s header (item.Closed packet switch) = (packet ≡ i) × (switch ≡ s)
-IsEntryOf i s header _ = ⊥
+-- the item says that packet i came in with this header at the switch, which serves, or that the
+-- switch was closed to it, which doesn't
+abbrev pub IsEntryOf : Bool → ℕ → ℕ → Header → Item → Type 0
+IsEntryOf serving i s header (item.Entered packet switch came) =
+    (packet ≡ i) × (switch ≡ s) × (came ≡ header) × IsTrue serving
+IsEntryOf serving i s header (item.Closed packet switch) =
+    (packet ≡ i) × (switch ≡ s) × IsFalse serving
+IsEntryOf serving i s header _ = ⊥
 
 -- behind this journal each packet row among the items has its entry right behind it, under the next
 -- number, and nothing else comes in or is refused
@@ -59,13 +64,14 @@ abbrev pub EachEnters : List Item → List Item → Type 0
 EachEnters before [] = ⊤
 EachEnters before (item.Row row (Packet s header) ∷ []) = ⊥
 EachEnters before (item.Row row (Packet s header) ∷ entry ∷ items) =
-    IsEntryOf (next_packet before) s header entry
+    IsEntryOf (serves (before ++ item.Row row (Packet s header) ∷ []) s) (next_packet before) s
+    header entry
     × EachEnters (before ++ item.Row row (Packet s header) ∷ entry ∷ []) items
 EachEnters before (item.Entered packet switch header ∷ items) = ⊥
 EachEnters before (item.Closed packet switch ∷ items) = ⊥
 EachEnters before (first ∷ items) = EachEnters (before ++ first ∷ []) items
 
--- the journal has these packet rows, each with its entry, and no other entry
-pub record AreEntered (rows : List PacketRow) (journal : List Item) : Type 0 where
-  pub in_order : packet_rows_in journal ≡ rows
+-- the journal has these rows, each packet row with its entry, and no other entry
+pub record AreEntered (rows : List StepRow) (journal : List Item) : Type 0 where
+  pub in_order : step_rows_in journal ≡ rows
   pub each : EachEnters [] journal

@@ -6,9 +6,10 @@ ghost use Rattle.update_machine.specs.Full.{IsPlay};
 ghost use Rattle.update_machine.specs.Setting.{Setting};
 ghost use Rattle.entry_laws.specs.Entries.{AreEntered, rows_played};
 
-/// The packet rows of a play's journal are those of its events that were played, in order. Right
-/// behind each stands what became of it: the packet with the next number came in with that header
-/// at that switch, or the switch was closed to it. No other packet comes in or is refused.
+/// The rows of a play's journal are those of its events that were played, in order, but for hops and
+/// deliveries, which drains and flushes ask for as well. Right behind each packet row stands what
+/// became of it: the packet with the next number came in with that header at that switch, which
+/// serves, or the switch was closed to it, which doesn't. No other packet comes in or is refused.
 pub fn packet_rows_are_entered()
     ensures { (setting : Setting) (events : List Event) (journal : List Item)
         (full : Option ℕ) → IsPlay setting events journal full

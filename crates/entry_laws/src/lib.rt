@@ -1,5 +1,5 @@
-//! The packets that come into a play, or find their switch closed, are the packet rows of its
-//! schedule that were played, in order.
+//! What a play was asked for are the rows of its schedule that were played, in order, and the
+//! packets that come in, or find their switch closed, are those of its packet rows.
 //!
 //! No code: the function stands for the law that it ensures.
 #![tactic(auto)]

@@ -76,8 +76,9 @@ no_path_left path leads =
     in absurd cc
 
 own_leg_there : AreTargets ring behind 1 (leg.Seek 1 0) (3 ∷ [])
-unfolding header_in holds
+unfolding header_in holds decision_of
 own_leg_there = (
+  refl,
   one,
   refl,
   on (3 ∷ []) all_dropped,
@@ -93,9 +94,9 @@ pub stuck_has_cause : EndsHaveCauses ring round
 unfolding standing serves is_link_up
 stuck_has_cause =
     free (free (free (free (free (free (free (free (free (free (
-      record { stands = refl; unusable = refl },
+      record { stands = refl; linked = refl; unusable = refl },
       free (free (free (free (free (free (free (
-        record { stands = refl; unusable = refl },
+        record { stands = refl; linked = refl; unusable = refl },
         (
           record {
             stands = refl;

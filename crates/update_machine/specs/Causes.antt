@@ -1,9 +1,9 @@
 -- The causes of packets' ends: what stood in the journal before each item that ends a packet, or
--- finds a link of its way down. The notion is our own.
+-- says that it found a link down. The notion is our own.
 use Rattle.std.specs.Prelude.{⊤, ℕ, ◌≡◌, ◌⊎◌, Bool, false, not, ◌&&◌, ◌||◌, ◌==◌, Option, Some, None, option_to_list, List, [], ◌∷◌, ◌++◌, All, Contains, IsTrue, IsFalse}
 use Rattle.std.specs.List.{list_any}
 use Rattle.five_tuple.specs.declared.header.Header.{Header}
-use Rattle.net_file.specs.Joins.{owner_of}
+use Rattle.net_file.specs.Joins.{are_linked, owner_of}
 use Rattle.policy_rules.specs.Placed.{Placed, is_in}
 use Rattle.policy_rules.specs.declared.packet.Leaving.{Leaving}
 use Rattle.policy_rules.specs.declared.packet.Leg.{Leg}
@@ -49,9 +49,10 @@ IsLostRightly before packet =
 
 -- ---- links found down, and packets that are stuck
 
--- a packet finds a link from where it stands down: that switch can't use it
+-- a packet finds a link of the network down, from where it stands: that switch can't use it
 pub record FindsDown (setting : Setting) (before : List Item) (packet one two : ℕ) : Type 0 where
   pub stands : standing before packet ≡ Some one
+  pub linked : IsTrue (are_linked setting.net.links one two)
   pub unusable : IsFalse (can_use setting before one two)
 
 -- the item says that this packet found the link of these switches down
@@ -70,12 +71,11 @@ abbrev pub Leads : (ℕ → ℕ → Bool) → ℕ → List ℕ → ℕ → Type 
 Leads joined at [] target = at ≡ target
 Leads joined at (next ∷ rest) target = IsTrue (joined at next) × Leads joined next rest target
 
--- the leg is the packet's own, and these are its targets: to an authority those of the partition
--- that has its header, in the plan of the leg's version; to the port of its decision the switch of
--- the port
+-- these are the targets of the packet's leg: while it is undecided those of the partition that has
+-- its header, in the plan of the leg's version; then the switch of the port of its decision
 abbrev pub AreTargets : Setting → List Item → ℕ → Leg → List ℕ → Type 0
 AreTargets setting before packet (Seek version partition) targets =
-    (header : Header) × (header_in before packet ≡ Some header)
+    (decision_of before packet ≡ None) × (header : Header) × (header_in before packet ≡ Some header)
     × (plan : List Placed) × IsPlanOf setting before version plan
     × (placed : Placed) × Contains plan placed × IsTrue (is_in header placed.0)
     × (placed.0.number ≡ partition) × (placed.1 ≡ targets)

@@ -78,11 +78,12 @@ no_way journal down path leads =
 
 -- the plan of the file has one partition, on b
 own_targets : (journal : List Item) (version file : ℕ) (rules : List Rule)
-    → header_in journal 1 ≡ Some one → IsFileOf journal version file
-    → plan_of_file open_net file ≡ Ok (on (1 ∷ []) rules)
+    → decision_of journal 1 ≡ None → header_in journal 1 ≡ Some one
+    → IsFileOf journal version file → plan_of_file open_net file ≡ Ok (on (1 ∷ []) rules)
     → AreTargets open_net journal 1 (Seek version 0) (1 ∷ [])
 unfolding holds
-own_targets journal version file rules entered of_file planned = (
+own_targets journal version file rules undecided entered of_file planned = (
+  undecided,
   one,
   entered,
   on (1 ∷ []) rules,
@@ -110,15 +111,13 @@ abbrev lets_out : List Rule
 lets_out = rule any_word 0 (Some 100) (Out 2) ∷ rule any_word 1 None Drop ∷ []
 
 stuck_have_causes : HasCause open_net retired (seeking 1)
-    × HasCause open_net to_come (seeking 2) × HasCause open_net decided (seeking 1)
-unfolding standing serves is_link_up header_in
+    × HasCause open_net to_come (seeking 2)
+unfolding standing serves is_link_up header_in decision_of
 stuck_have_causes = (
   stuck_at retired 1 refl refl refl
-      (own_targets retired 1 1 lets_out refl (inl (refl, refl)) refl),
+      (own_targets retired 1 1 lets_out refl refl (inl (refl, refl)) refl),
   stuck_at to_come 2 refl refl refl
-      (own_targets to_come 2 2 all_dropped refl (inr (3, omega arith, refl)) refl),
-  stuck_at decided 1 refl refl refl
-      (own_targets decided 1 1 lets_out refl (inl (refl, refl)) refl),
+      (own_targets to_come 2 2 all_dropped refl refl (inr (3, omega arith, refl)) refl),
 )
 
 not_stuck_by_a_retired_version : StrongCause open_net retired (seeking 1) → ⊥
@@ -134,9 +133,9 @@ not_stuck_by_no_version : StrongCause open_net to_come (seeking 7) → ⊥
 unfolding current_mark
 not_stuck_by_no_version cause = absurd (omega (arith, cause.rightly.current))
 
-not_stuck_seeking_once_decided : StrongCause open_net decided (seeking 1) → ⊥
+not_stuck_seeking_once_decided : HasCause open_net decided (seeking 1) → ⊥
 unfolding decision_of
-not_stuck_seeking_once_decided cause = let none = cause.rightly.undecided in absurd cc
+not_stuck_seeking_once_decided cause = let none = cause.own_leg.0 in absurd cc
 
 -- on its way out, on the leg of another port than its decision's
 not_stuck_on_another_leg : StrongCause open_net decided
@@ -180,10 +179,10 @@ not_stuck_where_a_way_is_known : HasCause open_net entered (seeking 1) → ⊥
 unfolding is_link_up serves claim_of message_of
 not_stuck_where_a_way_is_known cause =
     let own = cause.own_leg in
-    let plan : own.2 ≡ plan_p = its_plan own.3.0 own.2 own.3.1 own.3.2 in
-    let there : Contains plan_p own.4 = subst (λ all. Contains all own.4) plan own.5 in
+    let plan : own.3 ≡ plan_p = its_plan own.4.0 own.3 own.4.1 own.4.2 in
+    let there : Contains plan_p own.5 = subst (λ all. Contains all own.5) plan own.6 in
     let targets : cause.targets ≡ 1 ∷ [] =
-    sym own.8 ∙ its_part there.0 own.4 there.1 there.2 in
+    sym own.9 ∙ its_part there.0 own.5 there.1 there.2 in
     subst (All (no_way_to entered)) targets cause.no_path 0 0 (omega arith) (1 ∷ []) (refl, refl)
 
 -- ---- packets that come in
@@ -237,11 +236,7 @@ not_hopped_where_no_link_leads cause =
     let usable : false ≡ true =
     subst (λ s. IsTrue (has (near row_of_three leap s) 2)) (sym at) cause.usable in absurd cc
 
-leap_has_cause : HasCause row_of_three leap (item.FoundDown 1 0 2)
-unfolding standing is_link_up serves
-leap_has_cause = record { stands = refl; unusable = refl }
-
-not_found_down_where_no_link_is : StrongCause row_of_three leap (item.FoundDown 1 0 2) → ⊥
+not_found_down_where_no_link_is : HasCause row_of_three leap (item.FoundDown 1 0 2) → ⊥
 not_found_down_where_no_link_is cause =
     let linked : false ≡ true = cause.linked in absurd cc
 

@@ -1,4 +1,4 @@
--- Items that end a packet, or find a link of its way down, have their causes.
+-- Items that end a packet, or say that it found a link down, have their causes.
 use Rattle.std.proofs.Common.{ℕ, ◌≡◌, Bool, true, false, ◌+◌, ◌-◌, ◌<◌, ◌≤◌, Option, Some, None, List, [], ◌∷◌, length, refl, ap, sym, subst, ◌∙◌, arith, inl, inr, ◌⊎◌, get_or}
 use Rattle.std.specs.Prelude.{All, Contains, IsFalse, IsTrue, nat_eq, option_map, option_to_list, slice_get, unwrap_or}
 use Rattle.std.specs.List.{list_any}
@@ -9,7 +9,7 @@ use Rattle.std.proofs.lemmas.Option.{get_or_from_slice_get, slice_get_within, sl
 use Rattle.failover.specs.Links.{IsReachable}
 use Rattle.failover.proofs.Searching.{length-known_links}
 use Rattle.masks.specs.Masks.{has}
-use Rattle.net_file.specs.Joins.{owner_of}
+use Rattle.net_file.specs.Joins.{are_linked, owner_of}
 use Rattle.policy_rules.specs.declared.packet.Cause.{Cause}
 use Rattle.policy_rules.specs.declared.packet.Leaving.{Leaving}
 use Rattle.policy_rules.specs.declared.packet.Leg.{Leg}
@@ -30,13 +30,15 @@ use Rattle.update_machine.specs.Ways.{found_down, no_switch, owner, targets_of}
 use Rattle.update_machine.specs.ExactCauses.{FindsNextDown, SeeksOwn, FindsNoPath}
 use Rattle.update_machine.proofs.CallerLemmas.{plan_is, unreached}
 use Rattle.advert_laws.proofs.Claims.{own_end}
-use Rattle.way_laws.specs.OnWay.{IsExiting, IsOnWay, IsPartitionOf, IsSeeking}
-use Rattle.way_laws.specs.Words.{PacketWords, words_of}
+use Rattle.advert_laws.proofs.NetLinks.{linked_by_mask}
+use Rattle.way_laws.specs.OnWay.{FollowsLinks, IsExiting, IsOnLeg, IsOnWay, IsPartitionOf, IsSeeking}
+use Rattle.way_laws.specs.Words.{PacketWords, entry_mark, words_of}
 use Rattle.way_laws.specs.Kept.{IsJudged}
 use Rattle.way_laws.specs.Stages.{stage_of}
+use Rattle.way_laws.specs.StrongCauses.{SeeksRightly}
 use Rattle.way_laws.specs.WayCauses.{FindsNoRoute, IsAt, IsAtPort, IsBlockedOn, IsLostHere, LeavesHere, MeetsDown, TakesLeg, WayCause}
 use Rattle.way_laws.proofs.Here.{IsHere, decision_in, exiting_of, header_in_words, leg_in, next_in, place_in, seeking_of, some_same}
-use Rattle.way_laws.proofs.Kept.{Knows, here_known, port_named, redirected_to}
+use Rattle.way_laws.proofs.Kept.{Knows, here_known, port_named, redirected_to, stage_when, undecided_of}
 use Rattle.way_laws.proofs.OpenWays.{Sees, none_leads, open_joined}
 
 pub decision_out : (journal : List Item) (i : ℕ) (decision : Option Decision)
@@ -70,6 +72,32 @@ finds_next_down setting before i one two knows meets =
       next = meets.goes_on;
       unusable = meets.unusable;
     }
+
+follows : (setting : Setting) (journal : List Item) (words : PacketWords) (way : IsOnWay setting journal words)
+    → FollowsLinks setting words.route
+follows setting journal words way = by_leg way.leg way.on_leg
+  where
+    by_leg : (leg : Leg) → IsOnLeg setting journal words way.under_way.header leg
+        → FollowsLinks setting words.route
+    by_leg (Seek version partition) on = on.leads.joined
+    by_leg (Exit port) on = on.leads.joined
+
+-- a link that a packet finds down is one of the network, since its route follows links
+pub meets_link : (setting : Setting) (before : List Item) (i one two : ℕ)
+    → Knows setting before i (stage_of before i) → MeetsDown setting before i one two
+    → IsTrue (are_linked setting.net.links one two)
+meets_link setting before i one two knows meets =
+    let words : PacketWords = words_of before i in
+    let here : IsHere setting before i one =
+    here_known setting before i one knows meets.at in
+    let way : IsOnWay setting before words =
+    knows.kept.on_way here.travelling (inl meets.moving) in
+    let place : way.under_way.place ≡ one =
+    some_same words.place way.under_way.place here.under.place way.under_way.stands
+    here.under.stands ∙ sym here.at in
+    linked_by_mask setting.net.links one two
+    (follows setting before words way words.hops one two (way.stands ∙ ap Some place)
+    (sym (next_in before i) ∙ meets.goes_on))
 
 -- ---- losses
 
@@ -128,6 +156,39 @@ own_leg setting before i s (Seek version partition) knows here on =
 own_leg setting before i s (Exit port) knows here on =
     exits_by setting before i s port knows here on
 
+pub mark_in : (journal : List Item) (i : ℕ) → (words_of journal i).mark ≡ entry_mark journal i
+unfolding words_of
+mark_in journal i = refl
+
+pub seeks_rightly : (setting : Setting) (before : List Item) (i s : ℕ) (version partition : ℕ)
+    → Knows setting before i (stage_of before i) → IsHere setting before i s
+    → TakesLeg setting before i s (Seek version partition)
+    ⊎ IsBlockedOn before i (Seek version partition)
+    → SeeksRightly before i version
+seeks_rightly setting before i s version partition knows here (inl takes) = record {
+  undecided = decision_out before i None
+      (undecided_of setting before i s (stage_of before i) knows.kept here
+      (stage_when before i s 0 (inl takes.looked_up)));
+  not_retired = omega (
+    arith,
+    sym (mark_in before i),
+    here.under.mark,
+    here.stamped.retired,
+    takes.stamp,
+  );
+  current = omega (arith, here.stamped.current, takes.stamp);
+}
+seeks_rightly setting before i s version partition knows here (inr blocked) =
+    let on : IsSeeking setting before (words_of before i) here.under.header version partition =
+    seeking_of setting before (words_of before i) here.under.header version partition
+    (knows.kept.on_way here.travelling (inr blocked.blocked)) here.under.entered
+    (leg_in before i (Some (Seek version partition)) blocked.takes) in
+    record {
+      undecided = decision_out before i None on.undecided;
+      not_retired = subst (λ m. m < version) (mark_in before i) on.not_retired;
+      current = on.current;
+    }
+
 pub stuck_rightly : (setting : Setting) (before : List Item) (i s : ℕ) (cause : Cause) (leg : Leg)
     (down : List ℕ) → Knows setting before i (stage_of before i)
     → FindsNoRoute setting before i s cause leg down
@@ -154,6 +215,7 @@ pub finds_down : (setting : Setting) (before : List Item) (i one two : ℕ)
 finds_down setting before i one two knows meets =
     record {
       stands = stands_known setting before i one knows meets.at;
+      linked = meets_link setting before i one two knows meets;
       unusable = unusable (can_use setting before one two) refl;
     }
   where
@@ -204,6 +266,7 @@ targets_cut_off setting before i s (Seek version partition) knows here on cut =
     record {
       targets = placed.1;
       own_leg = (
+        (seeks_rightly setting before i s version partition knows here on).undecided,
         here.under.header,
         entered_as setting before i s here,
         plan,

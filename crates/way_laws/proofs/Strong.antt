@@ -17,81 +17,26 @@ use Rattle.update_machine.specs.Travels.{leg_of}
 use Rattle.boot_laws.specs.ItemCauses.{HasItemCause}
 use Rattle.boot_laws.proofs.Facts.{Behind, have_weaker}
 use Rattle.version_laws.proofs.Serving.{serving_hold}
-use Rattle.way_laws.specs.OnWay.{FollowsLinks, IsOnLeg, IsOnWay, IsSeeking}
-use Rattle.way_laws.specs.Words.{PacketWords, entry_mark, words_of}
+use Rattle.way_laws.specs.OnWay.{IsSeeking}
+use Rattle.way_laws.specs.Words.{PacketWords, words_of}
 use Rattle.way_laws.specs.Kept.{AllKept}
 use Rattle.way_laws.specs.Stages.{stage_of}
-use Rattle.way_laws.specs.StrongCauses.{AvoidsFound, FindsLinkDown, IsDecidedRightly, IsOnRightLeg, IsStuckOnLeg, RaisesVersion, SeeksRightly, StrongCause}
+use Rattle.way_laws.specs.StrongCauses.{AvoidsFound, FindsLinkDown, IsDecidedRightly, IsOnRightLeg, IsStuckOnLeg, RaisesVersion, StrongCause}
 use Rattle.way_laws.specs.WayCauses.{FindsNoRoute, IsBlockedOn, IsDecided, IsLookedUp, MeetsDown, TakesLeg, TakesRoute, WayCause}
 use Rattle.way_laws.proofs.AllKept.{Before, kept_before, known_before, knows}
-use Rattle.way_laws.proofs.Ends.{decision_out, finds_next_down, leaves_rightly, stuck_rightly}
-use Rattle.way_laws.proofs.Here.{IsHere, here_of, leg_in, next_in, seeking_of, some_same}
+use Rattle.way_laws.proofs.Ends.{decision_out, finds_next_down, leaves_rightly, mark_in, meets_link, seeks_rightly, stuck_rightly}
+use Rattle.way_laws.proofs.Here.{IsHere, here_of, leg_in, seeking_of, some_same}
 use Rattle.way_laws.proofs.Kept.{IsDecidedNow, Knows, decided_now, stage_when, undecided_of}
 use Rattle.way_laws.proofs.Rests.{IsWayItem, Past}
 use Rattle.way_laws.proofs.Routes.{route_way}
-use Rattle.advert_laws.proofs.NetLinks.{linked_by_mask}
-
-mark_in : (journal : List Item) (i : ℕ) → (words_of journal i).mark ≡ entry_mark journal i
-unfolding words_of
-mark_in journal i = refl
-
-follows : (setting : Setting) (journal : List Item) (words : PacketWords) (way : IsOnWay setting journal words)
-    → FollowsLinks setting words.route
-follows setting journal words way = by_leg way.leg way.on_leg
-  where
-    by_leg : (leg : Leg) → IsOnLeg setting journal words way.under_way.header leg
-        → FollowsLinks setting words.route
-    by_leg (Seek version partition) on = on.leads.joined
-    by_leg (Exit port) on = on.leads.joined
 
 finds_link : (setting : Setting) (before : List Item) (i one two : ℕ)
     → Knows setting before i (stage_of before i) → MeetsDown setting before i one two
     → FindsLinkDown setting before i one two
-finds_link setting before i one two knows_it meets =
-    let words : PacketWords = words_of before i in
-    let here : IsHere setting before i one =
-    here_of setting before i one (stage_of before i) knows_it.is knows_it.have knows_it.kept
-    meets.at in
-    let way : IsOnWay setting before words =
-    knows_it.kept.on_way here.travelling (inl meets.moving) in
-    let place : way.under_way.place ≡ one =
-    some_same words.place way.under_way.place here.under.place way.under_way.stands
-    here.under.stands ∙ sym here.at in
-    record {
-      finds = finds_next_down setting before i one two knows_it meets;
-      linked = linked_by_mask setting.net.links one two
-          (follows setting before words way words.hops one two (way.stands ∙ ap Some place)
-          (sym (next_in before i) ∙ meets.goes_on));
-    }
-
-seeks_rightly : (setting : Setting) (before : List Item) (i s : ℕ) (version partition : ℕ)
-    → Knows setting before i (stage_of before i) → IsHere setting before i s
-    → TakesLeg setting before i s (Seek version partition)
-    ⊎ IsBlockedOn before i (Seek version partition)
-    → SeeksRightly before i version
-seeks_rightly setting before i s version partition knows_it here (inl takes) = record {
-  undecided = decision_out before i None
-      (undecided_of setting before i s (stage_of before i) knows_it.kept here
-      (stage_when before i s 0 (inl takes.looked_up)));
-  not_retired = omega (
-    arith,
-    sym (mark_in before i),
-    here.under.mark,
-    here.stamped.retired,
-    takes.stamp,
-  );
-  current = omega (arith, here.stamped.current, takes.stamp);
+finds_link setting before i one two knows_it meets = record {
+  finds = finds_next_down setting before i one two knows_it meets;
+  linked = meets_link setting before i one two knows_it meets;
 }
-seeks_rightly setting before i s version partition knows_it here (inr blocked) =
-    let on : IsSeeking setting before (words_of before i) here.under.header version partition =
-    seeking_of setting before (words_of before i) here.under.header version partition
-    (knows_it.kept.on_way here.travelling (inr blocked.blocked)) here.under.entered
-    (leg_in before i (Some (Seek version partition)) blocked.takes) in
-    record {
-      undecided = decision_out before i None on.undecided;
-      not_retired = subst (λ m. m < version) (mark_in before i) on.not_retired;
-      current = on.current;
-    }
 
 stuck_on_leg : (setting : Setting) (before : List Item) (i s : ℕ) (cause : Cause) (leg : Leg)
     (down : List ℕ) → Knows setting before i (stage_of before i)
