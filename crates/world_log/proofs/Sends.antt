@@ -12,6 +12,7 @@ use Rattle.journal.specs.declared.item.Item.TheVariants as item
 use Rattle.update_machine.specs.Messages.{sent_from}
 use Rattle.world_log.specs.Sending.{IsSpelled, act_item, act_items, act_post, act_posts, number_after}
 use Rattle.world_log.specs.Writing.{IsPart}
+use Rattle.world_log.proofs.Writing.{both_written, part_of_first, part_of_rest}
 
 pub sent_append : (number : ℕ) (first later : List Message)
     → sent_from number (first ++ later)
@@ -98,16 +99,13 @@ sent_more journal now after bag posts later messages k one within is so sent pos
       length-append bag (map posted first),
       length-map first posted,
     ) in record {
-      written = sent
-          ∙ ap (λ js. js ++ item.Sent (length posts + 1) one ∷ []) so.written
-          ∙ append_assoc journal (sent_from (length bag + 1) first)
-          (item.Sent (length posts + 1) one ∷ [])
+      written = both_written journal now after (sent_from (length bag + 1) first)
+          (item.Sent (length posts + 1) one ∷ []) so.written sent
           ∙ ap (λ items. journal ++ (sent_from (length bag + 1) first ++ items))
           (sym (sent_one (length posts + 1) one) ∙ ap (λ n. sent_from n (one ∷ [])) number)
           ∙ ap (λ items. journal ++ items) (sym (sent_append (length bag + 1) first (one ∷ [])))
           ∙ ap (λ these. journal ++ sent_from (length bag + 1) these) (sym next);
-      posted = post ∙ ap (λ all. all ++ posted one ∷ []) so.posted
-          ∙ append_assoc bag (map posted first) (posted one ∷ [])
+      posted = both_written bag posts later (map posted first) (posted one ∷ []) so.posted post
           ∙ ap (λ more. bag ++ more) (sym (map-append posted first (one ∷ [])))
           ∙ ap (λ these. bag ++ map posted these) (sym next);
     }
@@ -160,16 +158,13 @@ done_more journal now after bag posts later acts k one within is so done post =
     take_more acts k one within ∙ ap (λ x. first ++ x ∷ []) (sym is) in
     let number : length posts + 1 ≡ length bag + 1 + length (act_posts first) =
     omega (arith, ap length so.posted, length-append bag (act_posts first)) in record {
-      written = done
-          ∙ ap (λ js. js ++ act_item (length posts + 1) one ∷ []) so.written
-          ∙ append_assoc journal (act_items (length bag + 1) first)
-          (act_item (length posts + 1) one ∷ [])
+      written = both_written journal now after (act_items (length bag + 1) first)
+          (act_item (length posts + 1) one ∷ []) so.written done
           ∙ ap (λ items. journal ++ (act_items (length bag + 1) first ++ items))
           (sym (acts_one (length posts + 1) one) ∙ ap (λ n. act_items n (one ∷ [])) number)
           ∙ ap (λ items. journal ++ items) (sym (acts_append (length bag + 1) first (one ∷ [])))
           ∙ ap (λ these. journal ++ act_items (length bag + 1) these) (sym next);
-      posted = post ∙ ap (λ all. all ++ act_post one) so.posted
-          ∙ append_assoc bag (act_posts first) (act_post one)
+      posted = both_written bag posts later (act_posts first) (act_post one) so.posted post
           ∙ ap (λ more. bag ++ (act_posts first ++ more)) (sym (posts_one one))
           ∙ ap (λ more. bag ++ more) (sym (posts_append first (one ∷ [])))
           ∙ ap (λ these. bag ++ act_posts these) (sym next);
@@ -276,36 +271,26 @@ module _ (journal now : List Item) (bag posts : List Post) (first later : List A
       → after ≡ now ++ act_items (length posts + 1) later → final ≡ posts ++ act_posts later
       → AreDone journal bag (first ++ later) after final
   done_both after final done post = record {
-    written = done ∙ ap (λ js. js ++ act_items (length posts + 1) later) so.written
-        ∙ append_assoc journal (act_items (length bag + 1) first)
-        (act_items (length posts + 1) later)
+    written = both_written journal now after (act_items (length bag + 1) first)
+        (act_items (length posts + 1) later) so.written done
         ∙ ap (λ items. journal ++ items) (sym both_are);
-    posted = post ∙ ap (λ all. all ++ act_posts later) so.posted
-        ∙ append_assoc bag (act_posts first) (act_posts later)
+    posted = both_written bag posts final (act_posts first) (act_posts later) so.posted post
         ∙ ap (λ more. bag ++ more) (sym (posts_append first later));
   }
 
   -- memory runs out among the later ones
   pub later_part : (after : List Item) → IsPart now (act_items (length posts + 1) later) after
       → IsPart journal (act_items (length bag + 1) (first ++ later)) after
-  later_part after part = record {
-    written = act_items (length bag + 1) first ++ part.written;
-    rest = part.rest;
-    split = both_are ∙ ap (λ items. act_items (length bag + 1) first ++ items) part.split
-        ∙ sym (append_assoc (act_items (length bag + 1) first) part.written part.rest);
-    grown = part.grown ∙ ap (λ js. js ++ part.written) so.written
-        ∙ append_assoc journal (act_items (length bag + 1) first) part.written;
-  }
+  later_part after part =
+      subst (λ items. IsPart journal items after) (sym both_are)
+      (part_of_rest journal now (act_items (length bag + 1) first)
+      (act_items (length posts + 1) later) after so.written part)
 
 -- or among the first ones
 pub first_part : (journal now : List Item) (number : ℕ) (first later : List Act)
     → IsPart journal (act_items number first) now
     → IsPart journal (act_items number (first ++ later)) now
 first_part journal now number first later part =
-    let more : List Item = act_items (number + length (act_posts first)) later in record {
-      written = part.written;
-      rest = part.rest ++ more;
-      split = acts_append number first later ∙ ap (λ items. items ++ more) part.split
-          ∙ append_assoc part.written part.rest more;
-      grown = part.grown;
-    }
+    subst (λ items. IsPart journal items now) (sym (acts_append number first later))
+    (part_of_first journal (act_items number first)
+    (act_items (number + length (act_posts first)) later) now part)

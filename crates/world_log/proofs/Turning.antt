@@ -1,5 +1,5 @@
 -- A packet that moves on, or is stuck, in the table of those on their way.
-use Rattle.std.proofs.Common.{ℕ, ◌≡◌, ◌<◌, ◌==◌, Bool, true, false, if◌then◌else◌, Option, Some, None, List, ◌++◌, refl, ap, sym, subst, ◌∙◌, append_assoc, length}
+use Rattle.std.proofs.Common.{ℕ, ◌≡◌, ◌<◌, ◌==◌, Bool, true, false, if◌then◌else◌, Option, Some, None, ◌++◌, refl, ap, sym, subst, ◌∙◌, length}
 use Rattle.std.specs.Prelude.{IsSomeAnd, option_map}
 use Rattle.journal.specs.declared.item.Item.{Item}
 use Rattle.net_file.specs.declared.ports.Ports.{Ports}
@@ -12,7 +12,6 @@ use Rattle.tunnel.specs.Moves.{next}
 use Rattle.tunnel.specs.Tunnel.{TunnelValue}
 use Rattle.world_log.specs.Packets.{IsEnded, IsTurned, ended_items, ended_traveller, hop_written, hop_traveller, hopped_traveller, turned_items}
 use Rattle.travelling.specs.Travelling.{HasPlace, IsKeptOn, OthersStay, Travellers, WithOne, placed_at, traveller}
-use Rattle.world_log.specs.Writing.{IsPart}
 use Rattle.travelling.specs.declared.travelling.Traveller.{Traveller}
 use Rattle.world_log.proofs.Hopping.{SamePacket, authority_counted, hopped_same, none_found}
 
@@ -83,113 +82,101 @@ ended s near ports t end packet before mid after same turn ends =
         subst (λ table. WithOne before t.tunnel.packet (Some t) table) (sym ends) turn
     by_end (hop.Stuck cause) turn ends = then_one before mid after t.tunnel.packet None turn ends
 
--- ---- items one after another
-
-pub both_written : (old mid new items rest : List Item) → mid ≡ old ++ items
-    → new ≡ mid ++ rest → new ≡ old ++ (items ++ rest)
-both_written old mid new items rest one other =
-    other ∙ ap (λ js. js ++ rest) one ∙ append_assoc old items rest
-
-pub part_front : (old new items rest : List Item) → IsPart old items new
-    → IsPart old (items ++ rest) new
-part_front old new items rest part = record {
-  written = part.written;
-  rest = part.rest ++ rest;
-  split = ap (λ js. js ++ rest) part.split ∙ append_assoc part.written part.rest rest;
-  grown = part.grown;
-}
-
-pub part_back : (old mid new items rest : List Item) → mid ≡ old ++ items
-    → IsPart mid rest new → IsPart old (items ++ rest) new
-part_back old mid new items rest is part = record {
-  written = items ++ part.written;
-  rest = part.rest;
-  split = ap (λ js. items ++ js) part.split ∙ sym (append_assoc items part.written part.rest);
-  grown = part.grown ∙ ap (λ js. js ++ part.written) is
-      ∙ append_assoc old items part.written;
-}
-
 -- ---- a hop and its answer
 
--- what the switch answered: it was asked once more, and the packet is behind its move
-pub record IsAnswered (w : SwitchValue) (near : ℕ) (t : TunnelValue) (s : SwitchValue)
-    (tunnel : TunnelValue) (here : ℕ) (found : Option ℕ) (end : HopEnd) : Type 0 where
-  pub after : s ≡ counted w
-  pub moved_it : tunnel ≡ (hopped w near t).tunnel
-  pub here_is : here ≡ w.number
-  pub found_is : found ≡ link_found_down near (next t)
-  pub end_is : end ≡ (hopped w near t).end
+-- what a switch answered to a hop: it was asked once more, and the packet is behind its move
+pub record HopAnswer : Type 0 where
+  pub asked : SwitchValue
+  pub near : ℕ
+  pub ports : Ports
+  pub t : Traveller
+  pub now_asked : SwitchValue
+  pub tunnel : TunnelValue
+  pub here : ℕ
+  pub found : Option ℕ
+  pub end : HopEnd
+  pub after : now_asked ≡ counted asked
+  pub moved_it : tunnel ≡ (hopped asked near t.tunnel).tunnel
+  pub here_is : here ≡ asked.number
+  pub found_is : found ≡ link_found_down near (next t.tunnel)
+  pub end_is : end ≡ (hopped asked near t.tunnel).end
 
-module _ (w : SwitchValue) (near : ℕ) (ports : Ports) (t : Traveller) (s : SwitchValue)
-    (tunnel : TunnelValue) (here : ℕ) (found : Option ℕ) (end : HopEnd)
-    (is : IsAnswered w near t.tunnel s tunnel here found end) where
+module _ (a : HopAnswer) where
+  abbrev packet : ℕ
+  packet = a.t.tunnel.packet
+
   abbrev m : Moved
-  m = hopped w near t.tunnel
+  m = hopped a.asked a.near a.t.tunnel
 
   abbrev now : Traveller
-  now = record t { tunnel = tunnel }
+  now = record a.t { tunnel = a.tunnel }
 
-  pub same_packet : tunnel.packet ≡ t.tunnel.packet
-  same_packet = ap (λ (u : TunnelValue). u.packet) is.moved_it
-      ∙ (hopped_same w near t.tunnel).packet
+  pub same_packet : a.tunnel.packet ≡ packet
+  same_packet = ap (λ (u : TunnelValue). u.packet) a.moved_it
+      ∙ (hopped_same a.asked a.near a.t.tunnel).packet
 
-  pub hop_ingress : t.tunnel.ingress < 64 → tunnel.ingress < 64
+  pub hop_ingress : a.t.tunnel.ingress < 64 → a.tunnel.ingress < 64
   hop_ingress below =
-      let same : tunnel.ingress ≡ t.tunnel.ingress =
-      ap (λ (u : TunnelValue). u.ingress) is.moved_it ∙ (hopped_same w near t.tunnel).ingress in
+      let same : a.tunnel.ingress ≡ a.t.tunnel.ingress =
+      ap (λ (u : TunnelValue). u.ingress) a.moved_it
+      ∙ (hopped_same a.asked a.near a.t.tunnel).ingress in
       subst (λ k. k < 64) (sym same) below
 
   -- where no link was found down the packet is kept but for its place
-  pub hop_kept : (travellers : Travellers) → traveller travellers t.tunnel.packet ≡ Some t
-      → found ≡ None → IsKeptOn travellers (record t { tunnel = tunnel })
+  pub hop_kept : (travellers : Travellers) → traveller travellers packet ≡ Some a.t
+      → a.found ≡ None → IsKeptOn travellers (record a.t { tunnel = a.tunnel })
   hop_kept travellers known none =
-      subst (λ k. IsSomeAnd (traveller travellers k) (λ was. placed_at tunnel.place was ≡ now))
+      subst (λ k. IsSomeAnd (traveller travellers k) (λ was. placed_at a.tunnel.place was ≡ now))
       (sym same_packet)
-      (subst (λ o. IsSomeAnd o (λ was. placed_at tunnel.place was ≡ now)) (sym known)
-      (subst (λ (u : TunnelValue). placed_at u.place t ≡ record t { tunnel = u }) (sym is.moved_it)
-      (ap (λ (u : TunnelValue). record t { tunnel = u })
-      (none_found w near t.tunnel (sym is.found_is ∙ none)))))
+      (subst (λ o. IsSomeAnd o (λ was. placed_at a.tunnel.place was ≡ now)) (sym known)
+      (subst (λ (u : TunnelValue). placed_at u.place a.t ≡ record a.t { tunnel = u })
+      (sym a.moved_it)
+      (ap (λ (u : TunnelValue). record a.t { tunnel = u })
+      (none_found a.asked a.near a.t.tunnel (sym a.found_is ∙ none)))))
 
-  pub hop_authority : IsAtAuthority w t.tunnel.header t.tunnel.leg
-      → IsAtAuthority s tunnel.header tunnel.leg
+  pub hop_authority : IsAtAuthority a.asked a.t.tunnel.header a.t.tunnel.leg
+      → IsAtAuthority a.now_asked a.tunnel.header a.tunnel.leg
   hop_authority at =
-      let same : SamePacket t.tunnel m.tunnel = hopped_same w near t.tunnel in
-      subst (λ (u : TunnelValue). IsAtAuthority s u.header u.leg) (sym is.moved_it)
-      (subst (λ h. IsAtAuthority s h m.tunnel.leg) (sym same.header)
-      (subst (IsAtAuthority s t.tunnel.header) (sym same.leg)
-      (subst (λ u. IsAtAuthority u t.tunnel.header t.tunnel.leg) (sym is.after)
-      (authority_counted w t.tunnel.header t.tunnel.leg at))))
+      let same : SamePacket a.t.tunnel m.tunnel = hopped_same a.asked a.near a.t.tunnel in
+      subst (λ (u : TunnelValue). IsAtAuthority a.now_asked u.header u.leg) (sym a.moved_it)
+      (subst (λ h. IsAtAuthority a.now_asked h m.tunnel.leg) (sym same.header)
+      (subst (IsAtAuthority a.now_asked a.t.tunnel.header) (sym same.leg)
+      (subst (λ u. IsAtAuthority u a.t.tunnel.header a.t.tunnel.leg) (sym a.after)
+      (authority_counted a.asked a.t.tunnel.header a.t.tunnel.leg at))))
 
-  turned_is : turned_items tunnel.packet here found end tunnel.route
-      ≡ turned_items t.tunnel.packet w.number (link_found_down near (next t.tunnel)) m.end
+  turned_is : turned_items a.tunnel.packet a.here a.found a.end a.tunnel.route
+      ≡ turned_items packet a.asked.number (link_found_down a.near (next a.t.tunnel)) m.end
       m.tunnel.route
   turned_is =
-      ap (λ k. turned_items k here found end tunnel.route) same_packet
-      ∙ ap (λ (u : TunnelValue). turned_items t.tunnel.packet here found end u.route) is.moved_it
-      ∙ ap (λ n. turned_items t.tunnel.packet n found end m.tunnel.route) is.here_is
-      ∙ ap (λ f. turned_items t.tunnel.packet w.number f end m.tunnel.route) is.found_is
-      ∙ ap (λ e. turned_items t.tunnel.packet w.number (link_found_down near (next t.tunnel)) e
-      m.tunnel.route) is.end_is
+      ap (λ k. turned_items k a.here a.found a.end a.tunnel.route) same_packet
+      ∙ ap (λ (u : TunnelValue). turned_items packet a.here a.found a.end u.route) a.moved_it
+      ∙ ap (λ n. turned_items packet n a.found a.end m.tunnel.route) a.here_is
+      ∙ ap (λ f. turned_items packet a.asked.number f a.end m.tunnel.route) a.found_is
+      ∙ ap (λ e. turned_items packet a.asked.number (link_found_down a.near (next a.t.tunnel)) e
+      m.tunnel.route) a.end_is
 
   -- all that was written
   pub hop_items_are : (number : ℕ)
-      → turned_items tunnel.packet here found end tunnel.route
-      ++ ended_items number s near ports (record t { tunnel = tunnel }) end
-      ≡ hop_written number w near ports t
+      → turned_items a.tunnel.packet a.here a.found a.end a.tunnel.route
+      ++ ended_items number a.now_asked a.near a.ports (record a.t { tunnel = a.tunnel }) a.end
+      ≡ hop_written number a.asked a.near a.ports a.t
   hop_items_are number =
-      ap (λ items. items ++ ended_items number s near ports now end) turned_is
-      ∙ ap (λ items. turned_items t.tunnel.packet w.number (link_found_down near (next t.tunnel)) m.end
-      m.tunnel.route ++ items)
-      (ap (λ u. ended_items number u near ports now end) is.after
-      ∙ ap (λ (u : TunnelValue). ended_items number (counted w) near ports
-      (record t { tunnel = u }) end) is.moved_it
-      ∙ ap (ended_items number (counted w) near ports (hopped_traveller w near t)) is.end_is)
+      ap (λ items. items ++ ended_items number a.now_asked a.near a.ports now a.end) turned_is
+      ∙ ap (λ items. turned_items packet a.asked.number (link_found_down a.near (next a.t.tunnel))
+      m.end m.tunnel.route ++ items)
+      (ap (λ u. ended_items number u a.near a.ports now a.end) a.after
+      ∙ ap (λ (u : TunnelValue). ended_items number (counted a.asked) a.near a.ports
+      (record a.t { tunnel = u }) a.end) a.moved_it
+      ∙ ap (ended_items number (counted a.asked) a.near a.ports
+      (hopped_traveller a.asked a.near a.t)) a.end_is)
 
   -- and where the packet is
-  pub hop_traveller_is : ended_traveller s near ports (record t { tunnel = tunnel }) end
-      ≡ hop_traveller w near ports t
+  pub hop_traveller_is : ended_traveller a.now_asked a.near a.ports
+      (record a.t { tunnel = a.tunnel }) a.end
+      ≡ hop_traveller a.asked a.near a.ports a.t
   hop_traveller_is =
-      ap (λ u. ended_traveller u near ports now end) is.after
-      ∙ ap (λ (u : TunnelValue). ended_traveller (counted w) near ports
-      (record t { tunnel = u }) end) is.moved_it
-      ∙ ap (ended_traveller (counted w) near ports (hopped_traveller w near t)) is.end_is
+      ap (λ u. ended_traveller u a.near a.ports now a.end) a.after
+      ∙ ap (λ (u : TunnelValue). ended_traveller (counted a.asked) a.near a.ports
+      (record a.t { tunnel = u }) a.end) a.moved_it
+      ∙ ap (ended_traveller (counted a.asked) a.near a.ports
+      (hopped_traveller a.asked a.near a.t)) a.end_is

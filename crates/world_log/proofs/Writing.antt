@@ -1,5 +1,5 @@
 -- What a step writes behind its row, and parts of it.
-use Rattle.std.proofs.Common.{◌≡◌, List, [], ◌∷◌, ◌++◌, refl, ap, sym, ◌∙◌, append-nil, append_assoc}
+use Rattle.std.proofs.Common.{◌≡◌, List, [], ◌∷◌, ◌++◌, refl, ap, sym, ◌∙◌, append-nil, append_assoc, subst}
 use Rattle.std.specs.Prelude.{OnErr, OnOk, Result, Ok, Err}
 use Rattle.std.proofs.lemmas.Result.{on_ok_weaker}
 use Rattle.journal.specs.declared.item.Item.{Item}
@@ -13,6 +13,12 @@ part_none old items new is =
 pub by_error : {T E P : Type 0} (r : Result T E) → P → OnErr r P
 by_error (Ok x) p = tt
 by_error (Err e) p = p
+
+-- the first items were written, and then the rest
+pub both_written : {A : Type 0} (old begun new first rest : List A) → begun ≡ old ++ first
+    → new ≡ begun ++ rest → new ≡ old ++ (first ++ rest)
+both_written old begun new first rest first_is grown =
+    grown ∙ ap (λ js. js ++ rest) first_is ∙ append_assoc old first rest
 
 -- a part of the first items is a part of all of them
 pub part_of_first : (old first rest new : List Item) → IsPart old first new
@@ -48,8 +54,7 @@ three_ok (Err e) f p q s = tt
 
 pub grown_more : (journal begun new items : List Item) (first : Item)
     → begun ≡ journal ++ first ∷ [] → new ≡ begun ++ items → new ≡ journal ++ first ∷ items
-grown_more journal begun new items first row_is grown =
-    grown ∙ ap (λ js. js ++ items) row_is ∙ append_assoc journal (first ∷ []) items
+grown_more journal begun new items first = both_written journal begun new (first ∷ []) items
 
 pub step_written : {T E : Type 0} (r : Result T E) (journal begun new items all : List Item)
     (first : Item) → all ≡ first ∷ items → begun ≡ journal ++ first ∷ []
@@ -58,19 +63,10 @@ step_written r journal begun new items all first all_is row_is written =
     on_ok_weaker r (λ grown. grown_more journal begun new items first row_is grown
     ∙ ap (λ more. journal ++ more) (sym all_is)) written
 
-part_more : (journal begun new items all : List Item) (first : Item) → all ≡ first ∷ items
-    → begun ≡ journal ++ first ∷ [] → IsPart begun items new → IsPart journal all new
-part_more journal begun new items all first all_is begun_is part = record {
-  written = first ∷ part.written;
-  rest = part.rest;
-  split = all_is ∙ ap (λ more. first ∷ more) part.split;
-  grown = part.grown ∙ ap (λ js. js ++ part.written) begun_is
-      ∙ append_assoc journal (first ∷ []) part.written;
-}
-
 pub step_part : {T E : Type 0} (r : Result T E) (journal begun new items all : List Item)
     (first : Item) → all ≡ first ∷ items → begun ≡ journal ++ first ∷ []
     → OnErr r (IsPart begun items new) → OnErr r (IsPart journal all new)
 step_part (Ok x) journal begun new items all first all_is row_is part = tt
 step_part (Err e) journal begun new items all first all_is row_is part =
-    part_more journal begun new items all first all_is row_is part
+    subst (λ more. IsPart journal more new) (sym all_is)
+    (part_of_rest journal begun (first ∷ []) items new row_is part)

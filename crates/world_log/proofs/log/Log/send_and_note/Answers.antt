@@ -1,14 +1,28 @@
-use Rattle.std.proofs.Common.{ap, sym, subst, length, map, length-append, ◌+◌, arith}
+use Rattle.std.proofs.Common.{OnOk, ap, sym, subst, length, map, length-append, ◌+◌, ◌++◌, arith}
 use Rattle.std.proofs.lemmas.List.{length-map}
-use Rattle.std.proofs.lemmas.Result.{on_err_weaker}
+use Rattle.std.proofs.lemmas.Result.{on_err_weaker, on_ok_weaker}
 use Rattle.bag.specs.Posts.{posted}
 use Rattle.controller.specs.declared.sends.Act.TheVariants.{Post}
 use Rattle.world_log.specs.Sending.{act_posts}
 use Rattle.world_log.specs.Writing.{IsPart}
-use Rattle.world_log.proofs.Writing.{by_error}
-use Rattle.world_log.proofs.Sends.{done_both, first_part, later_part, later_spelled, messages_spelled, posts_append, posts_as_acts, sent_as_acts, sent_done}
-use Rattle.world_log.proofs.Writing.{both_ok}
+use Rattle.world_log.proofs.Sends.{AreDone, done_both, first_part, later_part, later_spelled, messages_spelled, posts_append, posts_as_acts, sent_as_acts, sent_done}
+use Rattle.world_log.proofs.Writing.{both_ok, by_error}
 use Rattle.world_log.proofs.log.Log.send_and_note.Goals as goal
+
+-- the messages are done as acts
+sent : (c : goal.After-note_acts) → AreDone c.args.self.now.journal c.args.self.now.bag
+    (map Post c.args.messages.now) c.send_all.new.self.journal c.send_all.new.self.bag
+sent c = sent_done c.args.self.now.journal _ c.args.self.now.bag _ c.args.messages.now
+    c.in_ok-send_all.ensures.written c.in_ok-send_all.ensures.posted
+
+-- and so are the acts behind them
+done : (c : goal.After-note_acts) → OnOk c.note_acts.result (AreDone c.args.self.now.journal
+    c.args.self.now.bag (map Post c.args.messages.now ++ c.args.acts.now)
+    c.note_acts.new.self.journal c.note_acts.new.self.bag)
+done c = both_ok c.note_acts.result
+    (done_both c.args.self.now.journal _ c.args.self.now.bag _ (map Post c.args.messages.now)
+    c.args.acts.now (sent c) _ _)
+    c.note_acts.ensures.written c.note_acts.ensures.posted
 
 pub send_all-requires : goal.send_all-requires
 send_all-requires c =
@@ -51,30 +65,13 @@ returns-in_err-send_all-clause-part c =
     (sym (sent_as_acts (length self.bag + 1) messages)) c.in_err-send_all.ensures.part))
 
 pub returns-clause-written : goal.returns-clause-written
-returns-clause-written c =
-    let self = c.args.self.now in
-    let messages = c.args.messages.now in
-    let so = sent_done self.journal _ self.bag _ messages c.in_ok-send_all.ensures.written
-    c.in_ok-send_all.ensures.posted in
-    both_ok c.note_acts.result (λ done post. (done_both self.journal _ self.bag _
-    (map Post messages) c.args.acts.now so _ _ done post).written) c.note_acts.ensures.written
-    c.note_acts.ensures.posted
+returns-clause-written c = on_ok_weaker c.note_acts.result (λ acts. acts.written) (done c)
 
 pub returns-clause-posted : goal.returns-clause-posted
-returns-clause-posted c =
-    let self = c.args.self.now in
-    let messages = c.args.messages.now in
-    let so = sent_done self.journal _ self.bag _ messages c.in_ok-send_all.ensures.written
-    c.in_ok-send_all.ensures.posted in
-    both_ok c.note_acts.result (λ done post. (done_both self.journal _ self.bag _
-    (map Post messages) c.args.acts.now so _ _ done post).posted) c.note_acts.ensures.written
-    c.note_acts.ensures.posted
+returns-clause-posted c = on_ok_weaker c.note_acts.result (λ acts. acts.posted) (done c)
 
 pub returns-clause-part : goal.returns-clause-part
 returns-clause-part c =
-    let self = c.args.self.now in
-    let messages = c.args.messages.now in
-    let so = sent_done self.journal _ self.bag _ messages c.in_ok-send_all.ensures.written
-    c.in_ok-send_all.ensures.posted in
-    on_err_weaker c.note_acts.result (later_part self.journal _ self.bag _ (map Post messages)
-    c.args.acts.now so _) c.note_acts.ensures.part
+    on_err_weaker c.note_acts.result (later_part c.args.self.now.journal _ c.args.self.now.bag _
+    (map Post c.args.messages.now) c.args.acts.now
+    (sent c) _) c.note_acts.ensures.part
