@@ -160,11 +160,24 @@ module _ {T E : Type 0} (r : Result T E) (before : List Item) (row : ℕ) (step 
     });
   }
 
--- ---- the row is written, and then the rest
-
--- the parts behind the row
+-- only the journal is another
 abbrev pub with_journal : Parts → List Item → Parts
 with_journal parts journal = record parts { log = record parts.log { journal = journal } }
+
+-- nothing happens: of all parts the journal alone changes, which says so
+pub goes_nothing : {T E : Type 0} (r : Result T E) (before : List Item) (row : ℕ) (step : Step)
+    (old : Parts) (journal : List Item) → BeginsStep before row step old → comes_in step ≡ 0
+    → (piece (setting_in old) before row step ≡ item.Row row step ∷ item.Nothing ∷ [])
+    × AreTiedTo old (grown before row step item.Nothing) old (control_in old)
+    → OnOk r (journal ≡ old.log.journal ++ item.Nothing ∷ [])
+    → OnErr r (journal ≡ old.log.journal)
+    → Goes r before row step old (with_journal old journal)
+goes_nothing r before row step old journal begins none is pushed unchanged =
+    goes_one r before row step old (with_journal old journal) begins (net_stays refl refl)
+    item.Nothing old.log.bag (plane_stays refl refl refl) refl (omega (arith, none)) is pushed
+    unchanged
+
+-- ---- the row is written, and then the rest
 
 ready_behind : (before : List Item) (step : Step) (parts : Parts) (journal : List Item)
     → IsReadyForStep before step parts → IsReadyForStep before step (with_journal parts journal)

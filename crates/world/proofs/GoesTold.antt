@@ -4,6 +4,7 @@ use Rattle.std.specs.Prelude.{IsErr, OnErr, OnOk, Result}
 use Rattle.std.proofs.lemmas.Result.{on_ok_weaker}
 use Rattle.bag.specs.Posts.{Post}
 use Rattle.controller.specs.Controller.{ControllerValue}
+use Rattle.controller.specs.declared.sends.Act.{Act}
 use Rattle.journal.specs.declared.item.Item.{Item}
 use Rattle.journal.specs.declared.item.Item.TheVariants as item
 use Rattle.steps.specs.declared.step.Step.{Step}
@@ -12,7 +13,9 @@ use Rattle.world.specs.Parts.{BeginsStep, Goes, KeepNet, control_in, setting_in}
 use Rattle.world.specs.State.{comes_in}
 use Rattle.world_ties.specs.Tied.{AreTied, Control}
 use Rattle.travelling.specs.Travelling.{Travellers}
+use Rattle.world_log.specs.Sending.{act_items, act_posts}
 use Rattle.world_log.specs.Writing.{IsPart}
+use Rattle.world_log.specs.declared.log.Log.{Log}
 use Rattle.world.specs.declared.parts.Parts.{Parts}
 use Rattle.world.proofs.Frame.{goes, none_ok}
 use Rattle.world_log.proofs.Writing.{both_ok, by_error, step_part, step_written}
@@ -35,6 +38,13 @@ pub record Tells {T E : Type 0} (r : Result T E) (before : List Item) (row : ℕ
       (before ++ item.Row row step ∷ first ∷ tail (length old.log.bag + 1)) new.switches.items
       old.log.travelling new.packets
       (record (control_in new) { posts = posts ++ more }))
+
+-- acts that were noted behind this journal and these posts, under the numbers behind this one
+pub record AreNoted {T E : Type 0} (r : Result T E) (begun : List Item) (number : ℕ)
+    (posts : List Post) (now : Log) (acts : List Act) : Type 0 where
+  pub written : OnOk r (now.journal ≡ begun ++ act_items (number + 1) acts)
+  pub posted : OnOk r (now.bag ≡ posts ++ act_posts acts)
+  pub part : OnErr r (IsPart begun (act_items (number + 1) acts) now.journal)
 
 pub goes_told : {T E : Type 0} (r : Result T E) (before : List Item) (row : ℕ) (step : Step)
     (old new : Parts) (first : Item) (tail : ℕ → List Item) (begun : List Item) (number : ℕ)

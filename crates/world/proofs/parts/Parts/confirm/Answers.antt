@@ -1,4 +1,4 @@
-use Rattle.std.proofs.Common.{◌≡◌, ◌+◌, ◌^◌, ◌<◌, ◌++◌, List, OnOk, OnErr, length, refl, sym, subst, ◌∙◌, arith}
+use Rattle.std.proofs.Common.{List, length, refl, sym, subst, ◌∙◌, arith}
 use Rattle.std.proofs.lemmas.Result.{on_ok_weaker}
 use Rattle.controller.specs.Controller.{ControllerValue}
 use Rattle.controller.specs.Sends.{settling}
@@ -9,9 +9,8 @@ use Rattle.version_update.specs.Marks.{at_switch}
 use Rattle.version_update.specs.Record.{after_over}
 use Rattle.world.specs.Parts.{control_in, setting_in}
 use Rattle.world_log.specs.Sending.{MayNote, act_items, act_posts}
-use Rattle.world_log.specs.Writing.{IsPart}
-use Rattle.world.proofs.Frame.{goes_one, net_stays, none_in, nothing_goes, plane_stays}
-use Rattle.world.proofs.GoesTold.{goes_told}
+use Rattle.world.proofs.Frame.{goes_nothing, net_stays, none_in, nothing_goes}
+use Rattle.world.proofs.GoesTold.{AreNoted, goes_told}
 use Rattle.world_ties.proofs.GoneSwitches.{gone_may, gone_known, gone_piece, gone_there, gone_tied, still_up}
 use Rattle.world.proofs.parts.Parts.confirm.Goals as goal
 
@@ -31,11 +30,9 @@ index-requires c =
 pub returns-then-is_up : goal.returns-then-is_up
 returns-then-is_up c = λ before row begins.
     let self = c.args.self.now in
-    let s = c.args.switch in
-    goes_one c.push.result before row (Confirm s) self _ begins (net_stays refl refl) item.Nothing
-    self.log.bag (plane_stays refl refl refl) refl (none_in _)
+    goes_nothing c.push.result before row (Confirm c.args.switch) self c.push.new.self begins refl
     (still_up (control_in self) (setting_in self) before self.switches.items
-    self.log.travelling self.packets row s c.index.result.now begins.ready.tied begins.ready.may
+    self.log.travelling self.packets row c.args.switch c.index.result.now begins.ready.tied begins.ready.may
     c.index.ensures (sym c.is_up.ensures ∙ c.if-is_up.true))
     c.push.ensures.pushed c.push.ensures.unchanged
 
@@ -80,9 +77,15 @@ returns c = λ before row begins.
     let new : ControllerValue = c.over.new.self in
     let acts : List Act =
     settling (at_switch s after_over self.controller.marks) new.marks in
-    let are : c.acts.result.now ≡ acts = c.acts.ensures ∙ c.in_ok-sends.ensures.sends in
     let down = sym c.is_up.ensures ∙ c.if-is_up.false in
     let begun = c.push-2.new.self in
+    let noted : AreNoted c.note_acts.result begun (length self.log.bag) self.log.bag
+    c.note_acts.new.self acts = subst (AreNoted c.note_acts.result begun (length self.log.bag)
+    self.log.bag c.note_acts.new.self) (c.acts.ensures ∙ c.in_ok-sends.ensures.sends) (record {
+      written = c.note_acts.ensures.written;
+      posted = c.note_acts.ensures.posted;
+      part = c.note_acts.ensures.part;
+    }) in
     goes_told c.note_acts.result before row (Confirm s) self _ (item.OverNow s)
     (λ k. act_items k acts) begun (length self.log.bag) self.log.bag (act_posts acts) begins
     (net_stays refl refl) (record {
@@ -93,14 +96,9 @@ returns c = λ before row begins.
       pushed = c.in_ok-push.ensures.pushed;
       number_is = refl;
       travelling = c.note_acts.ensures.travelling;
-      written = subst (λ all. OnOk c.note_acts.result (c.note_acts.new.self.journal
-          ≡ begun ++ act_items (length self.log.bag + 1) all)) are c.note_acts.ensures.written;
-      part = subst (λ all. OnErr c.note_acts.result (IsPart begun
-          (act_items (length self.log.bag + 1) all) c.note_acts.new.self.journal)) are
-          c.note_acts.ensures.part;
-      posted = subst (λ all. OnOk c.note_acts.result
-          (c.note_acts.new.self.bag ≡ self.log.bag ++ act_posts all)) are
-          c.note_acts.ensures.posted;
+      written = noted.written;
+      part = noted.part;
+      posted = noted.posted;
       tied = on_ok_weaker c.note_acts.result (λ done. gone_tied (control_in self)
           (setting_in self) before self.switches.items self.log.travelling self.packets row s
           c.index.result.now ready.tied ready.may c.index.ensures new down c.over.ensures.after)

@@ -1,4 +1,4 @@
-use Rattle.std.proofs.Common.{◌≡◌, ◌+◌, ◌^◌, ◌<◌, ◌++◌, ◌∷◌, List, map, set, refl, ap, sym, subst, ◌∙◌, append_assoc, length, arith}
+use Rattle.std.proofs.Common.{ℕ, ◌≡◌, ◌+◌, ◌^◌, ◌<◌, ◌++◌, ◌∷◌, true, List, map, set, refl, ap, sym, subst, ◌∙◌, append_assoc, length, arith}
 use Rattle.std.proofs.lemmas.List.{length-set}
 use Rattle.std.proofs.lemmas.Result.{on_err_weaker, on_ok_weaker}
 use Rattle.bag.specs.Posts.{posted}
@@ -9,49 +9,53 @@ use Rattle.steps.specs.declared.step.Step.TheVariants.{Crash}
 use Rattle.switch_core.specs.State.{SwitchValue}
 use Rattle.update_machine.specs.Messages.{sent_from}
 use Rattle.usable_links.specs.Linking.{all_told, near_all}
-use Rattle.world.specs.Parts.{control_in, setting_in}
+use Rattle.world.specs.Parts.{HasBegun, control_in, setting_in}
+use Rattle.world.specs.declared.parts.Parts.{Parts}
 use Rattle.world_ties.specs.Tied.{AreTied}
 use Rattle.travelling.specs.Travelling.{WithoutAt, numbers_at}
 use Rattle.world_log.specs.Sending.{MaySend}
 use Rattle.world_log.specs.Writing.{IsPart}
 use Rattle.world_ties.proofs.Crashed.{crash_may, crash_next, crash_piece, crash_ready, crash_tied, same_switch, stays_down}
-use Rattle.world_log.proofs.Writing.{by_error}
-use Rattle.world.proofs.Frame.{goes, goes_one, net_stays, none_in, none_ok, nothing_goes, plane_stays}
+use Rattle.world.proofs.Frame.{goes, goes_nothing, net_stays, none_ok, nothing_goes}
 use Rattle.world.proofs.GoesTold.{same_control}
 use Rattle.world_ties.proofs.HearReady.{few_switches}
-use Rattle.world_log.proofs.Writing.{part_of_first, part_of_rest, step_part, step_written, three_ok}
+use Rattle.world_log.proofs.Writing.{by_error, part_of_first, part_of_rest, step_part, step_written, three_ok}
 use Rattle.world.proofs.parts.Parts.crash.Goals as goal
+use Rattle.world.proofs.parts.Parts.crash.Goals.{After-index_mut}
 
 -- the switch is there
+there : (self : Parts) (s : ℕ) (begun : HasBegun (Crash s) self) → s < length self.switches.items
+there self s begun = crash_ready (control_in self) (setting_in self) begun.before
+    self.switches.items self.log.travelling self.packets s begun.begins.ready.tied
+    begun.begins.ready.may
+
 pub index-requires : goal.index-requires
 index-requires c =
-    let self = c.args.self.now in
-    let there = crash_ready (control_in self) (setting_in self) c.requires.before
-    self.switches.items self.log.travelling self.packets c.args.switch
-    c.requires.begins.ready.tied c.requires.begins.ready.may in
-    omega (arith, there, self.switches.ok.0)
+    omega (arith, there c.args.self.now c.args.switch c.requires, c.args.self.now.switches.ok.0)
 
 pub index_mut-requires : goal.index_mut-requires
 index_mut-requires c =
-    let self = c.args.self.now in
-    let there = crash_ready (control_in self) (setting_in self) c.requires.before
-    self.switches.items self.log.travelling self.packets c.args.switch
-    c.requires.begins.ready.tied c.requires.begins.ready.may in
-    omega (arith, there, self.switches.ok.0)
+    omega (arith, there c.args.self.now c.args.switch c.requires, c.args.self.now.switches.ok.0)
 
 -- ---- it is down
 
 pub returns-then-not-is_up : goal.returns-then-not-is_up
 returns-then-not-is_up c = λ before row begins.
     let self = c.args.self.now in
-    goes_one c.push.result before row (Crash c.args.switch) self _ begins (net_stays refl refl)
-    item.Nothing self.log.bag (plane_stays refl refl refl) refl (none_in _)
+    goes_nothing c.push.result before row (Crash c.args.switch) self c.push.new.self begins refl
     (stays_down (control_in self) (setting_in self) before self.switches.items
     self.log.travelling self.packets row c.args.switch c.index.result.now begins.ready.tied
     begins.ready.may c.index.ensures (sym c.is_up.ensures ∙ c.if-not-is_up.true))
     c.push.ensures.pushed c.push.ensures.unchanged
 
 -- ---- it goes down
+
+was_up : (c : After-index_mut) → c.index_mut.result.now.is_up ≡ true
+was_up c =
+    ap (λ (w : SwitchValue). w.is_up) (same_switch c.args.self.now.switches.items c.args.switch
+    c.index_mut.result.now c.index.result.now (there c.args.self.now c.args.switch c.requires)
+    c.index_mut.ensures.value c.index.ensures)
+    ∙ sym c.is_up.ensures ∙ c.if-not-is_up.false
 
 pub returns-in_err-push : goal.returns-in_err-push
 returns-in_err-push c = λ before row begins.
@@ -64,8 +68,7 @@ returns-in_err-lose_at c = λ before row begins.
     let s = c.args.switch in
     let own = c.index_mut.result.now in
     let changed = c.crash.new.self in
-    let within = crash_ready (control_in self) (setting_in self) before self.switches.items
-    self.log.travelling self.packets s begins.ready.tied begins.ready.may in
+    let within = there self s c.requires in
     let others = set self.switches.items s changed in
     let messages : List Message = all_told self.near (near_all self.links others) others in
     let sends = sent_from (length self.log.bag + 1) messages in
@@ -76,9 +79,7 @@ returns-in_err-lose_at c = λ before row begins.
     (crash_piece (control_in self) (setting_in self) before self.switches.items
     self.log.travelling self.packets row s own changed begins.ready.tied begins.ready.may within
     c.index_mut.ensures.value c.crash.ensures
-    (ap (λ (w : SwitchValue). w.is_up) (same_switch self.switches.items s
-    c.index_mut.result.now c.index.result.now within c.index_mut.ensures.value c.index.ensures)
-    ∙ sym c.is_up.ensures ∙ c.if-not-is_up.false))
+    (was_up (goal.at.returns-in_err-lose_at c).After-index_mut))
     (none_ok _ r failed) (none_ok _ r failed)
     (step_part r self.log.journal c.push-2.new.self c.lose_at.new.self.journal (losses ++ sends)
     (item.Down s ∷ losses ++ sends) (item.Down s) refl c.in_ok-push.ensures.pushed
@@ -103,31 +104,25 @@ change_links-requires-clause-next c =
     let self = c.args.self.now in
     let s = c.args.switch in
     let ready = c.requires.begins.ready in
-    let within = crash_ready (control_in self) (setting_in self) c.requires.before
-    self.switches.items self.log.travelling self.packets s ready.tied ready.may in
+    let within = there self s c.requires in
     crash_next (control_in self) (setting_in self) c.requires.before self.switches.items
     self.log.travelling self.packets c.requires.row s c.index_mut.result.now c.crash.new.self
     ready.tied ready.may within c.index_mut.ensures.value c.crash.ensures
-    (ap (λ (w : SwitchValue). w.is_up) (same_switch self.switches.items s
-    c.index_mut.result.now c.index.result.now within c.index_mut.ensures.value c.index.ensures)
-    ∙ sym c.is_up.ensures ∙ c.if-not-is_up.false) ready.room
+    (was_up (goal.at.change_links-requires-clause-next c).After-index_mut) ready.room
 
 pub change_links-requires-clause-may : goal.change_links-requires-clause-may
 change_links-requires-clause-may c =
     let self = c.args.self.now in
     let s = c.args.switch in
     let ready = c.requires.begins.ready in
-    let within = crash_ready (control_in self) (setting_in self) c.requires.before
-    self.switches.items self.log.travelling self.packets s ready.tied ready.may in
+    let within = there self s c.requires in
     let others = set self.switches.items s c.crash.new.self in
     subst (λ bag. MaySend bag (all_told self.near (near_all self.links others) others))
     (sym c.lose_at.ensures.unsent)
     (crash_may (control_in self) (setting_in self) c.requires.before self.switches.items
     self.log.travelling self.packets c.requires.row s c.index_mut.result.now c.crash.new.self
     ready.tied ready.may within c.index_mut.ensures.value c.crash.ensures
-    (ap (λ (w : SwitchValue). w.is_up) (same_switch self.switches.items s
-    c.index_mut.result.now c.index.result.now within c.index_mut.ensures.value c.index.ensures)
-    ∙ sym c.is_up.ensures ∙ c.if-not-is_up.false) ready.room)
+    (was_up (goal.at.change_links-requires-clause-may c).After-index_mut) ready.room)
 
 pub returns : goal.returns
 returns c = λ before row begins.
@@ -138,11 +133,8 @@ returns c = λ before row begins.
     let ready = begins.ready in
     let own = c.index_mut.result.now in
     let changed = c.crash.new.self in
-    let within = crash_ready (control_in self) (setting_in self) before self.switches.items
-    self.log.travelling self.packets s ready.tied ready.may in
-    let is_up = ap (λ (w : SwitchValue). w.is_up) (same_switch self.switches.items s
-    c.index_mut.result.now c.index.result.now within c.index_mut.ensures.value c.index.ensures)
-    ∙ sym c.is_up.ensures ∙ c.if-not-is_up.false in
+    let within = there self s c.requires in
+    let is_up = was_up (goal.at.returns c).After-index_mut in
     let others = set self.switches.items s changed in
     let messages : List Message = all_told self.near (near_all self.links others) others in
     let sends = sent_from (length self.log.bag + 1) messages in

@@ -11,7 +11,7 @@ use Rattle.ctrl_msg.specs.declared.message.Message.{Message}
 use Rattle.journal.specs.declared.item.Item.{Item}
 use Rattle.journal.specs.declared.item.Item.TheVariants as item
 use Rattle.steps.specs.declared.step.Step.TheVariants.{Deliver}
-use Rattle.switch_core.specs.Hearing.{replies}
+use Rattle.switch_core.specs.Hearing.{IsSoundBody, replies}
 use Rattle.update_machine.specs.Messages.{sent_from}
 use Rattle.world.specs.Parts.{control_in, setting_in}
 use Rattle.usable_links.specs.Linking.{all_told, near_all}
@@ -23,9 +23,10 @@ use Rattle.world.proofs.GoesTold.{first_goes, goes_told, same_control}
 use Rattle.world_ties.proofs.HeardBy.{control_may, control_piece, control_tied, first_piece, names_known, shut_may, shut_piece, shut_tied, undelivered}
 use Rattle.world_ties.proofs.HearReady.{few_switches, hear_ready, usable_here}
 use Rattle.world_ties.proofs.Opening.{opening_may, opening_next, opening_piece, opening_tied}
-use Rattle.world.proofs.Frame.{goes_one, net_stays, none_in, nothing_goes, plane_stays}
+use Rattle.world.proofs.Frame.{goes_nothing, net_stays, none_in, nothing_goes}
 use Rattle.world_log.proofs.Writing.{both_ok, step_part, step_written}
 use Rattle.world.proofs.parts.Parts.deliver.Goals as goal
+use Rattle.world.proofs.parts.Parts.deliver.Goals.{In-Switch}
 
 -- ---- no such message
 
@@ -37,8 +38,7 @@ returns-in_err-get c = λ before row begins.
 pub returns-in-None : goal.returns-in-None
 returns-in-None c = λ before row begins.
     let self = c.args.self.now in
-    goes_one c.push.result before row (Deliver c.args.number) self _ begins (net_stays refl refl)
-    item.Nothing self.log.bag (plane_stays refl refl refl) refl (none_in _)
+    goes_nothing c.push.result before row (Deliver c.args.number) self c.push.new.self begins refl
     (undelivered (control_in self) (setting_in self) before self.switches.items
     self.log.travelling self.packets row c.args.number begins.ready.tied begins.ready.may
     (sym c.in_ok-get.ensures.found ∙ ap is_some c.in-None.is))
@@ -102,28 +102,28 @@ returns-in-Controller c = λ before row begins.
 
 -- ---- what its switch needs
 
+hears : (c : In-Switch) → (c.in-Switch.switch < length c.args.self.now.switches.items)
+    × (c.in-Switch.switch < 64) × IsSoundBody c.in-Some.message.body
+hears c =
+    let self = c.args.self.now in
+    hear_ready (control_in self) (setting_in self) c.requires.before self.switches.items
+    self.log.travelling self.packets c.args.number c.in-Switch.switch c.in-Some.message
+    c.requires.begins.ready.tied
+    (found_there _ _ _ _ c.in-Some.is c.in_ok-get.ensures.message) c.in-Switch.is
+
 pub bounds-self-switch : goal.bounds-self-switch
 bounds-self-switch c =
-    let self = c.args.self.now in
-    (hear_ready (control_in self) (setting_in self) c.requires.before self.switches.items
-    self.log.travelling self.packets c.args.number c.in-Switch.switch c.in-Some.message
-    c.requires.begins.ready.tied (found_there _ _ _ _ c.in-Some.is c.in_ok-get.ensures.message) c.in-Switch.is).1
+    (hears (goal.at.bounds-self-switch c).In-Switch).1
 
 pub index_mut-requires : goal.index_mut-requires
 index_mut-requires c =
     let self = c.args.self.now in
-    let ready = hear_ready (control_in self) (setting_in self) c.requires.before
-    self.switches.items self.log.travelling self.packets c.args.number c.in-Switch.switch
-    c.in-Some.message c.requires.begins.ready.tied (found_there _ _ _ _ c.in-Some.is c.in_ok-get.ensures.message)
-    c.in-Switch.is in
+    let ready = hears (goal.at.index_mut-requires c).In-Switch in
     omega (arith, ready.0, self.switches.ok.0)
 
 pub hear-requires : goal.hear-requires
 hear-requires c =
-    let self = c.args.self.now in
-    (hear_ready (control_in self) (setting_in self) c.requires.before self.switches.items
-    self.log.travelling self.packets c.args.number c.in-Switch.switch c.in-Some.message
-    c.requires.begins.ready.tied (found_there _ _ _ _ c.in-Some.is c.in_ok-get.ensures.message) c.in-Switch.is).2
+    (hears (goal.at.hear-requires c).In-Switch).2
 
 pub returns-in_err-heard : goal.returns-in_err-heard
 returns-in_err-heard c = λ before row begins.
@@ -142,9 +142,7 @@ send_all-requires c =
     let self = c.args.self.now in
     let ready = c.requires.begins.ready in
     let there = found_there _ _ _ _ c.in-Some.is c.in_ok-get.ensures.message in
-    let within = hear_ready (control_in self) (setting_in self) c.requires.before
-    self.switches.items self.log.travelling self.packets c.args.number c.in-Switch.switch
-    c.in-Some.message ready.tied there c.in-Switch.is in
+    let within = hears (goal.at.send_all-requires c).In-Switch in
     subst (MaySend c.deliver.new.self) (sym (c.items.ensures ∙ c.in_ok-heard.ensures.replies))
     (subst (λ bag. MaySend bag (replies c.index_mut.result.now
     (get_or self.near c.in-Switch.switch 0) c.in-Some.message.body)) (sym c.deliver.ensures)
@@ -168,8 +166,7 @@ returns-in-None-opened c = λ before row begins.
     let there = found_there _ _ _ _ c.in-Some.is c.in_ok-get.ensures.message in
     let own = c.index_mut.result.now in
     let near = get_or self.near s 0 in
-    let within = hear_ready (control_in self) (setting_in self) before self.switches.items
-    self.log.travelling self.packets n s message ready.tied there c.in-Switch.is in
+    let within = hears (goal.at.returns-in-None-opened c).In-Switch in
     let usable = usable_here (control_in self) (setting_in self) before self.switches.items
     self.log.travelling self.packets s ready.tied within.1 in
     let shut = sym c.in_ok-heard.ensures.opened ∙ c.in-None-opened.is in
@@ -233,9 +230,7 @@ change_links-requires-clause-next c =
     let self = c.args.self.now in
     let ready = c.requires.begins.ready in
     let there = found_there _ _ _ _ c.in-Some.is c.in_ok-get.ensures.message in
-    let within = hear_ready (control_in self) (setting_in self) c.requires.before
-    self.switches.items self.log.travelling self.packets c.args.number c.in-Switch.switch
-    c.in-Some.message ready.tied there c.in-Switch.is in
+    let within = hears (goal.at.change_links-requires-clause-next c).In-Switch in
     opening_next (control_in self) (setting_in self) c.requires.before self.switches.items
     self.log.travelling self.packets c.requires.row c.args.number c.in-Switch.switch
     c.in-Some-opened.version c.in-Some.message c.index_mut.result.now c.hear.new.self ready.tied
@@ -247,9 +242,7 @@ change_links-requires-clause-may c =
     let self = c.args.self.now in
     let ready = c.requires.begins.ready in
     let there = found_there _ _ _ _ c.in-Some.is c.in_ok-get.ensures.message in
-    let within = hear_ready (control_in self) (setting_in self) c.requires.before
-    self.switches.items self.log.travelling self.packets c.args.number c.in-Switch.switch
-    c.in-Some.message ready.tied there c.in-Switch.is in
+    let within = hears (goal.at.change_links-requires-clause-may c).In-Switch in
     let others = set self.switches.items c.in-Switch.switch c.hear.new.self in
     subst (λ bag. MaySend bag (all_told self.near (near_all self.links others) others))
     (sym c.deliver.ensures)
@@ -270,8 +263,7 @@ returns c = λ before row begins.
     let ready = begins.ready in
     let there = found_there _ _ _ _ c.in-Some.is c.in_ok-get.ensures.message in
     let own = c.index_mut.result.now in
-    let within = hear_ready (control_in self) (setting_in self) before self.switches.items
-    self.log.travelling self.packets n s message ready.tied there c.in-Switch.is in
+    let within = hears (goal.at.returns c).In-Switch in
     let opens = sym c.in_ok-heard.ensures.opened ∙ c.in-Some-opened.is in
     let others = set self.switches.items s c.hear.new.self in
     let messages : List Message = all_told self.near (near_all self.links others) others in

@@ -4,14 +4,13 @@ use Rattle.steps.specs.declared.step.Step.TheVariants.{Forget}
 use Rattle.bag.specs.Posts.{with_forgotten}
 use Rattle.world.specs.Parts.{control_in, setting_in}
 use Rattle.world_ties.proofs.Delivering.{forgotten_tied, unforgotten}
-use Rattle.world.proofs.Frame.{goes_one, net_stays, none_in, plane_stays}
+use Rattle.world.proofs.Frame.{goes_nothing, goes_one, net_stays, none_in, plane_stays}
 use Rattle.world.proofs.parts.Parts.forget.Goals as goal
 
 pub returns-then-not-may_be_delivered : goal.returns-then-not-may_be_delivered
 returns-then-not-may_be_delivered c = λ before row begins.
     let self = c.args.self.now in
-    goes_one c.push.result before row (Forget c.args.number) self _ begins (net_stays refl refl)
-    item.Nothing self.log.bag (plane_stays refl refl refl) refl (none_in _)
+    goes_nothing c.push.result before row (Forget c.args.number) self c.push.new.self begins refl
     (unforgotten (control_in self) (setting_in self) before self.switches.items
     self.log.travelling self.packets row c.args.number begins.ready.tied begins.ready.may
     (sym c.may_be_delivered.ensures ∙ c.if-not-may_be_delivered.true))

@@ -3,7 +3,6 @@ use Rattle.std.proofs.Common.{◌≡◌, ◌<◌, refl, ap, sym, subst, ◌∙�
 use Rattle.std.specs.Option.{option_copied}
 use Rattle.std.specs.Prelude.{IsSomeAnd, is_some, slice_index}
 use Rattle.std.proofs.lemmas.Result.{on_ok_weaker}
-use Rattle.journal.specs.declared.item.Item.TheVariants as item
 use Rattle.steps.specs.declared.step.Step.TheVariants.{Hop}
 use Rattle.world.specs.Parts.{control_in, setting_in}
 use Rattle.switch_core.specs.Answering.{IsAtAuthority}
@@ -11,7 +10,7 @@ use Rattle.switch_core.specs.Moving.{hopped}
 use Rattle.switch_core.specs.declared.answers.HopEnd.TheVariants.{Arrive}
 use Rattle.world_log.proofs.Passing.{of_kept}
 use Rattle.world_ties.proofs.Asking.{can_ask, ingress_below, within_here, number_of_packet}
-use Rattle.world.proofs.Frame.{goes_one, goes_quiet, net_stays, none_in, plane_stays}
+use Rattle.world.proofs.Frame.{goes_nothing, goes_quiet, net_stays, none_in, plane_stays}
 use Rattle.world_ties.proofs.HopTie.{hop_left}
 use Rattle.world.proofs.OverParts.{hop_is, hop_ties}
 use Rattle.world.proofs.parts.Parts.hop.Goals as goal
@@ -21,8 +20,7 @@ use Rattle.world.proofs.parts.Parts.hop.Goals as goal
 pub returns-in-None : goal.returns-in-None
 returns-in-None c = λ before row begins.
     let self = c.args.self.now in
-    goes_one c.push.result before row (Hop c.args.packet) self _ begins (net_stays refl refl)
-    item.Nothing self.log.bag (plane_stays refl refl refl) refl (none_in _)
+    goes_nothing c.push.result before row (Hop c.args.packet) self c.push.new.self begins refl
     (hop_left (control_in self) (setting_in self) before self.switches.items self.log.travelling
     self.packets row c.args.packet begins.ready.tied begins.ready.may
     (ap is_some (sym c.look.ensures ∙ ap option_copied c.in-None.is)))

@@ -1,4 +1,4 @@
-use Rattle.std.proofs.Common.{◌≡◌, ◌+◌, ◌^◌, ◌<◌, ◌++◌, ◌∷◌, ◌==◌, false, true, List, OnOk, OnErr, get_or, length, map, refl, sym, subst, ◌∙◌, arith}
+use Rattle.std.proofs.Common.{ℕ, ◌≡◌, ◌+◌, ◌^◌, ◌<◌, ◌≤◌, ◌++◌, ◌∷◌, ◌==◌, false, true, List, get_or, length, map, refl, sym, subst, ◌∙◌, arith}
 use Rattle.std.proofs.lemmas.Result.{on_ok_weaker}
 use Rattle.controller.specs.Sends.{resending}
 use Rattle.controller.specs.declared.sends.Act.{Act}
@@ -6,43 +6,40 @@ use Rattle.controller.specs.declared.sends.Act.TheVariants.{Post}
 use Rattle.journal.specs.declared.item.Item.TheVariants as item
 use Rattle.steps.specs.declared.step.Step.TheVariants.{Resend}
 use Rattle.usable_links.specs.Linking.{told_again}
-use Rattle.world.specs.Parts.{control_in, setting_in}
+use Rattle.world.specs.Parts.{HasBegun, control_in, setting_in}
+use Rattle.world.specs.declared.parts.Parts.{Parts}
 use Rattle.world_log.specs.Sending.{MayNote, act_items, act_posts}
-use Rattle.world_log.specs.Writing.{IsPart}
-use Rattle.world.proofs.Frame.{goes_one, goes_quiet, net_stays, none_in, nothing_goes, plane_stays}
+use Rattle.world.proofs.Frame.{goes_nothing, goes_quiet, net_stays, none_in, nothing_goes, plane_stays}
+use Rattle.world.proofs.GoesTold.{AreNoted}
 use Rattle.world_ties.proofs.HearReady.{few_switches}
 use Rattle.world_ties.proofs.SentAgain.{acts_same, again_may, again_here, again_known, again_piece, again_tied, sent_tied, silent}
 use Rattle.world.proofs.parts.Parts.resend.Goals as goal
+use Rattle.world.proofs.parts.Parts.resend.Goals.{After-are_none}
 
 -- ---- its switch
 
+here : (self : Parts) (s : ℕ) (begun : HasBegun (Resend s) self)
+    → (s < length self.switches.items) × (s < 64)
+here self s begun = again_here (control_in self) (setting_in self) begun.before
+    self.switches.items self.log.travelling self.packets s begun.begins.ready.tied
+    begun.begins.ready.may
+
+few : (self : Parts) (s : ℕ) (begun : HasBegun (Resend s) self)
+    → length self.switches.items ≤ 64
+few self s begun = few_switches (control_in self) (setting_in self) begun.before
+    self.switches.items self.log.travelling self.packets begun.begins.ready.tied
+
 pub bounds-self-here : goal.bounds-self-here
 bounds-self-here c =
-    let self = c.args.self.now in
-    (again_here (control_in self) (setting_in self) c.requires.before self.switches.items
-    self.log.travelling self.packets c.args.switch c.requires.begins.ready.tied
-    c.requires.begins.ready.may).1
+    (here c.args.self.now c.args.switch c.requires).1
 
 pub index-requires : goal.index-requires
 index-requires c =
-    let self = c.args.self.now in
-    omega (
-      arith,
-      (again_here (control_in self) (setting_in self) c.requires.before self.switches.items
-          self.log.travelling self.packets c.args.switch c.requires.begins.ready.tied
-          c.requires.begins.ready.may).0,
-      self.switches.ok.0,
-    )
+    omega (arith, (here c.args.self.now c.args.switch c.requires).0, c.args.self.now.switches.ok.0)
 
 pub told_again-requires : goal.told_again-requires
 told_again-requires c =
-    let self = c.args.self.now in
-    omega (
-      arith,
-      few_switches (control_in self) (setting_in self) c.requires.before self.switches.items
-          self.log.travelling self.packets c.requires.begins.ready.tied,
-      self.switches.ok.0,
-    )
+    omega (arith, few c.args.self.now c.args.switch c.requires, c.args.self.now.switches.ok.0)
 
 pub resend-requires : goal.resend-requires
 resend-requires c =
@@ -61,20 +58,27 @@ returns-in_err-sends c = λ before row begins.
     nothing_goes c.from_residual-in_err-sends.result before row (Resend c.args.switch)
     c.args.self.now _ begins (net_stays refl refl) c.from_residual-in_err-sends.ensures.0 refl
 
+-- what the switch and the controller have to say, as acts
+said : (c : After-are_none)
+    → map Post c.as_slice-messages.result.now ++ c.acts-acts.result.now
+    ≡ map Post (told_again c.args.switch (length c.args.self.now.switches.items)
+    (get_or c.args.self.now.near c.args.switch 0) c.index.result.now)
+    ++ resending c.args.self.now.controller c.args.switch
+said c =
+    let self = c.args.self.now in
+    acts_same self.controller c.args.switch c.len-count.result (length self.switches.items)
+    (get_or self.near c.args.switch 0) _ c.index.result.now c.as_slice-messages.result.now
+    c.acts-acts.result.now (c.as_slice-messages.ensures.value ∙ c.in_ok-told.ensures) (omega arith)
+    refl (c.acts-acts.ensures ∙ c.in_ok-sends.ensures)
+
 -- ---- nothing is sent
 
 pub returns-then-are_none : goal.returns-then-are_none
 returns-then-are_none c = λ before row begins.
     let self = c.args.self.now in
     let s = c.args.switch in
-    let own = c.index.result.now in
-    let are = acts_same self.controller c.args.switch c.len-count.result
-    (length self.switches.items) (get_or self.near c.args.switch 0) _ own
-    c.as_slice-messages.result.now c.acts-acts.result.now
-    (c.as_slice-messages.ensures.value ∙ c.in_ok-told.ensures) (omega arith) refl
-    (c.acts-acts.ensures ∙ c.in_ok-sends.ensures) in
-    goes_one c.push.result before row (Resend s) self _ begins (net_stays refl refl) item.Nothing
-    self.log.bag (plane_stays refl refl refl) refl (none_in _)
+    let are = said (goal.at.returns-then-are_none c).After-are_none in
+    goes_nothing c.push.result before row (Resend s) self c.push.new.self begins refl
     (silent (control_in self) (setting_in self) before self.switches.items
     self.log.travelling self.packets row s c.index.result.now begins.ready.tied begins.ready.may
     c.index.ensures (subst (λ (acts : List Act). (length acts == 0) ≡ true) are
@@ -85,24 +89,14 @@ returns-then-are_none c = λ before row begins.
 
 pub overflow_cast-count : goal.overflow_cast-count
 overflow_cast-count c =
-    let self = c.args.self.now in
-    omega (
-      arith,
-      few_switches (control_in self) (setting_in self) c.requires.before self.switches.items
-          self.log.travelling self.packets c.requires.begins.ready.tied,
-      self.switches.ok.0,
-    )
+    omega (arith, few c.args.self.now c.args.switch c.requires, c.args.self.now.switches.ok.0)
 
 pub send_and_note-requires : goal.send_and_note-requires
 send_and_note-requires c =
     let self = c.args.self.now in
     let ready = c.requires.begins.ready in
     let own = c.index.result.now in
-    let are = acts_same self.controller c.args.switch c.len-count.result
-    (length self.switches.items) (get_or self.near c.args.switch 0) _ own
-    c.as_slice-messages.result.now c.acts-acts.result.now
-    (c.as_slice-messages.ensures.value ∙ c.in_ok-told.ensures) (omega arith) refl
-    (c.acts-acts.ensures ∙ c.in_ok-sends.ensures) in
+    let are = said (goal.at.send_and_note-requires c).After-are_none in
     subst (MayNote self.log.bag) (sym are)
     (again_may (control_in self) (setting_in self) c.requires.before self.switches.items
     self.log.travelling self.packets c.requires.row c.args.switch own ready.tied ready.may
@@ -116,32 +110,28 @@ returns c = λ before row begins.
     let s = c.args.switch in
     let ready = begins.ready in
     let own = c.index.result.now in
-    let are = acts_same self.controller c.args.switch c.len-count.result
-    (length self.switches.items) (get_or self.near c.args.switch 0) _ own
-    c.as_slice-messages.result.now c.acts-acts.result.now
-    (c.as_slice-messages.ensures.value ∙ c.in_ok-told.ensures) (omega arith) refl
-    (c.acts-acts.ensures ∙ c.in_ok-sends.ensures) in
+    let are = said (goal.at.returns c).After-are_none in
     let some = subst (λ (acts : List Act). (length acts == 0) ≡ false) are
     (sym c.are_none.ensures ∙ c.if-are_none.false) in
     let acts : List Act = map Post (told_again s (length self.switches.items)
     (get_or self.near s 0) own) ++ resending self.controller s in
     let r = c.send_and_note.result in
-    let written = subst (λ all. OnOk r (c.send_and_note.new.self.journal
-    ≡ self.log.journal ++ act_items (length self.log.bag + 1) all)) are
-    c.send_and_note.ensures.written in
-    let posted = subst (λ all. OnOk r (c.send_and_note.new.self.bag
-    ≡ self.log.bag ++ act_posts all)) are c.send_and_note.ensures.posted in
+    let noted : AreNoted r self.log.journal (length self.log.bag) self.log.bag
+    c.send_and_note.new.self acts = subst (AreNoted r self.log.journal (length self.log.bag)
+    self.log.bag c.send_and_note.new.self) are (record {
+      written = c.send_and_note.ensures.written;
+      posted = c.send_and_note.ensures.posted;
+      part = c.send_and_note.ensures.part;
+    }) in
     goes_quiet r before row (Resend s) self _ begins (net_stays refl refl)
     (act_items (length self.log.bag + 1) acts) (plane_stays refl refl refl)
     (again_piece (control_in self) (setting_in self) before self.switches.items
     self.log.travelling self.packets row s own ready.tied ready.may c.index.ensures some)
-    (on_ok_weaker r (λ done. none_in _) written) written
-    (subst (λ all. OnErr r (IsPart self.log.journal (act_items (length self.log.bag + 1) all)
-    c.send_and_note.new.self.journal)) are c.send_and_note.ensures.part)
+    (on_ok_weaker r (λ done. none_in _) noted.written) noted.written noted.part
     (on_ok_weaker r (λ post. sent_tied (setting_in self) (before ++ item.Row row (Resend s)
     ∷ act_items (length self.log.bag + 1) acts) self.switches.items self.log.travelling
     c.send_and_note.new.self.travelling self.packets (control_in self)
     (self.log.bag ++ act_posts acts) c.send_and_note.new.self.bag post
     c.send_and_note.ensures.travelling (again_tied (control_in self) (setting_in self) before
     self.switches.items self.log.travelling self.packets row s own ready.tied ready.may
-    c.index.ensures some)) posted)
+    c.index.ensures some)) noted.posted)

@@ -1,4 +1,4 @@
-use Rattle.std.proofs.Common.{◌≡◌, ◌+◌, ◌++◌, ◌∷◌, [], OnOk, false, length, refl, ap, sym, subst, ◌∙◌, arith}
+use Rattle.std.proofs.Common.{ℕ, ◌≡◌, ◌+◌, ◌<◌, ◌++◌, ◌∷◌, [], OnOk, false, length, refl, ap, sym, subst, ◌∙◌, arith}
 use Rattle.std.proofs.lemmas.List.{get_or_default}
 use Rattle.std.proofs.lemmas.Result.{on_err_weaker, on_ok_weaker}
 use Rattle.bag.specs.Posts.{posted}
@@ -8,36 +8,34 @@ use Rattle.journal.specs.declared.item.Item.TheVariants as item
 use Rattle.steps.specs.declared.step.Step.TheVariants.{Restart}
 use Rattle.switch_core.specs.State.{SwitchValue}
 use Rattle.update_machine.specs.Deliveries.{to_controller}
-use Rattle.world.specs.Parts.{control_in, setting_in}
+use Rattle.world.specs.Parts.{HasBegun, control_in, setting_in}
+use Rattle.world.specs.declared.parts.Parts.{Parts}
 use Rattle.world_ties.proofs.Asking.{below_64}
 use Rattle.world_ties.proofs.Sendable.{hello_spelled}
 use Rattle.world_ties.proofs.Booting.{boot_here, boot_next, boot_piece, boot_tied, up_already}
-use Rattle.world.proofs.Frame.{goes_one, net_stays, none_in, nothing_goes, plane_stays}
+use Rattle.world.proofs.Frame.{goes_nothing, net_stays, none_in, nothing_goes}
 use Rattle.world.proofs.GoesTold.{goes_told}
 use Rattle.world_log.proofs.Writing.{part_none}
 use Rattle.world.proofs.parts.Parts.restart.Goals as goal
+use Rattle.world.proofs.parts.Parts.restart.Goals.{After-index_mut}
+
+here : (self : Parts) (s : ℕ) (begun : HasBegun (Restart s) self)
+    → s < length self.switches.items
+here self s begun = boot_here (control_in self) (setting_in self) begun.before self.switches.items
+    self.log.travelling self.packets s begun.begins.ready.tied begun.begins.ready.may
 
 pub index-requires : goal.index-requires
 index-requires c =
-    let self = c.args.self.now in
-    omega (
-      arith,
-      boot_here (control_in self) (setting_in self) c.requires.before
-          self.switches.items self.log.travelling self.packets c.args.switch
-          c.requires.begins.ready.tied c.requires.begins.ready.may,
-      self.switches.ok.0,
-    )
+    omega (arith, here c.args.self.now c.args.switch c.requires, c.args.self.now.switches.ok.0)
 
 -- ---- it is up
 
 pub returns-then-is_up : goal.returns-then-is_up
 returns-then-is_up c = λ before row begins.
     let self = c.args.self.now in
-    let s = c.args.switch in
-    goes_one c.push.result before row (Restart s) self _ begins (net_stays refl refl) item.Nothing
-    self.log.bag (plane_stays refl refl refl) refl (none_in _)
+    goes_nothing c.push.result before row (Restart c.args.switch) self c.push.new.self begins refl
     (up_already (control_in self) (setting_in self) before self.switches.items
-    self.log.travelling self.packets row s c.index.result.now begins.ready.tied begins.ready.may
+    self.log.travelling self.packets row c.args.switch c.index.result.now begins.ready.tied begins.ready.may
     c.index.ensures (sym c.is_up.ensures ∙ c.if-is_up.true))
     c.push.ensures.pushed c.push.ensures.unchanged
 
@@ -45,14 +43,16 @@ returns-then-is_up c = λ before row begins.
 
 pub index_mut-requires : goal.index_mut-requires
 index_mut-requires c =
-    let self = c.args.self.now in
-    omega (
-      arith,
-      boot_here (control_in self) (setting_in self) c.requires.before
-          self.switches.items self.log.travelling self.packets c.args.switch
-          c.requires.begins.ready.tied c.requires.begins.ready.may,
-      self.switches.ok.0,
-    )
+    omega (arith, here c.args.self.now c.args.switch c.requires, c.args.self.now.switches.ok.0)
+
+is_down : (c : After-index_mut) → c.index_mut.result.now.is_up ≡ false
+is_down c =
+    let switches = c.args.self.now.switches.items in
+    let own = c.index_mut.result.now in
+    let same : own ≡ c.index.result.now = c.index_mut.ensures.value
+    ∙ get_or_default switches c.args.switch own c.index.result.now
+    (here c.args.self.now c.args.switch c.requires) ∙ sym c.index.ensures in
+    ap (λ (w : SwitchValue). w.is_up) same ∙ sym c.is_up.ensures ∙ c.if-is_up.false
 
 pub restart-boot-requires : goal.restart-boot-requires
 restart-boot-requires c =
@@ -60,12 +60,7 @@ restart-boot-requires c =
     let s = c.args.switch in
     let ready = c.requires.begins.ready in
     let own = c.index_mut.result.now in
-    let same : own ≡ c.index.result.now = c.index_mut.ensures.value
-    ∙ get_or_default self.switches.items s own c.index.result.now
-    (boot_here (control_in self) (setting_in self) c.requires.before self.switches.items
-    self.log.travelling self.packets s ready.tied ready.may) ∙ sym c.index.ensures in
-    let down : own.is_up ≡ false = ap (λ (w : SwitchValue). w.is_up) same
-    ∙ sym c.is_up.ensures ∙ c.if-is_up.false in
+    let down = is_down (goal.at.restart-boot-requires c).After-index_mut in
     let can = boot_next (control_in self) (setting_in self) c.requires.before
     self.switches.items self.log.travelling self.packets c.requires.row s own ready.tied ready.may
     c.index_mut.ensures.value down ready.room in
@@ -82,8 +77,7 @@ send-requires c =
     let ready = c.requires.begins.ready in
     let below = below_64 (control_in self) (setting_in self) c.requires.before
     self.switches.items self.log.travelling self.packets c.args.switch ready.tied
-    (boot_here (control_in self) (setting_in self) c.requires.before self.switches.items
-    self.log.travelling self.packets c.args.switch ready.tied ready.may) in
+    (here self c.args.switch c.requires) in
     record {
       spelling = subst HasShortSpelling (sym c.hello.ensures)
           (hello_spelled c.args.switch c.restart-boot.result below);
@@ -96,12 +90,7 @@ returns c = λ before row begins.
     let s = c.args.switch in
     let ready = begins.ready in
     let own = c.index_mut.result.now in
-    let same : own ≡ c.index.result.now = c.index_mut.ensures.value
-    ∙ get_or_default self.switches.items s own c.index.result.now
-    (boot_here (control_in self) (setting_in self) before self.switches.items
-    self.log.travelling self.packets s ready.tied ready.may) ∙ sym c.index.ensures in
-    let down : own.is_up ≡ false = ap (λ (w : SwitchValue). w.is_up) same
-    ∙ sym c.is_up.ensures ∙ c.if-is_up.false in
+    let down = is_down (goal.at.returns c).After-index_mut in
     let boot = own.boot + 1 in
     let hello = to_controller (Hello s boot) in
     let begun = c.push-2.new.self in

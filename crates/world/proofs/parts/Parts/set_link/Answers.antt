@@ -1,4 +1,4 @@
-use Rattle.std.proofs.Common.{ℕ, ◌≡◌, ◌+◌, ◌++◌, ◌∷◌, [], Bool, true, false, List, length, map, max, min, refl, ap, sym, subst, ◌∙◌, arith}
+use Rattle.std.proofs.Common.{ℕ, ◌≡◌, ◌+◌, ◌<◌, ◌++◌, ◌∷◌, [], Bool, true, false, List, length, map, max, min, refl, ap, sym, subst, ◌∙◌, arith}
 use Rattle.std.specs.Bool.{beq}
 use Rattle.bag.specs.Posts.{posted}
 use Rattle.ctrl_msg.specs.declared.message.Message.{Message}
@@ -6,10 +6,11 @@ use Rattle.journal.specs.declared.item.Item.{Item}
 use Rattle.journal.specs.declared.item.Item.TheVariants as item
 use Rattle.update_machine.specs.Messages.{sent_from}
 use Rattle.usable_links.specs.Linking.{all_told, link_step, near_all}
-use Rattle.world.specs.Parts.{control_in, setting_in}
+use Rattle.world.specs.Parts.{HasBegun, control_in, setting_in}
+use Rattle.world.specs.declared.parts.Parts.{Parts}
 use Rattle.world.specs.State.{comes_in}
 use Rattle.world_ties.specs.Tied.{AreTied}
-use Rattle.world.proofs.Frame.{goes_one, net_stays, nothing_goes, plane_stays}
+use Rattle.world.proofs.Frame.{goes_nothing, net_stays, nothing_goes}
 use Rattle.world.proofs.GoesTold.{goes_told, same_control}
 use Rattle.world_ties.proofs.HearReady.{few_switches}
 use Rattle.world_ties.proofs.LinksChange.{numbers_left}
@@ -22,37 +23,28 @@ none_come : (one two : ℕ) (up : Bool) → comes_in (link_step up one two) ≡ 
 none_come one two true = refl
 none_come one two false = refl
 
+-- both ends are switches
+ends : (self : Parts) (one two : ℕ) (up : Bool) (begun : HasBegun (link_step up one two) self)
+    → (one < 64) × (two < 64)
+ends self one two up begun = ends_below (control_in self) (setting_in self) begun.before
+    self.switches.items self.log.travelling self.packets begun.row one two up
+    begun.begins.ready.tied begun.begins.ready.may
+
 pub bounds-self-one : goal.bounds-self-one
 bounds-self-one c =
-    let self = c.args.self.now in
-    let ready = c.requires.begins.ready in
-    (ends_below (control_in self) (setting_in self) c.requires.before self.switches.items
-    self.log.travelling self.packets c.requires.row c.args.one c.args.two c.args.up ready.tied
-    ready.may).0
+    (ends c.args.self.now c.args.one c.args.two c.args.up c.requires).0
 
 pub has-requires : goal.has-requires
 has-requires c =
-    let self = c.args.self.now in
-    let ready = c.requires.begins.ready in
-    (ends_below (control_in self) (setting_in self) c.requires.before self.switches.items
-    self.log.travelling self.packets c.requires.row c.args.one c.args.two c.args.up ready.tied
-    ready.may).1
+    (ends c.args.self.now c.args.one c.args.two c.args.up c.requires).1
 
 pub set_ends-requires-clause-one : goal.set_ends-requires-clause-one
 set_ends-requires-clause-one c =
-    let self = c.args.self.now in
-    let ready = c.requires.begins.ready in
-    (ends_below (control_in self) (setting_in self) c.requires.before self.switches.items
-    self.log.travelling self.packets c.requires.row c.args.one c.args.two c.args.up ready.tied
-    ready.may).0
+    (ends c.args.self.now c.args.one c.args.two c.args.up c.requires).0
 
 pub set_ends-requires-clause-two : goal.set_ends-requires-clause-two
 set_ends-requires-clause-two c =
-    let self = c.args.self.now in
-    let ready = c.requires.begins.ready in
-    (ends_below (control_in self) (setting_in self) c.requires.before self.switches.items
-    self.log.travelling self.packets c.requires.row c.args.one c.args.two c.args.up ready.tied
-    ready.may).1
+    (ends c.args.self.now c.args.one c.args.two c.args.up c.requires).1
 
 -- ---- it is so already
 
@@ -62,8 +54,8 @@ returns-then-has-up c = λ before row begins.
     let one = c.args.one in
     let two = c.args.two in
     let up = c.args.up in
-    goes_one c.push.result before row (link_step up one two) self _ begins (net_stays refl refl)
-    item.Nothing self.log.bag (plane_stays refl refl refl) refl (omega (arith, none_come one two up))
+    goes_nothing c.push.result before row (link_step up one two) self c.push.new.self begins
+    (none_come one two up)
     (same_tied (control_in self) (setting_in self) before self.switches.items
     self.log.travelling self.packets row one two up begins.ready.tied begins.ready.may
     (ap (λ b. beq b up) (sym c.has.ensures.has) ∙ c.if-has-up.true))

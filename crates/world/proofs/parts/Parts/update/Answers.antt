@@ -1,4 +1,4 @@
-use Rattle.std.proofs.Common.{◌≡◌, ◌≢◌, ◌+◌, ◌-◌, ◌^◌, ◌<◌, ◌++◌, ◌∷◌, [], List, Err, OnOk, OnErr, get_or, length, refl, ap, sym, subst, ◌∙◌, rules}
+use Rattle.std.proofs.Common.{◌≡◌, ◌≢◌, ◌+◌, ◌-◌, ◌^◌, ◌<◌, ◌++◌, ◌∷◌, [], List, Err, get_or, length, refl, ap, sym, subst, ◌∙◌, rules}
 use Rattle.std.proofs.lemmas.Result.{on_ok_weaker}
 use Rattle.control_ties.specs.Controller.{IsPlanOfFile}
 use Rattle.controller.specs.Controller.{ControllerValue}
@@ -10,11 +10,11 @@ use Rattle.steps.specs.declared.step.Step.TheVariants.{Update}
 use Rattle.policy_store.specs.Files.{IsCompiled}
 use Rattle.world.specs.Parts.{control_in, setting_in}
 use Rattle.world_log.specs.Sending.{MayNote, act_items, act_posts}
-use Rattle.world_log.specs.Writing.{IsPart}
 use Rattle.world.proofs.Frame.{goes_one, net_stays, none_in, not_err, nothing_goes, plane_stays}
-use Rattle.world.proofs.GoesTold.{goes_told}
+use Rattle.world.proofs.GoesTold.{AreNoted, goes_told}
 use Rattle.world_ties.proofs.Submitting.{live_piece, planned_file, refused_piece, refused_tied, submitted_may, submitted_piece, submitted_tied, unplanned_code, versions_piece}
 use Rattle.world.proofs.parts.Parts.update.Goals as goal
+use Rattle.world.proofs.parts.Parts.update.Goals.{In-Planned}
 
 -- ---- the policy has no plan
 
@@ -46,6 +46,18 @@ returns-in-Refused c = λ before row begins.
 
 -- ---- it is submitted
 
+-- the plan is that of the file
+planned : (c : In-Planned)
+    → IsPlanOfFile (setting_in c.args.self.now) c.args.file c.in-Planned.plan
+planned c =
+    let files = c.args.self.now.files in
+    let file = c.args.file in
+    let may = c.requires.begins.ready.may in
+    let of_policy = subst (IsCompiled files.net (get_or files.policies (file - 1) []))
+    c.in-Planned.is c.in_ok-code.ensures.compiled in
+    planned_file files.net files.policies file c.in-Planned.plan may.0 may.1 of_policy.0
+    of_policy.1
+
 pub returns-in_err-push-in-Ok : goal.returns-in_err-push-in-Ok
 returns-in_err-push-in-Ok c = λ before row begins.
     nothing_goes c.from_residual-in_err-push-in-Ok.result before row (Update c.args.file)
@@ -57,14 +69,8 @@ pub note_acts-requires : goal.note_acts-requires
 note_acts-requires c =
     let self = c.args.self.now in
     let file = c.args.file in
-    let net = self.files.net in
-    let policies = self.files.policies in
     let ready = c.requires.begins.ready in
-    let planned = subst (IsCompiled net (get_or policies (file - 1) [])) c.in-Planned.is
-    c.in_ok-code.ensures.compiled in
-    let of_file : IsPlanOfFile (setting_in self) file c.in-Planned.plan =
-    planned_file net policies file c.in-Planned.plan ready.may.0 ready.may.1 planned.0
-    planned.1 in
+    let of_file = planned (goal.at.note_acts-requires c).In-Planned in
     subst (MayNote self.log.bag) (sym (c.acts.ensures ∙ c.in-Ok.ensures.sends))
     (submitted_may (control_in self) (setting_in self) c.requires.before
     self.switches.items self.log.travelling self.packets c.requires.row file ready.tied
@@ -80,23 +86,23 @@ pub returns-in_ok-push-in-Ok : goal.returns-in_ok-push-in-Ok
 returns-in_ok-push-in-Ok c = λ before row begins.
     let self = c.args.self.now in
     let file = c.args.file in
-    let net = self.files.net in
-    let policies = self.files.policies in
     let ready = begins.ready in
-    let planned = subst (IsCompiled net (get_or policies (file - 1) [])) c.in-Planned.is
-    c.in_ok-code.ensures.compiled in
-    let of_file : IsPlanOfFile (setting_in self) file c.in-Planned.plan =
-    planned_file net policies file c.in-Planned.plan ready.may.0 ready.may.1 planned.0
-    planned.1 in
+    let of_file = planned (goal.at.returns-in_ok-push-in-Ok c).In-Planned in
     let live : self.controller.marks.count - self.controller.marks.retired ≢ 8 =
     λ e. not_err _ _ (c.in-Ok.ensures.live.1 e) in
     let versions : self.controller.marks.count ≢ 64 =
     λ e. not_err _ _ (c.in-Ok.ensures.versions.1 (live, e)) in
     let new : ControllerValue = c.submit.new.self in
     let acts : List Act = submitting self.controller.marks c.in-Planned.plan new.marks in
-    let are : c.acts.result.now ≡ acts = c.acts.ensures ∙ c.in-Ok.ensures.sends in
     let one = item.Submitted file (self.controller.marks.count + 1) in
     let begun = c.push-in-Ok.new.self in
+    let noted : AreNoted c.note_acts.result begun (length self.log.bag) self.log.bag
+    c.note_acts.new.self acts = subst (AreNoted c.note_acts.result begun (length self.log.bag)
+    self.log.bag c.note_acts.new.self) (c.acts.ensures ∙ c.in-Ok.ensures.sends) (record {
+      written = c.note_acts.ensures.written;
+      posted = c.note_acts.ensures.posted;
+      part = c.note_acts.ensures.part;
+    }) in
     goes_told c.note_acts.result before row (Update file) self _ one (λ k. act_items k acts) begun
     (length self.log.bag) self.log.bag (act_posts acts) begins
     (net_stays c.in_ok-code.ensures.same refl) (record {
@@ -109,14 +115,9 @@ returns-in_ok-push-in-Ok c = λ before row begins.
           c.in_ok-push-in-Ok.ensures.pushed;
       number_is = refl;
       travelling = c.note_acts.ensures.travelling;
-      written = subst (λ all. OnOk c.note_acts.result (c.note_acts.new.self.journal
-          ≡ begun ++ act_items (length self.log.bag + 1) all)) are c.note_acts.ensures.written;
-      part = subst (λ all. OnErr c.note_acts.result (IsPart begun
-          (act_items (length self.log.bag + 1) all) c.note_acts.new.self.journal)) are
-          c.note_acts.ensures.part;
-      posted = subst (λ all. OnOk c.note_acts.result
-          (c.note_acts.new.self.bag ≡ self.log.bag ++ act_posts all)) are
-          c.note_acts.ensures.posted;
+      written = noted.written;
+      part = noted.part;
+      posted = noted.posted;
       tied = on_ok_weaker c.note_acts.result (λ done. submitted_tied (control_in self)
           (setting_in self) before self.switches.items self.log.travelling self.packets row file
           ready.tied ready.may c.in-Planned.plan new of_file live versions c.in-Ok.ensures.after)
@@ -129,14 +130,8 @@ pub returns-in-Err-TooManyLive : goal.returns-in-Err-TooManyLive
 returns-in-Err-TooManyLive c = λ before row begins.
     let self = c.args.self.now in
     let file = c.args.file in
-    let net = self.files.net in
-    let policies = self.files.policies in
     let ready = begins.ready in
-    let planned = subst (IsCompiled net (get_or policies (file - 1) [])) c.in-Planned.is
-    c.in_ok-code.ensures.compiled in
-    let of_file : IsPlanOfFile (setting_in self) file c.in-Planned.plan =
-    planned_file net policies file c.in-Planned.plan ready.may.0 ready.may.1 planned.0
-    planned.1 in
+    let of_file = planned (goal.at.returns-in-Err-TooManyLive c).In-Planned in
     let is = live_piece (control_in self) (setting_in self) before self.switches.items
     self.log.travelling self.packets row file c.in-Planned.plan ready.tied of_file
     (c.in-Err-TooManyLive.ensures.live.0 (ap Err c.in-Err-TooManyLive.field-0-is)) in
@@ -155,14 +150,8 @@ pub returns-in-Err-TooManyVersions : goal.returns-in-Err-TooManyVersions
 returns-in-Err-TooManyVersions c = λ before row begins.
     let self = c.args.self.now in
     let file = c.args.file in
-    let net = self.files.net in
-    let policies = self.files.policies in
     let ready = begins.ready in
-    let planned = subst (IsCompiled net (get_or policies (file - 1) [])) c.in-Planned.is
-    c.in_ok-code.ensures.compiled in
-    let of_file : IsPlanOfFile (setting_in self) file c.in-Planned.plan =
-    planned_file net policies file c.in-Planned.plan ready.may.0 ready.may.1 planned.0
-    planned.1 in
+    let of_file = planned (goal.at.returns-in-Err-TooManyVersions c).In-Planned in
     let many = c.in-Err-TooManyVersions.ensures.versions.0
     (ap Err c.in-Err-TooManyVersions.field-0-is) in
     let is = versions_piece (control_in self) (setting_in self) before self.switches.items
