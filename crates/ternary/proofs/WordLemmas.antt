@@ -713,6 +713,15 @@ module _ (a b : WordValue) (a_word : IsWord a) (b_word : IsWord b) where
         no_header (joined a b).value joined_value held.0 held.1),
   )
 
+  -- the same of a test, or of a meet, where the two words go by other names
+  pub inclusion_as : {v w : WordValue} {t : Bool} → a ≡ v → b ≡ w → t ≡ covers_of v w
+      → IsTrue t ↔ Includes v w
+  inclusion_as same also is = rw (is, ← same, ← also) inclusion
+
+  pub disjoint_as : {v w : WordValue} {met : Option WordValue} → a ≡ v → b ≡ w → met ≡ meet_of v w
+      → IsNone met ↔ AreDisjoint v w
+  disjoint_as same also is = rw (is, ← same, ← also) disjoint
+
   -- no value bit is outside the masks, so the values need no masking
   plain_sum : joined a b ≡ record { value = bit_or a.value b.value; mask = bit_or a.mask b.mask }
   plain_sum = same_word _ _ (λ i. bit_or (a_word.within i) (b_word.within i)) refl

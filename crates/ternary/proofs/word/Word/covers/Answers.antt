@@ -1,6 +1,4 @@
-use Rattle.std.proofs.Common.{◌↔◌, IsTrue, subst, sym}
-use Rattle.ternary.specs.Meets.{Includes}
-use Rattle.ternary.proofs.WordLemmas.{covers_masked, covers_unmasked, inclusion}
+use Rattle.ternary.proofs.WordLemmas.{covers_masked, covers_unmasked, inclusion_as}
 use Rattle.ternary.proofs.word.Word.covers.Goals as goal
 
 pub returns-then-self-other-clause-test : goal.returns-then-self-other-clause-test
@@ -10,9 +8,8 @@ returns-then-self-other-clause-test c =
 
 pub returns-then-self-other-clause-inclusion : goal.returns-then-self-other-clause-inclusion
 returns-then-self-other-clause-inclusion c =
-    subst (λ t. IsTrue t ↔ Includes c.args.self.now c.args.other.now)
-    (sym (returns-then-self-other-clause-test c))
-    (rw (← c.self.view_is, ← c.other.view_is) (inclusion _ _ c.self.invariant c.other.invariant))
+    inclusion_as _ _ c.self.invariant c.other.invariant c.self.view_is c.other.view_is
+    (returns-then-self-other-clause-test c)
 
 pub returns-else-self-other-clause-test : goal.returns-else-self-other-clause-test
 returns-else-self-other-clause-test c =
@@ -21,6 +18,5 @@ returns-else-self-other-clause-test c =
 
 pub returns-else-self-other-clause-inclusion : goal.returns-else-self-other-clause-inclusion
 returns-else-self-other-clause-inclusion c =
-    subst (λ t. IsTrue t ↔ Includes c.args.self.now c.args.other.now)
-    (sym (returns-else-self-other-clause-test c))
-    (rw (← c.self.view_is, ← c.other.view_is) (inclusion _ _ c.self.invariant c.other.invariant))
+    inclusion_as _ _ c.self.invariant c.other.invariant c.self.view_is c.other.view_is
+    (returns-else-self-other-clause-test c)

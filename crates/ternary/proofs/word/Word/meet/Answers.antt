@@ -1,6 +1,5 @@
-use Rattle.std.proofs.Common.{◌↔◌, IsNone, subst, sym}
-use Rattle.ternary.specs.Meets.{AreDisjoint}
-use Rattle.ternary.proofs.WordLemmas.{sum_meet, sum_word, no_meet, meet_both, disjoint}
+use Rattle.std.proofs.Common.{sym}
+use Rattle.ternary.proofs.WordLemmas.{sum_meet, sum_word, no_meet, meet_both, disjoint_as}
 use Rattle.ternary.proofs.word.Word.meet.Goals as goal
 
 pub invariant_of-result : goal.invariant_of-result
@@ -20,9 +19,8 @@ returns-then-self-common-clause-both c = (
 
 pub returns-then-self-common-clause-none : goal.returns-then-self-common-clause-none
 returns-then-self-common-clause-none c =
-    subst (λ r. IsNone r ↔ AreDisjoint c.args.self.now c.args.other.now)
-    (sym (returns-then-self-common-clause-pair c))
-    (rw (← c.self.view_is, ← c.other.view_is) (disjoint _ _ c.self.invariant c.other.invariant))
+    disjoint_as _ _ c.self.invariant c.other.invariant c.self.view_is c.other.view_is
+    (returns-then-self-common-clause-pair c)
 
 pub returns-else-self-common-clause-pair : goal.returns-else-self-common-clause-pair
 returns-else-self-common-clause-pair c =
@@ -31,6 +29,5 @@ returns-else-self-common-clause-pair c =
 
 pub returns-else-self-common-clause-none : goal.returns-else-self-common-clause-none
 returns-else-self-common-clause-none c =
-    subst (λ r. IsNone r ↔ AreDisjoint c.args.self.now c.args.other.now)
-    (sym (returns-else-self-common-clause-pair c))
-    (rw (← c.self.view_is, ← c.other.view_is) (disjoint _ _ c.self.invariant c.other.invariant))
+    disjoint_as _ _ c.self.invariant c.other.invariant c.self.view_is c.other.view_is
+    (returns-else-self-common-clause-pair c)
