@@ -18,21 +18,27 @@ newer_past a b c p q = grind (arith, nat_tests)
 
 -- ---- one advert more
 
-push_other : (origin : ℕ) (seen : List Advert) (advert : Advert) (now : Option Advert) →
-    advert.origin ≢ origin → IsNewest origin seen now → IsNewest origin (seen ++ advert ∷ []) now
-push_other origin seen advert None apart newest =
-    All-push (λ a. a.origin ≢ origin) seen advert newest apart
-push_other origin seen advert (Some best) apart (before, after, parts, of_it, older, later) = (
+-- one behind the others that is no newer
+push_behind : (origin : ℕ) (seen : List Advert) (advert best : Advert) →
+    (advert.origin ≡ origin → is_newer advert best ≡ false) → IsNewest origin seen (Some best) →
+    IsNewest origin (seen ++ advert ∷ []) (Some best)
+push_behind origin seen advert best old (before, after, parts, of_best, older, later) = (
   before,
   after ++ advert ∷ [],
   ap (λ s. s ++ advert ∷ []) parts
       ∙ append_assoc before (best ∷ after) (advert ∷ []),
-  of_it,
+  of_best,
   older,
   All-push
-      (λ a. a.origin ≡ origin → is_newer a best ≡ false) after advert later
-      (λ e. absurd (apart e)),
+      (λ a. a.origin ≡ origin → is_newer a best ≡ false) after advert later old,
 )
+
+push_other : (origin : ℕ) (seen : List Advert) (advert : Advert) (now : Option Advert) →
+    advert.origin ≢ origin → IsNewest origin seen now → IsNewest origin (seen ++ advert ∷ []) now
+push_other origin seen advert None apart newest =
+    All-push (λ a. a.origin ≢ origin) seen advert newest apart
+push_other origin seen advert (Some best) apart newest =
+    push_behind origin seen advert best (λ e. absurd (apart e)) newest
 
 push_first : (origin : ℕ) (seen : List Advert) (advert : Advert) → advert.origin ≡ origin →
     IsNewest origin seen None → IsNewest origin (seen ++ advert ∷ []) (Some advert)
@@ -69,20 +75,6 @@ push_newer origin seen advert best of_it newer (before, after, parts, of_best, o
           (λ a. a.origin ≡ origin → is_newer a advert ≡ false),
     )
 
-push_older : (origin : ℕ) (seen : List Advert) (advert best : Advert) →
-    is_newer advert best ≡ false → IsNewest origin seen (Some best) →
-    IsNewest origin (seen ++ advert ∷ []) (Some best)
-push_older origin seen advert best old (before, after, parts, of_best, older, later) = (
-  before,
-  after ++ advert ∷ [],
-  ap (λ s. s ++ advert ∷ []) parts
-      ∙ append_assoc before (best ∷ after) (advert ∷ []),
-  of_best,
-  older,
-  All-push
-      (λ a. a.origin ≡ origin → is_newer a best ≡ false) after advert later (λ e. old),
-)
-
 push_news : (origin : ℕ) (seen : List Advert) (advert : Advert) (now : Option Advert) →
     advert.origin ≡ origin → option_map_or (is_newer advert) now true ≡ true →
     IsNewest origin seen now → IsNewest origin (seen ++ advert ∷ []) (Some advert)
@@ -94,7 +86,8 @@ push_old : (origin : ℕ) (seen : List Advert) (advert : Advert) (now : Option A
     option_map_or (is_newer advert) now true ≡ false → IsNewest origin seen now →
     IsNewest origin (seen ++ advert ∷ []) now
 push_old origin seen advert None old newest = apart_tests true refl old
-push_old origin seen advert (Some best) old newest = push_older origin seen advert best old newest
+push_old origin seen advert (Some best) old newest =
+    push_behind origin seen advert best (λ e. old) newest
 
 -- ---- as it is heard
 

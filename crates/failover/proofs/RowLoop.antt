@@ -210,3 +210,9 @@ and_all a fits = same_masks _ _ (omega (arith, and_le_r a (2 ^ 64 - 1))) fits
 -- the first that is left
 pub first_left : (rest : ℕ) → rest < 2 ^ 64 → (rest ≡ 0 → ⊥) → has rest (least_in rest) ≡ true
 first_left rest fits some = has_least rest (omega arith) fits
+
+-- without it fewer are left
+pub fewer_left : (rest gone : ℕ) → rest < 2 ^ 64 → (rest ≡ 0 → ⊥) → gone ≡ 2 ^ least_in rest →
+    bit_xor rest gone < rest
+fewer_left rest gone fits some goes =
+    rw goes (less rest (least_in rest) (first_left rest fits some))

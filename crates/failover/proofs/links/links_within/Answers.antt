@@ -1,8 +1,7 @@
-use Rattle.std.proofs.Common.{◌∙◌, ap, arith, ◌<◌}
-use Rattle.std.specs.Int.Bits.{bit_xor}
+use Rattle.std.proofs.Common.{◌∙◌, ap, arith}
 use Rattle.masks.specs.Masks.{only_if, least_in}
 use Rattle.masks.proofs.CallerLemmas.{least_lt}
-use Rattle.failover.proofs.RowLoop.{row_begins, row_ends, row_goes_on, less, first_left}
+use Rattle.failover.proofs.RowLoop.{row_begins, row_ends, row_goes_on, fewer_left, first_left}
 use Rattle.failover.proofs.links.links_within.Goals as goal
 
 pub loop-rest-init : goal.loop-rest-init
@@ -27,10 +26,8 @@ loop-rest-preserved c =
 pub loop-rest-smaller : goal.loop-rest-smaller
 unfolding least_in
 loop-rest-smaller c =
-    let gone : bit_xor c.loop-rest.rest c.only_if-rest.result < c.loop-rest.rest =
-    rw c.only_if-rest.ensures (less c.loop-rest.rest (least_in c.loop-rest.rest)
-    (first_left c.loop-rest.rest c.loop-rest.invariant.rest_fits c.loop-rest-test.true)) in
-    gone
+    fewer_left c.loop-rest.rest c.only_if-rest.result c.loop-rest.invariant.rest_fits
+    c.loop-rest-test.true c.only_if-rest.ensures
 
 pub returns : goal.returns
 returns c = row_ends c.args.neighbours.now c.args.down.now c.args.one c.args.within

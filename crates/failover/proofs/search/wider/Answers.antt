@@ -5,7 +5,7 @@ use Rattle.masks.specs.Masks.{least_in}
 use Rattle.masks.proofs.CallerLemmas.{least_lt, mask_of_lt}
 use Rattle.failover.specs.Links.{is_link}
 use Rattle.failover.specs.Isolated.{links_of_each}
-use Rattle.failover.proofs.RowLoop.{first_left, less, or_others}
+use Rattle.failover.proofs.RowLoop.{fewer_left, first_left, or_others}
 use Rattle.failover.proofs.Rows.{length-link_rows, row_of, row_turned}
 use Rattle.failover.proofs.WiderLoop.{IsWideSoFar, wide_begins, wide_ends, wide_goes_on}
 use Rattle.failover.proofs.search.wider.Goals as goal
@@ -38,10 +38,8 @@ loop-rest-preserved c =
 pub loop-rest-smaller : goal.loop-rest-smaller
 unfolding least_in
 loop-rest-smaller c =
-    let gone : bit_xor c.loop-rest.rest c.only_if-rest.result < c.loop-rest.rest =
-    rw c.only_if-rest.ensures (less c.loop-rest.rest (least_in c.loop-rest.rest)
-    (first_left c.loop-rest.rest c.loop-rest.invariant.rest_fits c.loop-rest-test.true)) in
-    gone
+    fewer_left c.loop-rest.rest c.only_if-rest.result c.loop-rest.invariant.rest_fits
+    c.loop-rest-test.true c.only_if-rest.ensures
 
 pub returns : goal.returns
 returns c = wide_ends _ c.args.ball c.loop-rest.wide c.loop-rest.rest
