@@ -118,3 +118,10 @@ ports_in_values d vs e =
       list_all-map (λ port. is_some (as_integer port)) view vs,
       list_all-map (λ port. is_some (port_read port)) view vs,
     ) refl
+
+-- and where they are integers
+pub ports_in_integers : (d : Data) (vs : List Value) (ports : Bool) → array_in d ≡ Ok (map view vs)
+    → list_all (λ v. is_some (as_integer (view v))) vs ≡ true
+    → ports ≡ list_all (λ v. is_some (port_read (view v))) vs
+    → ports_in d ≡ require ports refusal.Range (Ok (filter_map port_read (map view vs)))
+ports_in_integers d vs ports e integers are = rw (ports_in_values d vs e, integers, are) refl
