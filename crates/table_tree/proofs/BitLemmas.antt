@@ -1,9 +1,10 @@
 -- Masks as sets of bits.
-use Rattle.std.proofs.Common.{◌≡◌, ℕ, zero, suc, ◌+◌, ◌-◌, ◌^◌, ◌<◌, min, max, Bool, true, false, ◌&&◌, ◌||◌, bit_and, bit_or, length, take, get_or, Option, Some, None, List, refl, sym, ◌∙◌, ap, inl, inr, arith, ◌↔◌}
+use Rattle.std.proofs.Common.{◌≡◌, ℕ, ◌+◌, ◌-◌, ◌^◌, ◌<◌, min, max, Bool, true, false, ◌&&◌, ◌||◌, bit_and, bit_or, length, take, get_or, Option, Some, None, List, sym, ◌∙◌, ap, inl, inr, arith, ◌↔◌}
 use Rattle.std.specs.Bool.{◌==◌}
 use Rattle.std.specs.Option.{IfNone}
 use Rattle.std.specs.Int.{w128, bit_at, trailing_zeros}
 use Rattle.std.proofs.lemmas.Bool.{cases_lt, cases_Bool, eqb-true}
+use Rattle.std.proofs.lemmas.Bool.Decides.{nat_tests}
 use Rattle.std.proofs.lemmas.List.Folds.{list_all_more, list_any_more}
 use Rattle.std.proofs.lemmas.Nat.Bits.{bit_at-lt, bit_at-zero, bit_at_and, bit_at_or, bit_at_ones, bit_at-trailing_zeros}
 use Rattle.ternary.specs.Word.{WordValue}
@@ -16,20 +17,10 @@ use Rattle.table_tree.specs.declared.node.Spot.{Spot}
 -- ---- one bit of a mask
 
 min_digit : (a b : ℕ) → a < 2 → b < 2 → (min a b == 1) ≡ ((a == 1) && (b == 1))
-min_digit zero zero p q = refl
-min_digit zero (suc zero) p q = refl
-min_digit (suc zero) zero p q = refl
-min_digit (suc zero) (suc zero) p q = refl
-min_digit (suc (suc a)) b p q = absurd (omega arith)
-min_digit a (suc (suc b)) p q = absurd (omega arith)
+min_digit a b p q = grind (arith, nat_tests)
 
 max_digit : (a b : ℕ) → a < 2 → b < 2 → (max a b == 1) ≡ ((a == 1) || (b == 1))
-max_digit zero zero p q = refl
-max_digit zero (suc zero) p q = refl
-max_digit (suc zero) zero p q = refl
-max_digit (suc zero) (suc zero) p q = refl
-max_digit (suc (suc a)) b p q = absurd (omega arith)
-max_digit a (suc (suc b)) p q = absurd (omega arith)
+max_digit a b p q = grind (arith, nat_tests)
 
 and_bit : (a b k : ℕ) → (bit_at (bit_and a b) k == 1) ≡ ((bit_at a k == 1) && (bit_at b k == 1))
 and_bit a b k = ap (λ n. n == 1) (bit_at_and a b k)
@@ -41,30 +32,29 @@ or_bit a b k = ap (λ n. n == 1) (bit_at_or a b k)
 
 -- ---- the bits that regions fix
 
+mask_fixes : (spots : List Spot) (index : ℕ) (spot : Spot) (mask bit : ℕ)
+    → spot ≡ get_or spots index spot → mask ≡ spot.region.mask
+    → (bit_at mask bit == 1) ≡ is_fixed_of (get_or spots index spot).region bit
+unfolding is_fixed_of
+mask_fixes spots index spot mask bit is same =
+    ap (λ m. bit_at m bit == 1) same ∙ ap (λ (s : Spot). is_fixed_of s.region bit) is
+
 pub all_more : (spots : List Spot) (index : ℕ) (spot : Spot) (bits mask bit : ℕ)
     → index < length spots → spot ≡ get_or spots index spot → mask ≡ spot.region.mask
     → (bit_at bits bit == 1) ≡ all_fix (take index spots) bit
     → (bit_at (bit_and bits mask) bit == 1) ≡ all_fix (take (index + 1) spots) bit
-unfolding is_fixed_of
 all_more spots index spot bits mask bit within is same so_far =
-    let fixes : (bit_at mask bit == 1) ≡ is_fixed_of (get_or spots index spot).region bit =
-    ap (λ m. bit_at m bit == 1) same
-    ∙ ap (λ (s : Spot). is_fixed_of s.region bit) is in
     and_bit bits mask bit ∙ ap (λ t. t && (bit_at mask bit == 1)) so_far
-    ∙ ap (λ t. all_fix (take index spots) bit && t) fixes
+    ∙ ap (λ t. all_fix (take index spots) bit && t) (mask_fixes spots index spot mask bit is same)
     ∙ sym (list_all_more (λ (s : Spot). is_fixed_of s.region bit) spots index spot within)
 
 pub some_more : (spots : List Spot) (index : ℕ) (spot : Spot) (bits mask bit : ℕ)
     → index < length spots → spot ≡ get_or spots index spot → mask ≡ spot.region.mask
     → (bit_at bits bit == 1) ≡ some_fix (take index spots) bit
     → (bit_at (bit_or bits mask) bit == 1) ≡ some_fix (take (index + 1) spots) bit
-unfolding is_fixed_of
 some_more spots index spot bits mask bit within is same so_far =
-    let fixes : (bit_at mask bit == 1) ≡ is_fixed_of (get_or spots index spot).region bit =
-    ap (λ m. bit_at m bit == 1) same
-    ∙ ap (λ (s : Spot). is_fixed_of s.region bit) is in
     or_bit bits mask bit ∙ ap (λ t. t || (bit_at mask bit == 1)) so_far
-    ∙ ap (λ t. some_fix (take index spots) bit || t) fixes
+    ∙ ap (λ t. some_fix (take index spots) bit || t) (mask_fixes spots index spot mask bit is same)
     ∙ sym (list_any_more (λ (s : Spot). is_fixed_of s.region bit) spots index spot within)
 
 pub all_none : (bit : ℕ) → bit < 104 → (bit_at (2 ^ 104 - 1) bit == 1) ≡ true

@@ -1,11 +1,12 @@
 -- The regions at a node.
-use Rattle.std.proofs.Common.{◌≡◌, ℕ, ◌+◌, ◌^◌, ◌<◌, ◌≤◌, Bool, true, false, cond, ◌&&◌, ◌||◌, Option, Some, None, IsSome, List, [], ◌∷◌, ◌++◌, length, get_or, drop, append_assoc, filter, find, count_by, All, refl, sym, ◌∙◌, ap, subst, inl, inr, arith}
+use Rattle.std.proofs.Common.{◌≡◌, ℕ, ◌+◌, ◌^◌, ◌<◌, ◌≤◌, Bool, true, false, not, cond, ◌&&◌, ◌||◌, Option, Some, None, IsSome, List, [], ◌∷◌, ◌++◌, length, get_or, drop, append_assoc, filter, find, count_by, All, refl, sym, ◌∙◌, ap, subst, inl, inr, arith}
 use Rattle.std.specs.Bool.{IsTrue, IsFalse, ◌==◌}
 use Rattle.std.specs.Int.{bit_at}
 use Rattle.std.specs.Option.{is_some}
 use Rattle.std.proofs.lemmas.Bool.{cases_eq, cases_lt, cases_Bool, both_ways, eqb-true, and_parts}
 use Rattle.policy_rules.proofs.CallerLemmas.{at_item}
 use Rattle.std.proofs.lemmas.List.Elements.{All-nil, All-cons, All-head, All-tail, All-filter, filter_passes}
+use Rattle.std.proofs.lemmas.List.Filters.{sum_by-filter_both}
 use Rattle.std.proofs.lemmas.List.Sums.{sum_by-cons}
 use Rattle.std.proofs.lemmas.Nat.Bits.{bit_at_above}
 use Rattle.five_tuple.specs.Header.{IsHeader}
@@ -36,14 +37,8 @@ count-cons test x xs = sum_by-cons (λ z. cond (test z) 1 0) x xs
 
 count-filter : {X : Type 0} (test kept : X → Bool) (xs : List X)
     → count_by test (filter kept xs) ≤ count_by test xs
-count-filter test kept [] = omega arith
-count-filter {X} test kept (x ∷ xs) = by_case (kept x) (count-filter test kept xs)
-  where
-    by_case : (b : Bool) → count_by test (filter kept xs) ≤ count_by test xs
-        → count_by test (cond b (x ∷ filter kept xs) (filter kept xs)) ≤ count_by test (x ∷ xs)
-    by_case true rest = omega
-        (arith, count-cons test x (filter kept xs), count-cons test x xs, rest)
-    by_case false rest = omega (arith, count-cons test x xs, rest)
+count-filter test kept xs =
+    omega (arith, sum_by-filter_both kept (λ x. not (kept x)) (λ x. refl) (λ x. cond (test x) 1 0) xs)
 
 -- the first that passes is kept by a filter that keeps what passes
 pub find_kept : {X : Type 0} (test kept : X → Bool) (xs : List X)

@@ -4,7 +4,8 @@ use Rattle.std.specs.Bool.{IsTrue, ◌==◌}
 use Rattle.std.specs.Int.{bit_at}
 use Rattle.std.specs.List.{position_or_len}
 use Rattle.std.specs.Option.{option_map, option_map_or}
-use Rattle.std.proofs.lemmas.Bool.{cases_Bool, cases_lt, cases_eq, both_ways, eqb-true, eq-eqb, lt-ltb, le-ltb, le-leb, lt-leb}
+use Rattle.std.proofs.lemmas.Bool.{cases_Bool, cases_lt, cases_eq, both_ways, eqb-true, eq-eqb, lt-ltb, le-ltb}
+use Rattle.std.proofs.lemmas.Bool.Decides.{nat_tests}
 use Rattle.std.proofs.lemmas.List.Elements.{All-nil, All-cons, All-head, All-tail, All-same}
 use Rattle.std.proofs.lemmas.Nat.Bits.{bit_at-lt}
 use Rattle.ternary.specs.Word.{WordValue, holds}
@@ -64,36 +65,30 @@ few_stay (suc cuts) rules region few = by_cost (least_below 104 rules region)
     by_cost None = refl
     by_cost (Some cost) = rw (le-ltb 16 (length rules) few) refl
 
+-- the cut that costs least is made where it pays
+weighed : (cuts : ℕ) (rules : List Rule) (region : WordValue) (cost : Cost) (pay : Bool) → 0 < cuts
+    → least_below 104 rules region ≡ Some cost → pays (length rules) cost ≡ pay
+    → cond pay (Some cost) None ≡ paying_cut cuts rules region
+weighed zero rules region cost pay some is paid = absurd (omega arith)
+weighed (suc cuts) rules region cost pay some is paid = rw (is, paid) refl
+
 pub cut_pays : (cuts : ℕ) (rules : List Rule) (region : WordValue) (cost : Cost) → 0 < cuts
     → 16 < length rules → cost.larger < length rules → 4 * cost.sum ≤ 5 * length rules
     → least_below 104 rules region ≡ Some cost → Some cost ≡ paying_cut cuts rules region
-cut_pays zero rules region cost some many fewer both is = absurd (omega arith)
-cut_pays (suc cuts) rules region cost some many fewer both is =
-    rw (
-      is,
-      lt-ltb 16 (length rules) many,
-      lt-ltb cost.larger (length rules) fewer,
-      le-leb (4 * cost.sum) (5 * length rules) both,
-    ) refl
+cut_pays cuts rules region cost some many fewer both is =
+    weighed cuts rules region cost true some is (grind (arith, nat_tests))
 
 pub large_stays : (cuts : ℕ) (rules : List Rule) (region : WordValue) (cost : Cost) → 0 < cuts
     → 16 < length rules → length rules ≤ cost.larger
     → least_below 104 rules region ≡ Some cost → None ≡ paying_cut cuts rules region
-large_stays zero rules region cost some many large is = absurd (omega arith)
-large_stays (suc cuts) rules region cost some many large is =
-    rw (is, lt-ltb 16 (length rules) many, le-ltb cost.larger (length rules) large) refl
+large_stays cuts rules region cost some many large is =
+    weighed cuts rules region cost false some is (grind (arith, nat_tests))
 
 pub spread_stays : (cuts : ℕ) (rules : List Rule) (region : WordValue) (cost : Cost) → 0 < cuts
     → 16 < length rules → cost.larger < length rules → 5 * length rules < 4 * cost.sum
     → least_below 104 rules region ≡ Some cost → None ≡ paying_cut cuts rules region
-spread_stays zero rules region cost some many fewer both is = absurd (omega arith)
-spread_stays (suc cuts) rules region cost some many fewer both is =
-    rw (
-      is,
-      lt-ltb 16 (length rules) many,
-      lt-ltb cost.larger (length rules) fewer,
-      lt-leb (4 * cost.sum) (5 * length rules) both,
-    ) refl
+spread_stays cuts rules region cost some many fewer both is =
+    weighed cuts rules region cost false some is (grind (arith, nat_tests))
 
 paying_free : (rules : List Rule) (region : WordValue) (count : ℕ) (cost : Cost)
     → if_pays count (least_below 104 rules region) ≡ Some cost → IsFreeBit region cost.bit

@@ -1,13 +1,10 @@
-use Rattle.std.proofs.Common.{◌≡◌, ◌&&◌, ◌∙◌, sym, eqb, Option, Some, None, option_map, refl, rules}
+use Rattle.std.proofs.Common.{◌&&◌, ◌∙◌, sym, eqb, rules}
+use Rattle.std.proofs.lemmas.Iterator.Adapters.{option_map_id}
 use Rattle.std.proofs.lemmas.Iterator.Consumers.{YieldsList-from_first}
 use Rattle.std.proofs.lemmas.Iterator.Search.{find_from_yields_List}
 use Rattle.ternary.specs.Word.{holds}
 use Rattle.switch_table.specs.declared.cache.CacheEntry.{CacheEntry}
 use Rattle.table_tree.proofs.finder.cached.Goals as goal
-
-same_option : (o : Option CacheEntry) → option_map (λ x. x) o ≡ o
-same_option None = refl
-same_option (Some x) = refl
 
 pub returns : goal.returns
 returns c =
@@ -16,4 +13,4 @@ returns c =
     let found = find_from_yields_List test _ _ c.find.result c.find.ensures.ran
     (YieldsList-from_first (λ x. x) (λ s. s) c.args.cache.now.entries c.entries.ensures.entries)
     (λ x b q k. search rules) in
-    sym (same_option c.find.result) ∙ found
+    sym (option_map_id c.find.result) ∙ found
