@@ -1,8 +1,9 @@
 -- Which halves of a region a word meets and covers, bit by bit.
-use Rattle.std.proofs.Common.{◌≡◌, ◌≢◌, ℕ, zero, suc, ◌+◌, ◌-◌, ◌*◌, ◌%◌, ◌^◌, ◌<◌, ◌≤◌, min, max, Bool, true, false, not, ◌&&◌, ◌||◌, bit_or, bit_xor, bit_and, length, drop, List, ◌∷◌, refl, sym, ◌∙◌, ap, inl, inr, arith}
+use Rattle.std.proofs.Common.{◌≡◌, ◌≢◌, ℕ, zero, suc, ◌+◌, ◌-◌, ◌*◌, ◌%◌, ◌^◌, ◌<◌, ◌≤◌, min, max, Bool, true, false, not, ◌&&◌, ◌||◌, bit_or, bit_xor, bit_and, length, drop, List, ◌∷◌, sym, ◌∙◌, ap, inl, inr, arith}
 use Rattle.std.specs.Bool.{IsTrue, ◌==◌}
 use Rattle.std.specs.Int.{w128, bit_at, from_bool, trailing_zeros}
 use Rattle.std.proofs.lemmas.Bool.{cases_eq, cases_Bool, both_ways, false_from_ne_true}
+use Rattle.std.proofs.lemmas.Bool.Decides.{nat_tests}
 use Rattle.std.proofs.lemmas.Nat.{pow_below, xor_lt}
 use Rattle.std.proofs.lemmas.Nat.Bits.{bit_at-lt, bit_at-zero, bit_at_and, bit_at_or, bit_at_xor, bit_at_not, bit_at-pow_same, bit_at-pow_other, bit_at-trailing_zeros, same_from_bits}
 use Rattle.ternary.specs.Word.{WordValue, IsWord}
@@ -19,21 +20,11 @@ use Rattle.cut_tree.proofs.NarrowLemmas.{narrow_covered, narrow_more, narrow_apa
 
 high_digit : (mask value : ℕ) → mask < 2 → value < 2 → max value (1 - mask) ≡ from_bool
     (not (mask == 1) || (value == 1))
-high_digit zero zero m v = refl
-high_digit zero (suc zero) m v = refl
-high_digit (suc zero) zero m v = refl
-high_digit (suc zero) (suc zero) m v = refl
-high_digit (suc (suc mask)) value m v = absurd (omega arith)
-high_digit mask (suc (suc value)) m v = absurd (omega arith)
+high_digit mask value m v = grind (arith, nat_tests)
 
 low_digit : (mask value : ℕ) → mask < 2 → value ≤ mask
     → 1 - value ≡ from_bool (not (mask == 1) || (value == 0))
-low_digit zero zero m v = refl
-low_digit zero (suc value) m v = absurd (omega arith)
-low_digit (suc zero) zero m v = refl
-low_digit (suc zero) (suc zero) m v = refl
-low_digit (suc zero) (suc (suc value)) m v = absurd (omega arith)
-low_digit (suc (suc mask)) value m v = absurd (omega arith)
+low_digit mask value m v = grind (arith, nat_tests)
 
 pub met_high : (w : WordValue) (bit : ℕ) → w.mask < 2 ^ 104 → bit < 104
     → bit_at (bit_or w.value (2 ^ 128 - 1 - w.mask)) bit ≡ from_bool (admits w bit true)
@@ -66,12 +57,7 @@ abbrev pub IsOnly : ℕ → ℕ → Type 0
 IsOnly bits k = (j : ℕ) → j ≢ k → bit_at bits j ≡ 0
 
 same_digit : (a b : ℕ) → a < 2 → b < 2 → (b ≡ 1 → a ≡ 1) → (a ≡ 1 → b ≡ 1) → (a + b) % 2 ≡ 0
-same_digit zero zero p q r s = refl
-same_digit zero (suc zero) p q r s = absurd (omega (arith, r refl))
-same_digit (suc zero) zero p q r s = absurd (omega (arith, s refl))
-same_digit (suc zero) (suc zero) p q r s = refl
-same_digit (suc (suc a)) b p q r s = absurd (omega arith)
-same_digit a (suc (suc b)) p q r s = absurd (omega arith)
+same_digit a b p q r s = grind (arith, nat_tests)
 
 pub covers_only : (w r : WordValue) (k : ℕ) → IsTrue (covers_of r w)
     → IsTrue (covers_of (free_of w k) r) → IsOnly (beyond w r) k
