@@ -6,6 +6,7 @@ use Rattle.std.specs.Int.{bit_at}
 use Rattle.std.proofs.Math.Nat.{div-eq_of_lt-le}
 use Rattle.std.specs.List.{list_all}
 use Rattle.std.proofs.lemmas.Bool.{both_ways, cases_Bool, cases_lt, cases_eq, eq-eqb, eqb-true}
+use Rattle.std.proofs.lemmas.Bool.Decides.{nat_tests}
 use Rattle.std.proofs.lemmas.Option.{slice_get-get_or}
 use Rattle.std.proofs.lemmas.List.{take_more}
 use Rattle.std.proofs.lemmas.List.Elements.{All-head, All-push, All-tail, All-take}
@@ -53,27 +54,13 @@ abbrev differ : ℕ → ℕ → ℕ → Bool
 differ a b m = not (m == 1) || (a == b)
 
 digits_differ : (a b m : ℕ) → a < 2 → b < 2 → m < 2 → differ a b m ≡ false → min ((a + b) % 2) m ≡ 1
-digits_differ a b zero p q r e = cc
-digits_differ zero zero (suc zero) p q r e = cc
-digits_differ zero (suc zero) (suc zero) p q r e = refl
-digits_differ (suc zero) zero (suc zero) p q r e = refl
-digits_differ (suc zero) (suc zero) (suc zero) p q r e = cc
-digits_differ (suc (suc a)) b (suc zero) p q r e = absurd (omega arith)
-digits_differ a (suc (suc b)) (suc zero) p q r e = absurd (omega arith)
-digits_differ a b (suc (suc m)) p q r e = absurd (omega arith)
+digits_differ a b m p q r e = grind (arith, nat_tests)
 
 none_of : (n : ℕ) → min n 0 ≡ 0
 none_of n = omega arith
 
 digits_agree : (a b m : ℕ) → a < 2 → b < 2 → m < 2 → differ a b m ≡ true → min ((a + b) % 2) m ≡ 0
-digits_agree a b zero p q r e = none_of ((a + b) % 2)
-digits_agree zero zero (suc zero) p q r e = refl
-digits_agree zero (suc zero) (suc zero) p q r e = cc
-digits_agree (suc zero) zero (suc zero) p q r e = cc
-digits_agree (suc zero) (suc zero) (suc zero) p q r e = refl
-digits_agree (suc (suc a)) b (suc zero) p q r e = absurd (omega arith)
-digits_agree a (suc (suc b)) (suc zero) p q r e = absurd (omega arith)
-digits_agree a b (suc (suc m)) p q r e = absurd (omega arith)
+digits_agree a b m p q r e = grind (arith, nat_tests)
 
 bit_at_differing : (h : ℕ) (rule : WordValue) (j : ℕ) → bit_at (differing h rule) j ≡ min
     ((bit_at h j + bit_at rule.value j) % 2) (bit_at rule.mask j)
@@ -362,12 +349,7 @@ neither_fixes region rule m n bit same also within =
   where
     digits : (a b : ℕ) → a < 2 → b < 2
         → ((1 + max a b) % 2 == 1) ≡ (not (a == 1) && not (b == 1))
-    digits zero zero p q = refl
-    digits zero (suc zero) p q = refl
-    digits (suc zero) zero p q = refl
-    digits (suc zero) (suc zero) p q = refl
-    digits (suc (suc a)) b p q = absurd (omega arith)
-    digits a (suc (suc b)) p q = absurd (omega arith)
+    digits a b p q = grind (arith, nat_tests)
 
 -- a bit that a word which both cover leaves free, both leave free
 pub free_in_both : CoversLaws → (region rule word : WordValue) (free_bits j : ℕ)

@@ -6,6 +6,7 @@ use Rattle.std.specs.Int.{bit_at}
 use Rattle.std.specs.Int.Bits.{xor_add_and}
 use Rattle.std.specs.Cmp.{both_ways}
 use Rattle.std.proofs.lemmas.Bool.{cases_Bool, cases_lt, cases_eq, eq-eqb, eqb-true, ne_eqb}
+use Rattle.std.proofs.lemmas.Bool.Decides.{nat_tests}
 use Rattle.std.proofs.lemmas.Option.{slice_get-get_or}
 use Rattle.std.proofs.lemmas.List.Elements.{All-head, All-tail, All-take}
 use Rattle.std.proofs.lemmas.Nat.{pow_pos}
@@ -58,12 +59,7 @@ zero_of : (d : ℕ) → d < 2 → d ≢ 1 → d ≡ 0
 zero_of d small other = omega (arith, small, other)
 
 digit_same : (a b : ℕ) → a < 2 → b < 2 → (a == 1) ≡ (b == 1) → a ≡ b
-digit_same zero zero p q e = refl
-digit_same zero (suc zero) p q e = cc
-digit_same (suc zero) zero p q e = cc
-digit_same (suc zero) (suc zero) p q e = refl
-digit_same (suc (suc a)) b p q e = absurd (omega arith)
-digit_same a (suc (suc b)) p q e = absurd (omega arith)
+digit_same a b p q e = grind (arith, nat_tests)
 
 -- ---- a turn
 
@@ -135,12 +131,7 @@ unfixed_free {h} {region} {rules} {index} {free_bits} {last} given m j below unf
 
 first_digit : (f l : ℕ) → f < 2 → l < 2
     → (max ((1 + f) % 2) (min f l) == 1) ≡ (not (f == 1) || (l == 1))
-first_digit zero zero p q = refl
-first_digit zero (suc zero) p q = refl
-first_digit (suc zero) zero p q = refl
-first_digit (suc zero) (suc zero) p q = refl
-first_digit (suc (suc f)) l p q = absurd (omega arith)
-first_digit f (suc (suc l)) p q = absurd (omega arith)
+first_digit f l p q = grind (arith, nat_tests)
 
 no_digit : (l : ℕ) → (max ((0 + 0) % 2) (min 0 l) == 1) ≡ false
 no_digit l =
@@ -261,14 +252,17 @@ same_below {h} {region} {rules} {index} {free_bits} {last} {fixed} {untested} gi
     (left.done i unset ∙ kept_after given.free h region rules index i 104 within
     ∙ sym (kept_after given.free h region rules index i n before))
 
+-- a rule that differs in free bits alone is tested at the highest of them
+abbrev IsTestedLast : ℕ → ℕ → ℕ → Rule → Type 0
+IsTestedLast h free_bits last rule = (k : ℕ) → IsHighest (differing h rule.word) k
+    → bit_and (differing h rule.word) free_bits ≡ differing h rule.word → bit_at last k ≡ 1
+
 -- the highest bit in which such a rule differs would be untested
 differs_no_further : {h : ℕ} {region : WordValue} {rules : List Rule}
     {index free_bits last fixed untested : ℕ}
     → IsGiven h region rules index free_bits last
     → IsLeft h region rules index free_bits last fixed untested → (n : ℕ)
-    → IsLowest untested n → (rule : Rule) → IsWord rule.word
-    → ((k : ℕ) → IsHighest (differing h rule.word) k
-    → bit_and (differing h rule.word) free_bits ≡ differing h rule.word → bit_at last k ≡ 1)
+    → IsLowest untested n → (rule : Rule) → IsWord rule.word → IsTestedLast h free_bits last rule
     → bit_and (differing h rule.word) fixed ≡ 2 ^ n → (j : ℕ) → n < j
     → bit_at (differing h rule.word) j ≡ 0
 unfolding is_fixed_of
@@ -323,9 +317,7 @@ told_alike : {h : ℕ} {region : WordValue} {rules : List Rule}
     {index free_bits last fixed untested : ℕ}
     → IsGiven h region rules index free_bits last
     → IsLeft h region rules index free_bits last fixed untested → (n : ℕ)
-    → IsLowest untested n → (rule : Rule) → IsWord rule.word
-    → ((k : ℕ) → IsHighest (differing h rule.word) k
-    → bit_and (differing h rule.word) free_bits ≡ differing h rule.word → bit_at last k ≡ 1)
+    → IsLowest untested n → (rule : Rule) → IsWord rule.word → IsTestedLast h free_bits last rule
     → (bit_and (differing h rule.word) fixed == 2 ^ n)
     ≡ (bit_and (differing h rule.word) (widened h region rules index n).mask == 2 ^ n)
 unfolding is_fixed_of
@@ -439,9 +431,7 @@ xor_other a n j other =
     ∙ whole (bit_at a j) (bit_at-lt a j)
   where
     whole : (d : ℕ) → d < 2 → (d + 0) % 2 ≡ d
-    whole zero p = refl
-    whole (suc zero) p = refl
-    whole (suc (suc d)) p = absurd (omega arith)
+    whole d p = omega arith
 
 pub fewer : (n k : ℕ) → bit_at n k ≡ 1 → bit_xor n (2 ^ k) < n
 fewer n k set =
