@@ -1,10 +1,11 @@
 -- The tables are those of the plan at the version's place.
 use Rattle.std.proofs.Common.{◌≡◌, ◌≤◌, ◌-◌, Some, get_or, ap, subst, sym, ◌∙◌, arith}
 use Rattle.std.proofs.lemmas.Result.{IfOk-weaker}
-use Rattle.switch_table.specs.Tables.{AreSoundTables, tables_of}
+use Rattle.switch_table.specs.Tables.{AreSoundTables}
 use Rattle.controller.specs.Controller.{ControllerValue, KeptPlan, kept_tables}
 use Rattle.controller.proofs.Kept.{kept_sound, kept_tables_are, kept_there}
 use Rattle.controller.proofs.controller.Controller.tables.Goals as goal
+use Rattle.controller.proofs.controller.Controller.tables.Goals.{After-tables}
 
 pub index-requires : goal.index-requires
 index-requires c =
@@ -17,21 +18,28 @@ index-requires c =
     c.requires.last) in
     omega (arith, there, c.current.ensures.current)
 
+-- the plan is the one at the version's place, which is one of those that are kept
+kept_is : (c : After-tables) → c.index.result.now ≡ get_or c.self.inside.versions.items
+    (c.args.version - c.self.inside.marks.current) c.index.result.now
+kept_is c =
+    c.index.ensures
+    ∙ ap (λ current. get_or c.self.inside.versions.items (c.args.version - current)
+    c.index.result.now) c.current.ensures.current
+
+first : (c : After-tables) → c.self.inside.marks.current ≤ c.args.version
+first c = subst (λ (w : ControllerValue). w.marks.current ≤ c.args.version) (sym c.self.view_is)
+    c.requires.first
+
+last : (c : After-tables) → c.args.version ≤ c.self.inside.marks.count
+last c = subst (λ (w : ControllerValue). c.args.version ≤ w.marks.count) (sym c.self.view_is)
+    c.requires.last
+
 pub returns-clause-tables : goal.returns-clause-tables
 returns-clause-tables c =
     let own : ControllerValue =
     record { marks = c.self.inside.marks; plans = c.self.inside.versions.items } in
-    let kept : KeptPlan = c.index.result.now in
-    let at : kept ≡ get_or own.plans (c.args.version - own.marks.current) kept =
-    c.index.ensures
-    ∙ ap (λ current. get_or own.plans (c.args.version - current) kept) c.current.ensures.current in
-    let are : kept_tables own c.args.version c.args.s
-    ≡ Some (tables_of kept.plan.placed kept.version c.args.s) =
-    kept_tables_are own c.self.invariant c.args.version
-    (subst (λ (w : ControllerValue). w.marks.current ≤ c.args.version) (sym c.self.view_is)
-    c.requires.first)
-    (subst (λ (w : ControllerValue). c.args.version ≤ w.marks.count) (sym c.self.view_is)
-    c.requires.last) kept c.args.s at in
+    let are = kept_tables_are own c.self.invariant c.args.version (first c) (last c)
+    c.index.result.now c.args.s (kept_is c) in
     IfOk-weaker c.tables.result _ _ (λ tables is.
     ap (λ w. kept_tables w c.args.version c.args.s) (sym c.self.view_is) ∙ are
     ∙ ap Some (sym is)) c.tables.ensures
@@ -41,14 +49,7 @@ returns-clause-sound c =
     let own : ControllerValue =
     record { marks = c.self.inside.marks; plans = c.self.inside.versions.items } in
     let kept : KeptPlan = c.index.result.now in
-    let at : kept ≡ get_or own.plans (c.args.version - own.marks.current) kept =
-    c.index.ensures
-    ∙ ap (λ current. get_or own.plans (c.args.version - current) kept) c.current.ensures.current in
-    let is = kept_sound own c.self.invariant c.args.version
-    (subst (λ (w : ControllerValue). w.marks.current ≤ c.args.version) (sym c.self.view_is)
-    c.requires.first)
-    (subst (λ (w : ControllerValue). c.args.version ≤ w.marks.count) (sym c.self.view_is)
-    c.requires.last) kept at in
+    let is = kept_sound own c.self.invariant c.args.version (first c) (last c) kept (kept_is c) in
     IfOk-weaker c.tables.result _ _ (λ tables same. subst AreSoundTables (sym same)
     (c.tables_laws.ensures.sound kept.plan.policy kept.plan.placed kept.version c.args.s is.sound
     is.covers is.few is.few_rules)) c.tables.ensures
