@@ -5,6 +5,7 @@ use Rattle.std.specs.List.{AllByRecursion}
 use Rattle.std.specs.Option.{option_or}
 use Rattle.std.proofs.lemmas.List.Elements.{All-from_recursion}
 use Rattle.std.proofs.lemmas.Option.{IfSome_then}
+use Rattle.ctrl_msg.specs.Kinds.{body_version}
 use Rattle.ctrl_msg.specs.declared.message.Body.{Body}
 use Rattle.ctrl_msg.specs.declared.message.Body.TheVariants.{Install, OpenAt, Stamp, Collect, CacheRule, Advertise, Hello, Installed, Stamped}
 use Rattle.ctrl_msg.specs.declared.message.Message.{Message}
@@ -37,7 +38,7 @@ use Rattle.mark_laws.proofs.Planned.{count_rises, right_planned}
 use Rattle.mark_laws.proofs.Told.{each_if, each_weaker}
 use Rattle.version_laws.proofs.Heard.{heard_on}
 use Rattle.version_laws.proofs.Planned.{IsPlanned, all_at_first, all_kept, own_tables}
-use Rattle.name_laws.specs.Named.{BodiesNameThere, IsAddressed, NamesOnlyThere, version_in}
+use Rattle.name_laws.specs.Named.{BodiesNameThere, IsAddressed, NamesOnlyThere}
 use Rattle.name_laws.proofs.Causes.{IsKnownSwitch, NamesRightly, SaysThere, pieces_name}
 
 -- ---- what is kept
@@ -120,7 +121,7 @@ opening_above setting before s boot version are right = elim right.opens [
 
 version_there : (setting : Setting) (before : List Item) (to : Receiver) (body : Body)
     → AreNamed setting before → IsRightMessage setting before to body
-    → SaysThere setting before to body → IfSome (version_in body) (IsThere before)
+    → SaysThere setting before to body → IfSome (body_version body) (IsThere before)
 version_there setting before (receiver.Switch s) (Install boot tables) are right says =
     let own = own_tables setting before s tables are.planned.so_far.versions
     (right_planned setting before s boot tables are.planned.so_far.marks right) in
@@ -158,7 +159,7 @@ names_on : (setting : Setting) (before : List Item) (next : Item) (message : Mes
     → NamesOnlyThere setting before message → NamesOnlyThere setting (before ++ next ∷ []) message
 names_on setting before next message names = record {
   addressed = names.addressed;
-  version = IfSome_then (version_in message.body) names.version
+  version = IfSome_then (body_version message.body) names.version
       (λ version there. (there.0, omega (arith, there.1, count_rises before next)));
 }
 

@@ -1,7 +1,7 @@
 -- What messages name: the switch that they are to or of, and the version of which they speak.
 use Rattle.std.specs.Prelude.{ℕ, ◌≡◌, ◌≤◌, Option, Some, None, List, All, IfSome}
+use Rattle.ctrl_msg.specs.Kinds.{body_version}
 use Rattle.ctrl_msg.specs.declared.message.Body.{Body}
-use Rattle.ctrl_msg.specs.declared.message.Body.TheVariants.{Install, OpenAt, Stamp, Collect, CacheRule, Advertise, Hello, Installed, Stamped}
 use Rattle.ctrl_msg.specs.declared.message.Message.{Message}
 use Rattle.ctrl_msg.specs.declared.message.Receiver.{Receiver}
 use Rattle.ctrl_msg.specs.declared.message.Receiver.TheVariants as receiver
@@ -15,18 +15,6 @@ use Rattle.update_machine.specs.Setting.{Setting}
 use Rattle.update_machine.specs.Settling.{to_switch}
 use Rattle.update_machine.specs.Versions.{version_count}
 use Rattle.update_machine.specs.Links.{message_of}
-
--- the version of which a body speaks
-abbrev pub version_in : Body → Option ℕ
-version_in (Install boot tables) = Some tables.version
-version_in (OpenAt boot version) = Some version
-version_in (Stamp boot version) = Some version
-version_in (Collect boot version) = Some version
-version_in (CacheRule version word rule action) = Some version
-version_in (Advertise advert) = None
-version_in (Hello s boot) = None
-version_in (Installed s boot version) = Some version
-version_in (Stamped s boot version) = Some version
 
 -- there is a speaker, a switch of the network
 abbrev pub IsOfSwitch : Setting → Option (ℕ × ℕ) → Type 0
@@ -43,7 +31,7 @@ IsAddressed setting receiver.Controller body = IsOfSwitch setting (speaker body)
 pub record NamesOnlyThere (setting : Setting) (journal : List Item) (message : Message)
     : Type 0 where
   pub addressed : IsAddressed setting message.to message.body
-  pub version : IfSome (version_in message.body)
+  pub version : IfSome (body_version message.body)
       (λ version. (1 ≤ version) × (version ≤ version_count journal))
 
 -- so it is with all that was sent, and all that was heard
