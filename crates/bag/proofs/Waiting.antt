@@ -93,27 +93,6 @@ still_none change statuses changed number still none =
     by_status true (Some status) before = still status
     by_status false o before = before
 
--- the messages up to the first that waits have been passed
-pub changed_passed : (change : Status → Status) (passed number first : ℕ)
-    → (before statuses after : List Status)
-    → ((status : Status) → waits (change status) ≡ false) → ArePassed passed before → before ≡ statuses
-    → after ≡ with_changed change statuses number → IsFirstWaiting after passed first
-    → ArePassed first after
-changed_passed change passed number first before statuses after still are same changed is =
-    let long : length after ≡ length before =
-    ap length changed ∙ length_changed change statuses number ∙ sym (ap length same) in
-    record {
-      few = omega (arith, are.few);
-      within = is.within (omega (arith, are.within));
-      here = is.here;
-      none = λ at below. elim (cases_lt passed at) [
-        | inl above ↦ is.none at above below
-        | inr within ↦ ap (λ statuses. is_waiting statuses at) changed
-            ∙ still_none change statuses number at still
-            (subst (λ statuses. is_waiting statuses at ≡ false) same (are.none at within))
-      ];
-    }
-
 -- the change of a number's status is a change at its place
 changed_place : (change : Status → Status) (statuses : List Status) (place : ℕ) (status : Status)
     → IsTrue (is_deliverable statuses (suc place)) → status ≡ get_or statuses place status
@@ -144,6 +123,35 @@ changed_from change before statuses number status after is same here changed =
     ap (set before (number - 1)) changed ∙ ap (λ statuses. set statuses (number - 1) (change status)) same
     ∙ changed_at change statuses number status is
     (subst (λ statuses. status ≡ get_or statuses (number - 1) status) same here)
+
+-- the messages up to the first that waits have been passed
+pub changed_passed : (change : Status → Status) (passed number first : ℕ)
+    → (before statuses seen : List Status) (status : Status)
+    → ((status : Status) → waits (change status) ≡ false) → ArePassed passed before
+    → IsTrue (is_deliverable statuses number) → before ≡ statuses
+    → status ≡ get_or before (number - 1) status
+    → seen ≡ set before (number - 1) (change status) → IsFirstWaiting seen passed first
+    → ArePassed first (set before (number - 1) (change status))
+changed_passed change passed number first before statuses seen status still are there same here
+    sees found =
+    let after : List Status = set before (number - 1) (change status) in
+    let changed : after ≡ with_changed change statuses number =
+    changed_from change before statuses number status _ there same here refl in
+    let long : length after ≡ length before =
+    ap length changed ∙ length_changed change statuses number ∙ sym (ap length same) in
+    let is : IsFirstWaiting after passed first =
+    subst (λ statuses. IsFirstWaiting statuses passed first) sees found in
+    record {
+      few = omega (arith, are.few);
+      within = is.within (omega (arith, are.within));
+      here = is.here;
+      none = λ at below. elim (cases_lt passed at) [
+        | inl above ↦ is.none at above below
+        | inr within ↦ ap (λ statuses. is_waiting statuses at) changed
+            ∙ still_none change statuses number at still
+            (subst (λ statuses. is_waiting statuses at ≡ false) same (are.none at within))
+      ];
+    }
 
 -- the first of these numbers for which the test holds
 found_at : (p : ℕ → Bool) (from n at : ℕ)

@@ -45,13 +45,22 @@ zip_set change (m ∷ all) (s ∷ statuses) (suc i) same =
     by_one (Some o) None is = ap (λ more. (m, s) ∷ more) is
     by_one (Some o) (Some p) is = ap (λ more. (m, s) ∷ more) is
 
-pub zip_changed : (change : Status → Status) (all : List (List (List ℕ))) (statuses : List Status)
+zip_changed : (change : Status → Status) (all : List (List (List ℕ))) (statuses : List Status)
     (number : ℕ) → length all ≡ length statuses
     → zip all (with_changed change statuses number)
     ≡ with_changed (with_status change) (zip all statuses) number
 zip_changed change all statuses zero same = refl
 zip_changed change all statuses (suc place) same =
     zip_set change all statuses place same
+
+-- so the posts change, by whatever name they go
+pub posts_changed : (change : Status → Status) (all : List (List (List ℕ)))
+    (statuses after : List Status) (posts : List Post) (number : ℕ) → length all ≡ length statuses
+    → zip all statuses ≡ posts → after ≡ with_changed change statuses number
+    → zip all after ≡ with_changed (with_status change) posts number
+posts_changed change all statuses after posts number same are made =
+    ap (zip all) made ∙ zip_changed change all statuses number same
+    ∙ ap (λ posts. with_changed (with_status change) posts number) are
 
 pub statuses_of_zip : (all : List (List (List ℕ))) (statuses : List Status)
     → length all ≡ length statuses → statuses_of (zip all statuses) ≡ statuses
@@ -86,6 +95,13 @@ deliverable_same all statuses (suc place) same = at_place all statuses place sam
     at_place (m ∷ all) [] i same = absurd (omega (arith, same))
     at_place (m ∷ all) (s ∷ statuses) zero same = by_flag s.forgotten m
     at_place (m ∷ all) (s ∷ statuses) (suc i) same = at_place all statuses i (omega (arith, same))
+
+-- by whatever name the posts go
+pub deliverable_as : (all : List (List (List ℕ))) (statuses : List Status) (posts : List Post)
+    (number : ℕ) → length all ≡ length statuses → zip all statuses ≡ posts
+    → is_deliverable statuses number ≡ is_some (frames_posted posts number)
+deliverable_as all statuses posts number same are = deliverable_same all statuses number same
+    ∙ ap (λ posts. is_some (frames_posted posts number)) are
 
 -- those of a message that isn't forgotten are the frames that are kept under its number
 pub the_frames : (all : List (List (List ℕ))) (statuses : List Status) (number : ℕ)

@@ -1,17 +1,17 @@
-use Rattle.std.proofs.Common.{◌≡◌, true, Option, List, ap, sym, subst, ◌∙◌}
+use Rattle.std.proofs.Common.{◌≡◌, true, Option, List, sym, subst, ◌∙◌}
 use Rattle.std.specs.Prelude.{IfOk, IfSome, is_some}
 use Rattle.ctrl_msg.specs.declared.message.Message.{Message}
 use Rattle.bag.specs.Deliveries as statuses
 use Rattle.bag.specs.Posts.{IsMessageOf, Post, is_deliverable}
 use Rattle.bag.proofs.Taken.{found_known, found_there}
-use Rattle.bag.proofs.Zipped.{deliverable_same}
+use Rattle.bag.proofs.Zipped.{deliverable_as}
 use Rattle.bag.proofs.bag.Bag.get.Goals as goal
 
 is_there : (c : goal.After-take)
     → statuses.is_deliverable c.self.inside.deliveries c.args.number ≡ true
 is_there c =
-    deliverable_same c.self.inside.frames c.self.inside.deliveries c.args.number c.self.invariant
-    ∙ ap (λ (posts : List Post). is_deliverable posts c.args.number) c.self.view_is
+    deliverable_as c.self.inside.frames c.self.inside.deliveries _ c.args.number c.self.invariant
+    c.self.view_is
     ∙ sym c.may_be_delivered.ensures ∙ c.if-may_be_delivered.true
 
 pub returns-then-may_be_delivered-clause-found : goal.returns-then-may_be_delivered-clause-found

@@ -1,11 +1,9 @@
-use Rattle.std.proofs.Common.{List, ap, ◌∙◌}
-use Rattle.bag.specs.Posts.{Post, is_deliverable}
-use Rattle.bag.proofs.Zipped.{deliverable_same}
+use Rattle.std.proofs.Common.{◌∙◌}
+use Rattle.bag.proofs.Zipped.{deliverable_as}
 use Rattle.bag.proofs.bag.Bag.may_be_delivered.Goals as goal
 
 pub returns : goal.returns
 returns c =
     c.may_be_delivered.ensures
-    ∙ deliverable_same c.self.inside.frames c.self.inside.deliveries c.args.number
-    c.self.invariant
-    ∙ ap (λ (posts : List Post). is_deliverable posts c.args.number) c.self.view_is
+    ∙ deliverable_as c.self.inside.frames c.self.inside.deliveries _ c.args.number
+    c.self.invariant c.self.view_is

@@ -1,18 +1,13 @@
-use Rattle.std.proofs.Common.{subst, refl, arith}
-use Rattle.bag.specs.Deliveries.{IsFirstWaiting, delivered}
+use Rattle.std.proofs.Common.{refl, arith}
+use Rattle.bag.specs.Deliveries.{delivered}
 use Rattle.bag.proofs.Waiting.{changed_passed, changed_from}
 use Rattle.bag.proofs.deliveries.Deliveries.deliver.Goals as goal
 
 pub invariant_of-self : goal.invariant_of-self
 invariant_of-self c =
-    changed_passed delivered _ c.args.number _ _ c.args.self.now _ (λ status. grind arith)
-    c.self.invariant
-    c.self.view_is
-    (changed_from delivered _ _ c.args.number _ _ c.requires c.self.view_is
-    c.index_mut.ensures.value refl)
-    (subst (λ statuses. IsFirstWaiting statuses c.self.inside.passed
-    c.first_waiting-self-inside.result)
-    c.deref.ensures.value c.first_waiting-self-inside.ensures)
+    changed_passed delivered _ c.args.number _ _ c.args.self.now _ _ (λ status. grind arith)
+    c.self.invariant c.requires c.self.view_is c.index_mut.ensures.value c.deref.ensures.value
+    c.first_waiting-self-inside.ensures
 
 pub returns : goal.returns
 returns c =
