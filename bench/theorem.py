@@ -13,7 +13,7 @@ from pathlib import Path
 HOME = Path(__file__).resolve().parent.parent
 PAGE = HOME / "docs/THEOREM.md"
 TOP = HOME / "crates/difane_cli/src/top_call.rt"
-# Where the second tier begins, each with what it is about.
+# Where the second tier begins, each with what it is about; with its crate where it shares its name.
 STOPS = {
     "IsPlay": "the exact journal",
     "StrongCause": "strong causes",
@@ -24,7 +24,12 @@ STOPS = {
     "asks_quiet": "quiet networks",
     "is_asked": "quiet networks",
     "command_of": "the grammar of the words",
-    "known_task": "what the files state, and refusals",
+    "net_file.net_of": "how the bytes of a file are read",
+    "schedule.schedule_of": "how the bytes of a file are read",
+    "policy_file.policy_of": "how the bytes of a file are read",
+    "Files": "how files are held",
+    "file_named": "how files are held",
+    "known_task": "the exact task, and refusals",
     "case_inputs": "load cases",
     "load_case": "load cases",
     "counts_text": "load cases",
@@ -122,7 +127,7 @@ class Specs:
         seen, waiting = set(), list(roots)
         while waiting:
             module, name = waiting.pop()
-            if (module.path, name) in seen or name in stops:
+            if (module.path, name) in seen or name in stops or f"{module.path.parts[-3]}.{name}" in stops:
                 continue
             seen.add((module.path, name))
             for word in WORD.findall(FIELD.sub("", "\n".join(module.body(name)))):

@@ -6,5 +6,6 @@ mod OneSwitch
 mod Plays
 mod PolicyReads
 mod ShelfReads
+mod Stated
 mod Verdicts
 mod Worked

@@ -1,6 +1,6 @@
--- What comes of a task that is done, by what became of its text.
+-- What comes of a play, by what became of its text.
 use Rattle.std.specs.Prelude.{⊤, is_some}
-use Rattle.std.proofs.Common.{ℕ, ◌≡◌, ◌⊎◌, IsTrue, inl, inr, refl, Bool, Option, Some, None, Result, Ok, Err, OnOk, OnErr, List, []}
+use Rattle.std.proofs.Common.{ℕ, ◌≡◌, ◌⊎◌, IsTrue, inl, inr, refl, Bool, Option, Some, None, Result, Ok, Err, List, []}
 use Rattle.std.specs.Option.{ForSome}
 use Rattle.boot_laws.specs.Always.{HoldsReached}
 use Rattle.journal.specs.declared.item.Item.{Item}
@@ -17,18 +17,20 @@ use Rattle.way_laws.specs.StrongCauses.{StrongCause}
 use Rattle.entry_laws.specs.Entries.{AreEntered, rows_played}
 use Rattle.steps.specs.declared.step.Event.{Event}
 use Rattle.update_machine.specs.Setting.{Setting, IsSetting}
-use Rattle.difane_cli.specs.Tasks.{Inputs, Play, Print, Printing, Known}
-use Rattle.shelf.specs.Sink.{GainedPart, SinkState}
+use Rattle.difane_cli.specs.Tasks.{Inputs, Play}
+use Rattle.shelf.specs.Shelf.{Files}
+use Rattle.shelf.specs.Sink.{SinkState}
 use Rattle.shelf.specs.declared.output.SinkError.{SinkError}
 use Rattle.shelf.specs.declared.output.SinkError.TheVariants as sink
 use Rattle.difane_cli.specs.Texts.{play_text}
 use Rattle.difane_cli.specs.Verdict.{IsWhetherQuiet, IsVerdict, asks_quiet, is_asked}
+use Rattle.difane_cli.specs.Inputs.{known_task}
+use Rattle.difane_cli.proofs.Stated.{stated_by}
 use Rattle.difane_cli.proofs.Verdicts.{QuietLaws, verdict}
 use Rattle.difane_cli.specs.Run.{IsAnswer, IsPlayOf, MayBePlayed, PlayOutcome, Unfinished, WantsMemory, is_made}
 use Rattle.difane_cli.specs.Ending.{status_after}
-use Rattle.difane_cli.specs.Writes.{Wrote}
-use Rattle.difane_cli.specs.Prints.{IsPrintingOf, PrintOutcome, printing_text, IsAfterText}
-use Rattle.words.specs.Commands.{Command, PrintCommand}
+use Rattle.difane_cli.specs.Prints.{IsAfterText}
+use Rattle.words.specs.Commands.{Command}
 use Rattle.replay.specs.Leavings.{kept_by}
 
 -- what follows behind steps of the network
@@ -51,13 +53,14 @@ begins inputs journal None play = begins_itself inputs.setting inputs.events jou
 begins inputs journal (Some row) play = stop_begins inputs.setting inputs.events journal row play
 
 -- what the journal of a play is, and what follows
-pub played : AnswerLaws → (command : Command) (known : Known) (inputs : Inputs)
+pub played : AnswerLaws → (command : Command) (files : Option Files) (inputs : Inputs)
     (journal : List Item) (full : Option ℕ) → IsPlayOf command inputs
-    → ForSome known (λ read. read ≡ Ok (Play inputs))
+    → ForSome (known_task files (Some command)) (λ read. read ≡ Ok (Play inputs))
     → MayBePlayed inputs → IsPlay inputs.setting inputs.events journal full
-    → IsAnswer command known inputs journal full
-played laws command known inputs journal full asked accepted sound play = record {
+    → IsAnswer command files inputs journal full
+played laws command files inputs journal full asked accepted sound play = record {
   asked = asked;
+  stated = stated_by files command inputs accepted;
   accepted = accepted;
   sound = sound;
   play = play;
@@ -71,14 +74,14 @@ played laws command known inputs journal full asked accepted sound play = record
 }
 
 -- the answer that the judge gave is the one that is asked for
-pub judged : AnswerLaws → (command : Command) (known : Known) (inputs : Inputs)
+pub judged : AnswerLaws → (command : Command) (files : Option Files) (inputs : Inputs)
     (journal : List Item) (full : Option ℕ) (net : Net) (given : Option Bool)
-    → IsAnswer command known inputs journal full → inputs.setting.net ≡ net
+    → IsAnswer command files inputs journal full → inputs.setting.net ≡ net
     → is_some given ≡ is_asked (asks_quiet inputs.report) full
     → ((setting : Setting) → setting.net ≡ net → IsPlain setting journal
     → IsWhetherQuiet setting journal given)
     → IsVerdict (asks_quiet inputs.report) inputs.setting journal full given
-judged laws command known inputs journal full net given answer own asked decides =
+judged laws command files inputs journal full net given answer own asked decides =
     let sound = answer.sound.setting.net in
     verdict laws.quiet (asks_quiet inputs.report) inputs.setting inputs.events journal full given
     sound answer.play asked
@@ -86,12 +89,12 @@ judged laws command known inputs journal full net given answer own asked decides
     answer.sound.events (begins inputs journal full answer.play) sound))
 
 -- memory ran out before an answer was given, and nothing was written
-pub unjudged : (command : Command) (known : Known) (takes_memory : Bool) (inputs : Inputs)
+pub unjudged : (command : Command) (files : Option Files) (takes_memory : Bool) (inputs : Inputs)
     (journal : List Item) (full : Option ℕ) (taken given : List Seen) (now : SinkState)
-    → IsAnswer command known inputs journal full → given ≡ kept_by inputs.setting.net journal taken
+    → IsAnswer command files inputs journal full → given ≡ kept_by inputs.setting.net journal taken
     → IsTrue (is_asked (asks_quiet inputs.report) full)
-    → Unfinished command known takes_memory journal taken given now now
-unjudged command known takes_memory inputs journal full taken given now answer kept asked = record {
+    → Unfinished command files takes_memory journal taken given now now
+unjudged command files takes_memory inputs journal full taken given now answer kept asked = record {
   inputs = inputs;
   full = full;
   wanted = inr (inl asked);
@@ -103,16 +106,16 @@ unjudged command known takes_memory inputs journal full taken given now answer k
 }
 
 -- a journal that was played, and what is to be told of it that was written, or not
-pub told : (command : Command) (known : Known) (inputs : Inputs) (journal : List Item)
+pub told : (command : Command) (files : Option Files) (inputs : Inputs) (journal : List Item)
     (full : Option ℕ) (taken given : List Seen) (said : Option Bool) (before now : SinkState)
     (takes_memory : Bool) (written : Result (⊤) SinkError)
-    → IsAnswer command known inputs journal full
+    → IsAnswer command files inputs journal full
     → given ≡ kept_by inputs.setting.net journal taken
     → IsVerdict (asks_quiet inputs.report) inputs.setting journal full said
     → IsAfterText (play_text inputs.report inputs.setting.net journal full given said)
     (is_made inputs.report full) takes_memory before now written
-    → PlayOutcome command known takes_memory (status_after written full) journal taken given before now
-told command known inputs journal None taken given said before now takes_memory
+    → PlayOutcome command files takes_memory (status_after written full) journal taken given before now
+told command files inputs journal None taken given said before now takes_memory
     (Ok done) answer kept judged after =
     record {
       inputs = inputs;
@@ -122,7 +125,7 @@ told command known inputs journal None taken given said before now takes_memory
       verdict = judged;
       written = record { whole = after.whole; untouched = after.untouched };
     }
-told command known inputs journal (Some row) taken given said before now
+told command files inputs journal (Some row) taken given said before now
     takes_memory (Ok done) answer kept judged after =
     record {
       inputs = inputs;
@@ -132,7 +135,7 @@ told command known inputs journal (Some row) taken given said before now
       verdict = judged;
       written = record { whole = after.whole; untouched = after.untouched };
     }
-told command known inputs journal full taken given said before now takes_memory
+told command files inputs journal full taken given said before now takes_memory
     (Err sink.Failed) answer kept judged after =
     record {
       inputs = inputs;
@@ -143,7 +146,7 @@ told command known inputs journal full taken given said before now takes_memory
       verdict = judged;
       written = after.part refl;
     }
-told command known inputs journal full taken given said before now takes_memory
+told command files inputs journal full taken given said before now takes_memory
     (Err sink.NoMemory) answer kept judged after =
     inr (record {
       inputs = inputs;
@@ -160,36 +163,3 @@ told command known inputs journal full taken given said before now takes_memory
         → IsTrue takes_memory ⊎ WantsMemory inputs.report full
     wanted (inl takes) = inl takes
     wanted (inr (made, same)) = inr (inr made)
-
--- a plan or tables whose text was written, or not
-pub printed : (command : PrintCommand) (known : Known) (printing : Printing)
-    (before now : SinkState) (written : Result (⊤) SinkError)
-    → IsPrintingOf command printing → ForSome known (λ read. read ≡ Ok (Print printing))
-    → OnOk written (Wrote (printing_text printing) before now)
-    → OnErr written (GainedPart before.bytes (printing_text printing) now.bytes)
-    → PrintOutcome command known (status_after written None) [] before now
-printed command known printing before now (Ok done) planned accepted whole part =
-    record {
-      printing = printing;
-      accepted = accepted;
-      planned = planned;
-      nothing_played = refl;
-      written = whole;
-    }
-printed command known printing before now (Err sink.Failed) planned accepted whole part =
-    record {
-      printing = printing;
-      accepted = accepted;
-      planned = planned;
-      nothing_played = refl;
-      written = part;
-    }
-printed command known printing before now (Err sink.NoMemory) planned accepted whole part =
-    inr (record {
-      printing = printing;
-      accepted = accepted;
-      planned = planned;
-      nothing_played =
-          refl;
-      written = part;
-    })

@@ -8,14 +8,17 @@ use Rattle.partition.specs.Plan.{plan_of}
 use Rattle.policy_rules.specs.Policy.{IsPolicy}
 use Rattle.show_text.specs.Text.{compile_text, table_text}
 use Rattle.switch_table.specs.Tables.{tables_of}
+use Rattle.shelf.specs.Shelf.{Files}
 use Rattle.shelf.specs.Sink.{GainedPart, SinkState, gained, Rose}
 use Rattle.shelf.specs.declared.output.SinkError.{SinkError}
 use Rattle.shelf.specs.declared.output.SinkError.TheVariants.{Failed, NoMemory}
 use Rattle.journal.specs.declared.item.Item.{Item}
-use Rattle.difane_cli.specs.Tasks.{Print, Printing, Known, IsNetOf}
+use Rattle.difane_cli.specs.Inputs.{known_task}
+use Rattle.difane_cli.specs.Tasks.{Print, Printing, IsNetOf}
 use Rattle.difane_cli.specs.declared.status.Status.{Status}
 use Rattle.difane_cli.specs.Writes.{Wrote, Unplayed, WrotePart}
 use Rattle.words.specs.Commands.{PrintCommand}
+use Rattle.words.specs.Commands as asked
 use Rattle.difane_cli.specs.declared.status.Status.TheVariants as status
 
 -- the switch has the name that was asked for
@@ -41,26 +44,27 @@ printing_text printing = text_by printing.switch printing
 
 -- there is a plan as the command asks for it, which is the known one where the task is known; what
 -- the output gained is in this relation to its text
-pub record Printed (command : PrintCommand) (known : Known) (IsWritten : List ℕ → Type 0)
-    (journal : List Item) : Type 0 where
+pub record Printed (command : PrintCommand) (files : Option Files)
+    (IsWritten : List ℕ → Type 0) (journal : List Item) : Type 0 where
   pub printing : Printing
-  pub accepted : ForSome known (λ read. read ≡ Ok (Print printing))
+  pub accepted : ForSome (known_task files (Some (asked.Print command)))
+      (λ read. read ≡ Ok (Print printing))
   pub planned : IsPrintingOf command printing
   pub nothing_played : journal ≡ []
   pub written : IsWritten (printing_text printing)
 
 -- the output that a status of a printing command comes with; the journal is empty, so never full
-abbrev pub PrintOutcome : PrintCommand → Known → Status → List Item
+abbrev pub PrintOutcome : PrintCommand → Option Files → Status → List Item
     → (before now : SinkState) → Type 0
-PrintOutcome command known status.Ok journal before now =
-    Printed command known (λ text. Wrote text before now) journal
-PrintOutcome command known status.WriteFault journal before now =
-    Printed command known (λ text. GainedPart before.bytes text now.bytes) journal
-PrintOutcome command known status.NoMemory journal before now =
+PrintOutcome command files status.Ok journal before now =
+    Printed command files (λ text. Wrote text before now) journal
+PrintOutcome command files status.WriteFault journal before now =
+    Printed command files (λ text. GainedPart before.bytes text now.bytes) journal
+PrintOutcome command files status.NoMemory journal before now =
     Unplayed journal before now
-    ⊎ Printed command known (λ text. GainedPart before.bytes text now.bytes) journal
-PrintOutcome command known (status.Full row) journal before now = ⊥
-PrintOutcome command known _ journal before now = Unplayed journal before now
+    ⊎ Printed command files (λ text. GainedPart before.bytes text now.bytes) journal
+PrintOutcome command files (status.Full row) journal before now = ⊥
+PrintOutcome command files _ journal before now = Unplayed journal before now
 
 -- what writing a text leaves of the output: all of it where it succeeds, and else a part of it, or
 -- the output wasn't touched. No fault is counted unless it failed. Memory ran out only in the

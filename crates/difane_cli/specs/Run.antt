@@ -1,6 +1,11 @@
 -- What became of a call of the program, by its status: a replay's, or a load case's.
-use Rattle.std.specs.Prelude.{⊤, ℕ, ◌≡◌, ◌⊎◌, Bool, Option, Some, None, Ok, IsTrue, List, [], length, All, true, false}
+use Rattle.std.specs.Prelude.{⊤, ℕ, ◌≡◌, ◌⊎◌, Bool, Option, Some, None, Result, Ok, IsTrue, List, [], length, All, true, false}
+use Rattle.std.specs.List.{AllZip}
 use Rattle.std.specs.Option.{ForSome}
+use Rattle.net_file.specs.Reading.{net_of}
+use Rattle.policy_file.specs.Reading.{policy_of}
+use Rattle.schedule.specs.Reading.{schedule_of}
+use Rattle.shelf.specs.Shelf.{Files, file_named}
 use Rattle.shelf.specs.Sink.{GainedPart, SinkState}
 use Rattle.journal.specs.declared.item.Item.{Item}
 use Rattle.meters.specs.Seen.{Seen}
@@ -12,7 +17,7 @@ use Rattle.steps.specs.Steps.{IsEvent}
 use Rattle.way_laws.specs.StrongCauses.{StrongCause}
 use Rattle.entry_laws.specs.Entries.{AreEntered, rows_played}
 use Rattle.load_case.specs.Case.{load_case}
-use Rattle.difane_cli.specs.Inputs.{case_inputs}
+use Rattle.difane_cli.specs.Inputs.{case_inputs, known_task}
 use Rattle.difane_cli.specs.Texts.{play_text}
 use Rattle.difane_cli.specs.Verdict.{IsVerdict, asks_quiet, is_asked}
 use Rattle.words.specs.Commands.{Command, ReplayCommand}
@@ -22,7 +27,7 @@ use Rattle.difane_cli.specs.declared.report.Report.TheVariants as report
 use Rattle.difane_cli.specs.declared.status.Status.{Status}
 use Rattle.difane_cli.specs.Writes.{Wrote, WrotePart, Unplayed}
 use Rattle.difane_cli.specs.Prints.{PrintOutcome}
-use Rattle.difane_cli.specs.Tasks.{Inputs, Play, Known, IsNetOf}
+use Rattle.difane_cli.specs.Tasks.{Inputs, Play, IsNetOf}
 use Rattle.replay.specs.Leavings.{kept_by}
 use Rattle.difane_cli.specs.declared.status.Status.TheVariants as status
 
@@ -40,21 +45,40 @@ IsPlayOf (asked.Replay words) inputs = IsReplayOf words inputs
 IsPlayOf (asked.Load n) inputs = inputs ≡ case_inputs (load_case n)
 IsPlayOf (asked.Print words) inputs = ⊥
 
+-- the bytes of the file of this name are read as this value
+abbrev pub States : {V E : Type 0} → Files → (List ℕ → Result V E) → List ℕ → V → Type 0
+States files read name value =
+    (bytes : List ℕ) × (file_named files name ≡ Some bytes) × (read bytes ≡ Ok value)
+
+-- the inputs are what the files state that a replay names: the network, where it names one; the
+-- events, on this network and with so many policies; and the policies, in their order
+pub record AreStated (files : Files) (command : ReplayCommand) (inputs : Inputs) : Type 0 where
+  pub net : ForSome command.net (λ name. States files net_of name inputs.setting.net)
+  pub events : States files (schedule_of inputs.setting.net (length command.policies))
+      command.schedule inputs.events
+  pub policies : AllZip (States files policy_of) command.policies inputs.setting.policies
+
+-- those of a replay are what its files state, where these are known
+abbrev pub AreStatedBy : Option Files → Command → Inputs → Type 0
+AreStatedBy files (asked.Replay words) inputs = ForSome files (λ all. AreStated all words inputs)
+AreStatedBy files _ inputs = ⊤
+
 -- the first policy has a plan on the network, all name its ports alone, and the events name its
 -- switches and these policies alone
 pub record MayBePlayed (inputs : Inputs) : Type 0 where
   pub setting : IsSetting inputs.setting
   pub events : All (IsEvent inputs.setting.net (length inputs.setting.policies)) inputs.events
 
--- the journal is that of the play of these inputs, which are the known ones where the task is
--- known: it answers them, or it answers them up to a row at which the play stopped full; so it is a
--- run of the machine, its ends have their causes, and its items have the strong ones, with which a
--- run keeps the promise; and what came in or was refused are the packet rows that were played, in
--- order, each right behind its row
-pub record IsAnswer (command : Command) (known : Known) (inputs : Inputs)
+-- the journal is that of the play of these inputs, which are those that the files state and the
+-- ones of the task, where these are known: it answers them, or it answers them up to a row at which
+-- the play stopped full; so it is a run of the machine, its ends have their causes, and its items
+-- have the strong ones, with which a run keeps the promise; and what came in or was refused are the
+-- packet rows that were played, in order, each right behind its row
+pub record IsAnswer (command : Command) (files : Option Files) (inputs : Inputs)
     (journal : List Item) (full : Option ℕ) : Type 0 where
   pub asked : IsPlayOf command inputs
-  pub accepted : ForSome known (λ read. read ≡ Ok (Play inputs))
+  pub stated : AreStatedBy files command inputs
+  pub accepted : ForSome (known_task files (Some command)) (λ read. read ≡ Ok (Play inputs))
   pub sound : MayBePlayed inputs
   pub play : IsPlay inputs.setting inputs.events journal full
   pub run : IsRun inputs.setting journal
@@ -68,10 +92,10 @@ pub record IsAnswer (command : Command) (known : Known) (inputs : Inputs)
 -- it didn't stop full the meters' lines, and with `--quiet` the one that says whether the network
 -- is quiet: where it says yes, all have converged, and every switch that is up stamps with the
 -- newest version. Of a load case it is the summary, and nothing where it stopped full
-pub record Played (command : Command) (known : Known) (full : Option ℕ)
+pub record Played (command : Command) (files : Option Files) (full : Option ℕ)
     (journal : List Item) (taken given : List Seen) (before now : SinkState) : Type 0 where
   pub inputs : Inputs
-  pub played : IsAnswer command known inputs journal full
+  pub played : IsAnswer command files inputs journal full
   pub kept : given ≡ kept_by inputs.setting.net journal taken
   pub answer : Option Bool
   pub verdict : IsVerdict (asks_quiet inputs.report) inputs.setting journal full answer
@@ -79,11 +103,11 @@ pub record Played (command : Command) (known : Known) (full : Option ℕ)
       before now
 
 -- the same of either play, but that the output failed and gained a part of the text
-pub record CutShort (command : Command) (known : Known) (journal : List Item)
+pub record CutShort (command : Command) (files : Option Files) (journal : List Item)
     (taken given : List Seen) (before now : SinkState) : Type 0 where
   pub inputs : Inputs
   pub full : Option ℕ
-  pub played : IsAnswer command known inputs journal full
+  pub played : IsAnswer command files inputs journal full
   pub kept : given ≡ kept_by inputs.setting.net journal taken
   pub answer : Option Bool
   pub verdict : IsVerdict (asks_quiet inputs.report) inputs.setting journal full answer
@@ -104,13 +128,13 @@ WantsMemory told full = IsTrue (is_asked (asks_quiet told) full) ⊎ IsTrue (is_
 
 -- the same of either play, but that memory ran out behind it, where it is wanted or the output's own
 -- writes take any; and the output wasn't touched or gained a part of the text. Where it ran out
--- before it was known whether the network is quiet, no line says so
-pub record Unfinished (command : Command) (known : Known) (takes_memory : Bool)
+-- before it was files whether the network is quiet, no line says so
+pub record Unfinished (command : Command) (files : Option Files) (takes_memory : Bool)
     (journal : List Item) (taken given : List Seen) (before now : SinkState) : Type 0 where
   pub inputs : Inputs
   pub full : Option ℕ
   pub wanted : IsTrue takes_memory ⊎ WantsMemory inputs.report full
-  pub played : IsAnswer command known inputs journal full
+  pub played : IsAnswer command files inputs journal full
   pub kept : given ≡ kept_by inputs.setting.net journal taken
   pub answer : Option Bool
   pub verdict : (answer ≡ None)
@@ -120,34 +144,34 @@ pub record Unfinished (command : Command) (known : Known) (takes_memory : Bool)
 
 -- the journal, the meters and the output that a status of a play comes with; where nothing was
 -- played no meter is left, or, where memory ran out before the command was read, all are
-abbrev pub PlayOutcome : Command → Known → (takes_memory : Bool) → Status → List Item
+abbrev pub PlayOutcome : Command → Option Files → (takes_memory : Bool) → Status → List Item
     → (taken given : List Seen) → (before now : SinkState) → Type 0
-PlayOutcome command known takes_memory status.Ok journal taken given before now =
-    Played command known None journal taken given before now
-PlayOutcome command known takes_memory (status.Full row) journal taken given before now =
-    Played command known (Some row) journal taken given before now
-PlayOutcome command known takes_memory status.WriteFault journal taken given before now =
-    CutShort command known journal taken given before now
-PlayOutcome command known takes_memory status.NoMemory journal taken given before now =
+PlayOutcome command files takes_memory status.Ok journal taken given before now =
+    Played command files None journal taken given before now
+PlayOutcome command files takes_memory (status.Full row) journal taken given before now =
+    Played command files (Some row) journal taken given before now
+PlayOutcome command files takes_memory status.WriteFault journal taken given before now =
+    CutShort command files journal taken given before now
+PlayOutcome command files takes_memory status.NoMemory journal taken given before now =
     (Unplayed journal before now × ((given ≡ []) ⊎ (given ≡ taken)))
-    ⊎ Unfinished command known takes_memory journal taken given before now
-PlayOutcome command known takes_memory _ journal taken given before now =
+    ⊎ Unfinished command files takes_memory journal taken given before now
+PlayOutcome command files takes_memory _ journal taken given before now =
     Unplayed journal before now × (given ≡ [])
 
 -- ---- all commands
 
 -- the journal, the meters that were taken and given back, and the output that a status of a command
 -- comes with
-abbrev pub Outcome : Option Command → Known → (takes_memory : Bool) → Status → List Item
+abbrev pub Outcome : Option Command → Option Files → (takes_memory : Bool) → Status → List Item
     → (taken given : List Seen) → (before now : SinkState) → Type 0
-Outcome None known takes_memory status journal taken given before now =
+Outcome None files takes_memory status journal taken given before now =
     Unplayed journal before now
-Outcome (Some (asked.Replay words)) known takes_memory status journal taken given before now =
-    PlayOutcome (asked.Replay words) known takes_memory status journal taken given before now
-Outcome (Some (asked.Print words)) known takes_memory status journal taken given before now =
-    PrintOutcome words known status journal before now
-Outcome (Some (asked.Load n)) known takes_memory status journal taken given before now =
-    PlayOutcome (asked.Load n) known takes_memory status journal taken given before now
+Outcome (Some (asked.Replay words)) files takes_memory status journal taken given before now =
+    PlayOutcome (asked.Replay words) files takes_memory status journal taken given before now
+Outcome (Some (asked.Print words)) files takes_memory status journal taken given before now =
+    PrintOutcome words files status journal before now
+Outcome (Some (asked.Load n)) files takes_memory status journal taken given before now =
+    PlayOutcome (asked.Load n) files takes_memory status journal taken given before now
 
 -- behind its play a command may want memory: to see whether the network is quiet, where it is to
 -- say so, and for the summary of a load case. To write the lines of a play it wants none

@@ -1,5 +1,5 @@
--- What a command is to do, once its files are read, and what is known of it.
-use Rattle.std.specs.Prelude.{ℕ, Option, List, ◌≡◌, Some, None, Result}
+-- What a command is to do, once its files are read.
+use Rattle.std.specs.Prelude.{ℕ, Option, List, ◌≡◌, Some, None}
 use Rattle.net_file.specs.declared.net.Net.{Net}
 use Rattle.net_file.specs.Net.{IsNet, solo_net}
 use Rattle.partition.specs.Plan.{Placed}
@@ -7,7 +7,6 @@ use Rattle.policy_rules.specs.declared.policy.Row.{Row}
 use Rattle.steps.specs.declared.step.Event.{Event}
 use Rattle.update_machine.specs.Setting.{Setting}
 use Rattle.difane_cli.specs.declared.report.Report.{Report}
-use Rattle.difane_cli.specs.declared.status.Refusal.{Refusal}
 
 pub record Inputs : Type 0 where
   pub setting : Setting
@@ -26,10 +25,6 @@ pub record Printing : Type 0 where
 pub data Task : Type 0 where
   Play : Inputs → Task
   Print : Printing → Task
-
--- what is known of the task
-abbrev pub Known : Type 0
-Known = Option (Result Task Refusal)
 
 -- the network is that of a file, or of one switch
 abbrev pub IsNetOf : Option (List ℕ) → Net → Type 0

@@ -1,13 +1,15 @@
 //! The play of accepted inputs, and the writing of its journal.
-ghost use Rattle.std.specs.Prelude.{◌≡◌, ◌≢◌, ◌≤◌, [], Ok, Some, map, true};
+ghost use Rattle.std.specs.Prelude.{◌≡◌, ◌≢◌, ◌≤◌, [], Ok, Option, Some, map};
 ghost use Rattle.std.specs.Option.{ForSome};
 ghost use Rattle.net_file.specs.Net.{IsNet};
+ghost use Rattle.shelf.specs.Shelf.{Files};
 ghost use Rattle.shelf.specs.Sink.{Rose};
 ghost use Rattle.shelf.specs.SinkWrites.{IsAfterWrite};
+ghost use Rattle.difane_cli.specs.Inputs.{known_task};
 ghost use Rattle.difane_cli.specs.Commands.{AreReadyToPlay, inputs_stated};
 ghost use Rattle.difane_cli.specs.Texts.{last_lines, play_text, replay_text};
 ghost use Rattle.difane_cli.specs.Run.{IsPlayOf, PlayOutcome, RanOut, is_made};
-ghost use Rattle.difane_cli.specs.Tasks.{Play, Known};
+ghost use Rattle.difane_cli.specs.Tasks.{Play};
 ghost use Rattle.difane_cli.specs.Ending.{IsAfterWork};
 ghost use Rattle.words.specs.Commands.{Command};
 ghost use Rattle.difane_cli.specs.declared.report.Report.TheVariants.{Summary};
@@ -38,7 +40,7 @@ use way_laws::{answers_are_runs, causes_are_strong, ends_have_causes};
 /// Plays the inputs, to their end or as far as there is room, while the meters note the packets that
 /// leave; writes the journal, and behind its last line, where it didn't stop full, those of the
 /// meters and the one that says whether the network is quiet. Nothing is written before that is
-/// known. What comes of it is told for whatever is known of the inputs.
+/// known. What comes of it is told for whatever is known of the files.
 pub fn play<M: Meter, K: Sink>(
     alloc: Global,
     inputs: PlayInputs,
@@ -46,10 +48,11 @@ pub fn play<M: Meter, K: Sink>(
     out: &mut K,
 ) -> Ended<M>
     requires { AreReadyToPlay inputs }
-    ensures outcome { (command : Command) (known : Known)
+    ensures outcome { (command : Command) (files : Option Files)
         → IsPlayOf command (inputs_stated inputs)
-        → ForSome known (λ read. read ≡ Ok (Play (inputs_stated inputs)))
-        → PlayOutcome command known K.takes_memory result.status result.journal
+        → ForSome (known_task files (Some command))
+        (λ read. read ≡ Ok (Play (inputs_stated inputs)))
+        → PlayOutcome command files K.takes_memory result.status result.journal
         (map M.seen meters.items) (map M.seen result.meters.items)
         (K.state out.old) (K.state out.new) }
     ensures no_memory { (command : Command) → IsPlayOf command (inputs_stated inputs)

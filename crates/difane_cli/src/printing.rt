@@ -1,14 +1,14 @@
 //! The plan of a policy, or the tables of a switch: its files, and the writing of its text.
-ghost use Rattle.std.specs.Prelude.{◌≡◌, ◌≢◌, ◌≤◌, [], Ok, None, Some, IfOk, IfErr, IsErrOf, IsTrue, ◌⊎◌};
+ghost use Rattle.std.specs.Prelude.{◌≡◌, ◌≢◌, ◌≤◌, [], Ok, Option, None, Some, IfOk, IfErr, IsErrOf, IsTrue, ◌⊎◌};
 ghost use Rattle.std.specs.Option.{ForSome};
 ghost use Rattle.net_file.specs.Net.{IsNet};
 ghost use Rattle.shelf.specs.Sink.{Rose};
-ghost use Rattle.shelf.specs.Shelf.{IsAfterReads};
+ghost use Rattle.shelf.specs.Shelf.{Files, IsAfterReads};
 ghost use Rattle.difane_cli.specs.Commands.{printing_stated};
-ghost use Rattle.difane_cli.specs.Inputs.{Stops, most_reads, printing_of};
+ghost use Rattle.difane_cli.specs.Inputs.{Stops, known_task, most_reads, printing_of};
 ghost use Rattle.difane_cli.specs.Prints.{IsPrintingOf, PrintOutcome, printing_text};
 ghost use Rattle.difane_cli.specs.Ending.{NeedsReadFault, status_after, status_of};
-ghost use Rattle.difane_cli.specs.Tasks.{Print, Known};
+ghost use Rattle.difane_cli.specs.Tasks.{Print};
 ghost use Rattle.words.specs.Named.{print_named};
 ghost use Rattle.words.specs.Commands as grammar;
 ghost use Rattle.words.specs.Commands.{PrintCommand};
@@ -70,13 +70,14 @@ fn text_of(alloc: Global, inputs: &PrintInputs) -> Result<Vec<u8>, AllocError>
     }
 }
 
-/// Writes the text. What comes of it is told for whatever is known of the inputs.
+/// Writes the text. What comes of it is told for whatever is known of the files.
 pub fn print<K: Sink>(alloc: Global, inputs: &PrintInputs, out: &mut K) -> Result<(), SinkError>
     requires { IsNet inputs.now.net }
-    ensures outcome { (command : PrintCommand) (known : Known)
+    ensures outcome { (command : PrintCommand) (files : Option Files)
         → IsPrintingOf command (printing_stated inputs.now)
-        → ForSome known (λ read. read ≡ Ok (Print (printing_stated inputs.now)))
-        → PrintOutcome command known (status_after result None) []
+        → ForSome (known_task files (Some (grammar.Print command)))
+        (λ read. read ≡ Ok (Print (printing_stated inputs.now)))
+        → PrintOutcome command files (status_after result None) []
         (K.state out.old) (K.state out.new) }
     ensures no_memory { IsErrOf result SinkError.NoMemory
         → IsTrue K.takes_memory ⊎ (K.state out.new ≡ K.state out.old) }

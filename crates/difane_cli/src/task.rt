@@ -1,11 +1,11 @@
 //! What a command is to do, once its files are read, and the doing of it.
-ghost use Rattle.std.specs.Prelude.{◌≡◌, ◌≢◌, ◌≤◌, Ok, Some, IfOk, IfErr, Result, [], map};
+ghost use Rattle.std.specs.Prelude.{◌≡◌, ◌≢◌, ◌≤◌, Ok, Option, Some, IfOk, IfErr, Result, [], map};
 ghost use Rattle.std.specs.Option.{ForSome};
 ghost use Rattle.shelf.specs.Sink.{Rose};
-ghost use Rattle.shelf.specs.Shelf.{IsAfterReads};
+ghost use Rattle.shelf.specs.Shelf.{Files, IsAfterReads};
 ghost use Rattle.difane_cli.specs.Commands.{IsReadyTask, IsTaskOf, task_stated};
 ghost use Rattle.difane_cli.specs.Inputs.{known_task, most_reads, Accounts};
-ghost use Rattle.difane_cli.specs.Tasks.{Task as Stated, Known};
+ghost use Rattle.difane_cli.specs.Tasks.{Task as Stated};
 ghost use Rattle.difane_cli.specs.declared.status.Refusal.{Refusal};
 ghost use Rattle.difane_cli.specs.Run.{Outcome, RanOut, PlaysNothing};
 ghost use Rattle.difane_cli.specs.Ending.{IsAfterWork, NeedsReadFault, status_of};
@@ -70,13 +70,13 @@ pub fn read_task<F: Shelf>(
     }
 }
 
-/// Does the task and writes what comes of it, which is told for whatever is known of the task.
+/// Does the task and writes what comes of it, which is told for whatever is known of the files.
 pub fn work<M: Meter, K: Sink>(alloc: Global, task: Task, meters: Vec<M>, out: &mut K) -> Ended<M>
     requires { IsReadyTask task }
-    ensures outcome { (command : grammar.Command) (known : Known)
+    ensures outcome { (command : grammar.Command) (files : Option Files)
         → IsTaskOf command (task_stated task)
-        → ForSome known (λ read. read ≡ Ok (task_stated task))
-        → Outcome (Some command) known K.takes_memory result.status result.journal
+        → ForSome (known_task files (Some command)) (λ read. read ≡ Ok (task_stated task))
+        → Outcome (Some command) files K.takes_memory result.status result.journal
         (map M.seen meters.items) (map M.seen result.meters.items)
         (K.state out.old) (K.state out.new) }
     ensures meters { (command : grammar.Command) → IsTaskOf command (task_stated task)

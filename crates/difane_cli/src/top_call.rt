@@ -40,11 +40,12 @@ pub fn run<F: Shelf, K: Sink, E: Sink>(
     errs: &mut E,
     meters: Vec<Box<dyn Meter>>,
 ) -> Finished
-    // By its status: what was played, that it answers the inputs, is a run of the abstract machine
-    // whose ends and items have their causes, which meters stayed, and what the output gained.
-    ensures outcome { Outcome (command_of (texts words.now))
-        (known_task (F.state shelf.old).files (command_of (texts words.now)))
-        K.takes_memory result.status result.journal (map ⟦<Box<dyn Meter> as Meter>⟧.seen meters.items)
+    // By its status: what was played, that it is what the known files state, that the journal
+    // answers it and is a run of the abstract machine whose ends and items have their causes, which
+    // meters stayed, and what the output gained.
+    ensures outcome { Outcome (command_of (texts words.now)) (F.state shelf.old).files
+        K.takes_memory result.status result.journal
+        (map ⟦<Box<dyn Meter> as Meter>⟧.seen meters.items)
         (map ⟦<Box<dyn Meter> as Meter>⟧.seen result.meters.items)
         (K.state out.old) (K.state out.new) }
 

@@ -14,7 +14,7 @@ use Rattle.difane_cli.proofs.Worked.{after_work, by_failed, by_memory, of_failed
 use Rattle.difane_cli.proofs.playing.play.Goals as goal
 
 pub returns-clause-outcome : goal.returns-clause-outcome
-returns-clause-outcome g c = λ command known asked read.
+returns-clause-outcome g c = λ command files asked read.
     let inputs = inputs_stated c.args.inputs in
     let full = c.in-Ok.played.full in
     let journal = c.in-Ok.played.journal in
@@ -33,8 +33,8 @@ returns-clause-outcome g c = λ command known asked read.
     } in
     let play = subst (λ (events : List Event). IsPlay inputs.setting events journal full)
     c.deref.ensures.value c.in-Ok.ensures.play in
-    let answer = played laws command known inputs journal full asked read c.requires.sound play in
-    let verdict = judged laws command known inputs journal full c.args.inputs.net said answer
+    let answer = played laws command files inputs journal full asked read c.requires.sound play in
+    let verdict = judged laws command files inputs journal full c.args.inputs.net said answer
     c.requires.net
     (c.in-Ok-judge.ensures.asked ∙ ap (λ q. is_asked q full) c.asks_quiet.ensures)
     c.in-Ok-judge.ensures.decides in
@@ -52,11 +52,11 @@ returns-clause-outcome g c = λ command known asked read.
     IsAfterText (play_text inputs.report net journal full given said) in_memory takes_memory
     before now written)
     (sym c.requires.net) c.write_report-written.ensures in
-    rw c.after.ensures (told command known inputs journal full taken given said before now
+    rw c.after.ensures (told command files inputs journal full taken given said before now
     takes_memory written answer kept verdict after)
 
 pub returns-in_default-judge-clause-outcome : goal.returns-in_default-judge-clause-outcome
-returns-in_default-judge-clause-outcome g c = λ command known asked read.
+returns-in_default-judge-clause-outcome g c = λ command files asked read.
     let inputs = inputs_stated c.args.inputs in
     let full = c.in-Ok.played.full in
     let journal = c.in-Ok.played.journal in
@@ -74,12 +74,12 @@ returns-in_default-judge-clause-outcome g c = λ command known asked read.
     } in
     let play = subst (λ (events : List Event). IsPlay inputs.setting events journal full)
     c.deref.ensures.value c.in-Ok.ensures.play in
-    let answer = played laws command known inputs journal full asked read c.requires.sound play in
+    let answer = played laws command files inputs journal full asked read c.requires.sound play in
     let kept = c.in-Ok.ensures.kept
     ∙ ap (λ (ports : ℕ). kept_meters ports (left_in journal) (map g.M.Meter.seen c.args.meters.items))
     c.port_mask.ensures in
     let wants = on_err c.judge.result _ c.judge.ensures.wants c.in_default-judge.not-Ok in
-    inr (unjudged command known g.K.Sink.takes_memory inputs journal full
+    inr (unjudged command files g.K.Sink.takes_memory inputs journal full
     (map g.M.Meter.seen c.args.meters.items)
     (map g.M.Meter.seen c.in-Ok.played.meters.items) (g.K.Sink.state c.args.out.now) answer
     (rw c.requires.net kept)

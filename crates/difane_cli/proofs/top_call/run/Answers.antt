@@ -6,7 +6,6 @@ use Rattle.meters.specs.Seen.{Seen}
 use Rattle.shelf.specs.Shelf.{Files}
 use Rattle.shelf.specs.Sink.{SinkState}
 use Rattle.words.specs.Named.{command_named}
-use Rattle.difane_cli.specs.Inputs.{known_task}
 use Rattle.difane_cli.specs.Run.{Outcome, RanOut}
 use Rattle.words.specs.Words.{command_of}
 use Rattle.words.specs.Commands as grammar
@@ -36,23 +35,23 @@ ended_so : {M : Type 0} (seen : M → Seen) (files : Option Files)
     (asked command : Option grammar.Command) (takes_memory : Bool) (taken : List Seen)
     (before now : SinkState) (worked ended : Ended M) → asked ≡ command → ended.status ≡ worked.status
     → ended.journal ≡ worked.journal → ended.meters ≡ worked.meters
-    → Outcome asked (known_task files asked) takes_memory worked.status worked.journal taken
+    → Outcome asked files takes_memory worked.status worked.journal taken
     (map seen worked.meters.items) before now
-    → Outcome command (known_task files command) takes_memory ended.status ended.journal taken
+    → Outcome command files takes_memory ended.status ended.journal taken
     (map seen ended.meters.items) before now
 ended_so {M} seen files asked command takes_memory taken before now worked ended own is same stayed outcome =
     let meters = ended.meters in
     subst (λ (c : Option grammar.Command).
-    Outcome c (known_task files c) takes_memory ended.status ended.journal taken (map seen meters.items)
+    Outcome c files takes_memory ended.status ended.journal taken (map seen meters.items)
     before now) own
     (subst (λ (s : Status).
-    Outcome asked (known_task files asked) takes_memory s ended.journal taken (map seen meters.items)
+    Outcome asked files takes_memory s ended.journal taken (map seen meters.items)
     before now) (sym is)
     (subst (λ (items : List Item).
-    Outcome asked (known_task files asked) takes_memory worked.status items taken (map seen meters.items)
+    Outcome asked files takes_memory worked.status items taken (map seen meters.items)
     before now) (sym same)
     (subst (λ (given : List M).
-    Outcome asked (known_task files asked) takes_memory worked.status worked.journal taken (map seen given)
+    Outcome asked files takes_memory worked.status worked.journal taken (map seen given)
     before now) (sym (ap (λ (all : Vec M Global). all.items) stayed)) outcome)))
 
 pub returns-clause-outcome : goal.returns-clause-outcome
@@ -64,7 +63,7 @@ returns-clause-outcome g c =
     (command_is c.in-Ok-Some.command c.in-Ok-Some.field-0 _ _ found c.in-Ok-Some.ensures.value
     c.deref.ensures.value)
     c.end-in-Ok.ensures.status c.end-in-Ok.ensures.journal c.end-in-Ok.ensures.meters
-    (c.work-ended.ensures.outcome asked (known_task files (Some asked)) c.in-Ok.ensures.asked
+    (c.work-ended.ensures.outcome asked files c.in-Ok.ensures.asked
     c.in-Ok.ensures.value)
 
 pub returns-clause-no_memory : goal.returns-clause-no_memory

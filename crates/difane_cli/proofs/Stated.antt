@@ -1,0 +1,153 @@
+-- The inputs of a replay that is accepted are what its files state.
+use Rattle.std.specs.Prelude.{nat_le, if◌then◌else◌}
+use Rattle.std.specs.List.{AllZip}
+use Rattle.std.specs.Option.{ForSome}
+use Rattle.std.proofs.Common.{ℕ, ◌≡◌, ◌∙◌, Bool, true, false, Option, Some, None, Result, Ok, Err, List, [], ◌∷◌, ap, length, refl, subst}
+use Rattle.net_file.specs.Owners.{port_mask}
+use Rattle.net_file.specs.Reading.{net_of}
+use Rattle.net_file.specs.Refusals as net_text
+use Rattle.net_file.specs.declared.net.Net.{Net}
+use Rattle.policy_file.specs.Ports.{first_without_port}
+use Rattle.policy_file.specs.Reading.{policy_of}
+use Rattle.policy_file.specs.Reading as policy_text
+use Rattle.policy_file.specs.declared.ports.NoPort.{NoPort}
+use Rattle.policy_rules.specs.declared.policy.Row.{Row}
+use Rattle.schedule.specs.Reading.{schedule_of}
+use Rattle.schedule.specs.Refusals as schedule_text
+use Rattle.shelf.specs.Shelf.{Files, file_named}
+use Rattle.steps.specs.declared.step.Event.{Event}
+use Rattle.words.specs.Commands.{Command, ReplayCommand}
+use Rattle.words.specs.Commands as words
+use Rattle.difane_cli.specs.Codes.{most_bytes, too_long}
+use Rattle.difane_cli.specs.Inputs.{and_then, content_from, content_of, first_plan, inputs_of, known_task, net_from, net_stated, play_task, policy_from, policy_stated, read_net, read_policies, read_policy, read_schedule, refused_whole, schedule_from, schedule_in, task_of, with_ports}
+use Rattle.difane_cli.specs.Run.{AreStatedBy, AreStated, States}
+use Rattle.difane_cli.specs.Tasks.{Inputs, Play}
+use Rattle.difane_cli.specs.declared.status.Refusal.{Refusal}
+
+-- ---- one file
+
+-- what was read went on
+went_on : {X Y : Type 0} (read : Result X Refusal) (next : X → Result Y Refusal) (y : Y)
+    → and_then read next ≡ Ok y → (x : X) × (read ≡ Ok x) × (next x ≡ Ok y)
+went_on (Ok x) next y is = (x, refl, is)
+went_on (Err refusal) next y is = absurd (cc is)
+
+same_value : {X : Type 0} (read : Result X Refusal) (x y : X) → read ≡ Ok x → read ≡ Ok y → x ≡ y
+same_value read x y one two = cc (one, two)
+
+content_is : (name : List ℕ) (found : Option (List ℕ)) (bytes : List ℕ)
+    → content_from name found ≡ Ok bytes → found ≡ Some bytes
+content_is name None bytes is = absurd (cc is)
+content_is name (Some held) bytes is = by (nat_le (length held) most_bytes) is
+  where
+    by : (few : Bool)
+        → (if few then Ok held else Err (refused_whole name too_long)) ≡ Ok bytes
+        → Some held ≡ Some bytes
+    by true is = cc is
+    by false is = absurd (cc is)
+
+-- a file whose content was read to a value states it
+states : {V E : Type 0} (files : Files) (name : List ℕ) (read : List ℕ → Result V E)
+    (stated : List ℕ → Result V Refusal) (value : V)
+    → ((bytes : List ℕ) → stated bytes ≡ Ok value → read bytes ≡ Ok value)
+    → and_then (content_of files name) stated ≡ Ok value → States files read name value
+states files name read stated value own is =
+    let on = went_on (content_of files name) stated value is in
+    (on.0, content_is name (file_named files name) on.0 on.1, own on.0 on.2)
+
+-- ---- networks, schedules and policies
+
+net_is : (name : List ℕ) (read : Result Net net_text.Refusal) (net : Net)
+    → net_from name read ≡ Ok net → read ≡ Ok net
+net_is name (Ok net) own is = cc is
+net_is name (Err refusal) own is = absurd (cc is)
+
+net_states : (files : Files) (name : List ℕ) (net : Net) → read_net files (Some name) ≡ Ok net
+    → States files net_of name net
+net_states files name net is =
+    states files name net_of (net_stated name) net (λ bytes. net_is name (net_of bytes) net) is
+
+events_are : (name : List ℕ) (read : Result (List Event) schedule_text.Refusal)
+    (events : List Event) → schedule_from name read ≡ Ok events → read ≡ Ok events
+events_are name (Ok events) own is = cc is
+events_are name (Err refusal) own is = absurd (cc is)
+
+schedule_states : (net : Net) (count : ℕ) (files : Files) (name : List ℕ) (events : List Event)
+    → read_schedule net count files name ≡ Ok events
+    → States files (schedule_of net count) name events
+schedule_states net count files name events is =
+    states files name (schedule_of net count) (schedule_in net count name) events
+    (λ bytes. events_are name (schedule_of net count bytes) events) is
+
+rows_are : (name : List ℕ) (read : Result (List Row) policy_text.Refusal) (rows : List Row)
+    → policy_from name read ≡ Ok rows → read ≡ Ok rows
+rows_are name (Ok rows) own is = cc is
+rows_are name (Err refusal) own is = absurd (cc is)
+
+with_ports_is : (name : List ℕ) (rows own : List Row) (lack : Option NoPort)
+    → with_ports name rows lack ≡ Ok own → rows ≡ own
+with_ports_is name rows own None is = same_value (Ok rows) rows own refl is
+with_ports_is name rows own (Some lack) is = absurd (cc is)
+
+policy_is : (ports : ℕ) (name bytes : List ℕ) (rows : List Row)
+    → policy_stated ports name bytes ≡ Ok rows → policy_of bytes ≡ Ok rows
+policy_is ports name bytes rows is =
+    let on = went_on (policy_from name (policy_of bytes))
+    (λ read. with_ports name read (first_without_port ports read)) rows is in
+    rows_are name (policy_of bytes) rows
+    (on.1 ∙ ap Ok (with_ports_is name on.0 rows (first_without_port ports on.0) on.2))
+
+policy_states : (ports : ℕ) (files : Files) (name : List ℕ) (rows : List Row)
+    → read_policy ports files name ≡ Ok rows → States files policy_of name rows
+policy_states ports files name rows is =
+    states files name policy_of (policy_stated ports name) rows
+    (λ bytes. policy_is ports name bytes rows) is
+
+policies_state : (ports : ℕ) (files : Files) (names : List (List ℕ)) (policies : List (List Row))
+    → read_policies ports files names ≡ Ok policies
+    → AllZip (States files policy_of) names policies
+policies_state ports files [] policies is =
+    subst (AllZip (States files policy_of) []) (same_value (Ok []) [] policies refl is) tt
+policies_state ports files (name ∷ names) policies is =
+    let first = went_on (read_policy ports files name) _ policies is in
+    let others = went_on (read_policies ports files names) (λ more. Ok (first.0 ∷ more)) policies
+    first.2 in
+    subst (AllZip (States files policy_of) (name ∷ names))
+    (same_value (Ok (first.0 ∷ others.0)) _ policies refl others.2) (
+      policy_states ports files name first.0 first.1,
+      policies_state ports files names others.0 others.1,
+    )
+
+-- ---- all files of a replay
+
+inputs_state : (files : Files) (command : ReplayCommand) (inputs : Inputs)
+    → inputs_of files command ≡ Ok inputs → AreStated files command inputs
+inputs_state files command inputs is =
+    let net = went_on (read_net files command.net) _ inputs is in
+    let count = length command.policies in
+    let events = went_on (read_schedule net.0 count files command.schedule) _ inputs net.2 in
+    let ports = port_mask net.0.switches in
+    let policies = went_on (read_policies ports files command.policies) _ inputs events.2 in
+    let planned = went_on (first_plan command.policies net.0 policies.0) _ inputs policies.2 in
+    subst (AreStated files command) (same_value _ _ inputs refl planned.2)
+    (record {
+      net = λ name named. net_states files name net.0
+          (subst (λ given. read_net files given ≡ Ok net.0) named net.1);
+      events = schedule_states net.0 count files command.schedule events.0 events.1;
+      policies = policies_state ports files command.policies policies.0 policies.1;
+    })
+
+play_is : (read : Result Inputs Refusal) (inputs : Inputs)
+    → play_task read ≡ Ok (Play inputs) → read ≡ Ok inputs
+play_is (Ok own) inputs is = cc is
+play_is (Err refusal) inputs is = absurd (cc is)
+
+-- the inputs of the known task are those that the files state
+pub stated_by : (files : Option Files) (command : Command) (inputs : Inputs)
+    → ForSome (known_task files (Some command)) (λ read. read ≡ Ok (Play inputs))
+    → AreStatedBy files command inputs
+stated_by files (words.Replay replay) inputs accepted = λ all known.
+    inputs_state all replay inputs (play_is (inputs_of all replay) inputs
+    (accepted _ (ap (λ held. task_of held (words.Replay replay)) known)))
+stated_by files (words.Print print) inputs accepted = tt
+stated_by files (words.Load n) inputs accepted = tt
