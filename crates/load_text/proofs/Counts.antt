@@ -6,8 +6,9 @@ use Rattle.std.proofs.lemmas.List.Sums.{count_by-le-length}
 use Rattle.journal.specs.declared.item.Item.{Item}
 use Rattle.update_machine.specs.Folds.{count_of, last_told}
 use Rattle.update_machine.specs.Marks.{current_mark, retired_mark, tells_current, tells_retired}
+use Rattle.update_machine.specs.Packets.{is_packet}
 use Rattle.update_machine.proofs.CallerLemmas.{count_of_append, last_told_append}
-use Rattle.load_text.specs.Summary.{CountsHaveRoom, counted_with, counts_of, is_cached, is_closed, is_dropped, is_entered, is_left, is_lost, is_packet_item, is_sent, is_stuck, one_more}
+use Rattle.load_text.specs.Summary.{CountsHaveRoom, counted_with, counts_of, is_cached, is_closed, is_dropped, is_entered, is_left, is_lost, is_sent, is_stuck, one_more}
 
 count_more : (test : Item → Bool) (before : List Item) (item : Item)
     → count_of test (before ++ item ∷ []) ≡ one_more (test item) (count_of test before)
@@ -34,7 +35,7 @@ pub counts_more : (before : List Item) (item : Item)
     → counts_of (before ++ item ∷ []) ≡ counted_with (counts_of before) item
 unfolding current_mark retired_mark
 counts_more before item = rw (
-  count_more is_packet_item before item,
+  count_more is_packet before item,
   count_more is_entered before item,
   count_more is_closed before item,
   count_more is_left before item,
@@ -65,7 +66,7 @@ counts_start = refl
 
 pub counts_room : (items : List Item) → length items + 1 < 2 ^ 64 → CountsHaveRoom (counts_of items)
 counts_room items room = record {
-  packets = omega (arith, count_by-le-length is_packet_item items, room);
+  packets = omega (arith, count_by-le-length is_packet items, room);
   entered = omega (arith, count_by-le-length is_entered items, room);
   closed = omega (arith, count_by-le-length is_closed items, room);
   left = omega (arith, count_by-le-length is_left items, room);

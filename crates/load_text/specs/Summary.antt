@@ -1,11 +1,12 @@
 -- What became of the packets of a play, what was sent in it, and which versions it ended with.
-use Rattle.std.specs.Prelude.{ℕ, ◌<◌, ◌+◌, ◌-◌, ◌^◌, Bool, true, false, ◌||◌, if◌then◌else◌, unwrap_or, List, [], ◌∷◌, ◌++◌, codes, decimal, Option, Some, None}
+use Rattle.std.specs.Prelude.{ℕ, ◌<◌, ◌+◌, ◌-◌, ◌^◌, Bool, true, false, if◌then◌else◌, unwrap_or, List, [], ◌∷◌, ◌++◌, codes, decimal, Option, Some, None}
 use Rattle.journal.specs.declared.item.Item.{Item}
 use Rattle.journal.specs.declared.item.Item.TheVariants as item
 use Rattle.policy_rules.specs.declared.packet.How.{How}
 use Rattle.policy_rules.specs.declared.packet.How.TheVariants as how
 use Rattle.update_machine.specs.Folds.{count_of}
 use Rattle.update_machine.specs.Marks.{current_mark, retired_mark, tells_current, tells_retired}
+use Rattle.update_machine.specs.Packets.{is_packet}
 use Rattle.load_text.specs.declared.summary.Counts.{Counts}
 use Rattle.load_text.specs.declared.summary.Summary.{Summary}
 
@@ -18,10 +19,6 @@ is_entered _ = false
 abbrev pub is_closed : Item → Bool
 is_closed (item.Closed packet switch) = true
 is_closed _ = false
-
--- a packet that came in, or was refused at a switch that didn't serve
-abbrev pub is_packet_item : Item → Bool
-is_packet_item item = is_entered item || is_closed item
 
 abbrev pub is_left : Item → Bool
 is_left (item.Left packet port leaving) = true
@@ -57,7 +54,7 @@ is_sent _ = false
 -- how many items of each kind there are, and the marks at the end
 abbrev pub counts_of : List Item → Counts
 counts_of journal = record {
-  packets = count_of is_packet_item journal;
+  packets = count_of is_packet journal;
   entered = count_of is_entered journal;
   closed = count_of is_closed journal;
   left = count_of is_left journal;
@@ -96,7 +93,7 @@ one_more counts n = if counts then n + 1 else n
 
 abbrev pub counted_with : Counts → Item → Counts
 counted_with c item = record {
-  packets = one_more (is_packet_item item) c.packets;
+  packets = one_more (is_packet item) c.packets;
   entered = one_more (is_entered item) c.entered;
   closed = one_more (is_closed item) c.closed;
   left = one_more (is_left item) c.left;
