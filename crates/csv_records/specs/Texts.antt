@@ -1,7 +1,8 @@
 -- The records of a text, each the list of its fields.
-use Rattle.std.specs.Prelude.{ℕ, ◌≡◌, Bool, true, false, List, [], ◌∷◌, unwrap_or}
+use Rattle.std.specs.Prelude.{ℕ, ◌≡◌, Bool, true, false, List, [], ◌∷◌, unwrap_or, bytes_eq}
 use Rattle.csv.specs.Reading.{default_config, records, strip_bom}
 use Rattle.csv.specs.Records.{field_at}
+use lib.Pointwise.{pointwise}
 
 -- the records of a text are those that the crate `csv` defines, with its presets
 abbrev pub records_of : List ℕ → List (List (List ℕ))
@@ -16,3 +17,7 @@ TakesRecord before false fields after = (before ≡ []) × (after ≡ [])
 -- the field at this place, or an empty one where the record ends before it
 abbrev pub field : List (List ℕ) → ℕ → List ℕ
 field fields place = unwrap_or (field_at fields place) []
+
+-- the record has these fields and no others, as a heading has
+abbrev pub is_heading : List (List ℕ) → List (List ℕ) → Bool
+is_heading heading fields = pointwise bytes_eq fields heading

@@ -2,8 +2,8 @@
 use Rattle.std.proofs.Common.{ℕ, zero, suc, ◌≡◌, ◌∙◌, ◌+◌, List, [], ◌∷◌, length, length-drop, drop, refl, ap, arith}
 use Rattle.std.specs.Prelude.{◌≢◌, Err}
 use Rattle.csv.specs.Records.{field_at}
-use Rattle.csv_records.specs.Texts.{field}
-use Rattle.policy_file.specs.Reading.{is_policy_heading, row_read}
+use Rattle.csv_records.specs.Texts.{field, is_heading}
+use Rattle.policy_file.specs.Reading.{policy_heading, row_read}
 use Rattle.policy_file.specs.declared.error.PolicyRefusal.TheVariants as why
 
 abbrev pub seven_of : List (List ℕ) → List (List ℕ)
@@ -16,8 +16,8 @@ seven_fields (a ∷ b ∷ c ∷ d ∷ e ∷ f ∷ g ∷ []) seven = refl
 seven_fields _ seven = absurd (omega arith)
 
 pub is_heading-seven : (fields : List (List ℕ)) → length fields ≡ 7
-    → is_policy_heading fields ≡ is_policy_heading (seven_of fields)
-is_heading-seven fields seven = ap is_policy_heading (seven_fields fields seven)
+    → is_heading policy_heading fields ≡ is_heading policy_heading (seven_of fields)
+is_heading-seven fields seven = ap (is_heading policy_heading) (seven_fields fields seven)
 
 -- a field past the first ones
 field_past : (fields : List (List ℕ)) (from place : ℕ) → field (drop from fields) place ≡ field

@@ -7,13 +7,13 @@ use Rattle.std.specs.Result.{result_ok}
 use Rattle.std.proofs.lemmas.Bool.{cases_lt, eq-eqb, ne_eqb}
 use Rattle.std.proofs.lemmas.List.{drop_all, drop_more, get_or-map, get_or-take, get_or_default, length-map, length-take, map-append, take-map, take-take, take_all, take_more}
 use Rattle.std.proofs.lemmas.List.Folds.{list_any_none}
-use Rattle.csv_records.specs.Texts.{TakesRecord}
+use Rattle.csv_records.specs.Texts.{TakesRecord, is_heading}
 use Rattle.policy_rules.specs.Policy.{HaveDistinctPriorities}
 use Rattle.policy_rules.specs.declared.policy.Row.{Row}
 use Rattle.policy_rules.specs.Repeats.{IsFirstRepeat, has_priority}
 use Rattle.policy_file.specs.declared.error.PolicyRefusal.{PolicyRefusal}
 use Rattle.policy_file.specs.declared.error.PolicyRefusal.TheVariants as why
-use Rattle.policy_file.specs.Reading.{IsReadUpTo, Refusal, State, first_some, is_policy_heading, refusal_after, refusal_at, row_read, rows_of, rows_under_heading, states_priority}
+use Rattle.policy_file.specs.Reading.{IsReadUpTo, Refusal, State, first_some, policy_heading, refusal_after, refusal_at, row_read, rows_of, rows_under_heading, states_priority}
 
 -- ---- the first number that has something
 
@@ -270,7 +270,7 @@ too_many records n full =
 -- ---- the heading
 
 pub under_heading : (before after : Records) (fields : List (List ℕ)) (found : Bool) → found ≡ true
-    → TakesRecord before found fields after → is_policy_heading fields ≡ true
+    → TakesRecord before found fields after → is_heading policy_heading fields ≡ true
     → rows_under_heading before ≡ rows_of after
 under_heading before after fields false is takes heading = cc is
 under_heading before after fields true is takes heading = rw (takes, heading) refl

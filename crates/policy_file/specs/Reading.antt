@@ -1,9 +1,9 @@
 -- The policy that a text states, as CSV records: a heading, and a record for each row.
-use Rattle.std.specs.Prelude.{⊤, ℕ, zero, suc, ◌≡◌, ◌+◌, ◌<◌, ◌≤◌, ◌==◌, Bool, false, if◌then◌else◌, MatchOption, Option, Some, None, option_map, Result, Ok, Err, List, [], ◌∷◌, length, map, take, filter_map, slice_index_or, codes, bytes_eq}
+use Rattle.std.specs.Prelude.{⊤, ℕ, zero, suc, ◌≡◌, ◌+◌, ◌<◌, ◌≤◌, ◌==◌, Bool, false, if◌then◌else◌, MatchOption, Option, Some, None, option_map, Result, Ok, Err, List, [], ◌∷◌, length, map, take, filter_map, slice_index_or, codes}
 use Rattle.std.specs.List.{list_any}
 use Rattle.std.specs.Option.{option_map_or, option_or}
 use Rattle.std.specs.Result.{result_ok}
-use Rattle.csv_records.specs.Texts.{records_of}
+use Rattle.csv_records.specs.Texts.{is_heading, records_of}
 use Rattle.five_tuple.specs.Texts.{number_up_to, prefix_of, range_of, proto_of}
 use Rattle.policy_rules.specs.Read.{action_of}
 use Rattle.policy_rules.specs.declared.policy.Row.{Row}
@@ -11,7 +11,6 @@ use Rattle.policy_file.specs.declared.error.PolicyRefusal.{PolicyRefusal}
 use Rattle.policy_file.specs.declared.error.PolicyRefusal.TheVariants as why
 use Rattle.policy_file.specs.declared.error.PolicyError.{PolicyError}
 use Rattle.policy_file.specs.declared.error.PolicyError.TheVariants as error
-use lib.Pointwise.{pointwise}
 
 -- the numbers by which refusals are known outside
 abbrev pub policy_code : PolicyRefusal → ℕ
@@ -36,9 +35,6 @@ abbrev pub policy_heading : List (List ℕ)
 policy_heading =
     codes "priority" ∷ codes "src" ∷ codes "dst" ∷ codes "sport" ∷ codes "dport" ∷ codes "proto"
     ∷ codes "action" ∷ []
-
-abbrev pub is_policy_heading : List (List ℕ) → Bool
-is_policy_heading fields = pointwise bytes_eq fields policy_heading
 
 -- what follows from a field's value; or why there is none, where the text has none
 abbrev pub with_field : {X : Type 0} → Option X → PolicyRefusal → (X → Result Row PolicyRefusal)
@@ -111,7 +107,8 @@ no_policy_heading = Err (record { refusal = why.Heading; row = 0 })
 -- the rows under the heading
 abbrev pub rows_under_heading : List (List (List ℕ)) → Result (List Row) Refusal
 rows_under_heading [] = no_policy_heading
-rows_under_heading (first ∷ records) = if is_policy_heading first then rows_of records else no_policy_heading
+rows_under_heading (first ∷ records) =
+    if is_heading policy_heading first then rows_of records else no_policy_heading
 
 -- the policy that a text states
 unfoldable pub policy_of : List ℕ → Result (List Row) Refusal

@@ -1,9 +1,9 @@
 ghost use Rattle.std.specs.Prelude.{◌≡◌, ◌<◌, ◌+◌, ◌&&◌, drop, IfOk, bytes_eq};
 ghost use Rattle.csv.specs.Records.{fields_of};
-ghost use Rattle.csv_records.specs.Texts.{field};
+ghost use Rattle.csv_records.specs.Texts.{field, is_heading};
 ghost use Rattle.five_tuple.specs.Texts.{number_up_to};
 ghost use Rattle.policy_rules.specs.Read.{HasSmallPort};
-ghost use Rattle.policy_file.specs.Reading.{is_policy_heading, row_read};
+ghost use Rattle.policy_file.specs.Reading.{policy_heading, row_read};
 
 use crate::error::PolicyRefusal;
 use csv_records::{ByteRecord, field, has_text};
@@ -40,7 +40,7 @@ fn has_texts(fields: &ByteRecord, place: usize, one: &str, next: &str) -> bool
 /// Whether the record is the heading.
 #[tactic(auto, using(crate::proofs::Fields::sevens))]
 pub fn is_heading(fields: &ByteRecord) -> bool
-    ensures { result ≡ is_policy_heading (fields_of fields.now) }
+    ensures { result ≡ is_heading policy_heading (fields_of fields.now) }
 {
     if fields.len() != WIDTH {
         return false;

@@ -2,10 +2,10 @@
 use Rattle.std.proofs.Common.{ℕ, ◌≡◌, ◌∙◌, Bool, true, false, ◌&&◌, Some, None, List, [], ◌∷◌, length, drop, refl, ap, arith}
 use Rattle.std.specs.Prelude.{◌≢◌, Err, bytes_eq, codes}
 use Rattle.csv.specs.Records.{field_at}
-use Rattle.csv_records.specs.Texts.{field}
+use Rattle.csv_records.specs.Texts.{field, is_heading}
 use Rattle.net_file.specs.declared.net.Net.{Net}
 use Rattle.schedule.specs.Kinds.{kind_of}
-use Rattle.schedule.specs.Rows.{event_of, event_with, is_schedule_heading}
+use Rattle.schedule.specs.Rows.{event_of, event_with, schedule_heading}
 use Rattle.schedule.specs.declared.error.ScheduleRefusal.TheVariants as why
 use Rattle.schedule.specs.declared.kind.Kind.{Kind}
 use Rattle.schedule.specs.declared.kind.Kind.TheVariants as kind
@@ -17,14 +17,15 @@ and_true true = refl
 and_true false = refl
 
 pub is_heading-two : (fields : List (List ℕ)) → length fields ≡ 2
-    → is_schedule_heading fields ≡ (bytes_eq (field fields 0) (codes "event")
+    → is_heading schedule_heading fields ≡ (bytes_eq (field fields 0) (codes "event")
     && bytes_eq (field fields 1) (codes "arguments"))
 unfolding field_at
 is_heading-two (a ∷ b ∷ []) two = ap (λ last. bytes_eq a (codes "event") && last)
     (and_true (bytes_eq b (codes "arguments")))
 is_heading-two _ two = absurd (omega arith)
 
-pub is_heading-other : (fields : List (List ℕ)) → length fields ≢ 2 → is_schedule_heading fields ≡ false
+pub is_heading-other : (fields : List (List ℕ)) → length fields ≢ 2
+    → is_heading schedule_heading fields ≡ false
 is_heading-other [] other = refl
 is_heading-other (a ∷ []) other = grind arith
 is_heading-other (a ∷ b ∷ []) other = absurd (other refl)

@@ -7,6 +7,7 @@ use Rattle.std.specs.Result.{result_err, result_ok}
 use Rattle.std.proofs.lemmas.Bool.Decides.{nat_tests}
 use Rattle.std.proofs.lemmas.List.Elements.{All-from_recursion}
 use Rattle.std.proofs.lemmas.List.Quantifiers.{position-Some}
+use Rattle.csv_records.specs.Texts.{is_heading}
 use Rattle.five_tuple.specs.Header.{IsHeader}
 use Rattle.five_tuple.specs.Texts.{number_up_to, packet_fields_of}
 use Rattle.five_tuple.specs.declared.header.Fields.{Fields}
@@ -26,7 +27,7 @@ use Rattle.steps.specs.declared.step.Step.TheVariants as step
 use Rattle.schedule.specs.Kinds.{kind_of}
 use Rattle.schedule.specs.Reading.{AreSoundEvents, events_in, events_of, events_under_heading, no_schedule_heading, refused_row, refusals_from}
 use Rattle.schedule.specs.Refusals.{Refusal}
-use Rattle.schedule.specs.Rows.{event_of, event_with, file_in, header_read, is_schedule_heading, link_in, number_read, switch_in}
+use Rattle.schedule.specs.Rows.{event_of, event_with, file_in, header_read, link_in, number_read, schedule_heading, switch_in}
 use Rattle.schedule.specs.declared.error.ScheduleRefusal.{ScheduleRefusal}
 use Rattle.schedule.specs.declared.error.ScheduleRefusal.TheVariants as why
 use Rattle.schedule.specs.declared.kind.Kind.{Kind}
@@ -258,7 +259,7 @@ module _ (net : Net) (files : ℕ) where
   pub text_sound : (records : List (List (List ℕ))) (events : List Event)
       → events_under_heading net files records ≡ Ok events → AreSoundEvents net files events
   text_sound [] events is = cc is
-  text_sound (first ∷ records) events is = under (is_schedule_heading first) is
+  text_sound (first ∷ records) events is = under (is_heading schedule_heading first) is
     where
       under : (b : Bool) → cond b (events_of net files records) no_schedule_heading ≡ Ok events
           → AreSoundEvents net files events

@@ -3,12 +3,12 @@ use Rattle.std.specs.Prelude.{⊤, ℕ, ◌≡◌, ◌≤◌, nat_lt, if◌then�
 use Rattle.std.specs.List.{enumerate_from}
 use Rattle.std.specs.Option.{option_map_or}
 use Rattle.std.specs.Result.{result_err, result_ok}
-use Rattle.csv_records.specs.Texts.{records_of}
+use Rattle.csv_records.specs.Texts.{is_heading, records_of}
 use Rattle.net_file.specs.declared.net.Net.{Net}
 use Rattle.steps.specs.Steps.{IsEvent, max_events}
 use Rattle.steps.specs.declared.step.Event.{Event}
 use Rattle.schedule.specs.Refusals.{Refusal}
-use Rattle.schedule.specs.Rows.{event_of, is_schedule_heading}
+use Rattle.schedule.specs.Rows.{event_of, schedule_heading}
 use Rattle.schedule.specs.declared.error.ScheduleError.{ScheduleError}
 use Rattle.schedule.specs.declared.error.ScheduleError.TheVariants as error
 use Rattle.schedule.specs.declared.error.ScheduleRefusal.{ScheduleRefusal}
@@ -48,7 +48,7 @@ abbrev pub events_under_heading : Net → ℕ → List (List (List ℕ))
     → Result (List Event) Refusal
 events_under_heading net files [] = no_schedule_heading
 events_under_heading net files (first ∷ records) =
-    if is_schedule_heading first then events_of net files records else no_schedule_heading
+    if is_heading schedule_heading first then events_of net files records else no_schedule_heading
 
 -- the events that a text states
 unfoldable pub schedule_of : Net → ℕ → List ℕ → Result (List Event) Refusal

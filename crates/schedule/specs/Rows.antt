@@ -1,6 +1,6 @@
 -- The event that a row states, for a network and so many policy files: a word for its kind, and the
 -- fields of that kind.
-use Rattle.std.specs.Prelude.{ℕ, Bool, nat_le, option_map, ok_or, Result, Ok, Err, List, [], ◌∷◌, codes, bytes_eq}
+use Rattle.std.specs.Prelude.{ℕ, nat_le, option_map, ok_or, Result, Ok, Err, List, [], ◌∷◌, codes}
 use Rattle.five_tuple.specs.HeaderNumbers.{header_of}
 use Rattle.five_tuple.specs.Texts.{number_up_to, packet_fields_of}
 use Rattle.five_tuple.specs.declared.header.Header.{Header}
@@ -18,13 +18,9 @@ use Rattle.schedule.specs.declared.error.ScheduleRefusal.{ScheduleRefusal}
 use Rattle.schedule.specs.declared.error.ScheduleRefusal.TheVariants as why
 use Rattle.schedule.specs.declared.kind.Kind.{Kind}
 use Rattle.schedule.specs.declared.kind.Kind.TheVariants as kind
-use lib.Pointwise.{pointwise}
 
 abbrev pub schedule_heading : List (List ℕ)
 schedule_heading = codes "event" ∷ codes "arguments" ∷ []
-
-abbrev pub is_schedule_heading : List (List ℕ) → Bool
-is_schedule_heading fields = pointwise bytes_eq fields schedule_heading
 
 -- ---- fields
 

@@ -1,8 +1,9 @@
 ghost use Rattle.std.specs.Prelude.{◌≡◌, [], ◌∷◌, drop, length};
 ghost use Rattle.csv.specs.Records.{fields_of};
+ghost use Rattle.csv_records.specs.Texts.{is_heading};
 ghost use Rattle.net_file.specs.Net.{IsNet};
 ghost use Rattle.net_file.specs.Joins.{are_linked};
-ghost use Rattle.schedule.specs.Rows.{event_of, event_with, file_in, header_read, is_schedule_heading, link_in, number_read, switch_in};
+ghost use Rattle.schedule.specs.Rows.{event_of, event_with, file_in, header_read, link_in, number_read, schedule_heading, switch_in};
 
 use crate::error::ScheduleRefusal;
 use crate::kind::{Kind, read_kind};
@@ -14,7 +15,7 @@ use steps::{Event, MAX_NUMBER, Step};
 /// Whether the record is the heading.
 #[tactic(auto, using(crate::proofs::Fields::heading))]
 pub fn is_heading(fields: &ByteRecord) -> bool
-    ensures { result ≡ is_schedule_heading (fields_of fields.now) }
+    ensures { result ≡ is_heading schedule_heading (fields_of fields.now) }
 {
     if fields.len() != 2 {
         return false;
