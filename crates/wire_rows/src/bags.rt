@@ -1,7 +1,7 @@
 //! Messages that come out of a bag of frames.
 ghost use Rattle.wire.specs.Messages.{HasSpelling};
 
-use crate::messages::{collect, hello, install, install_at, install_of};
+use crate::messages::{collect, hello, install, install_of};
 use ctrl_msg::{Body, Message, Receiver};
 use frame_bag::FrameBag;
 use policy_rules::Rule;
@@ -25,11 +25,16 @@ fn take(bag: &FrameBag, alloc: Global, number: u32) -> Result<Message, Fail> {
     Ok(bag.take(alloc, number)?.ok_or("no such message")?)
 }
 
-// How many rules the first partition has that the installation of this number carries.
-fn rules(bag: &FrameBag, alloc: Global, number: u32) -> Result<Option<usize>, Fail> {
-    match take(bag, alloc, number)?.body {
-        Body::Install { boot: 1, tables } => match tables.tables().auth.items().first() {
-            Some(part) => Ok(Some(part.rules.items().len())),
+// The receiver and the boot of the installation of this number, and how many rules it brings.
+fn installed(
+    bag: &FrameBag,
+    alloc: Global,
+    number: u32,
+) -> Result<Option<(Receiver, u32, usize)>, Fail> {
+    let Message { to, body } = take(bag, alloc, number)?;
+    match body {
+        Body::Install { boot, tables } => match tables.tables().auth.items().first() {
+            Some(part) => Ok(Some((to, boot, part.rules.items().len()))),
             None => Ok(None),
         },
         _ => Ok(None),
@@ -56,47 +61,40 @@ fn messages_come_out_of_a_bag(rt: HostRuntime) -> Result<(), Fail> {
             }
         )
     );
-    assert!(rt; rules(&bag, alloc, 2)? == Some(1050));
-    assert!(rt; rules(&bag, alloc, 3)? == Some(0));
-    assert!(rt; rules(&bag, alloc, 4)? == Some(1050));
+    for (number, rules) in [(2, 1050), (3, 0), (4, 1050)] {
+        let told = installed(&bag, alloc, number)?;
+        assert!(rt; told == Some((Receiver::Switch(1), 1, rules)));
+    }
     let last = take(&bag, alloc, 5)?;
     assert!(rt; matches!(last.body, Body::Hello { switch: 0, boot: 2 }));
     assert!(rt; bag.take(alloc, 0)?.is_none() && bag.take(alloc, 6)?.is_none());
     Ok(())
 }
 
-// The receiver and the boot of the installation of this number, and how many rules it brings.
-fn installed(
-    bag: &FrameBag,
-    alloc: Global,
-    number: u32,
-) -> Result<Option<(Receiver, u32, usize)>, Fail> {
-    let Message { to, body } = take(bag, alloc, number)?;
-    match body {
-        Body::Install { boot, tables } => match tables.tables().auth.items().first() {
-            Some(part) => Ok(Some((to, boot, part.rules.items().len()))),
-            None => Ok(None),
-        },
-        _ => Ok(None),
-    }
-}
+// Installations of version 1: the number, the switch, the boot, the rows beside three defaults, and
+// all the rules.
+const TO_TWO_SWITCHES: [(u32, u32, u32, u32, usize); 5] = [
+    (1, 1, 1, 2, 5),
+    (2, 5, 1, 2, 5),
+    (3, 1, 2, 2, 5),
+    (4, 5, 2, 1, 4),
+    (5, 5, 2, 2, 5),
+];
 
 #[test]
 fn the_same_tables_for_two_switches_in_two_boots(rt: HostRuntime) -> Result<(), Fail> {
     let alloc = rt.alloc();
     let mut bag = FrameBag::new(alloc);
-    assert_eq!(rt; post(&mut bag, alloc, &install_at(alloc, 1, 1, 3, 2)?)?, 1);
-    assert_eq!(rt; post(&mut bag, alloc, &install_at(alloc, 5, 1, 3, 2)?)?, 2);
-    assert_eq!(rt; post(&mut bag, alloc, &install_at(alloc, 1, 2, 3, 2)?)?, 3);
-    assert_eq!(rt; post(&mut bag, alloc, &install_at(alloc, 5, 2, 3, 1)?)?, 4);
-    assert_eq!(rt; post(&mut bag, alloc, &install_at(alloc, 5, 2, 3, 2)?)?, 5);
+    for (number, switch, boot, rows, _) in &TO_TWO_SWITCHES {
+        let message = install_of(alloc, 1, *switch, *boot, 3, *rows)?;
+        assert_eq!(rt; post(&mut bag, alloc, &message)?, *number);
+    }
     // Each is delivered twice.
     for _ in 0..2 {
-        assert!(rt; installed(&bag, alloc, 1)? == Some((Receiver::Switch(1), 1, 5)));
-        assert!(rt; installed(&bag, alloc, 2)? == Some((Receiver::Switch(5), 1, 5)));
-        assert!(rt; installed(&bag, alloc, 3)? == Some((Receiver::Switch(1), 2, 5)));
-        assert!(rt; installed(&bag, alloc, 4)? == Some((Receiver::Switch(5), 2, 4)));
-        assert!(rt; installed(&bag, alloc, 5)? == Some((Receiver::Switch(5), 2, 5)));
+        for (number, switch, boot, _, rules) in &TO_TWO_SWITCHES {
+            let told = installed(&bag, alloc, *number)?;
+            assert!(rt; told == Some((Receiver::Switch(*switch), *boot, *rules)));
+        }
     }
     Ok(())
 }
@@ -132,20 +130,26 @@ fn gives(bag: &FrameBag, alloc: Global, number: u32, message: &Message) -> Resul
     }
 }
 
+// Tables of two frames under the versions 1 and 300, and others: the number, the version, the switch,
+// the boot, and the rows beside 440 defaults.
+const UNDER_TWO_VERSIONS: [(u32, u32, u32, u32, u32); 4] = [
+    (1, 1, 1, 1, 2),
+    (2, 300, 5, 1, 2),
+    (3, 300, 1, 1, 3),
+    (4, 300, 1, 2, 2),
+];
+
 #[test]
 fn the_same_tables_under_two_versions(rt: HostRuntime) -> Result<(), Fail> {
     let alloc = rt.alloc();
     let mut bag = FrameBag::new(alloc);
-    // Tables of two frames under the versions 1 and 300, and others.
-    let first = install_of(alloc, 1, 1, 1, 440, 2)?;
-    let second = install_of(alloc, 300, 5, 1, 440, 2)?;
-    let other = install_of(alloc, 300, 1, 1, 440, 3)?;
-    let again = install_of(alloc, 300, 1, 2, 440, 2)?;
-    assert_eq!(rt; post(&mut bag, alloc, &first)?, 1);
-    assert_eq!(rt; post(&mut bag, alloc, &second)?, 2);
-    assert_eq!(rt; post(&mut bag, alloc, &other)?, 3);
-    assert_eq!(rt; post(&mut bag, alloc, &again)?, 4);
-    assert!(rt; gives(&bag, alloc, 1, &first)? && gives(&bag, alloc, 2, &second)?);
-    assert!(rt; gives(&bag, alloc, 3, &other)? && gives(&bag, alloc, 4, &again)?);
+    for (number, version, switch, boot, rows) in &UNDER_TWO_VERSIONS {
+        let message = install_of(alloc, *version, *switch, *boot, 440, *rows)?;
+        assert_eq!(rt; post(&mut bag, alloc, &message)?, *number);
+    }
+    for (number, version, switch, boot, rows) in &UNDER_TWO_VERSIONS {
+        let message = install_of(alloc, *version, *switch, *boot, 440, *rows)?;
+        assert!(rt; gives(&bag, alloc, *number, &message)?, "{number}");
+    }
     Ok(())
 }

@@ -75,24 +75,10 @@ fn rules(alloc: Global, defaults: u32, rows: u32) -> Result<Vec<Rule>, Fail>
 pub fn install(alloc: Global, defaults: u32, rows: u32) -> Result<Message, Fail>
     ensures { IfOk result HasSpelling }
 {
-    install_at(alloc, 1, 1, defaults, rows)
+    install_of(alloc, 1, 1, 1, defaults, rows)
 }
 
-/// The same tables for this switch, in this boot.
-pub fn install_at(
-    alloc: Global,
-    switch: u32,
-    boot: u32,
-    defaults: u32,
-    rows: u32,
-) -> Result<Message, Fail>
-    requires { switch < 64 }
-    ensures { IfOk result HasSpelling }
-{
-    install_of(alloc, 1, switch, boot, defaults, rows)
-}
-
-/// The same tables under this version.
+/// The same tables under this version, for this switch in this boot.
 pub fn install_of(
     alloc: Global,
     version: u32,
@@ -101,9 +87,11 @@ pub fn install_of(
     defaults: u32,
     rows: u32,
 ) -> Result<Message, Fail>
-    requires { switch < 64 }
     ensures { IfOk result HasSpelling }
 {
+    if switch >= 64 {
+        return Err(Fail::from("no such switch"));
+    }
     let part = Partition {
         number: 0,
         region: Word::any(),
