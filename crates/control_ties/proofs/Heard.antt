@@ -335,8 +335,8 @@ installed_known here n s boot v known there said is = by_taken (takes_installed 
     by_taken : (b : Bool) → takes_installed boot known ≡ b → IsKnown after s
         (if b then record known { acked = bit_or known.acked (2 ^ (v - 1)) } else known)
     by_taken true e =
-        known_as here after s known (record known { acked = bit_or known.acked (2 ^ (v - 1)) }) stays
-        is refl refl refl (acked true e) stamp
+        known_as here after s known (record known { acked = bit_or known.acked (2 ^ (v - 1)) })
+        stays is refl refl refl (acked true e) stamp
     by_taken false e =
         known_as here after s known known stays is refl refl refl (acked false e) stamp
 
@@ -379,8 +379,8 @@ stamped_known here n s boot v known said is = by_taken (takes_stamped boot known
     by_taken : (b : Bool) → takes_stamped boot known ≡ b → IsKnown after s
         (if b then record known { acked_stamp = max known.acked_stamp v } else known)
     by_taken true e =
-        known_as here after s known (record known { acked_stamp = max known.acked_stamp v }) stays is
-        refl refl refl acked (stamp true e)
+        known_as here after s known (record known { acked_stamp = max known.acked_stamp v })
+        stays is refl refl refl acked (stamp true e)
     by_taken false e =
         known_as here after s known known stays is refl refl refl acked (stamp false e)
 

@@ -93,7 +93,8 @@ pub event_steps_are : (Is : Step → Type 0) → HasNexts Is → (setting : Sett
     (event : Event) (before : List Item) (steps : List StepOfRow) → IsEventOf Is event
     → AreStepsOf setting row event before steps → AreOf Is steps
 event_steps_are Is has setting row event before steps is all =
-    firsts_are Is has setting row event before steps is (all_first setting row event before steps all)
+    firsts_are Is has setting row event before steps is
+    (all_first setting row event before steps all)
 
 -- and so are the first steps of events
 pub first_steps_are : (Is : Step → Type 0) → HasNexts Is → (setting : Setting) (row : ℕ)

@@ -85,7 +85,8 @@ version_stays s v before items none =
 cache_stays : (setting : Setting) (s : ℕ) → Stays (concerns_switch s) (λ js. cache_of setting js s)
 unfolding cache_of
 cache_stays setting s =
-    folded_stays (changes_cache s) (record { entries = []; capacity = setting.net.cache }) (concerns_switch s) (cache_silent s)
+    folded_stays (changes_cache s) (record { entries = []; capacity = setting.net.cache })
+    (concerns_switch s) (cache_silent s)
 
 pub switch_keeps : (setting : Setting) (s : ℕ) (before items : List Item)
     → NoneConcern (concerns_switch s) before items → SwitchKeeps setting s before (before ++ items)
