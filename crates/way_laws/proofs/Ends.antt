@@ -194,8 +194,7 @@ pub stuck_rightly : (setting : Setting) (before : List Item) (i s : ℕ) (cause 
     → FindsNoRoute setting before i s cause leg down
     → FindsNoPath setting before i s leg
 stuck_rightly setting before i s cause leg down knows finds =
-    let here : IsHere setting before i s =
-    here_known setting before i s knows finds.at in
+    let here : IsHere setting before i s = here_known setting before i s knows finds.at in
     record {
       stands = stands_at setting before i s here;
       own_leg = own_leg setting before i s leg knows here finds.on;
@@ -292,8 +291,7 @@ pub stuck_by_claims : (setting : Setting) (before : List Item) (i s : ℕ) (caus
     (leg : Leg) (down : List ℕ) → Knows setting before i (stage_of before i)
     → FindsNoRoute setting before i s cause leg down → IsStuckRightly setting before i s leg
 stuck_by_claims setting before i s cause leg down knows finds =
-    let here : IsHere setting before i s =
-    here_known setting before i s knows finds.at in
+    let here : IsHere setting before i s = here_known setting before i s knows finds.at in
     let exact : FindsNoPath setting before i s leg =
     stuck_rightly setting before i s cause leg down knows finds in
     let links : List ℕ = links_known setting before s (found_down before i) in
@@ -414,8 +412,7 @@ pub leaves_rightly : (setting : Setting) (before : List Item) (i port : ℕ) (le
     → LeavesRightly setting before i port leaving
 leaves_rightly setting before i port leaving knows way =
     let s : ℕ = way.switch in
-    let here : IsHere setting before i s =
-    here_known setting before i s knows way.at in
+    let here : IsHere setting before i s = here_known setting before i s knows way.at in
     let by : LeavesBy setting before i s port =
     leaves_by setting before i port leaving knows way here in
     let decision : Decision = by.decision in

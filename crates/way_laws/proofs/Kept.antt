@@ -228,8 +228,7 @@ seeking_after setting before i mark version partition route knows takes =
     let words : PacketWords = words_of before i in
     let after : PacketWords = words_after mark (item.Seeking i version partition route) words in
     let s : ℕ = takes.switch in
-    let here : IsHere setting before i s =
-    here_known setting before i s knows takes.at in
+    let here : IsHere setting before i s = here_known setting before i s knows takes.at in
     let under : IsUnderWay setting before after =
     under_as setting before words after refl refl refl refl here.under in
     let part = redirected_to setting before i s version partition here takes.takes in
@@ -276,8 +275,7 @@ exiting_after setting before i mark route knows exits =
     let after : PacketWords = words_after mark (item.Exiting i route) words in
     let s : ℕ = exits.by.switch in
     let out = exits.by.takes in
-    let here : IsHere setting before i s =
-    here_known setting before i s knows exits.by.at in
+    let here : IsHere setting before i s = here_known setting before i s knows exits.by.at in
     let under : IsUnderWay setting before after =
     under_as setting before words after refl refl refl refl here.under in
     let judged : IsJudged setting before words here.under.header =
@@ -342,8 +340,7 @@ rerouted_after setting before i mark route knows turns =
     let words : PacketWords = words_of before i in
     let after : PacketWords = words_after mark (item.Rerouted i route) words in
     let s : ℕ = turns.switch in
-    let here : IsHere setting before i s =
-    here_known setting before i s knows turns.at in
+    let here : IsHere setting before i s = here_known setting before i s knows turns.at in
     let under : IsUnderWay setting before after =
     under_as setting before words after refl refl refl refl here.under in
     let was : IsOnWay setting before words =
@@ -368,7 +365,7 @@ rerouted_after setting before i mark route knows turns =
       stands = way.begins ∙ ap Some here.at;
     }) way.avoids
 
--- on its leg and its route as it was
+-- the route of a packet on its leg leads to a target of it
 leads_on : (setting : Setting) (before : List Item) (words : PacketWords) (header : Header)
     (leg : Leg) → IsOnLeg setting before words header leg
     → LeadsTo setting (targets_of setting before leg) words.route
@@ -379,6 +376,7 @@ leads_on setting before words header (Exit port) on =
     subst (λ home. LeadsTo setting (home ∷ []) words.route)
     (sym (ap (λ o. unwrap_or o no_switch) on.has_port)) on.leads
 
+-- on its leg and its route as it was
 leg_same : (setting : Setting) (before : List Item) (words after : PacketWords) (header : Header)
     (leg : Leg) → after.decision ≡ words.decision → after.mark ≡ words.mark
     → after.route ≡ words.route → IsOnLeg setting before words header leg
@@ -395,8 +393,7 @@ hopped_after setting before i mark next knows moves =
     let words : PacketWords = words_of before i in
     let after : PacketWords = words_after mark (item.Hopped i next) words in
     let s : ℕ = moves.switch in
-    let here : IsHere setting before i s =
-    here_known setting before i s knows moves.at in
+    let here : IsHere setting before i s = here_known setting before i s knows moves.at in
     let was : IsOnWay setting before words = knows.kept.on_way here.travelling (inl moves.moving) in
     let under : IsUnderWay setting before after = record {
       header = was.under_way.header;
@@ -427,8 +424,7 @@ pub found_after : (setting : Setting) (before : List Item) (i mark one two : ℕ
 found_after setting before i mark one two knows meets =
     let words : PacketWords = words_of before i in
     let after : PacketWords = words_after mark (item.FoundDown i one two) words in
-    let here : IsHere setting before i one =
-    here_known setting before i one knows meets.at in
+    let here : IsHere setting before i one = here_known setting before i one knows meets.at in
     let was : IsOnWay setting before words = knows.kept.on_way here.travelling (inl meets.moving) in
     let under : IsUnderWay setting before after =
     under_as setting before words after refl refl refl refl was.under_way in
@@ -622,8 +618,7 @@ decided_after setting before i mark version rule act by knows right decided =
     let words : PacketWords = words_of before i in
     let after : PacketWords = words_after mark (item.Decided i version rule act by) words in
     let s : ℕ = decided.switch in
-    let here : IsHere setting before i s =
-    here_known setting before i s knows decided.at in
+    let here : IsHere setting before i s = here_known setting before i s knows decided.at in
     let now : IsDecidedNow setting before i s version rule act here.under.header =
     decided_now setting before i s version rule act by knows here (right s) decided.by in
     let judged : IsJudged setting before after here.under.header = record {
