@@ -102,13 +102,20 @@ said_in_lane c next (message ∷ waiting) here =
     by_tests false true e f rest = rw e rest
     by_tests false false e f rest = rest
 
+noted_parts : (c : ℕ) (m d : Bool) (next : Message) (waiting : List Message)
+    → in_lane c (noted m d next waiting)
+    ≡ in_lane c (if m || d then let_go next waiting else waiting)
+    ++ in_lane c (if m && not d && not (is_said next (let_go next waiting)) then next ∷ [] else [])
+noted_parts c m d next waiting =
+    filter-append (λ message. lane_of message.body == c)
+    (if m || d then let_go next waiting else waiting)
+    (if m && not d && not (is_said next (let_go next waiting)) then next ∷ [] else [])
+
 noted_here : (c : ℕ) (m d : Bool) (next : Message) (waiting : List Message)
     → (lane_of next.body == c) ≡ true
     → in_lane c (noted m d next waiting) ≡ noted m d next (in_lane c waiting)
 noted_here c m d next waiting here =
-    filter-append (λ message. lane_of message.body == c)
-    (if m || d then let_go next waiting else waiting)
-    (if m && not d && not (is_said next (let_go next waiting)) then next ∷ [] else [])
+    noted_parts c m d next waiting
     ∙ ap (λ ms. ms ++ in_lane c
     (if m && not d && not (is_said next (let_go next waiting)) then next ∷ [] else []))
     (left (m || d))
@@ -137,9 +144,7 @@ noted_here c m d next waiting here =
 noted_other : (c : ℕ) (m d : Bool) (next : Message) (waiting : List Message)
     → (lane_of next.body == c) ≡ false → in_lane c (noted m d next waiting) ≡ in_lane c waiting
 noted_other c m d next waiting other =
-    filter-append (λ message. lane_of message.body == c)
-    (if m || d then let_go next waiting else waiting)
-    (if m && not d && not (is_said next (let_go next waiting)) then next ∷ [] else [])
+    noted_parts c m d next waiting
     ∙ ap (λ ms. ms ++ in_lane c
     (if m && not d && not (is_said next (let_go next waiting)) then next ∷ [] else []))
     (left (m || d))
