@@ -2,25 +2,25 @@ use Rattle.std.proofs.Common.{◌≡◌, ◌+◌, ◌*◌, ◌/◌, ◌<◌, ◌
 use Rattle.std.proofs.lemmas.Grind.{get_or_default_zero}
 use Rattle.travelling.proofs.Marked.{changes, turns}
 use Rattle.travelling.proofs.marks.turn.Goals as goal
+use Rattle.travelling.proofs.marks.turn.Goals.{After-index-old}
+
+there : (c : After-index-old)
+    → c.args.number / 64 * 64 + c.args.switch < length c.args.masks.now.items
+there c = omega (arith, c.requires.room, c.requires.switch)
+
+old_is : (c : After-index-old) → c.index-old.result.now
+    ≡ get_or c.args.masks.now.items (c.args.number / 64 * 64 + c.args.switch) 0
+old_is c = c.index-old.ensures ∙ get_or_default_zero c.args.masks.now.items
+    (c.args.number / 64 * 64 + c.args.switch) _ (there c)
 
 pub returns-clause-marks : goal.returns-clause-marks
 returns-clause-marks c =
-    let masks = c.args.masks.now.items in
-    let n = c.args.number in
-    let t = c.args.switch in
-    let there : n / 64 * 64 + t < length masks =
-    omega (arith, c.requires.room, c.requires.switch) in
-    let old : c.index-old.result.now ≡ get_or masks (n / 64 * 64 + t) 0 =
-    c.index-old.ensures ∙ get_or_default_zero masks (n / 64 * 64 + t) _ there in
-    rw (old, c.only_if.ensures) (turns masks n t c.requires.switch there)
+    let read = (goal.at.returns-clause-marks c).After-index-old in
+    rw (old_is read, c.only_if.ensures)
+    (turns c.args.masks.now.items c.args.number c.args.switch c.requires.switch (there read))
 
 pub returns-clause-blocks : goal.returns-clause-blocks
 returns-clause-blocks c =
-    let masks = c.args.masks.now.items in
-    let n = c.args.number in
-    let t = c.args.switch in
-    let there : n / 64 * 64 + t < length masks =
-    omega (arith, c.requires.room, c.requires.switch) in
-    let old : c.index-old.result.now ≡ get_or masks (n / 64 * 64 + t) 0 =
-    c.index-old.ensures ∙ get_or_default_zero masks (n / 64 * 64 + t) _ there in
-    rw (old, c.only_if.ensures) (changes masks n t c.requires.switch there)
+    let read = (goal.at.returns-clause-blocks c).After-index-old in
+    rw (old_is read, c.only_if.ensures)
+    (changes c.args.masks.now.items c.args.number c.args.switch c.requires.switch (there read))
