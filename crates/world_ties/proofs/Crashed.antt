@@ -40,8 +40,9 @@ use Rattle.world_ties.specs.Tied.{AreTied, Control, is_up_link, up_links}
 use Rattle.log_ties.specs.Travellers.{traveller_in}
 use Rattle.travelling.specs.Travelling.{Travellers, WithoutAt, numbers_at, traveller}
 use Rattle.world_ties.proofs.ActItems.{SparesActs, acts_apart, acts_unnamed}
+use Rattle.world_ties.proofs.Delivering.{nothing_tied}
 use Rattle.world_ties.proofs.Losses.{losts_apart, losts_bring_none, losts_no_rows, traveller_lost}
-use Rattle.world_ties.proofs.OneItem.{grown, tied_one}
+use Rattle.world_ties.proofs.OneItem.{grown}
 use Rattle.log_ties.proofs.Posting.{bag_on}
 use Rattle.world_ties.proofs.Standing.{among, among_numbers, numbers_are}
 use Rattle.world_ties.proofs.Tying.{same_links}
@@ -114,24 +115,12 @@ unfolding AreTied switch_of
 stays_down control setting journal switches before count row s own tied may own_at down =
     let there : s < length switches =
     crash_ready control setting journal switches before count s tied may in
-    let items : List Item = item.Row row (Crash s) ∷ item.Nothing ∷ [] in
-    let is : piece setting journal row (Crash s) ≡ items =
+    let is : piece setting journal row (Crash s) ≡ item.Row row (Crash s) ∷ item.Nothing ∷ [] =
     down_piece setting journal row s
     (sym (ap (λ (w : SwitchValue). w.is_up) (own_at ∙ tied.each s own there)) ∙ down) in (
       is,
-      tied_one control control.posts setting journal switches switches before count row (Crash s)
-          item.Nothing tied (record {
-            may = may;
-            piece_is = is;
-            not_told = (refl, (refl, tt));
-            apart = λ q. (refl, (refl, tt));
-            no_links = (refl, (refl, tt));
-            as_before = refl;
-            as_many = refl;
-            each = λ q d below. tied.each q d below
-                ∙ sym (kept_is setting q journal items (refl, (refl, tt)) (refl, (refl, tt)));
-            bag = bag_on journal items control.posts (refl, (refl, tt)) tied.bag;
-          }),
+      nothing_tied control setting journal switches before count row (Crash s) tied may
+          (λ q. refl) is,
     )
 
 -- ---- links

@@ -1,5 +1,5 @@
 -- A message that is delivered is heard: what is written then, and what the parts are behind it.
-use Rattle.std.proofs.Common.{ℕ, ◌≡◌, ◌+◌, ◌<◌, ◌==◌, true, false, Some, None, List, [], ◌∷◌, ◌++◌, refl, ap, sym, subst, ◌∙◌, length, get_or, map, set, append_assoc}
+use Rattle.std.proofs.Common.{ℕ, ◌≡◌, ◌+◌, ◌<◌, ◌==◌, Bool, true, false, Some, None, List, [], ◌∷◌, ◌++◌, refl, ap, sym, subst, ◌∙◌, length, get_or, map, set, append_assoc}
 use Rattle.std.specs.Prelude.{is_some, ◌||◌}
 use Rattle.std.specs.Option.{option_map_or}
 use Rattle.std.proofs.lemmas.List.{length-set}
@@ -50,18 +50,21 @@ use Rattle.world_ties.proofs.Sendable.{may_note, may_send}
 
 -- ---- what a delivery writes
 
+-- by whether the message may be delivered
+abbrev delivered_if : Setting → List Item → ℕ → ℕ → Bool → List Item
+delivered_if setting journal row n may = item.Row row (Deliver n) ∷ elim may [
+  | false ↦ nothing
+  | true ↦ item.Delivered n ∷ delivery_items setting journal n
+      (journal ++ item.Row row (Deliver n) ∷ [] ++ item.Delivered n ∷ [])
+]
+
 pub deliver_piece : (setting : Setting) (journal : List Item) (row n : ℕ)
     → is_deliverable journal n ≡ true → piece setting journal row (Deliver n)
     ≡ item.Row row (Deliver n) ∷ item.Delivered n
     ∷ delivery_items setting journal n (grown journal row (Deliver n) (item.Delivered n))
 unfolding piece deliver_items
 deliver_piece setting journal row n may =
-    let rowed : List Item = journal ++ item.Row row (Deliver n) ∷ [] in
-    ap (λ b. item.Row row (Deliver n) ∷ elim b [
-      | false ↦ nothing
-      | true ↦ item.Delivered n
-          ∷ delivery_items setting journal n (rowed ++ item.Delivered n ∷ [])
-    ]) may
+    ap (delivered_if setting journal row n) may
     ∙ ap (λ js. item.Row row (Deliver n) ∷ item.Delivered n ∷ delivery_items setting journal n js)
     (append_assoc journal (item.Row row (Deliver n) ∷ []) (item.Delivered n ∷ []))
 
@@ -69,13 +72,7 @@ none_piece : (setting : Setting) (journal : List Item) (row n : ℕ)
     → is_deliverable journal n ≡ false
     → piece setting journal row (Deliver n) ≡ item.Row row (Deliver n) ∷ nothing
 unfolding piece deliver_items
-none_piece setting journal row n may =
-    let rowed : List Item = journal ++ item.Row row (Deliver n) ∷ [] in
-    ap (λ b. item.Row row (Deliver n) ∷ elim b [
-      | false ↦ nothing
-      | true ↦ item.Delivered n
-          ∷ delivery_items setting journal n (rowed ++ item.Delivered n ∷ [])
-    ]) may
+none_piece setting journal row n may = ap (delivered_if setting journal row n) may
 
 -- no such message may be delivered
 pub undelivered : (control : Control) (setting : Setting) (journal : List Item)

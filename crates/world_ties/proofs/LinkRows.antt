@@ -154,17 +154,21 @@ unfolding piece
 link_piece setting journal row one two true = refl
 link_piece setting journal row one two false = refl
 
+-- by whether the link is so already
+abbrev items_if : Setting → List Item → List Item → ℕ → ℕ → Bool → Bool → List Item
+items_if setting before journal one two up same = elim same [
+  | true ↦ nothing
+  | false ↦ put (item.LinkIs (min one two) (max one two) up ∷ []) (link_changes setting before)
+      journal
+]
+
 -- it is so already
 same_items : (setting : Setting) (before journal : List Item) (one two : ℕ) (up : Bool)
     → beq (is_link_up before one two) up ≡ true
     → link_items setting before one two up journal ≡ nothing
 unfolding link_items
 same_items setting before journal one two up same =
-    ap (λ b. elim b [
-      | true ↦ nothing
-      | false ↦ put (item.LinkIs (min one two) (max one two) up ∷ [])
-          (link_changes setting before) journal
-    ]) same
+    ap (items_if setting before journal one two up) same
 
 -- or it changes
 other_items : (setting : Setting) (before journal : List Item) (one two : ℕ) (up : Bool)
@@ -174,11 +178,7 @@ other_items : (setting : Setting) (before journal : List Item) (one two : ℕ) (
     ∷ link_changes setting before (journal ++ item.LinkIs (min one two) (max one two) up ∷ [])
 unfolding link_items
 other_items setting before journal one two up other =
-    ap (λ b. elim b [
-      | true ↦ nothing
-      | false ↦ put (item.LinkIs (min one two) (max one two) up ∷ [])
-          (link_changes setting before) journal
-    ]) other
+    ap (items_if setting before journal one two up) other
 
 -- ---- the tie
 
