@@ -134,24 +134,36 @@ record Facts (setting : Setting) (before : List Item) (next : Item) : Type 0 whe
   way : WayCause setting before next
   strong : StrongCause setting before next
 
--- words that leave the leg, the decision and the links found as they were
+-- words that leave the leg, the decision and the links found as they were, at this stage
+kept_few : (setting : Setting) (before : List Item) (i current : ℕ) (words : PacketWords)
+    (stage : Option Stage) → current_mark before ≤ current → IsFewOf setting before i
+    → words.leg ≡ (words_of before i).leg → words.decision ≡ (words_of before i).decision
+    → words.found ≡ (words_of before i).found → (stage ≡ Some Judged → exits before i ≡ 0)
+    → (stage ≡ Some Blocked → detours before i + unfound setting.net.links (words_of before i).found
+    < length setting.net.links)
+    → IsFew setting current words stage (tally_of before i)
+kept_few setting before i current words stage more few leg decision found judged blocked = record {
+  none = λ is. few.none (sym leg ∙ is);
+  sought = λ version partition is. few.sought version partition (sym leg ∙ is);
+  searched = omega (arith, few.searched, more);
+  undecided = λ is. few.undecided (sym decision ∙ is);
+  judged = judged;
+  exited = few.exited;
+  set = subst IsLinkSet (sym found) few.set;
+  detoured = rw found few.detoured;
+  blocked = λ is. rw found (blocked is);
+  finds = rw found few.finds;
+}
+
+-- and the stage too
 still_few : (setting : Setting) (before : List Item) (i current : ℕ) (words : PacketWords)
     → current_mark before ≤ current → IsFewOf setting before i
     → words.leg ≡ (words_of before i).leg → words.decision ≡ (words_of before i).decision
     → words.found ≡ (words_of before i).found
     → IsFew setting current words (stage_of before i) (tally_of before i)
-still_few setting before i current words more few leg decision found = record {
-  none = λ is. few.none (sym leg ∙ is);
-  sought = λ version partition is. few.sought version partition (sym leg ∙ is);
-  searched = omega (arith, few.searched, more);
-  undecided = λ is. few.undecided (sym decision ∙ is);
-  judged = few.judged;
-  exited = few.exited;
-  set = subst IsLinkSet (sym found) few.set;
-  detoured = rw found few.detoured;
-  blocked = λ is. rw found (few.blocked is);
-  finds = rw found few.finds;
-}
+still_few setting before i current words more few leg decision found =
+    kept_few setting before i current words (stage_of before i) more few leg decision found
+    few.judged few.blocked
 
 named_few : (setting : Setting) (before : List Item) (next : Item) (i current : ℕ)
     → Facts setting before next → current_mark before ≤ current → (b : Bool)
@@ -160,18 +172,8 @@ named_few : (setting : Setting) (before : List Item) (next : Item) (i current : 
     (if b then words_after (retired_mark before) next (words_of before i) else words_of before i)
     (option_or (tells_stage i next) (stage_of before i)) (tallied i next (tally_of before i))
 named_few setting before (item.Entered packet s header) i current facts more true e few =
-    rw e (record {
-      none = few.none;
-      sought = few.sought;
-      searched = omega (arith, few.searched, more);
-      undecided = few.undecided;
-      judged = λ is. absurd cc;
-      exited = few.exited;
-      set = few.set;
-      detoured = few.detoured;
-      blocked = λ is. absurd cc;
-      finds = few.finds;
-    })
+    rw e (kept_few setting before i current _ _ more few refl refl refl (λ is. absurd cc)
+    (λ is. absurd cc))
 named_few setting before (item.Seeking packet v p route) i current facts more true e few =
     let same : packet ≡ i = eqb-true packet i e in
     let raised : IsRaised setting before packet v =
@@ -230,18 +232,8 @@ named_few setting before (item.Rerouted packet route) i current facts more true 
       finds = few.finds;
     })
 named_few setting before (item.Hopped packet s) i current facts more true e few =
-    rw e (record {
-      none = few.none;
-      sought = few.sought;
-      searched = omega (arith, few.searched, more);
-      undecided = few.undecided;
-      judged = λ is. absurd cc;
-      exited = few.exited;
-      set = few.set;
-      detoured = few.detoured;
-      blocked = λ is. absurd cc;
-      finds = few.finds;
-    })
+    rw e (kept_few setting before i current _ _ more few refl refl refl (λ is. absurd cc)
+    (λ is. absurd cc))
 named_few setting before (item.FoundDown packet one two) i current facts more true e few =
     let same : packet ≡ i = eqb-true packet i e in
     let one_less : FindsOne setting.net (words_of before i).found one two =

@@ -87,6 +87,30 @@ record Facts (setting : Setting) (before : List Item) (next : Item) : Type 0 whe
   way : WayCause setting before next
   begins : BeginsRested before next
 
+-- a packet that isn't on its way
+rests : {words : PacketWords} {stage : Option Stage} {told : Bool} {tally : Tally} {taken on : ℕ}
+    → taken ≤ most_switches * routes_in tally → on ≤ most_switches
+    → (IsTrue words.travels → stage ≡ Some OnWay → ⊥)
+    → IsWithin words stage told tally taken on
+rests all each elsewhere = record {
+  all = all;
+  each = each;
+  place = λ tr is. absurd (elsewhere tr is);
+  left = λ tr is. absurd (elsewhere tr is);
+}
+
+-- or that begins a route
+begins_route : {words : PacketWords} {stage : Option Stage} {told : Bool} {tally : Tally}
+    {taken : ℕ} → taken + most_switches ≤ most_switches * routes_in tally
+    → (IsTrue words.travels → length words.route ≤ 64)
+    → IsWithin words stage told tally taken 0
+begins_route room few = record {
+  all = omega (arith, room);
+  each = omega arith;
+  place = λ tr is. omega arith;
+  left = λ tr is. omega (arith, room, few tr);
+}
+
 row_within : (setting : Setting) (before : List Item) (packet i : ℕ) → Before setting before
     → IsRested before → IsWithinOf before i → (b : Bool)
     → ((packet == i) && travels before i) ≡ b
@@ -130,58 +154,29 @@ within_by setting before (item.Row row (Hop packet)) i facts false e within =
     row_within setting before packet i facts.known facts.begins within
     ((packet == i) && travels before i) refl
 within_by setting before (item.Entered packet s header) i facts true e within =
-    rw e (record {
-      all = within.all;
-      each = within.each;
-      place = λ tr is. absurd cc;
-      left = λ tr is. absurd cc;
-    })
+    rw e (rests within.all within.each (λ tr is. cc))
 within_by setting before (item.Seeking packet version partition route) i facts true e within =
     let few : IsTrue (words_of before packet).travels → length route ≤ 64 = λ tr.
     route_few setting before
     (words_after 0 (item.Seeking packet version partition route) (words_of before packet))
     ((seeking_after setting before packet 0 version partition route
     (knows setting before packet facts.known) facts.way).on_way tr (inl refl)) in
-    rw e (record {
-      all = omega (arith, within.all);
-      each = omega arith;
-      place = λ tr is. omega arith;
-      left = λ tr is. omega (
-        arith,
-        within.all,
-        few (subst (λ k. IsTrue (words_of before k).travels) (sym (eqb-true packet i e)) tr),
-      );
-    })
+    rw e (begins_route (omega (arith, within.all)) (λ tr.
+    few (subst (λ k. IsTrue (words_of before k).travels) (sym (eqb-true packet i e)) tr)))
 within_by setting before (item.Exiting packet route) i facts true e within =
     let few : IsTrue (words_of before packet).travels → length route ≤ 64 = λ tr.
     route_few setting before (words_after 0 (item.Exiting packet route) (words_of before packet))
     ((exiting_after setting before packet 0 route (knows setting before packet facts.known)
     facts.way).on_way tr (inl refl)) in
-    rw e (record {
-      all = omega (arith, within.all);
-      each = omega arith;
-      place = λ tr is. omega arith;
-      left = λ tr is. omega (
-        arith,
-        within.all,
-        few (subst (λ k. IsTrue (words_of before k).travels) (sym (eqb-true packet i e)) tr),
-      );
-    })
+    rw e (begins_route (omega (arith, within.all)) (λ tr.
+    few (subst (λ k. IsTrue (words_of before k).travels) (sym (eqb-true packet i e)) tr)))
 within_by setting before (item.Rerouted packet route) i facts true e within =
     let few : IsTrue (words_of before packet).travels → length route ≤ 64 = λ tr.
     route_few setting before (words_after 0 (item.Rerouted packet route) (words_of before packet))
     ((rerouted_after setting before packet 0 route (knows setting before packet facts.known)
     facts.way).on_way tr (inl refl)) in
-    rw e (record {
-      all = omega (arith, within.all);
-      each = omega arith;
-      place = λ tr is. omega arith;
-      left = λ tr is. omega (
-        arith,
-        within.all,
-        few (subst (λ k. IsTrue (words_of before k).travels) (sym (eqb-true packet i e)) tr),
-      );
-    })
+    rw e (begins_route (omega (arith, within.all)) (λ tr.
+    few (subst (λ k. IsTrue (words_of before k).travels) (sym (eqb-true packet i e)) tr)))
 within_by setting before (item.Hopped packet s) i facts true e within =
     let same : packet ≡ i = eqb-true packet i e in
     let moving : stage_of before i ≡ Some OnWay =
@@ -203,47 +198,17 @@ within_by setting before (item.Hopped packet s) i facts true e within =
       );
     })
 within_by setting before (item.FoundDown packet one two) i facts true e within =
-    rw e (record {
-      all = within.all;
-      each = within.each;
-      place = λ tr is. absurd cc;
-      left = λ tr is. absurd cc;
-    })
+    rw e (rests within.all within.each (λ tr is. cc))
 within_by setting before (item.Decided packet version rule act by) i facts true e within =
-    rw e (record {
-      all = within.all;
-      each = within.each;
-      place = λ tr is. absurd cc;
-      left = λ tr is. absurd cc;
-    })
+    rw e (rests within.all within.each (λ tr is. cc))
 within_by setting before (item.Left packet port leaving) i facts true e within =
-    record {
-      all = within.all;
-      each = within.each;
-      place = λ tr is. absurd cc;
-      left = λ tr is. absurd cc;
-    }
+    rests within.all within.each (λ tr is. cc)
 within_by setting before (item.Dropped packet) i facts true e within =
-    record {
-      all = within.all;
-      each = within.each;
-      place = λ tr is. absurd cc;
-      left = λ tr is. absurd cc;
-    }
+    rests within.all within.each (λ tr is. cc)
 within_by setting before (item.Lost packet) i facts true e within =
-    record {
-      all = within.all;
-      each = within.each;
-      place = λ tr is. absurd cc;
-      left = λ tr is. absurd cc;
-    }
+    rests within.all within.each (λ tr is. cc)
 within_by setting before (item.Stuck packet s cause leg down) i facts true e within =
-    record {
-      all = within.all;
-      each = within.each;
-      place = λ tr is. absurd cc;
-      left = λ tr is. absurd cc;
-    }
+    rests within.all within.each (λ tr is. cc)
 within_by setting before (item.Entered packet s header) i facts false e within = rw e within
 within_by setting before (item.Seeking packet version partition route) i facts false e within =
     rw e within
