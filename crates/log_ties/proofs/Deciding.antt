@@ -125,7 +125,23 @@ sees_sent setting journal s w mask number (Some message) sees =
 
 -- ---- what is decided
 
--- the packet's words behind its decision
+-- the packet behind its decision
+decided_packet : (journal : List Item) (packet : Packet) (decision : Decision)
+    → IsPacket journal packet
+    → IsPacket (journal ++ item.Decided packet.number decision.version decision.rule
+    decision.action decision.how ∷ []) packet
+decided_packet journal packet decision is =
+    let decided : Item = item.Decided packet.number decision.version decision.rule
+    decision.action decision.how in
+    let own : (packet.number == packet.number) ≡ true = eq-eqb _ _ refl in
+    let grown = words_grow packet.number journal decided in
+    record {
+      entered = ap (λ words. words.header) grown ∙ rw own is.entered;
+      came = ap (λ words. words.ingress) grown ∙ rw own is.came;
+      found = ap (λ words. words.found) grown ∙ rw own is.found;
+    }
+
+-- and so are its words
 pub decided_words : (journal : List Item) (packet : Packet) (decision : Decision)
     → IsPacket journal packet
     → IsDecided (journal ++ item.Decided packet.number decision.version decision.rule
@@ -135,11 +151,11 @@ decided_words journal packet decision is =
     let decided : Item = item.Decided packet.number decision.version decision.rule
     decision.action decision.how in
     let own : (packet.number == packet.number) ≡ true = eq-eqb _ _ refl in
-    let grown = words_grow packet.number journal decided in
+    let behind = decided_packet journal packet decision is in
     record {
-      entered = ap (λ words. words.header) grown ∙ rw own is.entered;
-      found = ap (λ words. words.found) grown ∙ rw own is.found;
-      decided = ap (λ words. words.decision) grown ∙ rw own refl;
+      entered = behind.entered;
+      found = behind.found;
+      decided = ap (λ words. words.decision) (words_grow packet.number journal decided) ∙ rw own refl;
     }
 
 -- and behind what is sent then
@@ -157,22 +173,6 @@ decided_sent journal packet decision number message is =
       entered = ap (λ words. words.header) same ∙ is.entered;
       found = ap (λ words. words.found) same ∙ is.found;
       decided = ap (λ words. words.decision) same ∙ is.decided;
-    }
-
--- the packet behind its decision
-decided_packet : (journal : List Item) (packet : Packet) (decision : Decision)
-    → IsPacket journal packet
-    → IsPacket (journal ++ item.Decided packet.number decision.version decision.rule
-    decision.action decision.how ∷ []) packet
-decided_packet journal packet decision is =
-    let decided : Item = item.Decided packet.number decision.version decision.rule
-    decision.action decision.how in
-    let own : (packet.number == packet.number) ≡ true = eq-eqb _ _ refl in
-    let grown = words_grow packet.number journal decided in
-    record {
-      entered = ap (λ words. words.header) grown ∙ rw own is.entered;
-      came = ap (λ words. words.ingress) grown ∙ rw own is.came;
-      found = ap (λ words. words.found) grown ∙ rw own is.found;
     }
 
 -- no message is sent with a decision itself
