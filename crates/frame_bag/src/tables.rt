@@ -132,13 +132,7 @@ fn find(kept: &[TableFrames], tables: &Tables) -> Option<usize>
     ensures there { IfSome result (λ number. number < length kept.now) }
     ensures say { IfSome result (λ number. SayTables tables.now (get_or kept.now number [])) }
 {
-    for before in 0..kept.len() {
-        let number = kept.len() - 1 - before;
-        if kept[number].say(tables) {
-            return Some(number);
-        }
-    }
-    None
+    kept.iter().rposition(|frames| frames.say(tables))
 }
 
 // The number of the frames that say these tables under some version.
@@ -146,13 +140,7 @@ fn find_rows(kept: &[TableFrames], tables: &Tables) -> Option<usize>
     ensures there { IfSome result (λ number. number < length kept.now) }
     ensures say { IfSome result (λ number. SayRows tables.now (get_or kept.now number [])) }
 {
-    for before in 0..kept.len() {
-        let number = kept.len() - 1 - before;
-        if kept[number].say_rows(tables) {
-            return Some(number);
-        }
-    }
-    None
+    kept.iter().rposition(|frames| frames.say_rows(tables))
 }
 
 // The frames of an installation of these tables: those that are there under another version, but
