@@ -129,20 +129,21 @@ turned_remove_later first place xs within here =
     ∙ parts_at first front (remove back place) len
     ∙ sym (remove-append_left back front place (omega (arith, length-drop first xs)))
 
-turned_remove_earlier : {X : Type 0} (first place : ℕ) (xs : List X) → first ≤ length xs →
-    place < length xs → length xs - first ≤ place →
-    turned (first - 1) (remove xs (place - (length xs - first))) ≡ remove (turned first xs) place
-turned_remove_earlier first place xs within here past =
+turned_remove_earlier : {X : Type 0} (first place len : ℕ) (xs : List X) → first ≤ length xs →
+    len ≡ length xs → place < len → len - first ≤ place →
+    turned (first - 1) (remove xs (place - (len - first))) ≡ remove (turned first xs) place
+turned_remove_earlier first place len xs within same here past =
     let front = take first xs in
     let back = drop first xs in
-    let len : length front ≡ first = length-take-le first xs within in
-    let at = place - (length xs - first) in
+    let taken : length front ≡ first = length-take-le first xs within in
+    let behind : length back ≡ len - first = omega (arith, length-drop first xs) in
+    let at = place - (len - first) in
     let fewer : length (remove front at) ≡ first - 1 =
-    omega (arith, length-remove front at (omega (arith, len)), len) in
+    omega (arith, length-remove front at (omega (arith, taken)), taken) in
     ap (λ ys. turned (first - 1) (remove ys at)) (sym (take-append-drop first xs))
-    ∙ ap (turned (first - 1)) (remove-append_left front back at (omega (arith, len)))
+    ∙ ap (turned (first - 1)) (remove-append_left front back at (omega (arith, taken)))
     ∙ parts_at (first - 1) (remove front at) back fewer
-    ∙ sym (remove-append_right back front (length xs - first) place (length-drop first xs) past)
+    ∙ sym (remove-append_right back front (len - first) place behind past)
 
 turned_filter : {X : Type 0} (test : X → Bool) (place : ℕ) (xs : List X) →
     turned (length (filter test (take place xs))) (filter test xs)
@@ -290,17 +291,17 @@ ring_later first place pairs pair within here is =
     ∙ get_or-drop first pairs place pair ∙ there in
     ring_at first place pairs pair within (omega arith) at
 
-pub ring_earlier : (first place : ℕ) (pairs : List Pair) (pair : Pair) → first ≤ length pairs →
-    place < length pairs → length pairs - first ≤ place →
-    Some pair ≡ slice_get pairs (place - (length pairs - first)) →
+pub ring_earlier : (first place len : ℕ) (pairs : List Pair) (pair : Pair) → first ≤ length pairs →
+    len ≡ length pairs → place < len → len - first ≤ place →
+    Some pair ≡ slice_get pairs (place - (len - first)) →
     Some pair.1 ≡ slice_get (ring_entries first pairs) place
-ring_earlier first place pairs pair within here past is =
+ring_earlier first place len pairs pair within same here past is =
     let front = take first pairs in
     let back = drop first pairs in
-    let at = place - (length pairs - first) in
+    let at = place - (len - first) in
     let there : get_or pairs at pair ≡ pair = get_or_from_slice_get pairs at pair pair (sym is) in
     let shift : place - length back ≡ at = omega (arith, length-drop first pairs) in
-    ring_at first place pairs pair within here
+    ring_at first place pairs pair within (omega arith)
     (get_or-append_right back front place pair (omega (arith, length-drop first pairs))
     ∙ ap (λ n. get_or front n pair) shift
     ∙ get_or-take first pairs at pair (omega arith) ∙ there)
@@ -498,17 +499,17 @@ ring_remove_later first place pairs is here =
     (all_pairs_remove (λ a b. same_key a b ≡ false) (ring_entries first pairs) place
     (omega (arith, length-ring first pairs within)) is.distinct)
 
-pub ring_remove_earlier : (first place : ℕ) (pairs : List Pair) → IsRing first pairs →
-    place < length pairs → length pairs - first ≤ place →
-    IsRingOf (first - 1) (remove pairs (place - (length pairs - first)))
+pub ring_remove_earlier : (first place len : ℕ) (pairs : List Pair) → IsRing first pairs →
+    len ≡ length pairs → place < len → len - first ≤ place →
+    IsRingOf (first - 1) (remove pairs (place - (len - first)))
     (remove (ring_entries first pairs) place)
-ring_remove_earlier first place pairs is here past =
+ring_remove_earlier first place len pairs is same here past =
     let within = is.within in
-    let at = place - (length pairs - first) in
+    let at = place - (len - first) in
     ring_of (first - 1) (remove pairs at) _
     (omega (arith, length-remove pairs at (omega arith)))
     (All-remove pairs at is.own)
-    (ap (map entry_of) (turned_remove_earlier first place pairs within here past)
+    (ap (map entry_of) (turned_remove_earlier first place len pairs within same here past)
     ∙ map-remove entry_of (turned first pairs) place)
     (all_pairs_remove (λ a b. same_key a b ≡ false) (ring_entries first pairs) place
     (omega (arith, length-ring first pairs within)) is.distinct)

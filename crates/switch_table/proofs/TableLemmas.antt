@@ -8,6 +8,7 @@ use Rattle.std.proofs.lemmas.List.Folds.{list_any-from_Any}
 use Rattle.std.proofs.lemmas.List.Elements.{All-map, All-filter, All-weaker, All-contains, All-contains_itself}
 use Rattle.std.proofs.lemmas.List.Kept.{AllPairs-filter}
 use Rattle.std.proofs.lemmas.List.Quantifiers.{position-Some}
+use Rattle.std.proofs.lemmas.List.Filters.{sum_by-filter_both}
 use Rattle.std.proofs.lemmas.List.Sums.{sum_by-cons}
 use Rattle.std.proofs.lemmas.Option.{slice_get-get_or, slice_get-map}
 use Rattle.five_tuple.specs.Header.{IsHeader, number_of}
@@ -93,14 +94,8 @@ some_from_count {X} test (x ∷ xs) one = by_case (test x) refl (some_from_count
 
 count-filter-le : {X : Type 0} (test kept : X → Bool) (xs : List X)
     → count_by test (filter kept xs) ≤ count_by test xs
-count-filter-le test kept [] = omega arith
-count-filter-le {X} test kept (x ∷ xs) = by_case (kept x) (count-filter-le test kept xs)
-  where
-    by_case : (b : Bool) → count_by test (filter kept xs) ≤ count_by test xs
-        → count_by test (cond b (x ∷ filter kept xs) (filter kept xs)) ≤ count_by test (x ∷ xs)
-    by_case true rest = omega
-        (arith, count_by-cons test x (filter kept xs), count_by-cons test x xs, rest)
-    by_case false rest = omega (arith, count_by-cons test x xs, rest)
+count-filter-le test kept xs =
+    omega (arith, sum_by-filter_both kept (λ x. not (kept x)) (λ x. refl) (λ x. cond (test x) 1 0) xs)
 
 -- among the elements that are kept, the one that passes is there if it is kept
 find-filter : {X : Type 0} (test kept : X → Bool) (xs : List X) (x : X) → count_by test xs ≡ 1

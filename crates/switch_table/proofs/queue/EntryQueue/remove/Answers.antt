@@ -1,4 +1,4 @@
-use Rattle.std.proofs.Common.{◌≡◌, ◌<◌, ◌≤◌, ◌-◌, length, arith}
+use Rattle.std.proofs.Common.{◌<◌, ◌-◌, length, arith}
 use Rattle.switch_table.proofs.QueueLemmas.{ring_earlier, ring_later, ring_remove_earlier, ring_remove_later}
 use Rattle.switch_table.proofs.queue.EntryQueue.remove.Goals as goal
 
@@ -15,11 +15,8 @@ pub invariant_of-self-else-place-later : goal.invariant_of-self-else-place-later
 invariant_of-self-else-place-later c =
     let first = c.self.inside.first in
     let pairs = c.self.inside.ring.entries in
-    let len : c.len-len.result ≡ length pairs = c.len-len.ensures.len in
-    let within : c.args.place < length pairs = omega (arith, c.if-place-len.false, len) in
-    let past : length pairs - first ≤ c.args.place = omega (arith, c.if-place-later.false, len) in
-    rw (c.in_ok-entry-2.ensures.entries, len)
-    (ring_remove_earlier first c.args.place pairs c.self.invariant within past).ring
+    rw c.in_ok-entry-2.ensures.entries (ring_remove_earlier first c.args.place c.len-len.result pairs
+    c.self.invariant c.len-len.ensures.len c.if-place-len.false c.if-place-later.false).ring
 
 pub returns-in_ok-entry-clause-entry : goal.returns-in_ok-entry-clause-entry
 returns-in_ok-entry-clause-entry c =
@@ -43,18 +40,14 @@ pub returns-in_ok-entry-2-clause-entry : goal.returns-in_ok-entry-2-clause-entry
 returns-in_ok-entry-2-clause-entry c =
     let first = c.self.inside.first in
     let pairs = c.self.inside.ring.entries in
-    let len : c.len-len.result ≡ length pairs = c.len-len.ensures.len in
-    let within : c.args.place < length pairs = omega (arith, c.if-place-len.false, len) in
-    let past : length pairs - first ≤ c.args.place = omega (arith, c.if-place-later.false, len) in
-    rw (← c.self.view_is) (ring_earlier first c.args.place pairs _ c.self.invariant.within within
-    past (rw len at c.in_ok-entry-2.ensures.entry))
+    rw (← c.self.view_is) (ring_earlier first c.args.place c.len-len.result pairs _
+    c.self.invariant.within c.len-len.ensures.len c.if-place-len.false c.if-place-later.false
+    c.in_ok-entry-2.ensures.entry)
 
 pub returns-in_ok-entry-2-clause-rest : goal.returns-in_ok-entry-2-clause-rest
 returns-in_ok-entry-2-clause-rest c =
     let first = c.self.inside.first in
     let pairs = c.self.inside.ring.entries in
-    let len : c.len-len.result ≡ length pairs = c.len-len.ensures.len in
-    let within : c.args.place < length pairs = omega (arith, c.if-place-len.false, len) in
-    let past : length pairs - first ≤ c.args.place = omega (arith, c.if-place-later.false, len) in
-    rw (← c.self.view_is, c.in_ok-entry-2.ensures.entries, len)
-    (ring_remove_earlier first c.args.place pairs c.self.invariant within past).entries_are
+    rw (← c.self.view_is, c.in_ok-entry-2.ensures.entries)
+    (ring_remove_earlier first c.args.place c.len-len.result pairs c.self.invariant
+    c.len-len.ensures.len c.if-place-len.false c.if-place-later.false).entries_are
