@@ -259,6 +259,20 @@ rises_from_sorted before order (x ∷ y ∷ ys) sorted once =
 
 -- ---- one list
 
+-- the first number of the one is behind the first of the other, where the two differ
+behind_first : (before : ℕ → ℕ → Bool) (x y : ℕ) (xs ys : List ℕ) → x ≢ y
+    → count x (x ∷ xs) ≡ count x (y ∷ ys) → AllByRecursion (λ z. before y z ≡ true) ys
+    → before y x ≡ true
+behind_first before x y xs ys other same rises =
+    each_from_count (λ z. before y z ≡ true) x ys rises
+    (omega (
+      arith,
+      sum_by-cons (one_of x) x xs,
+      sum_by-cons (one_of x) y ys,
+      one_of-same x,
+      one_of-other x y other,
+    ))
+
 -- two lists that rise and have the same numbers
 pub same_rising : (before : ℕ → ℕ → Bool) → IsOrder before → (xs ys : List ℕ) → Rises before xs
     → Rises before ys → ((z : ℕ) → count z xs ≡ count z ys) → xs ≡ ys
@@ -281,25 +295,9 @@ same_rising before order (x ∷ xs) (y ∷ ys) p q counts =
           )) in
           cc
       | inr other ↦
-          let flipped : y ≢ x = λ same. other (sym same) in
-          let x_later = each_from_count (λ z. before y z ≡ true) x ys q.0
-          (omega (
-            arith,
-            counts x,
-            sum_by-cons (one_of x) x xs,
-            sum_by-cons (one_of x) y ys,
-            one_of-same x,
-            one_of-other x y other,
-          )) in
-          let y_later = each_from_count (λ z. before x z ≡ true) y xs p.0
-          (omega (
-            arith,
-            counts y,
-            sum_by-cons (one_of y) x xs,
-            sum_by-cons (one_of y) y ys,
-            one_of-same y,
-            one_of-other y x flipped,
-          )) in
+          let x_later = behind_first before x y xs ys other (counts x) q.0 in
+          let y_later = behind_first before y x ys xs (λ same. other (sym same)) (sym (counts y)) p.0
+          in
           absurd (false≢true (sym (order.never x) ∙ order.trans x y x y_later x_later))
     ]
 
