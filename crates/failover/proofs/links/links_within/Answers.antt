@@ -26,8 +26,7 @@ loop-rest-preserved c =
 pub loop-rest-smaller : goal.loop-rest-smaller
 unfolding least_in
 loop-rest-smaller c =
-    fewer_left c.loop-rest.rest c.only_if-rest.result c.loop-rest.invariant.rest_fits
-    c.loop-rest-test.true c.only_if-rest.ensures
+    fewer_left _ _ c.loop-rest.invariant.rest_fits c.loop-rest-test.true c.only_if-rest.ensures
 
 pub returns : goal.returns
 returns c = row_ends c.args.neighbours.now c.args.down.now c.args.one c.args.within

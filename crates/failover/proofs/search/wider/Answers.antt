@@ -38,8 +38,7 @@ loop-rest-preserved c =
 pub loop-rest-smaller : goal.loop-rest-smaller
 unfolding least_in
 loop-rest-smaller c =
-    fewer_left c.loop-rest.rest c.only_if-rest.result c.loop-rest.invariant.rest_fits
-    c.loop-rest-test.true c.only_if-rest.ensures
+    fewer_left _ _ c.loop-rest.invariant.rest_fits c.loop-rest-test.true c.only_if-rest.ensures
 
 pub returns : goal.returns
 returns c = wide_ends _ c.args.ball c.loop-rest.wide c.loop-rest.rest
