@@ -278,10 +278,10 @@ ring_inserted first pairs new key entry entries is are absent own made =
     (no_value (lookup (equal_keys (key_of entry)) pairs) none))
 
 -- the entry at a place, by where it stands in the map
-pub ring_later : (first place : ℕ) (pairs : List Pair) (pair : Pair) → first ≤ length pairs →
-    place < length pairs - first → Some pair ≡ slice_get pairs (first + place) →
+pub ring_later : (first place len : ℕ) (pairs : List Pair) (pair : Pair) → first ≤ length pairs →
+    len ≡ length pairs → place < len - first → Some pair ≡ slice_get pairs (first + place) →
     Some pair.1 ≡ slice_get (ring_entries first pairs) place
-ring_later first place pairs pair within here is =
+ring_later first place len pairs pair within same here is =
     let front = take first pairs in
     let back = drop first pairs in
     let there : get_or pairs (first + place) pair ≡ pair =
@@ -486,15 +486,15 @@ All-remove pairs k own = All-append IsOwn (take k pairs) (drop (suc k) pairs)
     (All-take IsOwn k pairs own) (All-drop IsOwn (suc k) pairs own)
 
 -- the entry at a place goes, which stands behind the first in the map or before it
-pub ring_remove_later : (first place : ℕ) (pairs : List Pair) → IsRing first pairs →
-    place < length pairs - first → IsRingOf first (remove pairs (first + place))
+pub ring_remove_later : (first place len : ℕ) (pairs : List Pair) → IsRing first pairs →
+    len ≡ length pairs → place < len - first → IsRingOf first (remove pairs (first + place))
     (remove (ring_entries first pairs) place)
-ring_remove_later first place pairs is here =
+ring_remove_later first place len pairs is same here =
     let within = is.within in
     ring_of first (remove pairs (first + place)) _
     (omega (arith, length-remove pairs (first + place) (omega arith)))
     (All-remove pairs (first + place) is.own)
-    (ap (map entry_of) (turned_remove_later first place pairs within here)
+    (ap (map entry_of) (turned_remove_later first place pairs within (omega arith))
     ∙ map-remove entry_of (turned first pairs) place)
     (all_pairs_remove (λ a b. same_key a b ≡ false) (ring_entries first pairs) place
     (omega (arith, length-ring first pairs within)) is.distinct)
