@@ -1,22 +1,15 @@
 -- What comes of a play, by what became of its text.
 use Rattle.std.specs.Prelude.{⊤, is_some}
-use Rattle.std.proofs.Common.{ℕ, ◌≡◌, ◌⊎◌, IsTrue, inl, inr, refl, Bool, Option, Some, None, Result, Ok, Err, List, []}
+use Rattle.std.proofs.Common.{ℕ, ◌≡◌, ◌⊎◌, IsTrue, inl, inr, refl, Bool, Option, Some, None, Result, Ok, Err, List}
 use Rattle.std.specs.Option.{ForSome}
-use Rattle.boot_laws.specs.Always.{HoldsReached}
 use Rattle.journal.specs.declared.item.Item.{Item}
 use Rattle.meters.specs.Seen.{Seen}
-use Rattle.net_file.specs.Net.{IsNet}
 use Rattle.net_file.specs.declared.net.Net.{Net}
 use Rattle.quiet_journals.specs.Plain.{IsPlain}
 use Rattle.update_machine.specs.Answers.{BeginsAnswer}
-use Rattle.update_machine.specs.Causes.{EndsHaveCauses, HaveCauses}
 use Rattle.update_machine.specs.Full.{IsPlay}
-use Rattle.update_machine.specs.Machine.{IsRun}
 use Rattle.update_machine.proofs.CallerLemmas.{answers_so_far, begins_itself, stop_begins}
-use Rattle.way_laws.specs.StrongCauses.{StrongCause}
-use Rattle.entry_laws.specs.Entries.{AreEntered, rows_played}
-use Rattle.steps.specs.declared.step.Event.{Event}
-use Rattle.update_machine.specs.Setting.{Setting, IsSetting}
+use Rattle.update_machine.specs.Setting.{Setting}
 use Rattle.difane_cli.specs.Tasks.{Inputs, Play}
 use Rattle.shelf.specs.Shelf.{Files}
 use Rattle.shelf.specs.Sink.{SinkState}
@@ -26,24 +19,13 @@ use Rattle.difane_cli.specs.Texts.{play_text}
 use Rattle.difane_cli.specs.Verdict.{IsWhetherQuiet, IsVerdict, asks_quiet, is_asked}
 use Rattle.difane_cli.specs.Inputs.{known_task}
 use Rattle.difane_cli.proofs.Stated.{stated_by}
-use Rattle.difane_cli.proofs.Verdicts.{QuietLaws, verdict}
-use Rattle.difane_cli.specs.Run.{IsAnswer, IsPlayOf, MayBePlayed, PlayOutcome, Unfinished, WantsMemory, is_made}
+use Rattle.difane_cli.specs.Laws.{AnswerLaws}
+use Rattle.difane_cli.proofs.Verdicts.{verdict}
+use Rattle.difane_cli.specs.Run.{IsAnswer, IsPlayOf, MayBePlayed, PlayOutcome, Played, Unfinished, WantsMemory, is_made}
 use Rattle.difane_cli.specs.Ending.{status_after}
 use Rattle.difane_cli.specs.Prints.{IsAfterText}
 use Rattle.words.specs.Commands.{Command}
 use Rattle.replay.specs.Leavings.{kept_by}
-
--- what follows behind steps of the network
-pub record AnswerLaws : Type 0 where
-  pub run : HoldsReached (λ setting journal. IsSetting setting → IsRun setting journal)
-  pub causes : HoldsReached (λ setting journal.
-      IsSetting setting → EndsHaveCauses setting journal)
-  pub strong : HoldsReached (λ setting journal.
-      IsSetting setting → HaveCauses (StrongCause setting) [] journal)
-  pub entered : (setting : Setting) (events : List Event) (journal : List Item) (full : Option ℕ)
-      → IsPlay setting events journal full → AreEntered (rows_played full events) journal
-  pub plain : HoldsReached (λ setting journal. IsNet setting.net → IsPlain setting journal)
-  pub quiet : QuietLaws
 
 begins : (inputs : Inputs) (journal : List Item) (full : Option ℕ)
     → IsPlay inputs.setting inputs.events journal full
@@ -115,26 +97,22 @@ pub told : (command : Command) (files : Option Files) (inputs : Inputs) (journal
     → IsAfterText (play_text inputs.report inputs.setting.net journal full given said)
     (is_made inputs.report full) takes_memory before now written
     → PlayOutcome command files takes_memory (status_after written full) journal taken given before now
-told command files inputs journal None taken given said before now takes_memory
+told command files inputs journal full taken given said before now takes_memory
     (Ok done) answer kept judged after =
-    record {
+    ended full (record {
       inputs = inputs;
       played = answer;
       kept = kept;
       answer = said;
       verdict = judged;
       written = record { whole = after.whole; untouched = after.untouched };
-    }
-told command files inputs journal (Some row) taken given said before now
-    takes_memory (Ok done) answer kept judged after =
-    record {
-      inputs = inputs;
-      played = answer;
-      kept = kept;
-      answer = said;
-      verdict = judged;
-      written = record { whole = after.whole; untouched = after.untouched };
-    }
+    })
+  where
+    ended : (full : Option ℕ) → Played command files full journal taken given before now
+        → PlayOutcome command files takes_memory (status_after (Ok done) full) journal taken given
+        before now
+    ended None played = played
+    ended (Some row) played = played
 told command files inputs journal full taken given said before now takes_memory
     (Err sink.Failed) answer kept judged after =
     record {

@@ -1,26 +1,14 @@
 -- What an answer to the question whether the network is quiet says.
 use Rattle.std.specs.Prelude.{is_some}
 use Rattle.std.proofs.Common.{ℕ, ◌≡◌, Bool, true, false, Option, Some, None, List, refl, sym, true≢false}
-use Rattle.boot_laws.specs.Always.{HoldsAtEnds}
 use Rattle.journal.specs.declared.item.Item.{Item}
 use Rattle.net_file.specs.Net.{IsNet}
-use Rattle.quiet_laws.specs.Converged.{HasConverged}
-use Rattle.quiet_laws.specs.Stuck.{GetStuckApart}
-use Rattle.quiet_laws.specs.Updated.{IsUpdated}
 use Rattle.steps.specs.declared.step.Event.{Event}
 use Rattle.update_machine.specs.Full.{IsPlay}
 use Rattle.update_machine.specs.Quiet.{IsQuiet}
 use Rattle.update_machine.specs.Setting.{Setting}
+use Rattle.difane_cli.specs.Laws.{QuietLaws}
 use Rattle.difane_cli.specs.Verdict.{IsWhetherQuiet, HasComeToRest, IsVerdict, Says, is_asked}
-
--- what holds at the end of a play, where the network is quiet
-pub record QuietLaws : Type 0 where
-  pub converged : HoldsAtEnds (λ setting journal.
-      IsNet setting.net → IsQuiet setting journal → HasConverged setting journal)
-  pub apart : HoldsAtEnds (λ setting journal.
-      IsNet setting.net → IsQuiet setting journal → GetStuckApart setting journal)
-  pub updated : HoldsAtEnds (λ setting journal.
-      IsQuiet setting journal → IsUpdated setting journal)
 
 settled : QuietLaws → (setting : Setting) (events : List Event) (journal : List Item)
     → IsNet setting.net → IsPlay setting events journal None → IsQuiet setting journal

@@ -3,6 +3,7 @@ pub mod Inputs
 pub mod Tasks
 pub mod Texts
 pub mod Run
+pub mod Laws
 pub mod Prints
 pub mod Writes
 pub mod Ending

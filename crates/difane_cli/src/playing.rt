@@ -7,6 +7,7 @@ ghost use Rattle.shelf.specs.Sink.{Rose};
 ghost use Rattle.shelf.specs.SinkWrites.{IsAfterWrite};
 ghost use Rattle.difane_cli.specs.Inputs.{known_task};
 ghost use Rattle.difane_cli.specs.Commands.{AreReadyToPlay, inputs_stated};
+ghost use Rattle.difane_cli.specs.Laws.{AnswerLaws};
 ghost use Rattle.difane_cli.specs.Texts.{last_lines, play_text, replay_text};
 ghost use Rattle.difane_cli.specs.Run.{IsPlayOf, PlayOutcome, RanOut, is_made};
 ghost use Rattle.difane_cli.specs.Tasks.{Play};
@@ -72,14 +73,7 @@ pub fn play<M: Meter, K: Sink>(
         world,
         report,
     } = inputs;
-    answers_are_runs();
-    ends_have_causes();
-    causes_are_strong();
-    packet_rows_are_entered();
-    answers_are_plain();
-    quiet_networks_have_converged();
-    packets_get_stuck_apart();
-    quiet_networks_are_updated();
+    answer_laws();
     let Ok(played) = replay::play(alloc, world, &events, meters, net.port_mask()) else {
         return Ended {
             status: Status::NoMemory,
@@ -100,6 +94,20 @@ pub fn play<M: Meter, K: Sink>(
         journal: played.journal,
         meters: played.meters,
     }
+}
+
+/// What follows behind steps of the network, and at the end of a play.
+fn answer_laws()
+    ensures { AnswerLaws }
+{
+    answers_are_runs();
+    ends_have_causes();
+    causes_are_strong();
+    packet_rows_are_entered();
+    answers_are_plain();
+    quiet_networks_have_converged();
+    packets_get_stuck_apart();
+    quiet_networks_are_updated();
 }
 
 /// Writes what a play is to tell.

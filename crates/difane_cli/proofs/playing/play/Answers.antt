@@ -9,7 +9,7 @@ use Rattle.difane_cli.specs.Texts.{play_text}
 use Rattle.difane_cli.specs.Prints.{IsAfterText}
 use Rattle.difane_cli.specs.Verdict.{is_asked}
 use Rattle.difane_cli.specs.Run.{is_made}
-use Rattle.difane_cli.proofs.Plays.{AnswerLaws, judged, played, told, unjudged}
+use Rattle.difane_cli.proofs.Plays.{judged, played, told, unjudged}
 use Rattle.difane_cli.proofs.Worked.{after_work, by_failed, by_memory, of_failed, on_err, out_of_judging, out_of_writing}
 use Rattle.difane_cli.proofs.playing.play.Goals as goal
 
@@ -19,18 +19,7 @@ returns-clause-outcome g c = λ command files asked read.
     let full = c.in-Ok.played.full in
     let journal = c.in-Ok.played.journal in
     let said = c.in-Ok-judge.answer in
-    let laws : AnswerLaws = record {
-      run = c.answers_are_runs.ensures;
-      causes = c.ends_have_causes.ensures;
-      strong = c.causes_are_strong.ensures;
-      entered = c.packet_rows_are_entered.ensures;
-      plain = c.answers_are_plain.ensures;
-      quiet = record {
-        converged = c.quiet_networks_have_converged.ensures;
-        apart = c.packets_get_stuck_apart.ensures;
-        updated = c.quiet_networks_are_updated.ensures;
-      };
-    } in
+    let laws = c.answer_laws.ensures in
     let play = subst (λ (events : List Event). IsPlay inputs.setting events journal full)
     c.deref.ensures.value c.in-Ok.ensures.play in
     let answer = played laws command files inputs journal full asked read c.requires.sound play in
@@ -60,18 +49,7 @@ returns-in_default-judge-clause-outcome g c = λ command files asked read.
     let inputs = inputs_stated c.args.inputs in
     let full = c.in-Ok.played.full in
     let journal = c.in-Ok.played.journal in
-    let laws : AnswerLaws = record {
-      run = c.answers_are_runs.ensures;
-      causes = c.ends_have_causes.ensures;
-      strong = c.causes_are_strong.ensures;
-      entered = c.packet_rows_are_entered.ensures;
-      plain = c.answers_are_plain.ensures;
-      quiet = record {
-        converged = c.quiet_networks_have_converged.ensures;
-        apart = c.packets_get_stuck_apart.ensures;
-        updated = c.quiet_networks_are_updated.ensures;
-      };
-    } in
+    let laws = c.answer_laws.ensures in
     let play = subst (λ (events : List Event). IsPlay inputs.setting events journal full)
     c.deref.ensures.value c.in-Ok.ensures.play in
     let answer = played laws command files inputs journal full asked read c.requires.sound play in

@@ -1,0 +1,15 @@
+use Rattle.difane_cli.proofs.playing.answer_laws.Goals as goal
+
+pub returns : goal.returns
+returns c = record {
+  run = c.answers_are_runs.ensures;
+  causes = c.ends_have_causes.ensures;
+  strong = c.causes_are_strong.ensures;
+  entered = c.packet_rows_are_entered.ensures;
+  plain = c.answers_are_plain.ensures;
+  quiet = record {
+    converged = c.quiet_networks_have_converged.ensures;
+    apart = c.packets_get_stuck_apart.ensures;
+    updated = c.quiet_networks_are_updated.ensures;
+  };
+}

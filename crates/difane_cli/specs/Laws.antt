@@ -1,0 +1,38 @@
+-- What follows behind steps of the network, and at the end of a play.
+use Rattle.std.specs.Prelude.{ℕ, Option, List, []}
+use Rattle.boot_laws.specs.Always.{HoldsAtEnds, HoldsReached}
+use Rattle.entry_laws.specs.Entries.{AreEntered, rows_played}
+use Rattle.journal.specs.declared.item.Item.{Item}
+use Rattle.net_file.specs.Net.{IsNet}
+use Rattle.quiet_journals.specs.Plain.{IsPlain}
+use Rattle.quiet_laws.specs.Converged.{HasConverged}
+use Rattle.quiet_laws.specs.Stuck.{GetStuckApart}
+use Rattle.quiet_laws.specs.Updated.{IsUpdated}
+use Rattle.steps.specs.declared.step.Event.{Event}
+use Rattle.update_machine.specs.Causes.{EndsHaveCauses, HaveCauses}
+use Rattle.update_machine.specs.Full.{IsPlay}
+use Rattle.update_machine.specs.Machine.{IsRun}
+use Rattle.update_machine.specs.Quiet.{IsQuiet}
+use Rattle.update_machine.specs.Setting.{Setting, IsSetting}
+use Rattle.way_laws.specs.StrongCauses.{StrongCause}
+
+-- what holds at the end of a play, where the network is quiet
+pub record QuietLaws : Type 0 where
+  pub converged : HoldsAtEnds (λ setting journal.
+      IsNet setting.net → IsQuiet setting journal → HasConverged setting journal)
+  pub apart : HoldsAtEnds (λ setting journal.
+      IsNet setting.net → IsQuiet setting journal → GetStuckApart setting journal)
+  pub updated : HoldsAtEnds (λ setting journal.
+      IsQuiet setting journal → IsUpdated setting journal)
+
+-- what follows behind steps of the network
+pub record AnswerLaws : Type 0 where
+  pub run : HoldsReached (λ setting journal. IsSetting setting → IsRun setting journal)
+  pub causes : HoldsReached (λ setting journal.
+      IsSetting setting → EndsHaveCauses setting journal)
+  pub strong : HoldsReached (λ setting journal.
+      IsSetting setting → HaveCauses (StrongCause setting) [] journal)
+  pub entered : (setting : Setting) (events : List Event) (journal : List Item) (full : Option ℕ)
+      → IsPlay setting events journal full → AreEntered (rows_played full events) journal
+  pub plain : HoldsReached (λ setting journal. IsNet setting.net → IsPlain setting journal)
+  pub quiet : QuietLaws
