@@ -1,8 +1,9 @@
 -- The tables of the tests are sound: of three regions, one has each header.
-use Rattle.std.proofs.Common.{◌≡◌, ◌+◌, ◌<◌, ◌==◌, ◌&&◌, ◌∙◌, ap, ℕ, zero, suc, false, true, cond, List, [], ◌∷◌, refl, arith, lit<}
+use Rattle.std.proofs.Common.{◌≡◌, ◌+◌, ◌<◌, ◌==◌, ◌&&◌, ◌∙◌, ap, ℕ, false, true, cond, List, [], ◌∷◌, refl, arith, lit<}
 use Rattle.std.specs.Bool.{IsFalse}
 use Rattle.std.specs.Int.{bit_at}
 use Rattle.std.specs.List.{count_by}
+use Rattle.std.proofs.lemmas.Bool.Decides.{nat_tests}
 use Rattle.std.proofs.lemmas.Nat.Bits.{bit_at-lt}
 use Rattle.five_tuple.specs.Header.{number_of}
 use Rattle.ternary.specs.Word.{holds}
@@ -21,12 +22,7 @@ thirds = record { region = fix_of (fix_of any_word 71 false) 103 false; targets 
 one_third : (a b : ℕ) → a < 2 → b < 2
     → 0 + cond ((a == 0) && (b == 0)) 1 0 + cond ((a == 0) && (b == 1)) 1 0 + cond (a == 1) 1 0
     ≡ 1
-one_third zero zero p q = refl
-one_third zero (suc zero) p q = refl
-one_third (suc zero) zero p q = refl
-one_third (suc zero) (suc zero) p q = refl
-one_third (suc (suc a)) b p q = absurd (omega arith)
-one_third a (suc (suc b)) p q = absurd (omega arith)
+one_third a b p q = grind (arith, nat_tests)
 
 free_high : IsFalse (is_fixed_of (fix_of any_word 71 false) 103)
 unfolding fix_of is_fixed_of
