@@ -1,38 +1,20 @@
 -- Hexadecimal digits, two at a time.
-use Rattle.std.proofs.Common.{ℕ, zero, suc, ◌≡◌, ◌+◌, ◌-◌, ◌*◌, ◌/◌, ◌%◌, ◌<◌, Bool, true, false, ◌&&◌, T, eqb, List, [], ◌∷◌, ◌++◌, length, length-set, drop, set, get_or, inl, inr, refl, ap, sym, ◌∙◌, arith, add-one, append_assoc, eq-zero-or-pos, eqb→eq}
+use Rattle.std.proofs.Common.{ℕ, ◌≡◌, ◌+◌, ◌*◌, ◌/◌, ◌%◌, ◌<◌, false, List, [], ◌∷◌, ◌++◌, length, length-set, drop, set, get_or, refl, ap, sym, ◌∙◌, arith, add-one, append_assoc}
 use Rattle.std.specs.Fmt.{digit_glyph}
 use Rattle.std.proofs.lemmas.List.{drop-set, set_comm}
 use Rattle.ternary.specs.Word.{hex_digits}
+use Rattle.text_line.proofs.CallerLemmas.{pair_at}
 use Rattle.line_fields.specs.declared.rules.TheConstants.{HEX_PAIRS}
-use lib.Ieee.Fits.{and_l, and_r}
 
 -- the digit of a number below 16
 abbrev pub glyph : ℕ → ℕ
 glyph n = digit_glyph false n
 
--- whether the table has both digits of each number below n
-abbrev are_pairs : ℕ → Bool
-are_pairs zero = true
-are_pairs (suc n) = (eqb (get_or HEX_PAIRS (n * 2) 0) (glyph (n / 16))
-    && eqb (get_or HEX_PAIRS (n * 2 + 1) 0) (glyph (n % 16))) && are_pairs n
-
-below : (n p : ℕ) → T (are_pairs n) → p < n
-    → (get_or HEX_PAIRS (p * 2) 0 ≡ glyph (p / 16))
-    × (get_or HEX_PAIRS (p * 2 + 1) 0 ≡ glyph (p % 16))
-below zero p all within = absurd (omega arith)
-below (suc n) p all within = elim (eq-zero-or-pos (n - p)) [
-  | inl last ↦
-      let same : p ≡ n = omega arith in
-      let both = and_l _ (are_pairs n) all in
-      rw same (eqb→eq _ _ (and_l _ _ both), eqb→eq _ _ (and_r _ _ both))
-  | inr earlier ↦ below n p (and_r _ (are_pairs n) all) (omega arith)
-]
-
 -- the table has both digits of a number below 256
 pub pairs_at : (n : ℕ) → n < 256
     → (get_or HEX_PAIRS (n * 2) 0 ≡ glyph (n / 16))
     × (get_or HEX_PAIRS (n * 2 + 1) 0 ≡ glyph (n % 16))
-pairs_at n within = below 256 n tt within
+pairs_at n within = pair_at HEX_PAIRS (λ n. glyph (n / 16)) (λ n. glyph (n % 16)) 256 n tt within
 
 -- one digit more stands
 more : (at left : ℕ) (digits : List ℕ) → at < length digits

@@ -1,7 +1,8 @@
--- What proofs above cite: of pieces put at the end of a line.
-use Rattle.std.proofs.Common.{ℕ, ◌≡◌, ◌≤◌, List, [], ◌∷◌, ◌++◌, length, take, append-nil, append_assoc, ap, ◌∙◌, refl, zero, suc}
+-- What proofs above cite: of pieces put at the end of a line, and of tables of pairs of digits.
+use Rattle.std.proofs.Common.{ℕ, ◌≡◌, ◌+◌, ◌-◌, ◌*◌, ◌<◌, ◌≤◌, Bool, true, ◌&&◌, T, eqb, List, [], ◌∷◌, ◌++◌, length, take, get_or, append-nil, append_assoc, ap, ◌∙◌, refl, inl, inr, zero, suc, arith, eq-zero-or-pos, eqb→eq}
 use Rattle.std.proofs.lemmas.List.{take_all}
 use Rattle.text_line.specs.Pushes.{pushed}
+use lib.Ieee.Fits.{and_l, and_r}
 
 take_front : (n : ℕ) (xs ys : List ℕ) → take n (take n xs ++ ys) ≡ take n (xs ++ ys)
 take_front zero xs ys = refl
@@ -23,3 +24,24 @@ pushed_whole text fits = take_all 2048 text fits
 pub pushed_nothing : (line : List ℕ) → length line ≤ 2048 → pushed line [] ≡ line
 unfolding pushed
 pushed_nothing line fits = ap (take 2048) (append-nil line) ∙ take_all 2048 line fits
+
+-- ---- tables of pairs
+
+-- whether a table has these two bytes for each number below n, from twice the number on
+abbrev pub are_pairs : List ℕ → (ℕ → ℕ) → (ℕ → ℕ) → ℕ → Bool
+are_pairs table first second zero = true
+are_pairs table first second (suc n) = (eqb (get_or table (n * 2) 0) (first n)
+    && eqb (get_or table (n * 2 + 1) 0) (second n)) && are_pairs table first second n
+
+pub pair_at : (table : List ℕ) (first second : ℕ → ℕ) (n p : ℕ)
+    → T (are_pairs table first second n) → p < n
+    → (get_or table (p * 2) 0 ≡ first p) × (get_or table (p * 2 + 1) 0 ≡ second p)
+pair_at table first second zero p all within = absurd (omega arith)
+pair_at table first second (suc n) p all within = elim (eq-zero-or-pos (n - p)) [
+  | inl last ↦
+      let same : p ≡ n = omega arith in
+      let both = and_l _ (are_pairs table first second n) all in
+      rw same (eqb→eq _ _ (and_l _ _ both), eqb→eq _ _ (and_r _ _ both))
+  | inr earlier ↦ pair_at table first second n p (and_r _ (are_pairs table first second n) all)
+      (omega arith)
+]

@@ -1,36 +1,19 @@
 -- The decimal digits of short numbers, two at a time.
-use Rattle.std.proofs.Common.{ℕ, ◌≡◌, ◌<◌, ◌≤◌, ◌+◌, ◌-◌, ◌*◌, ◌/◌, ◌%◌, Bool, true, ◌&&◌, T, eqb, List, [], ◌∷◌, ◌++◌, length, take, set, get_or, inl, inr, zero, suc, refl, arith, append_assoc, length-set, eq-zero-or-pos, eqb→eq}
+use Rattle.std.proofs.Common.{ℕ, ◌≡◌, ◌<◌, ◌≤◌, ◌+◌, ◌*◌, ◌/◌, ◌%◌, List, [], ◌∷◌, ◌++◌, length, take, set, get_or, refl, arith, append_assoc, length-set}
 use Rattle.std.specs.Prelude.{decimal}
 use Rattle.std.proofs.lemmas.Fmt.{decimal_digit, decimal_step}
 use Rattle.std.proofs.lemmas.List.{take_more_set}
 use Rattle.text_line.specs.declared.digits.TheConstants.{PAIRS}
-use lib.Ieee.Fits.{and_l, and_r}
+use Rattle.text_line.proofs.CallerLemmas.{pair_at}
 
 -- the digits of a number below 100, in the codes of their characters
 abbrev pub pair : ℕ → List ℕ
 pair n = (48 + n / 10) ∷ (48 + n % 10) ∷ []
 
--- whether the table has these digits of each number below n
-abbrev are_pairs : ℕ → Bool
-are_pairs zero = true
-are_pairs (suc n) = (eqb (get_or PAIRS (n * 2) 0) (48 + n / 10)
-    && eqb (get_or PAIRS (n * 2 + 1) 0) (48 + n % 10)) && are_pairs n
-
-below : (n p : ℕ) → T (are_pairs n) → p < n
-    → (get_or PAIRS (p * 2) 0 ≡ 48 + p / 10) × (get_or PAIRS (p * 2 + 1) 0 ≡ 48 + p % 10)
-below zero p all within = absurd (omega arith)
-below (suc n) p all within = elim (eq-zero-or-pos (n - p)) [
-  | inl last ↦
-      let same : p ≡ n = omega arith in
-      let both = and_l _ (are_pairs n) all in
-      rw same (eqb→eq _ _ (and_l _ _ both), eqb→eq _ _ (and_r _ _ both))
-  | inr earlier ↦ below n p (and_r _ (are_pairs n) all) (omega arith)
-]
-
 -- the table has both digits of a number below 100
 pub pairs_at : (n : ℕ) → n < 100
     → (get_or PAIRS (n * 2) 0 ≡ 48 + n / 10) × (get_or PAIRS (n * 2 + 1) 0 ≡ 48 + n % 10)
-pairs_at n within = below 100 n tt within
+pairs_at n within = pair_at PAIRS (λ n. 48 + n / 10) (λ n. 48 + n % 10) 100 n tt within
 
 -- two bytes set behind the first ones
 pub take_two_set : (bytes : List ℕ) (len a b : ℕ) → len + 1 < length bytes
