@@ -89,7 +89,7 @@ looks_up setting journal s hold there serving =
 
 -- ---- at an authority
 
-pub any_at : {X : Type 0} (test : X → Bool) (xs : List X) (k : ℕ) (x : X) → slice_get xs k ≡ Some x
+any_at : {X : Type 0} (test : X → Bool) (xs : List X) (k : ℕ) (x : X) → slice_get xs k ≡ Some x
     → test x ≡ true → list_any test xs ≡ true
 any_at test [] k x there passes = absurd cc
 any_at test (y ∷ ys) zero x there passes =
@@ -103,22 +103,19 @@ any_at test (y ∷ ys) (suc k) x there passes =
     true_last true = refl
     true_last false = refl
 
--- where each partition of the number has the header, the switch's own one has it
-own_found : (s partition : ℕ) (header : Header) (plan : List Placed)
-    → AllByRecursion
-    (λ placed. placed.0.number ≡ partition → IsTrue (is_in header (part_of placed)))
-    plan
+-- what holds of each partition of the number holds of the switch's own one
+own_found : (P : Partition → Type 0) (s partition : ℕ) (plan : List Placed)
+    → AllByRecursion (λ placed. placed.0.number ≡ partition → P (part_of placed)) plan
     → list_any (λ placed. (placed.0.number == partition) && has_target s placed) plan ≡ true
     → IsSomeAnd (find (λ (part : Partition). part.number == partition)
-    (map part_of (filter (has_target s) plan))) (λ part. IsTrue (is_in header part))
-own_found s partition header [] all there = absurd cc
-own_found s partition header (placed ∷ plan) all there =
-    by_test (own_found s partition header plan all.1) (placed.0.number == partition) refl
+    (map part_of (filter (has_target s) plan))) P
+own_found P s partition [] all there = absurd cc
+own_found P s partition (placed ∷ plan) all there =
+    by_test (own_found P s partition plan all.1) (placed.0.number == partition) refl
     (has_target s placed) refl there
   where
     Found : List Partition → Type 0
-    Found parts = IsSomeAnd (find (λ (part : Partition). part.number == partition) parts)
-        (λ part. IsTrue (is_in header part))
+    Found parts = IsSomeAnd (find (λ (part : Partition). part.number == partition) parts) P
 
     rest : List Partition
     rest = map part_of (filter (has_target s) plan)
@@ -137,11 +134,10 @@ own_found s partition header (placed ∷ plan) all there =
     by_test found false is false e there = found there
 
 -- a partition of this number is the one at its place
-one_of_number : (plan : List Placed) (partition : ℕ) (placed : Placed) (header : Header)
+one_of_number : (P : Partition → Type 0) (plan : List Placed) (partition : ℕ) (placed : Placed)
     → ArePartsNumbered (map part_of plan) → slice_get plan partition ≡ Some placed
-    → IsTrue (is_in header (part_of placed))
-    → All (λ each. each.0.number ≡ partition → IsTrue (is_in header (part_of each))) plan
-one_of_number plan partition placed header numbers there holds k d within is =
+    → P (part_of placed) → All (λ each. each.0.number ≡ partition → P (part_of each)) plan
+one_of_number P plan partition placed numbers there holds k d within is =
     let each : Placed = get_or plan k d in
     let fits : k < length (map part_of plan) = omega (arith, within, length-map plan part_of) in
     let number : each.0.number ≡ k =
@@ -151,7 +147,21 @@ one_of_number plan partition placed header numbers there holds k d within is =
     ap (slice_get plan) (sym is ∙ number) ∙ slice_get-get_or plan k d within in
     let both : Some placed ≡ Some each = sym there ∙ at in
     let same : placed ≡ each = cc in
-    subst (λ one. IsTrue (is_in header (part_of one))) same holds
+    subst (λ one. P (part_of one)) same holds
+
+-- so what holds of a partition of a plan holds of the own one, by its number, of a target
+pub own_has : (P : Partition → Type 0) (plan : List Placed) (s version partition : ℕ)
+    (placed : Placed) → ArePartsNumbered (map part_of plan)
+    → slice_get plan partition ≡ Some placed → placed.0.number ≡ partition
+    → IsTrue (has_target s placed) → P (part_of placed)
+    → IsSomeAnd (own_part (tables_of plan version s) partition) P
+own_has P plan s version partition placed numbers there number target holds =
+    let own : (placed.0.number == partition) ≡ true = eq-eqb placed.0.number partition number in
+    own_found P s partition plan
+    (recursion_from_All (λ each. each.0.number ≡ partition → P (part_of each)) plan
+    (one_of_number P plan partition placed numbers there holds))
+    (any_at (λ each. (each.0.number == partition) && has_target s each) plan partition placed
+    there (rw own target))
 
 at_authority : (setting : Setting) (journal : List Item) (s : ℕ) (header : Header)
     (version partition : ℕ) → TablesAreKnown setting journal
@@ -167,15 +177,8 @@ at_authority setting journal s header version partition known sought =
         → IsSomeAnd (own_part (tables_of plan version s) partition)
         (λ part. IsTrue (is_in header part))
     own rows holds =
-        let numbered : (sought.placed.0.number == partition) ≡ true =
-        eq-eqb sought.placed.0.number partition sought.number in
-        own_found s partition header plan
-        (recursion_from_All
-        (λ each. each.0.number ≡ partition → IsTrue (is_in header (part_of each))) plan
-        (one_of_number plan partition sought.placed header holds.sound.numbers sought.found
-        sought.holds))
-        (any_at (λ placed. (placed.0.number == partition) && has_target s placed) plan partition
-        sought.placed sought.found (rw numbered sought.target))
+        own_has (λ part. IsTrue (is_in header part)) plan s version partition sought.placed
+        holds.sound.numbers sought.found sought.number sought.target sought.holds
 
     by_held : (o : Option Tables) → held_tables (switch_of setting journal s) version ≡ o
         → IfSome o (λ tables. IsSomeAnd (own_part tables partition)
