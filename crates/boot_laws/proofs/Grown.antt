@@ -18,8 +18,8 @@ use Rattle.update_machine.specs.Links.{serves, tells_serving, message_of, tells_
 use Rattle.update_machine.proofs.CallerLemmas.{all_given_append, count_of_append, folded_append, last_told_append}
 
 -- the last item tells, or else those before it
-last_more : {X : Type 0} (tells : Item → Option X) (before : List Item) (item : Item) (other : X)
-    → unwrap_or (last_told tells (before ++ item ∷ [])) other
+pub last_more : {X : Type 0} (tells : Item → Option X) (before : List Item) (item : Item)
+    (other : X) → unwrap_or (last_told tells (before ++ item ∷ [])) other
     ≡ unwrap_or (tells item) (unwrap_or (last_told tells before) other)
 last_more {X = X} tells before item other =
     ap (λ o. unwrap_or o other) (last_told_append tells before (item ∷ []))
@@ -55,20 +55,25 @@ pub retired_more : (before : List Item) (item : Item)
 unfolding retired_mark
 retired_more before item = last_more tells_retired before item 0
 
+-- a count from one, with one more item
+pub counted_more : (test : Item → Bool) (before : List Item) (item : Item)
+    → count_of test (before ++ item ∷ []) + 1
+    ≡ (if test item then count_of test before + 1 + 1 else count_of test before + 1)
+counted_more test before item = by_test (test item) refl
+  where
+    by_test : (b : Bool) → test item ≡ b → count_of test (before ++ item ∷ []) + 1
+        ≡ (if b then count_of test before + 1 + 1 else count_of test before + 1)
+    by_test true e =
+        let one : count_of test (item ∷ []) ≡ 1 = rw e refl in
+        omega (arith, one, count_of_append test before (item ∷ []))
+    by_test false e =
+        let none : count_of test (item ∷ []) ≡ 0 = rw e refl in
+        omega (arith, none, count_of_append test before (item ∷ []))
+
 pub count_more : (before : List Item) (item : Item) → version_count (before ++ item ∷ [])
     ≡ (if is_submission item then version_count before + 1 else version_count before)
 unfolding version_count
-count_more before item = by_test (is_submission item) refl
-  where
-    by_test : (b : Bool) → is_submission item ≡ b
-        → count_of is_submission (before ++ item ∷ []) + 1
-        ≡ (if b then count_of is_submission before + 1 + 1 else count_of is_submission before + 1)
-    by_test true e =
-        let one : count_of is_submission (item ∷ []) ≡ 1 = rw e refl in
-        omega (arith, one, count_of_append is_submission before (item ∷ []))
-    by_test false e =
-        let none : count_of is_submission (item ∷ []) ≡ 0 = rw e refl in
-        omega (arith, none, count_of_append is_submission before (item ∷ []))
+count_more before item = counted_more is_submission before item
 
 pub message_more : (before : List Item) (item : Item) (n : ℕ)
     → message_of (before ++ item ∷ []) n ≡ option_or (tells_message n item) (message_of before n)

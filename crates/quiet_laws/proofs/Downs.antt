@@ -14,18 +14,18 @@ use Rattle.journal.specs.declared.item.Item.TheVariants as item
 use Rattle.update_machine.specs.Boots.{boot_of, heard, is_up, said_to}
 use Rattle.update_machine.specs.Causes.{HaveCauses}
 use Rattle.update_machine.specs.Deliveries.{to_controller}
-use Rattle.update_machine.specs.Folds.{all_given, last_told}
+use Rattle.update_machine.specs.Folds.{all_given}
 use Rattle.update_machine.specs.Marks.{controller_heard, first_number, has_acked, installed_in, is_over, known_boot, open_sent, opened_at, raises_known, said_to_controller}
 use Rattle.update_machine.specs.Quiet.{Sending, is_waited_for, sendings, tells_waited_for}
 use Rattle.update_machine.specs.Setting.{Setting}
 use Rattle.update_machine.specs.Settling.{to_switch}
 use Rattle.update_machine.specs.Versions.{installs}
 use Rattle.update_machine.specs.Links.{serves, message_of}
-use Rattle.update_machine.proofs.CallerLemmas.{last_told_append, start_laws}
+use Rattle.update_machine.proofs.CallerLemmas.{start_laws}
 use Rattle.boot_laws.specs.ItemCauses.{HasItemCause, IsRightInstalled, IsRightOpening}
 use Rattle.boot_laws.proofs.Boots.{by_number, known_rises, said_sent}
 use Rattle.boot_laws.proofs.Facts.{AreKept, fact_on}
-use Rattle.boot_laws.proofs.Grown.{boot_more, heard_more, known_more, opened_at_more, opened_in, opened_more, opens_by, over_more, serving_more, told_more, up_more}
+use Rattle.boot_laws.proofs.Grown.{boot_more, heard_more, known_more, last_more, opened_at_more, opened_in, opened_more, opens_by, over_more, serving_more, told_more, up_more}
 use Rattle.boot_laws.proofs.Serving.{IsKnown, known_at_first, known_kept}
 use Rattle.boot_laws.proofs.SwitchBlocks.{said_parts}
 use Rattle.mark_laws.proofs.Acks.{installed_is}
@@ -319,14 +319,7 @@ first_on setting before next cause are s up first =
 
 pub waited_more : (before : List Item) (next : Item) (s : ℕ) → is_waited_for (before ++ next ∷ []) s
     ≡ unwrap_or (tells_waited_for s next) (is_waited_for before s)
-waited_more before next s =
-    ap (λ o. unwrap_or o false) (last_told_append (tells_waited_for s) before (next ∷ []))
-    ∙ by_told (tells_waited_for s next) (last_told (tells_waited_for s) before)
-  where
-    by_told : (now earlier : Option Bool)
-        → unwrap_or (option_or now earlier) false ≡ unwrap_or now (unwrap_or earlier false)
-    by_told None earlier = refl
-    by_told (Some x) earlier = refl
+waited_more before next s = last_more (tells_waited_for s) before next false
 
 idle_was : (before : List Item) (next : Item) (s : ℕ) → IsFalse (is_delivered next)
     → IsIdle (before ++ next ∷ []) s → IsIdle before s

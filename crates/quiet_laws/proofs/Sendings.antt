@@ -1,6 +1,6 @@
 -- What became of each message that was sent: it has the number under which it was sent, and if it
 -- was delivered to a switch in the boot in which it was sent, or to the controller, it was heard.
-use Rattle.std.proofs.Common.{ℕ, ◌≡◌, ◌+◌, ◌≤◌, ◌<◌, ◌==◌, ◌&&◌, ◌||◌, Bool, true, false, if◌then◌else◌, Option, Some, None, List, [], ◌∷◌, ◌++◌, refl, ap, sym, subst, ◌∙◌, append-nil, append_assoc, arith, inl, inr}
+use Rattle.std.proofs.Common.{ℕ, ◌≡◌, ◌+◌, ◌≤◌, ◌<◌, ◌⊎◌, ◌==◌, ◌&&◌, ◌||◌, Bool, true, false, if◌then◌else◌, Option, Some, None, List, [], ◌∷◌, ◌++◌, refl, ap, sym, subst, ◌∙◌, append-nil, append_assoc, arith, inl, inr}
 use Rattle.std.specs.Prelude.{⊤, IfSome, IsTrue, IsFalse, nat_lt, not, is_some}
 use Rattle.std.specs.List.{AllByRecursion}
 use Rattle.std.specs.Option.{option_map_or}
@@ -29,7 +29,7 @@ use Rattle.update_machine.proofs.CallerLemmas.{PiecesHave, count_of_append, fold
 use Rattle.boot_laws.specs.ItemCauses.{HasItemCause}
 use Rattle.boot_laws.proofs.Boots.{boot_rises}
 use Rattle.boot_laws.proofs.Facts.{AreKept, Both, fact_on, have_both}
-use Rattle.boot_laws.proofs.Grown.{boot_more, heard_more, message_more, told_more}
+use Rattle.boot_laws.proofs.Grown.{boot_more, counted_more, heard_more, message_more, told_more}
 use Rattle.boot_laws.proofs.Pieces as boots
 use Rattle.boot_laws.proofs.Sends.{each_append}
 use Rattle.boot_laws.proofs.Serving.{IsKnown, known_at_first, known_kept}
@@ -115,16 +115,7 @@ sends_all journal messages message is =
 next_more : (before : List Item) (next : Item) → next_message (before ++ next ∷ [])
     ≡ (if is_sending next then next_message before + 1 else next_message before)
 unfolding next_message
-next_more before next = by_test (is_sending next) refl
-  where
-    by_test : (b : Bool) → is_sending next ≡ b → count_of is_sending (before ++ next ∷ []) + 1
-        ≡ (if b then count_of is_sending before + 1 + 1 else count_of is_sending before + 1)
-    by_test true e =
-        let one : count_of is_sending (next ∷ []) ≡ 1 = rw e refl in
-        omega (arith, one, count_of_append is_sending before (next ∷ []))
-    by_test false e =
-        let none : count_of is_sending (next ∷ []) ≡ 0 = rw e refl in
-        omega (arith, none, count_of_append is_sending before (next ∷ []))
+next_more before next = counted_more is_sending before next
 
 next_first : (journal : List Item) → 1 ≤ next_message journal
 unfolding next_message
@@ -286,6 +277,18 @@ delivery_told before number body sent =
     rw (told_more before (item.Delivered number), said)
     (in_right body (controller_heard before) (body ∷ []) (inl refl))
 
+-- what was delivered behind a delivery is that, or was so before
+delivered_either : (before : List Item) (number n : ℕ)
+    → IsTrue (was_delivered (before ++ item.Delivered number ∷ []) n)
+    → (number ≡ n) ⊎ IsTrue (was_delivered before n)
+delivered_either before number n delivered =
+    by_test (number == n) refl (rw (delivered_more before (item.Delivered number) n) at delivered)
+  where
+    by_test : (b : Bool) → (number == n) ≡ b → IsTrue (b || was_delivered before n)
+        → (number ≡ n) ⊎ IsTrue (was_delivered before n)
+    by_test true e was = inl (eqb-true number n e)
+    by_test false e was = inr was
+
 switch_heard : (before : List Item) (next : Item) (s : ℕ) (x : Sending) (to : Message)
     → to ≡ to_switch s x.message.body → message_of before x.number ≡ Some to
     → GoesOn before next s x.boot → SwitchCourse before s x
@@ -293,21 +296,13 @@ switch_heard : (before : List Item) (next : Item) (s : ℕ) (x : Sending) (to : 
     → IsTrue (was_delivered (before ++ next ∷ []) x.number)
     → IsIn x.message.body (heard (before ++ next ∷ []) s)
 switch_heard before (item.Delivered number) s x to is sent on course own delivered =
-    by_test (number == x.number) refl
-    (rw (delivered_more before (item.Delivered number) x.number) at delivered)
-  where
-    next : Item
-    next = item.Delivered number
-
-    by_test : (b : Bool) → (number == x.number) ≡ b
-        → IsTrue (b || was_delivered before x.number)
-        → IsIn x.message.body (heard (before ++ next ∷ []) s)
-    by_test true e was =
-        delivery_heard before s number x.message.body
-        (ap (message_of before) (eqb-true number x.number e) ∙ sent ∙ ap Some is) on.up
-        (subst (λ b. IsTrue (is_for_boot b x.message.body)) on.own own)
-    by_test false e was =
-        heard_grows before next s x.message.body refl (course.heard on.up on.own own was)
+    elim (delivered_either before number x.number delivered) [
+      | inl same ↦ delivery_heard before s number x.message.body
+          (ap (message_of before) same ∙ sent ∙ ap Some is) on.up
+          (subst (λ b. IsTrue (is_for_boot b x.message.body)) on.own own)
+      | inr was ↦ heard_grows before (item.Delivered number) s x.message.body refl
+          (course.heard on.up on.own own was)
+    ]
 switch_heard before next s x to is sent on course own delivered =
     heard_grows before next s x.message.body on.same
     (course.heard on.up on.own own (rw (delivered_more before next x.number) at delivered))
@@ -328,19 +323,11 @@ told_on : (before : List Item) (next : Item) (x : Sending)
     → message_of before x.number ≡ Some (to_controller x.message.body)
     → Course before receiver.Controller x → Course (before ++ next ∷ []) receiver.Controller x
 told_on before (item.Delivered number) x sent course delivered =
-    by_test (number == x.number) refl
-    (rw (delivered_more before (item.Delivered number) x.number) at delivered)
-  where
-    next : Item
-    next = item.Delivered number
-
-    by_test : (b : Bool) → (number == x.number) ≡ b
-        → IsTrue (b || was_delivered before x.number)
-        → IsIn x.message.body (controller_heard (before ++ next ∷ []))
-    by_test true e was = delivery_told before number x.message.body
-        (ap (message_of before) (eqb-true number x.number e) ∙ sent)
-    by_test false e was =
-        rw (told_more before next) (in_left x.message.body (controller_heard before) _ (course was))
+    elim (delivered_either before number x.number delivered) [
+      | inl same ↦ delivery_told before number x.message.body (ap (message_of before) same ∙ sent)
+      | inr was ↦ rw (told_more before (item.Delivered number))
+          (in_left x.message.body (controller_heard before) _ (course was))
+    ]
 told_on before next x sent course delivered =
     rw (told_more before next) (course (rw (delivered_more before next x.number) at delivered))
 
