@@ -8,23 +8,20 @@ use Rattle.words.proofs.CommandLines.{finds_line, line_walked, takes_line}
 use Rattle.words.proofs.Parses.{flag_there, line_is, names_there}
 use Rattle.words.proofs.read.read_line.Goals as goal
 
-pub line_in-requires-clause-names : goal.line_in-requires-clause-names
-line_in-requires-clause-names c =
+pub line_in-requires : goal.line_in-requires
+line_in-requires c =
     let k = c.args.kind in
     let all = map string_bytes c.args.words.now in
     let walked = line_walked k _ c.requires in
     let found =
     finds_line k _ all c.in_ok-command.ensures walked _ c.in-Ok.ensures.matches in
-    names_there (options_of k) (found_of c.in-Ok.matches) walked.line found
-
-pub line_in-requires-clause-quiet : goal.line_in-requires-clause-quiet
-line_in-requires-clause-quiet c =
-    let k = c.args.kind in
-    let all = map string_bytes c.args.words.now in
-    let walked = line_walked k _ c.requires in
-    let found =
-    finds_line k _ all c.in_ok-command.ensures walked _ c.in-Ok.ensures.matches in
-    (walked.line.quiet, flag_there (options_of k) (found_of c.in-Ok.matches) walked.line found)
+    record {
+      names = names_there (options_of k) (found_of c.in-Ok.matches) walked.line found;
+      quiet = (
+        walked.line.quiet,
+        flag_there (options_of k) (found_of c.in-Ok.matches) walked.line found,
+      );
+    }
 
 pub unreachable-requires : goal.unreachable-requires
 unreachable-requires c =
