@@ -89,6 +89,16 @@ first_part before now text lines takes_memory why after = record {
   no_memory = after.no_memory;
 }
 
+-- a piece that was cut short, behind what was written and before the rest
+pub piece_cut : (before middle now : SinkState) (front piece rest whole : List ℕ)
+    (takes_memory : Bool) (why : SinkError) → middle.bytes ≡ gained before.bytes front
+    → middle.faults ≡ before.faults → IsAfterWrite piece takes_memory middle now (Err why)
+    → front ++ (piece ++ rest) ≡ whole → IsAfterWrite whole takes_memory before now (Err why)
+piece_cut before middle now front piece rest whole takes_memory why written same after is =
+    subst (λ (bytes : List ℕ). IsAfterWrite bytes takes_memory before now (Err why)) is
+    (both_written before middle now front (piece ++ rest) takes_memory (Err why) written same
+    (first_part middle now piece rest takes_memory why after))
+
 -- a play that didn't stop full has both
 pub text_whole : (net : Net) (journal : List Item) (full : Option ℕ) (meters : List Seen)
     (answer : Option Bool) → full ≡ None

@@ -1,11 +1,11 @@
-use Rattle.std.proofs.Common.{◌≡◌, ◌∙◌, ap, arith, drop, get_or, subst, suc, sym, take}
+use Rattle.std.proofs.Common.{◌≡◌, ◌∙◌, ap, arith, drop, get_or, suc, sym, take}
 use Rattle.std.proofs.lemmas.List.{take_all}
 use Rattle.std.specs.List.{flat_map}
-use Rattle.shelf.specs.Sink.{gained, GainedPart}
+use Rattle.shelf.specs.Sink.{gained}
 use Rattle.shelf.specs.SinkWrites.{gained-gained}
 use Rattle.difane_cli.specs.Texts.{meter_line}
-use Rattle.difane_cli.proofs.Gains.{GainedPart-behind, flat_map-one, flat_map-there, middle_none}
-use Rattle.difane_cli.proofs.MeterLines.{lines_of}
+use Rattle.difane_cli.proofs.Gains.{flat_map-one, flat_map-there, middle_none}
+use Rattle.difane_cli.proofs.MeterLines.{lines_of, piece_cut}
 use Rattle.difane_cli.proofs.meter_lines.write_meters.Goals as goal
 
 pub loop-meter-preserved : goal.loop-meter-preserved
@@ -49,24 +49,13 @@ returns-in-Err-clause-after g c =
     let meters = c.args.meters.now in
     let i = c.loop-meter.meter-index in
     let item = c.meter-item.result in
-    let own : get_or meters i item ≡ item = sym c.meter-item.is in
     let line = λ (meter : g.row.M.Denot). meter_line (g.M.Meter.seen meter) in
-    let before = (g.K.Sink.state c.args.out.now).bytes in
-    let now = (g.K.Sink.state c.write_meter.new.out).bytes in
-    let after = c.in-Err.ensures.after in
-    let behind = GainedPart-behind before (g.K.Sink.state c.loop-meter.out).bytes now
-    (flat_map line (take i meters)) _ (flat_map line (drop (suc i) meters))
-    c.loop-meter.invariant.written after.part in
-    record {
-      whole = tt;
-      part = subst (λ bytes. GainedPart before bytes now)
-          (flat_map-there line meters i item c.loop-meter-test.true own ∙ lines_of g.M.Meter.seen meters)
-          behind;
-      faults = omega (arith, c.loop-meter.invariant.faults, after.faults);
-      calm = λ not. after.calm not ∙ c.loop-meter.invariant.faults;
-      failed = λ is. omega (arith, c.loop-meter.invariant.faults, after.failed is);
-      no_memory = after.no_memory;
-    }
+    piece_cut (g.K.Sink.state c.args.out.now) (g.K.Sink.state c.loop-meter.out)
+    (g.K.Sink.state c.write_meter.new.out) (flat_map line (take i meters)) _
+    (flat_map line (drop (suc i) meters)) _ g.K.Sink.takes_memory _
+    c.loop-meter.invariant.written c.loop-meter.invariant.faults c.in-Err.ensures.after
+    (flat_map-there line meters i item c.loop-meter-test.true (sym c.meter-item.is)
+    ∙ lines_of g.M.Meter.seen meters)
 
 pub returns-in-Err-clause-no_lines : goal.returns-in-Err-clause-no_lines
 returns-in-Err-clause-no_lines g c = λ none.
