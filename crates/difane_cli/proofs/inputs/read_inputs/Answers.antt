@@ -1,11 +1,17 @@
 use Rattle.world.specs.State.{setting_at}
-use Rattle.std.proofs.Common.{◌∙◌, ap, length, refl, sym}
+use Rattle.std.specs.Borrow.{Bor}
+use Rattle.std.proofs.Common.{◌≡◌, ◌∙◌, ℕ, List, ap, length, refl, sym}
 use Rattle.std.proofs.lemmas.List.{length-map}
-use Rattle.words.specs.Named.{replay_named}
+use Rattle.words.specs.Named.{names_seen, replay_named}
 use Rattle.difane_cli.specs.Inputs.{net_reads}
 use Rattle.difane_cli.proofs.Begun.{all_are_events, asked_for, inputs_are}
 use Rattle.difane_cli.proofs.ShelfReads.{all_reads, reads_then, schedule_read}
 use Rattle.difane_cli.proofs.inputs.read_inputs.Goals as goal
+
+-- there are as many names as the command has
+as_many : (names owned : List (Bor (List ℕ))) → names ≡ owned
+    → length names ≡ length (names_seen owned)
+as_many names owned same = ap length same ∙ sym (length-map owned (λ name. name.now))
 
 pub returns-in_err-events-clause-shelf : goal.returns-in_err-events-clause-shelf
 returns-in_err-events-clause-shelf g c =
@@ -17,21 +23,21 @@ returns-in_err-events-clause-shelf g c =
 pub returns-in_err-policies-clause-shelf : goal.returns-in_err-policies-clause-shelf
 returns-in_err-policies-clause-shelf g c =
     all_reads (replay_named c.args.words.now) c.in_ok-net.net c.in_ok-events.events.items _ _ _ _ _ _
-    (ap length c.deref-names.ensures.value ∙ sym (length-map c.args.words.now.policies.items (λ n. n.now))) c.port_mask.ensures
+    (as_many _ _ c.deref-names.ensures.value) c.port_mask.ensures
     c.in_ok-net.ensures.value c.in_ok-events.ensures.value c.in_ok-net.ensures.shelf
     c.in_ok-events.ensures.shelf (rw c.deref-names.ensures.value at c.in_err-policies.ensures.shelf)
 
 pub returns-in_err-world-clause-shelf : goal.returns-in_err-world-clause-shelf
 returns-in_err-world-clause-shelf g c =
     all_reads (replay_named c.args.words.now) c.in_ok-net.net c.in_ok-events.events.items _ _ _ _ _ _
-    (ap length c.deref-names.ensures.value ∙ sym (length-map c.args.words.now.policies.items (λ n. n.now))) c.port_mask.ensures
+    (as_many _ _ c.deref-names.ensures.value) c.port_mask.ensures
     c.in_ok-net.ensures.value c.in_ok-events.ensures.value c.in_ok-net.ensures.shelf
     c.in_ok-events.ensures.shelf (rw c.deref-names.ensures.value at c.in_ok-policies.ensures.shelf)
 
 pub returns-clause-shelf : goal.returns-clause-shelf
 returns-clause-shelf g c =
     all_reads (replay_named c.args.words.now) c.in_ok-net.net c.in_ok-events.events.items _ _ _ _ _ _
-    (ap length c.deref-names.ensures.value ∙ sym (length-map c.args.words.now.policies.items (λ n. n.now))) c.port_mask.ensures
+    (as_many _ _ c.deref-names.ensures.value) c.port_mask.ensures
     c.in_ok-net.ensures.value c.in_ok-events.ensures.value c.in_ok-net.ensures.shelf
     c.in_ok-events.ensures.shelf (rw c.deref-names.ensures.value at c.in_ok-policies.ensures.shelf)
 
@@ -41,7 +47,7 @@ returns-clause-value g c =
     inputs_are _ _ _ (replay_named c.args.words.now) c.in_ok-net.net c.in_ok-policies.policies.items
     c.in_ok-events.events.items (setting_at c.in_ok-world.world) _ _ net_files
     (c.in_ok-events.ensures.shelf.same_files ∙ net_files)
-    (ap length c.deref-names.ensures.value ∙ sym (length-map c.args.words.now.policies.items (λ n. n.now))) c.port_mask.ensures
+    (as_many _ _ c.deref-names.ensures.value) c.port_mask.ensures
     c.in_ok-net.ensures.value c.in_ok-events.ensures.value
     (rw c.deref-names.ensures.value at c.in_ok-policies.ensures.value)
     (rw c.deref-names.ensures.value at c.in_ok-world.ensures.planned) c.in_ok-world.ensures.begun.own
@@ -65,5 +71,4 @@ returns-clause-asked g c =
     asked_for (replay_named c.args.words.now) c.in_ok-net.net c.in_ok-policies.policies.items
     c.in_ok-events.events.items (setting_at c.in_ok-world.world) c.in_ok-net.ensures.named
     c.in_ok-world.ensures.begun.own
-    (c.in_ok-policies.ensures.many ∙ ap length c.deref-names.ensures.value
-    ∙ sym (length-map c.args.words.now.policies.items (λ n. n.now)))
+    (c.in_ok-policies.ensures.many ∙ as_many _ _ c.deref-names.ensures.value)
