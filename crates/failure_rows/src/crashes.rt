@@ -1,7 +1,7 @@
 //! Worked runs of `replay` in which switches crash, restart and are confirmed to be gone.
-use crate::plays::{ON_NET, Play, plays};
 use std::test::Fail;
 use worked_rows::files::{ONE_ROW, PAIR};
+use worked_rows::plays::{ON_NET, Play, first_wrong};
 
 /// Where the switch that decides is down, a packet finds no authority.
 const NO_TARGET: &str = "event,arguments\ncrash,b\npacket,a,1.2.3.4,10.2.0.1,5000,80,tcp\n";
@@ -143,9 +143,6 @@ const PLAYS: [Play<'static>; 4] = [
 
 #[test]
 fn replays_crashes(rt: HostRuntime) -> Result<(), Fail> {
-    for play in &PLAYS {
-        let as_told = plays(rt.alloc(), play)?;
-        assert!(rt; as_told, "{}", play.4);
-    }
+    assert_eq!(rt; first_wrong(rt.alloc(), &PLAYS)?, None);
     Ok(())
 }

@@ -11,6 +11,4 @@ mod links;
 #[cfg(test)]
 mod messages;
 #[cfg(test)]
-mod plays;
-#[cfg(test)]
 mod quiet;

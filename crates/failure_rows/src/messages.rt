@@ -1,7 +1,7 @@
 //! Worked runs of `replay` in which rows have nothing to do, and messages are sent again.
-use crate::plays::{ON_NET, Play, SOLO, plays};
 use std::test::Fail;
 use worked_rows::files::{DROP, ONE_ROW, PAIR};
+use worked_rows::plays::{ON_NET, Play, SOLO, first_wrong};
 
 /// Rows that find nothing to do.
 const NOTHING: &str =
@@ -44,9 +44,6 @@ const PLAYS: [Play<'static>; 2] = [
 
 #[test]
 fn replays_messages(rt: HostRuntime) -> Result<(), Fail> {
-    for play in &PLAYS {
-        let as_told = plays(rt.alloc(), play)?;
-        assert!(rt; as_told, "{}", play.4);
-    }
+    assert_eq!(rt; first_wrong(rt.alloc(), &PLAYS)?, None);
     Ok(())
 }

@@ -1,9 +1,8 @@
 //! Worked runs of `replay --quiet`: what it says of a network, and where the flag may stand.
-use crate::plays::{Play, plays};
-use std::alloc::{AllocError, Global};
 use std::test::Fail;
 use worked_rows::files::{ONE_ROW, PAIR};
-use worked_rows::runs::{ended, ran, shelf_of, sink};
+use worked_rows::plays::{Play, first_wrong};
+use worked_rows::runs::{ended, run_over};
 
 const SOLO: [&str; 4] = ["replay", "--quiet", "s.csv", "p.csv"];
 
@@ -75,19 +74,8 @@ const PLAYS: [Play<'static>; 4] = [
 
 #[test]
 fn tells_whether_it_is_quiet(rt: HostRuntime) -> Result<(), Fail> {
-    for play in &PLAYS {
-        let as_told = plays(rt.alloc(), play)?;
-        assert!(rt; as_told, "{}", play.4);
-    }
+    assert_eq!(rt; first_wrong(rt.alloc(), &PLAYS)?, None);
     Ok(())
-}
-
-/// Whether a run with these words, over the network of two switches, says that it isn't quiet.
-fn says_no(alloc: Global, words: &[&str]) -> Result<bool, AllocError> {
-    let files = [("s.csv", CRASH), ("p.csv", ONE_ROW), ("n.toml", PAIR)];
-    let shelf = shelf_of(alloc, &files)?;
-    let ran = ran(alloc, words, shelf, sink(alloc), sink(alloc))?;
-    Ok(ended(&ran, 0, CRASH_OUTPUT, ""))
 }
 
 /// The flag may stand in front of the names or behind them, before the network's option or after.
@@ -101,8 +89,8 @@ const PLACES: [&[&str]; 4] = [
 #[test]
 fn takes_the_flag_in_either_place(rt: HostRuntime) -> Result<(), Fail> {
     for words in &PLACES {
-        let told = says_no(rt.alloc(), words)?;
-        assert!(rt; told);
+        let play = (*words, CRASH, ONE_ROW, PAIR, CRASH_OUTPUT);
+        assert_eq!(rt; first_wrong(rt.alloc(), &[play])?, None);
     }
     Ok(())
 }
@@ -120,8 +108,7 @@ const OFF_THE_GRAMMAR: [&[&str]; 5] = [
 fn refuses_the_flag_elsewhere(rt: HostRuntime) -> Result<(), Fail> {
     let alloc = rt.alloc();
     for words in &OFF_THE_GRAMMAR {
-        let shelf = shelf_of(alloc, &[])?;
-        let ran = ran(alloc, words, shelf, sink(alloc), sink(alloc))?;
+        let ran = run_over(alloc, words, &[])?;
         assert!(rt; ended(&ran, 2, "", "difane: words\n"));
     }
     Ok(())

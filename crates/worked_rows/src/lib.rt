@@ -1,5 +1,5 @@
 //! Worked runs of the program, over files and outputs in memory. This crate has tests alone, and
-//! what other tests of runs need: [`runs`], [`files`] and [`campus`].
+//! what other tests of runs need: [`runs`], [`plays`], [`files`] and [`campus`].
 #![tactic(auto)]
 
 pub mod campus;
@@ -14,6 +14,7 @@ mod meter_runs;
 mod networks;
 #[cfg(test)]
 mod plans;
+pub mod plays;
 #[cfg(test)]
 mod policies;
 #[cfg(test)]

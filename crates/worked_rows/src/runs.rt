@@ -1,5 +1,6 @@
 //! Runs of the program over files and outputs in memory.
 use difane_cli::{Meter, Recorder, run};
+use journal::Journal;
 use shelf::{MemShelf, MemSink};
 use std::alloc::{AllocError, Global};
 
@@ -15,18 +16,61 @@ pub fn owned(alloc: Global, words: &[&str]) -> Result<Vec<String>, AllocError> {
     Ok(all)
 }
 
-/// A run with these words over this shelf and these sinks, and without meters.
-pub fn ran(
+/// A run, the journal of what it played, and how many of its meters are still there.
+pub type Metered = (Ran, Journal, usize);
+
+/// A run with these words over this shelf and these sinks, with these meters.
+pub fn metered(
     alloc: Global,
     words: &[&str],
     mut shelf: MemShelf,
     mut out: MemSink,
     mut errs: MemSink,
-) -> Result<Ran, AllocError> {
+    meters: Vec<Box<dyn Meter>>,
+) -> Result<Metered, AllocError> {
     let words = owned(alloc, words)?;
-    let meters: Vec<Box<dyn Meter>> = Vec::new(alloc);
     let finished = run(alloc, &words, &mut shelf, &mut out, &mut errs, meters);
-    Ok((finished.status.number(), out, errs))
+    let still = finished.meters.len();
+    let ran = (finished.status.number(), out, errs);
+    Ok((ran, finished.journal, still))
+}
+
+/// The same without meters.
+pub fn ran(
+    alloc: Global,
+    words: &[&str],
+    shelf: MemShelf,
+    out: MemSink,
+    errs: MemSink,
+) -> Result<Ran, AllocError> {
+    let (ran, _, _) = metered(alloc, words, shelf, out, errs, Vec::new(alloc))?;
+    Ok(ran)
+}
+
+/// A run with these words over these files, without meters.
+pub fn run_over(alloc: Global, words: &[&str], files: &[(&str, &str)]) -> Result<Ran, AllocError> {
+    ran(
+        alloc,
+        words,
+        shelf_of(alloc, files)?,
+        sink(alloc),
+        sink(alloc),
+    )
+}
+
+/// The same over this schedule, in `s.csv`, and these files.
+pub fn played(
+    alloc: Global,
+    words: &[&str],
+    schedule: &str,
+    files: &[(&str, &str)],
+) -> Result<Ran, AllocError> {
+    let mut all = Vec::new(alloc);
+    all.push(("s.csv", schedule))?;
+    for file in files {
+        all.push(*file)?;
+    }
+    run_over(alloc, words, &all)
 }
 
 /// A run with these words over these files, with a recorder for each port as the program has them.
@@ -43,18 +87,16 @@ pub type Recorded = (Ran, usize);
 pub fn recorded_over(
     alloc: Global,
     words: &[&str],
-    mut shelf: MemShelf,
-    mut out: MemSink,
-    mut errs: MemSink,
+    shelf: MemShelf,
+    out: MemSink,
+    errs: MemSink,
 ) -> Result<Recorded, AllocError> {
-    let words = owned(alloc, words)?;
     let mut meters: Vec<Box<dyn Meter>> = Vec::new(alloc);
     for port in 0..64 {
         meters.push(Box::new(alloc, Recorder::new(alloc, port))?)?;
     }
-    let finished = run(alloc, &words, &mut shelf, &mut out, &mut errs, meters);
-    let items = finished.journal.items().len();
-    Ok(((finished.status.number(), out, errs), items))
+    let (ran, journal, _) = metered(alloc, words, shelf, out, errs, meters)?;
+    Ok((ran, journal.items().len()))
 }
 
 /// A shelf of files with these names and texts; where a number isn't 0, the read of that number
