@@ -1,6 +1,6 @@
 -- Travelling packets stand at switches that serve, behind each item but those of a crash; and what
 -- else each item keeps of packets' numbers and legs.
-use Rattle.std.proofs.Common.{ℕ, ◌≡◌, ◌+◌, ◌<◌, ◌≤◌, ◌==◌, Bool, true, false, Option, Some, None, List, [], ◌∷◌, ◌++◌, refl, ap, sym, subst, ◌∙◌, arith, inl, inr, ◌⊎◌}
+use Rattle.std.proofs.Common.{ℕ, ◌≡◌, ◌+◌, ◌<◌, ◌≤◌, ◌==◌, Bool, true, false, Some, None, List, [], ◌∷◌, ◌++◌, refl, ap, sym, subst, ◌∙◌, arith, inl, inr, ◌⊎◌}
 use Rattle.std.specs.Prelude.{⊤, IsTrue, IsFalse, unwrap_or}
 use Rattle.std.specs.Option.{option_or}
 use Rattle.std.proofs.lemmas.Bool.{eqb-true}
@@ -11,7 +11,7 @@ use Rattle.policy_rules.specs.declared.packet.Leg.TheVariants.{Seek, Exit}
 use Rattle.journal.specs.declared.item.Item.{Item}
 use Rattle.journal.specs.declared.item.Item.TheVariants as item
 use Rattle.update_machine.specs.Boots.{is_up}
-use Rattle.update_machine.specs.Folds.{count_of, last_told}
+use Rattle.update_machine.specs.Folds.{count_of}
 use Rattle.update_machine.specs.Links.{serves, tells_serving}
 use Rattle.update_machine.specs.Packets.{is_packet, next_packet, standing, tells_standing}
 use Rattle.update_machine.specs.Setting.{Setting}
@@ -20,7 +20,7 @@ use Rattle.update_machine.proofs.CallerLemmas.{count_of_append, folded_append, l
 use Rattle.boot_laws.specs.BootLaws.{ServingIsKnown}
 use Rattle.boot_laws.specs.ItemCauses.{HasItemCause}
 use Rattle.boot_laws.proofs.Facts.{AreKept}
-use Rattle.boot_laws.proofs.Grown.{serving_more}
+use Rattle.boot_laws.proofs.Grown.{last_more, serving_more}
 use Rattle.advert_laws.proofs.NetLinks.{ends_serve}
 use Rattle.way_laws.specs.Rest.{AreServed, IsServed}
 use Rattle.way_laws.specs.Stages.{OnWay, stage_of, tells_stage}
@@ -32,14 +32,7 @@ use Rattle.way_laws.proofs.Others.{ends_or_not}
 pub travels_more : (before : List Item) (next : Item) (i : ℕ)
     → travels (before ++ next ∷ []) i ≡ unwrap_or (tells_travelling i next) (travels before i)
 unfolding travels
-travels_more before next i =
-    ap (λ o. unwrap_or o false) (last_told_append (tells_travelling i) before (next ∷ []))
-    ∙ by_told (tells_travelling i next) (last_told (tells_travelling i) before)
-  where
-    by_told : (o earlier : Option Bool)
-        → unwrap_or (option_or o earlier) false ≡ unwrap_or o (unwrap_or earlier false)
-    by_told None earlier = refl
-    by_told (Some b) earlier = refl
+travels_more before next i = last_more (tells_travelling i) before next false
 
 pub place_more : (before : List Item) (next : Item) (i : ℕ)
     → standing (before ++ next ∷ []) i ≡ option_or (tells_standing i next) (standing before i)
