@@ -2,9 +2,11 @@
 """Counts what a sceptic must read, and checks docs/THEOREM.md: `bench/theorem.py [--write] [--list]`.
 
 A definition is reached if a clause of `run` names it, or a definition that is reached does. The first tier is what is reached without
-passing one of STOPS; the core of it is what CORE reaches so. The second tier is what else is reached. It ends with 1 where a file with
-a definition that is reached isn't named in the page's part on its tier, or a number of the page is another than is counted; with
-`--write` it writes the numbers. With `--list` it prints each file with its lines, how many of them are reached, and what isn't.
+passing one of STOPS; the core of it is what CORE reaches so. The second tier is what else is reached. The page names a file of specs/
+as `crate/File.antt`. It ends with 1 where the files that the page names in its part on a tier aren't exactly those that are reached, or
+its table of the types declared in src/ isn't exactly of those that the first tier speaks of, where a number of the page is another than
+is counted, or where this page or docs/TRUST.md says "`name` of `crate/File.antt`" and no such definition stands there. With `--write` it
+writes the numbers. With `--list` it prints each file with its lines, how many of them are reached, and what isn't.
 """
 import re
 import sys
@@ -12,6 +14,7 @@ from pathlib import Path
 
 HOME = Path(__file__).resolve().parent.parent
 PAGE = HOME / "docs/THEOREM.md"
+TRUST = HOME / "docs/TRUST.md"
 TOP = HOME / "crates/difane_cli/src/top_call.rt"
 # Where the second tier begins, each with what it is about; with its crate where it shares its name.
 STOPS = {
@@ -44,6 +47,8 @@ DEFINES = re.compile(r"(?:abbrev pub|unfoldable pub|pub record|pub data|pub) ([^
 WORD = re.compile(r"[A-Za-z_][\w-]*(?:\.[A-Za-z_][\w-]*)*")
 # names of fields, which are no definitions
 FIELD = re.compile(r"^  +pub [\w-]+ :|(?<=[{;] )[\w-]+ =|^ +[\w-]+ =(?= .*;$)", re.M)
+DECLARED = re.compile(r"declared\.([a-z_.]+)\.([A-Z]\w*)(?:\.The\w+)?")
+PLACES = re.compile(r"((?:`[\w-]+`(?:,\s+|,?\s+and\s+)?)+)\s+of\s+`([^`\s]*)\.antt`")
 USE = re.compile(r"^(?:pub |ghost )?use Rattle\.(\w+)\.specs\.([\w.]+?)(?:\.\{([^}]*)\}| as (\w+));?$", re.M)
 
 
@@ -54,6 +59,8 @@ class Module:
         self.path = path
         self.lines = path.read_text().splitlines()
         self.names, self.aliases = imports(path.read_text())
+        modules = [(name, given[:2]) for name, given in [*self.names.items(), *self.aliases.items()]]
+        self.types = {name: found for name, given in modules if (found := declared(*given))}
         self.definitions, self.variants = {}, {}
         comment, last = None, None
         for place, line in enumerate(self.lines):
@@ -77,6 +84,9 @@ class Module:
         first, last = self.definitions[name]
         return [line for line in self.lines[first:last] if not line.lstrip().startswith("--")]
 
+    def words(self, name):
+        return WORD.findall(FIELD.sub("", "\n".join(self.body(name))))
+
     def size(self, name):
         first, last = self.definitions[name]
         return sum(1 for line in self.lines[first:last] if line.strip())
@@ -91,6 +101,13 @@ def imports(text):
         if alias:
             aliases[alias] = (crate, module)
     return names, aliases
+
+
+def declared(crate, module):
+    """The file of src/ and the type for which such a module stands, if it is one of declarations in a crate of ours."""
+    found = DECLARED.fullmatch(module)
+    path = found and HOME / "crates" / crate / "src" / f"{found.group(1).replace('.', '/')}.rt"
+    return (path, found.group(2)) if found and path.exists() else None
 
 
 class Specs:
@@ -130,13 +147,29 @@ class Specs:
             if (module.path, name) in seen or name in stops or f"{module.path.parts[-3]}.{name}" in stops:
                 continue
             seen.add((module.path, name))
-            for word in WORD.findall(FIELD.sub("", "\n".join(module.body(name)))):
+            for word in module.words(name):
                 if found := self.meant(module, word):
                     waiting.append(found)
         by_file = {}
         for path, name in seen:
             by_file.setdefault(path, set()).add(name)
         return by_file
+
+    def types(self, by_file):
+        """The types that these definitions speak of, by the file of src/ that declares them."""
+        by_source = {}
+        for path, names in by_file.items():
+            module = self.modules[path]
+            for head in {word.split(".")[0] for name in names for word in module.words(name)} & set(module.types):
+                source, name = module.types[head]
+                by_source.setdefault(source, set()).add(name)
+        return by_source
+
+    def defines(self, place, name):
+        """Whether a file, given as crate/File, defines this name by itself."""
+        crate, _, module = place.rpartition("/")
+        found = self.named(crate, module, name)
+        return bool(found) and found[0].path.parts[-3::2] == (crate, f"{module}.antt")
 
 
 def clauses():
@@ -161,10 +194,34 @@ def lines_of(files):
     return sum(len(path.read_text().splitlines()) for path in files)
 
 
-def unnamed(files, part):
-    points = re.split(r"\n(?=\d+\. )", part)
-    return [path for path in sorted(files)
-            if not any(f"{path.stem}.antt" in point and path.parts[-3] in point for point in points)]
+def lines_declared(by_source):
+    """The lines of these declarations, with their comments and attributes."""
+    return sum(declaration(path.read_text(), name).count("\n") for path in by_source for name in by_source[path])
+
+
+def declaration(text, name):
+    return re.search(rf"^(?:(?:///|#\[).*\n)*pub (?:enum|struct) {name}\b.*(?:;|\n(?:.*\n)*?\}})\n", text, re.M).group(0)
+
+
+def misnamed(files, part):
+    """The files that are named in the part or among these files, and not in both."""
+    wanted = {f"{path.parts[-3]}/{path.stem}.antt" for path in files}
+    named = set(re.findall(r"`([^`\s]*\.antt)`", part))
+    return [f"{name} isn't named" for name in sorted(wanted - named)] + [f"{name} isn't reached" for name in sorted(named - wanted)]
+
+
+def misplaced(specs, text):
+    """What the text says of where definitions stand, and isn't so."""
+    for names, place in PLACES.findall(text):
+        for name in re.findall(r"`([\w-]+)`", names):
+            if not specs.defines(place, name):
+                yield f"`{name}` doesn't stand in `{place}.antt`"
+
+
+def mistyped(by_source, page):
+    """The rows on types that the page lacks, or has and shouldn't."""
+    wanted = {f"| `{path.relative_to(HOME)}` | {', '.join(f'`{name}`' for name in sorted(by_source[path]))} |" for path in by_source}
+    return sorted(wanted ^ {line for line in page.splitlines() if line.startswith("| `crates/")})
 
 
 def listed(specs, by_file):
@@ -182,10 +239,12 @@ def main():
         for by_file in (core, {path: first[path] for path in first if path not in core}, second):
             listed(specs, by_file)
             print()
+    types = specs.types(first)
     rows = [
         f"| the contract of `run` | 1 | {len(contract)} |",
         f"| the first tier | {len(first)} | {lines_of(first):,} |",
         f"| of it the core | {len(core)} | {lines_of(core):,} |",
+        f"| types declared in `src/` that these speak of | {len(types)} | {lines_declared(types):,} |",
         f"| the second tier | {len(second)} | {lines_of(second):,} |",
     ]
     page, wrong = PAGE.read_text(), 0
@@ -198,11 +257,12 @@ def main():
         wrong += found != 1
     if "--write" in sys.argv:
         PAGE.write_text(page)
-    one, two = page.split("## The second tier")
-    for path in [*unnamed(first, one.split("## The first tier")[1]), *unnamed(second, two)]:
-        print(path.relative_to(HOME))
-        wrong += 1
-    sys.exit(bool(wrong))
+    one, two = page.split("## The first tier\n")[1].split("## The second tier\n")
+    told = [f"{part}: {name}" for part, files, text in (("first tier", first, one), ("second tier", second, two)) for name in misnamed(files, text)]
+    told += [*mistyped(types, page), *misplaced(specs, page), *misplaced(specs, TRUST.read_text())]
+    for line in told:
+        print(line)
+    sys.exit(bool(wrong or told))
 
 
 if __name__ == "__main__":
