@@ -1,6 +1,6 @@
--- Causes as strong as a reader may ask: with them a journal that is a run keeps the promise that
--- each packet is decided by one whole version that wasn't retired as it came in, or was lost by a
--- row, or was stuck where no route was known.
+-- Causes as strong as a reader may ask. With them a run whose rows are the schedule's keeps the
+-- promise: each packet is decided by one whole version that wasn't retired as it came in, or was
+-- lost by a row, or was stuck where no route was known.
 use Rattle.std.specs.Prelude.{⊤, ℕ, ◌≡◌, ◌<◌, ◌≤◌, Option, Some, None, List, IsTrue, IsFalse}
 use Rattle.five_tuple.specs.declared.header.Header.{Header}
 use Rattle.policy_rules.specs.declared.packet.Cause.{Cause}

@@ -61,10 +61,10 @@ pub fn answers_are_runs()
     ensures { HoldsReached (λ setting journal. IsSetting setting → IsRun setting journal) }
 {}
 
-/// And they have causes so strong that a run with them keeps the promise: who is stuck on its way to
-/// an authority is undecided, by a version that wasn't retired as it came in and is at most the
-/// current one; and so is each decision; links found down are links of the network; packets come
-/// in, and are lost, by the row of the step that is taken.
+/// And they have causes so strong that a run with them whose rows are the schedule's keeps the
+/// promise: who is stuck on its way to an authority is undecided, by a version that wasn't retired
+/// as it came in and is at most the current one; and so is each decision; links found down are ones
+/// of the network; packets come in, and are lost, by the row of the step that is taken.
 pub fn causes_are_strong()
     ensures { HoldsReached (λ setting journal.
         IsSetting setting → HaveCauses (StrongCause setting) [] journal) }
