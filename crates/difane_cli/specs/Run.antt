@@ -72,7 +72,7 @@ pub record MayBePlayed (inputs : Inputs) : Type 0 where
 -- the journal is that of the play of these inputs, which are those that the files state and the
 -- ones of the task, where these are known: it answers them, or it answers them up to a row at which
 -- the play stopped full; so it is a run of the machine, its ends have their causes, and its items
--- have the strong ones; its rows, but for hops and deliveries, are those that were played, in order,
+-- have the strong ones; its rows but for hops and deliveries are those that were played, in order;
 -- and the packets that came in or were refused are those of its packet rows, each right behind it
 pub record IsAnswer (command : Command) (files : Option Files) (inputs : Inputs)
     (journal : List Item) (full : Option ℕ) : Type 0 where
