@@ -126,9 +126,9 @@ is_made report.Summary (Some row) = false
 abbrev pub WantsMemory : Report → Option ℕ → Type 0
 WantsMemory told full = IsTrue (is_asked (asks_quiet told) full) ⊎ IsTrue (is_made told full)
 
--- the same of either play, but that memory ran out behind it, where it is wanted or the output's own
--- writes take any; and the output wasn't touched or gained a part of the text. Where it ran out
--- before it was files whether the network is quiet, no line says so
+-- the same of either play, but that memory ran out behind it, where it is wanted or the output's
+-- own writes take any; and the output wasn't touched or gained a part of the text. Where it ran out
+-- before it was known whether the network is quiet, no line says so
 pub record Unfinished (command : Command) (files : Option Files) (takes_memory : Bool)
     (journal : List Item) (taken given : List Seen) (before now : SinkState) : Type 0 where
   pub inputs : Inputs

@@ -85,7 +85,7 @@ AreTargets setting before packet (Exit port) targets =
     × (option_to_list (owner_of setting.net.switches port) ≡ targets)
 
 -- a packet is stuck where it stands, at a switch that serves: over the links that this one knows,
--- less those that the packet found down, no path leads to any target of its leg
+-- less those that the packet found down, no way leads to any target of its leg
 pub record IsStuckRightly (setting : Setting) (before : List Item) (packet switch : ℕ) (leg : Leg)
     : Type 0 where
   pub stands : standing before packet ≡ Some switch
