@@ -6,7 +6,7 @@ use Rattle.std.proofs.lemmas.Bool.{cases_eq, cases_lt}
 use Rattle.std.proofs.lemmas.Bool.Decides.{nat_tests}
 use Rattle.std.proofs.lemmas.List.{get_or-map, get_or_past, length-map}
 use Rattle.failover.specs.Adverts.{held}
-use Rattle.failover.specs.Links.{is_link, neighbours_named, named_links, AreJoined, IsPath, Leads}
+use Rattle.failover.specs.Links.{is_link, neighbours_named, named_links, AreJoined, IsPath, LinksLead}
 use Rattle.masks.specs.Masks.{has}
 use Rattle.failover.specs.Paths.{IsRoute}
 use Rattle.failover.specs.declared.advert.Advert.{Advert}
@@ -222,7 +222,7 @@ known_linked setting journal adverts s one other down one_small other_small join
 leads_over : (net : Net) (links : List ℕ)
     → ((one other : ℕ) → one < 64 → other < 64 → AreJoined links one other
     → HasLink net one other)
-    → (target at : ℕ) (route : List ℕ) → at < 64 → Leads links target at route
+    → (target at : ℕ) (route : List ℕ) → at < 64 → LinksLead links target at route
     → GoesOverLinks net at route
 leads_over net links linked target at [] small leads = tt
 leads_over net links linked target at (next ∷ route) small leads = (

@@ -4,13 +4,14 @@ use Rattle.std.specs.Prelude.{IsFalse}
 use Rattle.std.specs.Option.{option_map_or}
 use Rattle.ctrl_msg.specs.declared.message.Body.{Body}
 use Rattle.ctrl_msg.specs.declared.message.Body.TheVariants.{Install, OpenAt, Stamp, Advertise, Installed, Stamped}
+use Rattle.ctrl_msg.specs.Kinds.{to_controller}
 use Rattle.journal.specs.declared.item.Item.{Item}
 use Rattle.journal.specs.declared.item.Item.TheVariants as item
 use Rattle.steps.specs.declared.step.Step.{Step}
 use Rattle.steps.specs.declared.step.Step.TheVariants.{Packet, Hop, Lose, Deliver, Forget, Expire, Update, LinkDown, LinkUp, Crash, Restart, Confirm, Resend}
 use Rattle.update_machine.specs.Boots.{heard, said_to}
 use Rattle.update_machine.specs.Concerns.{concerns_links}
-use Rattle.update_machine.specs.Deliveries.{is_news_to, link_changes, passed_on, switch_items, to_controller}
+use Rattle.update_machine.specs.Deliveries.{is_news_to, link_changes, passed_on, switch_items}
 use Rattle.update_machine.specs.Messages.{sends, sent_from}
 use Rattle.update_machine.specs.Moves.{put}
 use Rattle.update_machine.specs.Packets.{next_packet}

@@ -6,7 +6,7 @@ use Rattle.ctrl_msg.specs.declared.message.Message.{Message}
 use Rattle.frame_bag.specs.Kept.{IsPosted}
 use Rattle.wire.specs.Frames.{frames}
 use Rattle.bag.specs.Deliveries as statuses
-use Rattle.bag.specs.Posts.{IsMessageOf, is_deliverable}
+use Rattle.bag.specs.Posts.{IsMessageOf, is_post_deliverable}
 use Rattle.bag.specs.declared.deliveries.Status.{Status}
 use Rattle.bag.proofs.Framed.{framed_is}
 use Rattle.bag.proofs.Zipped.{deliverable_same, deliverable_within, the_frames}
@@ -17,7 +17,7 @@ module _ {E : Type 0} (all : List (List (List ℕ))) (states : List Status) (num
   -- a message that isn't forgotten is there
   pub found_known : (r : Result (Option Message) E)
       → IfOk r (λ answer. IsNone answer ↔ ((number ≡ 0) ⊎ (length all < number)))
-      → IfOk r (λ answer. is_some answer ≡ is_deliverable (zip all states) number)
+      → IfOk r (λ answer. is_some answer ≡ is_post_deliverable (zip all states) number)
   found_known (Err error) none = tt
   found_known (Ok (Some message)) none = sym is ∙ deliverable_same all states number same
   found_known (Ok None) none =

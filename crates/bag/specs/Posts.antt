@@ -33,8 +33,8 @@ abbrev pub frames_posted : List Post → ℕ → Option (List (List ℕ))
 frames_posted posts number = option_and_then remembered (numbered posts number)
 
 -- there is such a message
-abbrev pub is_deliverable : List Post → ℕ → Bool
-is_deliverable posts number = is_some (frames_posted posts number)
+abbrev pub is_post_deliverable : List Post → ℕ → Bool
+is_post_deliverable posts number = is_some (frames_posted posts number)
 
 -- the message has a spelling, and its frames are those of this number
 pub record IsMessageOf (posts : List Post) (number : ℕ) (message : Message) : Type 0 where
@@ -42,8 +42,8 @@ pub record IsMessageOf (posts : List Post) (number : ℕ) (message : Message) : 
   pub frames_are : frames_posted posts number ≡ Some (framed message)
 
 -- the least number at or above `from` of a message that was never delivered and isn't forgotten
-abbrev pub next_waiting : List Post → ℕ → Option ℕ
-next_waiting posts from = statuses.next_waiting (statuses_of posts) from
+abbrev pub next_waiting_post : List Post → ℕ → Option ℕ
+next_waiting_post posts from = statuses.next_waiting (statuses_of posts) from
 
 -- another thing became of a message
 abbrev pub with_status : (Status → Status) → Post → Post

@@ -1,5 +1,5 @@
 ghost use Rattle.std.specs.Prelude.{◌≡◌, ◌<◌, ◌+◌, ◌-◌, ◌^◌, [], ◌∷◌, ◌++◌, length, is_some, IsTrue, IfOk, IfSome, OnOk, OnErr};
-ghost use Rattle.bag.specs.Posts.{IsMessageOf, is_deliverable, next_waiting, posted, with_delivered, with_forgotten};
+ghost use Rattle.bag.specs.Posts.{IsMessageOf, is_post_deliverable, next_waiting_post, posted, with_delivered, with_forgotten};
 ghost use Rattle.frame_laws.specs.Feeding.{HasShortSpelling};
 
 use crate::deliveries::Deliveries;
@@ -74,7 +74,7 @@ impl Bag {
     /// # Errors
     /// Want of memory alone.
     pub fn get(&self, alloc: Global, number: u32) -> Result<Option<Message>, AllocError>
-        ensures found { IfOk result (λ answer. is_some answer ≡ is_deliverable self.now number) }
+        ensures found { IfOk result (λ answer. is_some answer ≡ is_post_deliverable self.now number) }
         ensures message { IfOk result (λ answer. IfSome answer (IsMessageOf self.now number)) }
     {
         if self.may_be_delivered(number) {
@@ -86,14 +86,14 @@ impl Bag {
 
     /// Whether a message of this number was posted and isn't forgotten.
     pub fn may_be_delivered(&self, number: u32) -> bool
-        ensures { result ≡ is_deliverable self.now number }
+        ensures { result ≡ is_post_deliverable self.now number }
     {
         self.deliveries.may_be_delivered(number)
     }
 
     /// The message of this number was delivered, perhaps once more.
     pub fn deliver(&mut self, number: u32)
-        requires { IsTrue (is_deliverable self.old number) }
+        requires { IsTrue (is_post_deliverable self.old number) }
         ensures { self.new ≡ with_delivered self.old number }
     {
         self.deliveries.deliver(number);
@@ -101,7 +101,7 @@ impl Bag {
 
     /// The message of this number is never delivered again.
     pub fn forget(&mut self, number: u32)
-        requires { IsTrue (is_deliverable self.old number) }
+        requires { IsTrue (is_post_deliverable self.old number) }
         ensures { self.new ≡ with_forgotten self.old number }
     {
         self.deliveries.forget(number);
@@ -110,7 +110,7 @@ impl Bag {
     /// The least number at or above `from` of a message that was never delivered and isn't
     /// forgotten; `None` exactly where there is none.
     pub fn next_waiting(&self, from: u32) -> Option<u32>
-        ensures { result ≡ next_waiting self.now from }
+        ensures { result ≡ next_waiting_post self.now from }
     {
         self.deliveries.next_waiting(from)
     }

@@ -3,12 +3,13 @@ use Rattle.std.proofs.Common.{ℕ, ◌≡◌, Option, Some, None, List, [], ◌�
 use Rattle.ctrl_msg.specs.declared.message.Body.{Body}
 use Rattle.ctrl_msg.specs.declared.message.Message.{Message}
 use Rattle.ctrl_msg.specs.declared.message.Receiver.{Receiver}
+use Rattle.ctrl_msg.specs.Kinds.{to_controller}
 use Rattle.ctrl_msg.specs.declared.message.Receiver.TheVariants as receiver
 use Rattle.journal.specs.declared.item.Item.{Item}
 use Rattle.journal.specs.declared.item.Item.TheVariants as item
 use Rattle.update_machine.specs.Boots.{said_to}
 use Rattle.update_machine.specs.Causes.{HaveCauses}
-use Rattle.update_machine.specs.Deliveries.{after_hello, controller_items, delivery_items, received_items, switch_items, to_controller}
+use Rattle.update_machine.specs.Deliveries.{after_hello, controller_items, delivery_items, received_items, switch_items}
 use Rattle.update_machine.specs.Links.{message_of}
 use Rattle.update_machine.specs.Moves.{in_turn}
 use Rattle.update_machine.specs.Pieces.{deliver_items}

@@ -18,7 +18,7 @@ use Rattle.ternary.specs.Meets.{covers_of, meets, meet_of, is_fixed_of, free_of,
 use Rattle.ternary.proofs.CallerLemmas.{or_left, or_right}
 use Rattle.policy_rules.specs.declared.rules.Rule.{Rule}
 use Rattle.cache_maker.specs.Independent.{IsIndependent, is_apart, is_independent, widened}
-use Rattle.cache_maker.specs.Differing.{differing, is_told, IsHighest, HaveHighest}
+use Rattle.cache_maker.specs.Differing.{differing, differs_alone, IsHighest, HaveHighest}
 use Rattle.cache_maker.proofs.Independence.{true_not, is_independent_at}
 use Rattle.cache_maker.proofs.Widening.{widened_wider}
 
@@ -279,7 +279,7 @@ told_one covers exact free h region rules index n rule bound is apart =
 pub told_by_none : CoversLaws → MeetLaws → ExactLaws → FreeLaws → (h : ℕ) (region : WordValue)
     (rules : List Rule) (index n : ℕ) → n < 104 → All (λ rule. IsWord rule.word) rules
     → IsIndependent region rules index (widened h region rules index n)
-    → not (is_told h (widened h region rules index n).mask (2 ^ n) (take index rules))
+    → not (differs_alone h (widened h region rules index n).mask (2 ^ n) (take index rules))
     ≡ is_apart (free_of (widened h region rules index n) n) (take index rules)
 unfolding is_apart
 told_by_none covers meet exact free h region rules index n bound words independent =
@@ -292,7 +292,7 @@ told_by_none covers meet exact free h region rules index n bound words independe
 
     all_of : (list : List Rule) → All (λ rule. IsWord rule.word) list
         → All (λ rule. IsNone (meet_of (widened h region rules index n) rule.word)) list
-        → not (is_told h (widened h region rules index n).mask (2 ^ n) list)
+        → not (differs_alone h (widened h region rules index n).mask (2 ^ n) list)
         ≡ list_all (λ rule. is_none (meet_of (free_of (widened h region rules index n) n) rule.word)) list
     all_of [] sound apart = refl
     all_of (rule ∷ list) sound apart =
@@ -303,8 +303,8 @@ told_by_none covers meet exact free h region rules index n bound words independe
         (sym (meet.some (widened h region rules index n) rule.word) ∙ All-head Q rule list apart) in
         let rest = all_of list (All-tail P rule list sound) (All-tail Q rule list apart) in
         neither (bit_and (differing h rule.word) (widened h region rules index n).mask == 2 ^ n)
-        (is_told h (widened h region rules index n).mask (2 ^ n) list)
-        ∙ ap (λ t. not t && not (is_told h (widened h region rules index n).mask (2 ^ n) list))
+        (differs_alone h (widened h region rules index n).mask (2 ^ n) list)
+        ∙ ap (λ t. not t && not (differs_alone h (widened h region rules index n).mask (2 ^ n) list))
         (here ∙ sym (meet.some (free_of (widened h region rules index n) n) rule.word))
         ∙ ap (λ t. is_none (meet_of (free_of (widened h region rules index n) n) rule.word) && t) rest
 

@@ -17,7 +17,7 @@ use Rattle.ternary.specs.Meets.{covers_of, exact_word, is_fixed_of, free_of}
 use Rattle.ternary.proofs.CallerLemmas.{or_right}
 use Rattle.policy_rules.specs.declared.rules.Rule.{Rule}
 use Rattle.cache_maker.specs.Independent.{IsIndependent, is_apart, is_independent, widened}
-use Rattle.cache_maker.specs.Differing.{differing, is_told, IsHighest, HaveHighest}
+use Rattle.cache_maker.specs.Differing.{differing, differs_alone, IsHighest, HaveHighest}
 use Rattle.cache_maker.proofs.Widening.{widened_independent, widened_word}
 use Rattle.cache_maker.proofs.Differing.{apart_unless, as_header, free_in_both, past_header, still_fixed, test_parts, told_by_none}
 
@@ -384,13 +384,13 @@ told_fixed : {h : ℕ} {region : WordValue} {rules : List Rule}
     {index free_bits last fixed untested : ℕ}
     → IsGiven h region rules index free_bits last
     → IsLeft h region rules index free_bits last fixed untested → (n : ℕ)
-    → IsLowest untested n → is_told h fixed (2 ^ n) (take index rules)
+    → IsLowest untested n → differs_alone h fixed (2 ^ n) (take index rules)
     ≡ is_fixed_of (widened h region rules index 104) n
 told_fixed {h} {region} {rules} {index} {free_bits} {last} {fixed} {untested} given left n lowest =
     let fits = left.among n lowest.set in
     all_of (take index rules) (All-take (λ (rule : Rule). IsWord rule.word) index rules given.words)
     given.have
-    ∙ sym (twice (is_told h mask (2 ^ n) (take index rules)))
+    ∙ sym (twice (differs_alone h mask (2 ^ n) (take index rules)))
     ∙ ap not (told_by_none given.covers given.meet given.exact given.free h region rules index n
     fits.1 given.words (independent_at given n))
     ∙ sym (at_last given n fits.1
@@ -406,13 +406,13 @@ told_fixed {h} {region} {rules} {index} {free_bits} {last} {fixed} {untested} gi
 
     all_of : (list : List Rule) → All (λ rule. IsWord rule.word) list
         → HaveHighest last h free_bits list
-        → is_told h fixed (2 ^ n) list ≡ is_told h mask (2 ^ n) list
+        → differs_alone h fixed (2 ^ n) list ≡ differs_alone h mask (2 ^ n) list
     all_of [] sound has = refl
     all_of (rule ∷ list) sound has =
         let P : Rule → Type 0 = λ r. IsWord r.word in
         let Q : Rule → Type 0 = λ r. (k : ℕ) → IsHighest (differing h r.word) k
         → bit_and (differing h r.word) free_bits ≡ differing h r.word → bit_at last k ≡ 1 in
-        ap (λ b. b || is_told h fixed (2 ^ n) list)
+        ap (λ b. b || differs_alone h fixed (2 ^ n) list)
         (told_alike given left n lowest rule (All-head P rule list sound)
         (All-head Q rule list has))
         ∙ ap (λ b. (bit_and (differing h rule.word) mask == 2 ^ n) || b)
@@ -447,7 +447,7 @@ pub left_next : {h : ℕ} {region : WordValue} {rules : List Rule}
     → IsGiven h region rules index free_bits last
     → IsLeft h region rules index free_bits last fixed untested → (n : ℕ)
     → IsLowest untested n → (told : Bool) (after : ℕ)
-    → told ≡ is_told h fixed (2 ^ n) (take index rules)
+    → told ≡ differs_alone h fixed (2 ^ n) (take index rules)
     → after ≡ cond told fixed (bit_xor fixed (2 ^ n))
     → IsLeft h region rules index free_bits last after (bit_xor untested (2 ^ n))
 left_next {h} {region} {rules} {index} {free_bits} {last} {fixed} {untested} given left n lowest

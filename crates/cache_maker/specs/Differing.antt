@@ -15,8 +15,8 @@ pub record IsHighest (n k : ℕ) : Type 0 where
   pub above : (j : ℕ) → k < j → bit_at n j ≡ 0
 
 -- among the fixed bits, some rule differs from h in these alone
-abbrev pub is_told : ℕ → ℕ → ℕ → List Rule → Bool
-is_told h fixed alone rules =
+abbrev pub differs_alone : ℕ → ℕ → ℕ → List Rule → Bool
+differs_alone h fixed alone rules =
     list_any (λ (rule : Rule). bit_and (differing h rule.word) fixed == alone) rules
 
 -- the mask has the highest bit by which each of the rules differs from h, if it does in open bits

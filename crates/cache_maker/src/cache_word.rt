@@ -6,7 +6,7 @@ ghost use Rattle.ternary.specs.Meets.{is_fixed_of, free_of};
 ghost use Rattle.policy_rules.specs.Rules.{is_held};
 ghost use Rattle.policy_rules.specs.declared.rules.Rule.{Rule};
 ghost use Rattle.cache_maker.specs.Independent.{IsIndependent, widen};
-ghost use Rattle.cache_maker.specs.Differing.{HaveHighest, IsHighest, differing, is_told};
+ghost use Rattle.cache_maker.specs.Differing.{HaveHighest, IsHighest, differing, differs_alone};
 
 use five_tuple::Header;
 use policy_rules::Rule;
@@ -46,7 +46,7 @@ pub fn widen(h: &Header, region: &Word, rules: &[Rule], index: u32) -> Word
     let mut fixed = (ALL_BITS ^ free) | untested;
     while untested != 0 {
         let bit = lowest_bit(untested);
-        if !is_told(number, fixed, bit, earlier) {
+        if !differs_alone(number, fixed, bit, earlier) {
             fixed ^= bit;
         }
         untested ^= bit;
@@ -72,8 +72,8 @@ fn lowest_bit(n: u128) -> u128
 }
 
 // Whether some rule differs from the header, among these fixed bits, in this one alone.
-fn is_told(h: u128, fixed: u128, alone: u128, rules: &[Rule]) -> bool
-    ensures { result ≡ is_told h fixed alone rules.now }
+fn differs_alone(h: u128, fixed: u128, alone: u128, rules: &[Rule]) -> bool
+    ensures { result ≡ differs_alone h fixed alone rules.now }
 {
     rules
         .iter()

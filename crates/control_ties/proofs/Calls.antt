@@ -7,12 +7,13 @@ use Rattle.policy_rules.specs.declared.policy.Row.{Row}
 use Rattle.partition.specs.Plan.{Placed}
 use Rattle.ctrl_msg.specs.declared.message.Body.{Body}
 use Rattle.ctrl_msg.specs.declared.message.Body.TheVariants.{Hello}
+use Rattle.ctrl_msg.specs.Kinds.{to_controller}
 use Rattle.journal.specs.declared.item.Item.{Item}
 use Rattle.journal.specs.declared.item.Item.TheVariants as item
 use Rattle.steps.specs.declared.step.Step.{Step}
 use Rattle.steps.specs.declared.step.Step.TheVariants.{Confirm, Deliver}
 use Rattle.update_machine.specs.Boots.{is_up}
-use Rattle.update_machine.specs.Deliveries.{after_hello, controller_items, delivery_items, is_new_boot, received_items, to_controller}
+use Rattle.update_machine.specs.Deliveries.{after_hello, controller_items, delivery_items, is_new_boot, received_items}
 use Rattle.update_machine.specs.Marks.{current_mark, known_boot, said_to_controller}
 use Rattle.update_machine.specs.Messages.{is_deliverable, is_to_controller}
 use Rattle.update_machine.specs.Moves.{put}
@@ -224,7 +225,7 @@ module _ (setting : Setting) (before : List Item) (row n : ℕ) (body : Body)
     | Some message ↦ if is_to_controller message.to then Some message.body else None
   ]) (message_more before (item.Row row (Deliver n)) n ∙ sent)
 
-  heard_settles : (written now (acts.settling (marks_after body old.marks) new.marks)
+  heard_settles : (written now (acts.settling_acts (marks_after body old.marks) new.marks)
       ≡ settling setting now) × IsControllerOf setting one new
   heard_settles = settles_with setting now (marks_after body old.marks) old.plans new now_have
       (marks_told setting here n body old.marks here_have said there here_is.marks)
@@ -249,7 +250,7 @@ module _ (setting : Setting) (before : List Item) (row n : ℕ) (body : Body)
   unfolding controller_items
   heard_so = (
     written_in_two now (settling setting) (after_hello setting before body)
-        (acts.settling (marks_after body old.marks) new.marks)
+        (acts.settling_acts (marks_after body old.marks) new.marks)
         (installs_after body old.marks new) heard_settles.0
         (hello_written setting before one body old.marks new
         (settling_caused setting now now_have) heard_settles.1 hello_told),
@@ -301,18 +302,18 @@ pub confirms : (setting : Setting) (before : List Item) (row s : ℕ)
     → IsFalse (is_up before s) → s < length old.marks.switches
     → SettlesWith (at_switch s after_over old.marks) old.plans new
     → AreWritten setting before (item.Row row (Confirm s) ∷ item.OverNow s ∷ [])
-    (acts.settling (at_switch s after_over old.marks) new.marks) new
+    (acts.settling_acts (at_switch s after_over old.marks) new.marks) new
     (piece setting before row (Confirm s))
 unfolding piece confirm_items
 confirms setting before row s old new have is down there settles =
     subst (λ b. AreWritten setting before (item.Row row (Confirm s) ∷ item.OverNow s ∷ [])
-    (acts.settling (at_switch s after_over old.marks) new.marks) new (item.Row row (Confirm s)
+    (acts.settling_acts (at_switch s after_over old.marks) new.marks) new (item.Row row (Confirm s)
     ∷ elim b [
       | true ↦ nothing
       | false ↦ put (item.OverNow s ∷ []) (settling setting) here
     ])) (sym still)
     (are_written setting before (item.Row row (Confirm s)) (item.OverNow s) (settling setting now)
-    (acts.settling (at_switch s after_over old.marks) new.marks) new so.0 so.1)
+    (acts.settling_acts (at_switch s after_over old.marks) new.marks) new so.0 so.1)
   where
     here : List Item
     here = before ++ item.Row row (Confirm s) ∷ []
@@ -329,7 +330,7 @@ confirms setting before row s old new have is down there settles =
     here_is : IsControllerOf setting here old
     here_is = row_on setting before row (Confirm s) old have is
 
-    so : (written now (acts.settling (at_switch s after_over old.marks) new.marks)
+    so : (written now (acts.settling_acts (at_switch s after_over old.marks) new.marks)
         ≡ settling setting now) × IsControllerOf setting (now ++ settling setting now) new
     so = settles_with setting now (at_switch s after_over old.marks) old.plans new
         (have_append (HasItemCause setting) [] here (item.OverNow s ∷ []) here_have (still, tt))

@@ -205,7 +205,7 @@ pub settles_with : (setting : Setting) (now : List Item) (before : MarksValue)
     → AreMarksOf setting now before
     → plans ≡ map (planned setting now) (versions_from_current now)
     → SettlesWith before plans new
-    → (written now (acts.settling before new.marks) ≡ settling setting now)
+    → (written now (acts.settling_acts before new.marks) ≡ settling setting now)
     × IsControllerOf setting (now ++ settling setting now) new
 settles_with setting now before plans new have marks are settles =
     let is = settles.marks.1 in

@@ -7,8 +7,8 @@ use Rattle.std.proofs.lemmas.List.{map-append}
 use Rattle.ctrl_msg.specs.declared.message.Body.{Body}
 use Rattle.ctrl_msg.specs.declared.message.Body.TheVariants.{Collect, Hello, Installed, OpenAt, Stamp, Stamped}
 use Rattle.ctrl_msg.specs.declared.message.Message.{Message}
+use Rattle.ctrl_msg.specs.Kinds.{to_controller}
 use Rattle.journal.specs.declared.item.Item.{Item}
-use Rattle.update_machine.specs.Deliveries.{to_controller}
 use Rattle.update_machine.specs.Marks as machine
 use Rattle.update_machine.specs.Marks.{acked_stamp, current_mark, open_version, retired_mark}
 use Rattle.update_machine.specs.Links.{message_of}

@@ -196,7 +196,7 @@ raises_on : (setting : Setting) (now : List Item) (before after : MarksValue)
     → AreMarksOf setting now before → before.current ≤ after.current
     → after.current ≡ next_current setting now
     → SameBoots now after (length before.switches)
-    → (written now (acts.stamps before after) ≡ current_items setting now)
+    → (written now (acts.stamp_acts before after) ≡ current_items setting now)
     × AreMarksOf setting (now ++ current_items setting now)
     (record before { current = after.current })
 unfolding current_items
@@ -479,7 +479,7 @@ retires_on : (setting : Setting) (two : List Item) (before after : MarksValue)
     → after.retired ≡ next_retired setting two
     → retired_mark two ≤ next_retired setting two
     → SameBoots two after (length after.switches)
-    → (written two (acts.collects before after) ≡ retired_items setting two)
+    → (written two (acts.collect_acts before after) ≡ retired_items setting two)
     × AreMarksOf setting (two ++ retired_items setting two) after
 unfolding retired_items
 retires_on setting two before after are is least_is boots =
@@ -545,12 +545,12 @@ settling_caused setting now have =
 pub settles_so : (setting : Setting) (now : List Item) (before after : MarksValue)
     (answer : Settled) → AreCaused setting now → AreMarksOf setting now before
     → Settles before after answer
-    → (written now (acts.settling before after) ≡ settling setting now)
+    → (written now (acts.settling_acts before after) ≡ settling setting now)
     × AreMarksOf setting (now ++ settling setting now) after
 unfolding settling
 settles_so setting now before after answer have are is = (
   written_in_three now (current_items setting) (open_items setting) (retired_items setting)
-      (acts.stamps before after) (acts.opens before after) (acts.collects before after) raises.0
+      (acts.stamp_acts before after) (acts.opens before after) (acts.collect_acts before after) raises.0
       opens.0 retires.0,
   subst (λ js. AreMarksOf setting js after)
       (sym (in_three (current_items setting) (open_items setting) (retired_items setting) now))
@@ -577,7 +577,7 @@ settles_so setting now before after answer have are is = (
     boots : SameBoots now after (length before.switches)
     boots s there = settled_boot before after answer s is there ∙ (are.each s there).boot
 
-    raises : (written now (acts.stamps before after) ≡ current_items setting now)
+    raises : (written now (acts.stamp_acts before after) ≡ current_items setting now)
         × AreMarksOf setting one (record before { current = after.current })
     raises = raises_on setting now before after are is.current.rises
         (rises_same setting now before after.current are is.current) boots
@@ -591,7 +591,7 @@ settles_so setting now before after answer have are is = (
         is.count refl is.switches (λ s there. boots s there ∙ sym (same s there))
         (bounded setting two two_have)
 
-    retires : (written two (acts.collects before after) ≡ retired_items setting two)
+    retires : (written two (acts.collect_acts before after) ≡ retired_items setting two)
         × AreMarksOf setting (two ++ retired_items setting two) after
     retires = retires_on setting two before after opens.1
         (is.retired ∙ retires_same setting two (record after { retired = before.retired }) opens.1)

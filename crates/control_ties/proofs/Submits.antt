@@ -224,7 +224,7 @@ module _ (setting : Setting) (before : List Item) (row file : ℕ) (old new : Co
       (have_append (HasItemCause setting) [] now (submitted_items setting now) now_have
       (submitted_have setting now)))
 
-  settled : (written one (acts.settling (with_version old.marks) new.marks)
+  settled : (written one (acts.settling_acts (with_version old.marks) new.marks)
       ≡ settling setting one) × IsControllerOf setting (one ++ settling setting one) new
   settled = settles_with setting one (with_version old.marks) (old.plans ++ kept ∷ []) new one_have
       one_marks
@@ -240,7 +240,7 @@ module _ (setting : Setting) (before : List Item) (row file : ℕ) (old new : Co
       (item.Submitted file version) (submitted_items setting now)
       (submitting old.marks plan new.marks) new
       (written_in_two now (installs_to_all setting) (settling setting) _
-      (acts.settling (with_version old.marks) new.marks) installed settled.0)
+      (acts.settling_acts (with_version old.marks) new.marks) installed settled.0)
       (subst (λ js. IsControllerOf setting js new)
       (sym (in_two (installs_to_all setting) (settling setting) now)) settled.1)
 

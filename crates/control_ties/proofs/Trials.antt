@@ -3,12 +3,13 @@
 use Rattle.std.proofs.Common.{ℕ, ◌≡◌, Bool, true, false, Some, None, List, [], ◌∷◌, ◌++◌, map, refl, ap, ◌∙◌}
 use Rattle.std.specs.Option.{option_map_or}
 use Rattle.ctrl_msg.specs.declared.message.Body.TheVariants.{Hello, Install, Stamp}
+use Rattle.ctrl_msg.specs.Kinds.{to_controller}
 use Rattle.switch_table.specs.Tables.{tables_of}
 use Rattle.journal.specs.declared.item.Item.{Item}
 use Rattle.journal.specs.declared.item.Item.TheVariants as item
 use Rattle.policy_rules.specs.declared.policy.Row.{Row}
 use Rattle.policy_rules.specs.declared.policy.Action.TheVariants.{Drop, Out}
-use Rattle.update_machine.specs.Deliveries.{after_hello, to_controller}
+use Rattle.update_machine.specs.Deliveries.{after_hello}
 use Rattle.update_machine.specs.Marks as machine
 use Rattle.update_machine.specs.Marks.{controller_heard, current_mark, known_boot, retired_mark}
 use Rattle.update_machine.specs.Messages.{next_message, sent_from}

@@ -2,12 +2,13 @@
 ghost use Rattle.std.specs.Prelude.{ℕ, ◌≡◌, ◌≢◌, ◌+◌, ◌-◌, ◌<◌, ◌++◌, Some, List, [], ◌∷◌, length, map, IsFalse, IsTrue};
 ghost use Rattle.controller.specs.Controller.{ControllerValue, SettlesWith, first_controller};
 ghost use Rattle.controller.specs.Plan.{PlanValue};
-ghost use Rattle.controller.specs.Sends.{NamesThere, marks_after, hearing, resending, settling, submitting};
+ghost use Rattle.controller.specs.Sends.{NamesThere, marks_after, hearing, resending, settling_acts, submitting};
 ghost use Rattle.controller.specs.Submit.{SubmitsPlan};
 ghost use Rattle.controller.specs.declared.sends.Act.{Act};
 ghost use Rattle.controller.specs.declared.sends.Act.TheVariants.{Post};
 ghost use Rattle.ctrl_msg.specs.declared.message.Message.{Message};
 ghost use Rattle.ctrl_msg.specs.declared.message.Body.{Body};
+ghost use Rattle.ctrl_msg.specs.Kinds.{to_controller};
 ghost use Rattle.journal.specs.declared.item.Item.{Item};
 ghost use Rattle.journal.specs.declared.item.Item.TheVariants.{Row, Delivered, Nothing, OverNow, Refused, Submitted};
 ghost use Rattle.steps.specs.declared.step.Step.{Step};
@@ -15,7 +16,6 @@ ghost use Rattle.steps.specs.declared.step.Step.TheVariants.{Confirm, Deliver, R
 ghost use Rattle.update_machine.specs.Boots.{is_up};
 ghost use Rattle.update_machine.specs.Causes.{HaveCauses};
 ghost use Rattle.update_machine.specs.Concerns.{NoneConcern, concerns_controller};
-ghost use Rattle.update_machine.specs.Deliveries.{to_controller};
 ghost use Rattle.update_machine.specs.Messages.{is_deliverable, sends};
 ghost use Rattle.update_machine.specs.Pieces.{piece};
 ghost use Rattle.update_machine.specs.Setting.{Setting};
@@ -86,7 +86,7 @@ pub fn controllers_confirm()
         → IsFalse (is_up before s) → s < length old.marks.switches
         → SettlesWith (at_switch s after_over old.marks) old.plans new
         → AreWritten setting before (Row row (Confirm s) ∷ OverNow s ∷ [])
-        (settling (at_switch s after_over old.marks) new.marks) new
+        (settling_acts (at_switch s after_over old.marks) new.marks) new
         (piece setting before row (Confirm s)) }
 {}
 

@@ -9,7 +9,7 @@ use Rattle.version_update.specs.Record.{is_member, opens_at}
 use Rattle.version_update.specs.Marks.{MarksValue}
 use Rattle.version_update.specs.Settling.{Names, rises_to, Settles}
 use Rattle.controller.specs.News.{switches_named}
-use Rattle.controller.specs.Sends.{tell, those, stamps, opens, collects, settling}
+use Rattle.controller.specs.Sends.{tell, those, stamp_acts, opens, collect_acts, settling_acts}
 use Rattle.controller.specs.declared.sends.Act.{Act}
 use Rattle.controller.specs.declared.sends.Act.TheVariants.{Current, Retired}
 use Rattle.controller.proofs.Picking.{those_named}
@@ -49,7 +49,7 @@ headed head old rest mid acts begun made = made ∙ ap (λ l. l ++ rest) begun
 pub stamps_told : (before after : MarksValue) (answer : Settled) (n current : ℕ)
     (old mid acts : List Act) → n ≡ length after.switches → answer.current ≡ Some current
     → mid ≡ old ++ Current current ∷ [] → acts ≡ mid ++ tell after (λ boot. Stamp boot current)
-    (switches_named answer.stamps n) → Settles before after answer → acts ≡ old ++ stamps before after
+    (switches_named answer.stamps n) → Settles before after answer → acts ≡ old ++ stamp_acts before after
 stamps_told before after answer n current old mid acts all risen begun made is =
     let up = rose before.current after.current current (sym is.tells.current ∙ risen) in
     let names = and_first _ (λ known. is_member known.phase) answer.stamps before.switches up.1
@@ -64,7 +64,7 @@ stamps_told before after answer n current old mid acts all risen begun made is =
     (Current after.current ∷ tell after (λ boot. Stamp boot after.current) told) []) (sym up.1)
 
 pub stamps_none : (before after : MarksValue) (answer : Settled) → answer.current ≡ None
-    → Settles before after answer → stamps before after ≡ []
+    → Settles before after answer → stamp_acts before after ≡ []
 stamps_none before after answer none is =
     ap (λ b. cond b (Current after.current ∷ tell after (λ boot. Stamp boot after.current)
     (those (λ known. is_member known.phase) before.switches)) [])
@@ -85,7 +85,7 @@ opens_told before after answer n current old acts all is_current made is =
 pub collects_told : (before after : MarksValue) (answer : Settled) (n retired : ℕ)
     (old mid acts : List Act) → n ≡ length after.switches → answer.retired ≡ Some retired
     → mid ≡ old ++ Retired retired ∷ [] → acts ≡ mid ++ tell after (λ boot. Collect boot retired)
-    (switches_named answer.collects n) → Settles before after answer → acts ≡ old ++ collects before after
+    (switches_named answer.collects n) → Settles before after answer → acts ≡ old ++ collect_acts before after
 collects_told before after answer n retired old mid acts all risen begun made is =
     let up = rose before.retired after.retired retired (sym is.tells.retired ∙ risen) in
     let names = and_first _ (λ known. is_member known.phase) answer.collects after.switches up.1
@@ -101,7 +101,7 @@ collects_told before after answer n retired old mid acts all risen begun made is
     (sym up.1)
 
 pub collects_none : (before after : MarksValue) (answer : Settled) → answer.retired ≡ None
-    → Settles before after answer → collects before after ≡ []
+    → Settles before after answer → collect_acts before after ≡ []
 collects_none before after answer none is =
     ap (λ b. cond b (Retired after.retired ∷ tell after (λ boot. Collect boot after.retired)
     (those (λ known. is_member known.phase) after.switches)) [])
@@ -109,12 +109,12 @@ collects_none before after answer none is =
 
 -- the three parts, one after another
 pub settling_told : (before after : MarksValue) (old one two three : List Act)
-    → one ≡ old ++ stamps before after → two ≡ one ++ opens before after
-    → three ≡ two ++ collects before after → three ≡ old ++ settling before after
+    → one ≡ old ++ stamp_acts before after → two ≡ one ++ opens before after
+    → three ≡ two ++ collect_acts before after → three ≡ old ++ settling_acts before after
 settling_told before after old one two three a b c =
-    let first = stamps before after in
+    let first = stamp_acts before after in
     let second = opens before after in
-    let third = collects before after in
+    let third = collect_acts before after in
     c ∙ ap (λ l. l ++ third) (b ∙ ap (λ l. l ++ second) a ∙ append_assoc old first second)
     ∙ append_assoc old (first ++ second) third
 

@@ -11,7 +11,7 @@ use Rattle.version_update.specs.declared.record.SwitchRecord.{SwitchRecord}
 use Rattle.version_update.specs.Record.{unknown_switch, is_member, opens_at}
 use Rattle.version_update.specs.Marks.{MarksValue, AreMarksSettled}
 use Rattle.controller.specs.Controller.{KeptPlan, ControllerValue, plans_from}
-use Rattle.controller.specs.Sends.{tell, those, stamps, opens, collects, settling, marks_after, hearing}
+use Rattle.controller.specs.Sends.{tell, those, stamp_acts, opens, collect_acts, settling_acts, marks_after, hearing}
 use Rattle.controller.specs.declared.sends.Act.TheVariants.{Current, Retired}
 use Rattle.ctrl_msg.specs.declared.message.Body.TheVariants as body
 use Rattle.controller.proofs.Picking.{picked_same, passes_there}
@@ -42,19 +42,19 @@ those_none passes switches fail = picked_same _ (λ _. false) fails
             ap (λ o. option_map_or passes o false) (slice_get_past switches s past)
 
 -- nothing is sent
-pub nothing_sent : (marks : MarksValue) → AreMarksSettled marks → settling marks marks ≡ []
+pub nothing_sent : (marks : MarksValue) → AreMarksSettled marks → settling_acts marks marks ≡ []
 nothing_sent marks is =
-    let one : stamps marks marks ≡ [] =
+    let one : stamp_acts marks marks ≡ [] =
     ap (λ b. cond b (Current marks.current ∷ tell marks (λ boot. body.Stamp boot marks.current)
     (those (λ known. is_member known.phase) marks.switches)) []) (not_below marks.current) in
     let two : opens marks marks ≡ [] = ap (tell marks (λ boot. body.OpenAt boot marks.current))
     (those_none (opens_at marks.current) marks.switches is.opened) in
-    let three : collects marks marks ≡ [] =
+    let three : collect_acts marks marks ≡ [] =
     ap (λ b. cond b (Retired marks.retired ∷ tell marks
     (λ boot. body.Collect boot marks.retired)
     (those (λ known. is_member known.phase) marks.switches)) []) (not_below marks.retired) in
-    ap (λ l. l ++ opens marks marks ++ collects marks marks) one
-    ∙ ap (λ l. l ++ collects marks marks) two ∙ three
+    ap (λ l. l ++ opens marks marks ++ collect_acts marks marks) one
+    ∙ ap (λ l. l ++ collect_acts marks marks) two ∙ three
 
 -- the plans from the current version on are all
 pub all_kept : (to from n : ℕ) (plans : List KeptPlan) → to ≤ from
@@ -71,7 +71,7 @@ all_kept to from (suc n) (kept ∷ plans) low versions =
 -- a body that isn't for the controller
 pub record IsUnheard (body : Body) (controller : ControllerValue) : Type 0 where
   pub same : marks_after body controller.marks ≡ controller.marks
-  pub sent : hearing body controller.marks controller ≡ settling controller.marks
+  pub sent : hearing body controller.marks controller ≡ settling_acts controller.marks
       controller.marks ++ []
 
 pub is_unheard : (body : Body) (controller : ControllerValue)

@@ -46,8 +46,8 @@ tell marks body switches = map (λ s. post s (body (boot_recorded marks s))) swi
 
 -- a new current version, and its stamps to the members from before: they have its tables, and
 -- those that join open at it
-abbrev pub stamps : MarksValue → MarksValue → List Act
-stamps before after = if nat_lt before.current after.current
+abbrev pub stamp_acts : MarksValue → MarksValue → List Act
+stamp_acts before after = if nat_lt before.current after.current
     then Current after.current ∷ tell after (λ boot. Stamp boot after.current)
     (those (λ known. is_member known.phase) before.switches)
     else []
@@ -59,15 +59,15 @@ opens before after = tell after (λ boot. OpenAt boot after.current)
 
 -- a newly retired version, and to all members that they drop the tables up to it: no member stamps
 -- with it any more
-abbrev pub collects : MarksValue → MarksValue → List Act
-collects before after = if nat_lt before.retired after.retired
+abbrev pub collect_acts : MarksValue → MarksValue → List Act
+collect_acts before after = if nat_lt before.retired after.retired
     then Retired after.retired ∷ tell after (λ boot. Collect boot after.retired)
     (those (λ known. is_member known.phase) after.switches)
     else []
 
 -- what is sent as marks settle
-abbrev pub settling : MarksValue → MarksValue → List Act
-settling before after = stamps before after ++ opens before after ++ collects before after
+abbrev pub settling_acts : MarksValue → MarksValue → List Act
+settling_acts before after = stamp_acts before after ++ opens before after ++ collect_acts before after
 
 -- ---- the calls
 
@@ -76,7 +76,7 @@ abbrev pub submitting : MarksValue → PlanValue → MarksValue → List Act
 submitting old plan new =
     map (λ s. install_act s (boot_recorded old s) (record { version = old.count + 1; plan = plan }))
     (those (λ known. not (is_over known.phase)) old.switches)
-    ++ settling (with_version old) new
+    ++ settling_acts (with_version old) new
 
 -- what a message changes of what is known
 abbrev pub marks_after : Body → MarksValue → MarksValue
@@ -96,7 +96,7 @@ installs_after _ old new = []
 
 -- settling, and then what a new boot lacks
 abbrev pub hearing : Body → MarksValue → ControllerValue → List Act
-hearing body old new = settling (marks_after body old) new.marks ++ installs_after body old new
+hearing body old new = settling_acts (marks_after body old) new.marks ++ installs_after body old new
 
 -- the switch is there, and so is the version
 pub record NamesBoth (switch version : ℕ) (marks : MarksValue) : Type 0 where

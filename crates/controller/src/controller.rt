@@ -9,7 +9,7 @@ ghost use Rattle.version_update.specs.Settling.{Settles};
 ghost use Rattle.version_update.specs.declared.record.Phase.TheVariants.{Joining, Member};
 ghost use Rattle.controller.specs.Controller.{first_controller, kept_tables, plans_from, IsController, StaysController, SettlesWith};
 ghost use Rattle.controller.specs.Replies.{after_reply};
-ghost use Rattle.controller.specs.Sends.{those, boot_recorded, install_act, settling, submitting, marks_after, hearing, NamesBoth, NamesThere, resending, resending_to};
+ghost use Rattle.controller.specs.Sends.{those, boot_recorded, install_act, settling_acts, submitting, marks_after, hearing, NamesBoth, NamesThere, resending, resending_to};
 ghost use Rattle.controller.specs.Submit.{SubmitsPlan, IsLeft};
 ghost use Rattle.controller.specs.declared.submit_error.SubmitError.TheVariants.{TooManyLive, TooManyVersions, NoMemory};
 
@@ -170,7 +170,7 @@ impl Controller {
         ensures after { SettlesWith
             (at_switch s after_over self.old.marks) self.old.plans self.new }
         ensures sends { IfOk result (λ sends.
-            sends ≡ settling (at_switch s after_over self.old.marks) self.new.marks) }
+            sends ≡ settling_acts (at_switch s after_over self.old.marks) self.new.marks) }
         ensures rule { StaysController self.old self.new }
     {
         let settled = self.marks.over(s);
@@ -241,7 +241,7 @@ impl Controller {
     // A body that isn't for the controller causes nothing: settled marks stay as they are.
     fn unheard(&self, alloc: Global) -> Sends
         ensures none { result ≡ [] }
-        ensures idle { settling self.now.marks self.now.marks ≡ [] }
+        ensures idle { settling_acts self.now.marks self.now.marks ≡ [] }
         ensures after { SettlesWith self.now.marks self.now.plans self.now }
         ensures rule { IsController self.now }
     {
@@ -280,7 +280,7 @@ impl Controller {
         ensures after { SettlesWith (at_switch s (after_reply reply boot version) self.old.marks)
             self.old.plans self.new }
         ensures sends { IfOk result (λ sends. sends
-            ≡ settling (at_switch s (after_reply reply boot version) self.old.marks)
+            ≡ settling_acts (at_switch s (after_reply reply boot version) self.old.marks)
             self.new.marks) }
         ensures rule { StaysController self.old self.new }
     {

@@ -4,7 +4,7 @@ ghost use Rattle.version_update.specs.Marks.{MarksValue};
 ghost use Rattle.version_update.specs.Settling.{Settles};
 ghost use Rattle.controller.specs.Controller.{plans_from};
 ghost use Rattle.controller.specs.News.{body_of, switches_named};
-ghost use Rattle.controller.specs.Sends.{tell, stamps, opens, collects, settling};
+ghost use Rattle.controller.specs.Sends.{tell, stamp_acts, opens, collect_acts, settling_acts};
 
 use crate::sends::{Act, Sends};
 use crate::version::Version;
@@ -45,7 +45,7 @@ pub fn settle(
     settled: &Settled,
 ) -> Result<(), AllocError>
     ensures acts { OnOk result ((before : MarksValue) → Settles before marks.now settled.now
-        → acts.new.items ≡ acts.old.items ++ settling before marks.now) }
+        → acts.new.items ≡ acts.old.items ++ settling_acts before marks.now) }
     ensures versions { versions.new.items ≡ plans_from marks.now.current versions.old.items }
 {
     let_go(versions, marks.current());
@@ -68,7 +68,7 @@ pub fn settled_sends(
 ) -> Result<Sends, AllocError>
     ensures sends { IfOk result (λ sends.
         (before : MarksValue) → Settles before marks.now settled.now
-        → sends ≡ settling before marks.now) }
+        → sends ≡ settling_acts before marks.now) }
     ensures versions { versions.new.items ≡ plans_from marks.now.current versions.old.items }
 {
     let mut acts = Vec::new(alloc);
@@ -85,7 +85,7 @@ fn let_go(versions: &mut Vec<Version>, current: u32)
 
 fn stamp(acts: &mut Vec<Act>, marks: &Marks, settled: &Settled) -> Result<(), AllocError>
     ensures { OnOk result ((before : MarksValue) → Settles before marks.now settled.now
-        → acts.new.items ≡ acts.old.items ++ stamps before marks.now) }
+        → acts.new.items ≡ acts.old.items ++ stamp_acts before marks.now) }
 {
     if let Some(current) = settled.current {
         acts.push(Act::Current(current))?;
@@ -105,7 +105,7 @@ fn open(acts: &mut Vec<Act>, marks: &Marks, settled: &Settled) -> Result<(), All
 
 fn collect(acts: &mut Vec<Act>, marks: &Marks, settled: &Settled) -> Result<(), AllocError>
     ensures { OnOk result ((before : MarksValue) → Settles before marks.now settled.now
-        → acts.new.items ≡ acts.old.items ++ collects before marks.now) }
+        → acts.new.items ≡ acts.old.items ++ collect_acts before marks.now) }
 {
     if let Some(retired) = settled.retired {
         acts.push(Act::Retired(retired))?;

@@ -2,6 +2,8 @@
 use Rattle.std.specs.Prelude.{ℕ, Bool, true, false, Option, Some, None}
 use Rattle.ctrl_msg.specs.declared.message.Body.{Body}
 use Rattle.ctrl_msg.specs.declared.message.Body.TheVariants.{Install, OpenAt, Stamp, Collect, CacheRule, Hello, Installed, Stamped}
+use Rattle.ctrl_msg.specs.declared.message.Message.{Message}
+use Rattle.ctrl_msg.specs.declared.message.Receiver.TheVariants.{Controller}
 
 -- the version that a body speaks of
 abbrev pub body_version : Body → Option ℕ
@@ -20,3 +22,7 @@ is_for_controller (Hello switch boot) = true
 is_for_controller (Installed switch boot version) = true
 is_for_controller (Stamped switch boot version) = true
 is_for_controller _ = false
+
+-- a message with this body to the controller
+abbrev pub to_controller : Body → Message
+to_controller body = record { to = Controller; body = body }

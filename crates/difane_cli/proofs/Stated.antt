@@ -57,7 +57,7 @@ states files name read stated value own is =
 
 -- ---- networks, schedules and policies
 
-net_is : (name : List ℕ) (read : Result Net net_text.Refusal) (net : Net)
+net_is : (name : List ℕ) (read : Result Net net_text.RefusedNet) (net : Net)
     → net_from name read ≡ Ok net → read ≡ Ok net
 net_is name (Ok net) own is = cc is
 net_is name (Err refusal) own is = absurd (cc is)
@@ -67,7 +67,7 @@ net_states : (files : Files) (name : List ℕ) (net : Net) → read_net files (S
 net_states files name net is =
     states files name net_of (net_stated name) net (λ bytes. net_is name (net_of bytes) net) is
 
-events_are : (name : List ℕ) (read : Result (List Event) schedule_text.Refusal)
+events_are : (name : List ℕ) (read : Result (List Event) schedule_text.RefusedSchedule)
     (events : List Event) → schedule_from name read ≡ Ok events → read ≡ Ok events
 events_are name (Ok events) own is = cc is
 events_are name (Err refusal) own is = absurd (cc is)
@@ -79,7 +79,7 @@ schedule_states net count files name events is =
     states files name (schedule_of net count) (schedule_in net count name) events
     (λ bytes. events_are name (schedule_of net count bytes) events) is
 
-rows_are : (name : List ℕ) (read : Result (List Row) policy_text.Refusal) (rows : List Row)
+rows_are : (name : List ℕ) (read : Result (List Row) policy_text.RefusedPolicy) (rows : List Row)
     → policy_from name read ≡ Ok rows → read ≡ Ok rows
 rows_are name (Ok rows) own is = cc is
 rows_are name (Err refusal) own is = absurd (cc is)

@@ -51,7 +51,7 @@ content_from name (Some bytes) =
 abbrev pub content_of : Files → List ℕ → Result (List ℕ) Refusal
 content_of files name = content_from name (file_named files name)
 
-abbrev pub schedule_from : List ℕ → Result (List Event) refused_by.Refusal
+abbrev pub schedule_from : List ℕ → Result (List Event) refused_by.RefusedSchedule
     → Result (List Event) Refusal
 schedule_from name (Ok events) = Ok events
 schedule_from name (Err refusal) =
@@ -62,7 +62,7 @@ abbrev pub schedule_in : Net → ℕ → List ℕ → List ℕ → Result (List 
 schedule_in net policies name bytes =
     schedule_from name (schedule_text.schedule_of net policies bytes)
 
-abbrev pub policy_from : List ℕ → Result (List Row) policy_text.Refusal → Result (List Row) Refusal
+abbrev pub policy_from : List ℕ → Result (List Row) policy_text.RefusedPolicy → Result (List Row) Refusal
 policy_from name (Ok rows) = Ok rows
 policy_from name (Err refusal) =
     Err (record { file = name; code = policy_text.policy_code refusal.refusal; row = refusal.row })
@@ -92,7 +92,7 @@ read_policies ports files (name ∷ names) =
     and_then (read_policies ports files names) (λ policies.
     Ok (rows ∷ policies)))
 
-abbrev pub net_from : List ℕ → Result Net net_text.Refusal → Result Net Refusal
+abbrev pub net_from : List ℕ → Result Net net_text.RefusedNet → Result Net Refusal
 net_from name (Ok net) = Ok net
 net_from name (Err refusal) =
     Err (record { file = name; code = net_text.net_code refusal.refusal; row = refusal.row })

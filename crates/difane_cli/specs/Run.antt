@@ -124,7 +124,7 @@ is_made report.Summary (Some row) = false
 -- a play that didn't stop full wants memory behind it: to see whether the network is quiet, where
 -- this is asked for, and for the summary
 abbrev pub WantsMemory : Report → Option ℕ → Type 0
-WantsMemory told full = IsTrue (is_asked (asks_quiet told) full) ⊎ IsTrue (is_made told full)
+WantsMemory asked full = IsTrue (is_asked (asks_quiet asked) full) ⊎ IsTrue (is_made asked full)
 
 -- the same of either play, but that memory ran out behind it, where it is wanted or the output's
 -- own writes take any; and the output wasn't touched or gained a part of the text. Where it ran out

@@ -6,7 +6,7 @@ use Rattle.masks.specs.Masks.{has}
 use Rattle.failover.specs.Paths.{IsAtMost}
 use Rattle.failover.specs.Routes.{ball, onward}
 use Rattle.failover.specs.Search.{IsAway}
-use Rattle.failover.specs.Links.{Leads}
+use Rattle.failover.specs.Links.{LinksLead}
 use Rattle.failover.proofs.Balls.{false_of, apart_tests, ball_grows, ball_gains, at_target, has_target, next_step, same_number}
 
 -- ---- the route leads to the target
@@ -17,7 +17,7 @@ length-onward links target zero at = refl
 length-onward links target (suc k) at = ap suc (length-onward links target k _)
 
 pub onward_leads : (links : List ℕ) (target k at : ℕ) → length links ≡ 64 → target < 64 → at < 64 →
-    IsAway links target k at → Leads links target at (onward links target k at)
+    IsAway links target k at → LinksLead links target at (onward links target k at)
 unfolding onward
 onward_leads links target zero at rows target_fits at_fits away =
     at_target links target at away.here
@@ -56,7 +56,7 @@ onward_distinct links target (suc k) at rows target_fits at_fits away =
 -- ---- no path is shorter, or less
 
 pub reaches : (links : List ℕ) (target at : ℕ) (rest : List ℕ) (k : ℕ) → length links ≡ 64 →
-    at < 64 → Leads links target at rest → length rest ≤ k → has (ball links target k) at ≡ true
+    at < 64 → LinksLead links target at rest → length rest ≤ k → has (ball links target k) at ≡ true
 reaches links target at [] zero rows fits leads short =
     ap (has (ball links target 0)) leads ∙ has_target links target
 reaches links target at [] (suc k) rows fits leads short =
@@ -77,7 +77,7 @@ at_most_next x y xs ys less rest =
     ]
 
 pub onward_least : (links : List ℕ) (target k at : ℕ) (rest : List ℕ) → length links ≡ 64 →
-    target < 64 → at < 64 → IsAway links target k at → Leads links target at rest →
+    target < 64 → at < 64 → IsAway links target k at → LinksLead links target at rest →
     length rest ≡ k → IsAtMost (onward links target k at) rest
 unfolding onward
 onward_least links target zero at rest rows target_fits at_fits away leads long = tt
@@ -88,4 +88,4 @@ onward_least links target (suc k) at (next ∷ rest) rows target_fits at_fits aw
     at_most_next _ next _ rest
     (step.least next leads.1 (reaches links target next rest k rows leads.0 leads.2 (omega arith)))
     (λ same. onward_least links target k _ rest rows target_fits step.below step.away
-    (subst (λ (y : ℕ). Leads links target y rest) (sym same) leads.2) (omega arith))
+    (subst (λ (y : ℕ). LinksLead links target y rest) (sym same) leads.2) (omega arith))

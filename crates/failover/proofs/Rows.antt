@@ -130,11 +130,11 @@ unfolding known_links links_of_each
 known_turned adverts at near down = row_turned (named_links adverts at near) down
 
 -- what is held, with the neighbours that a switch sees itself
-pub told_links_held : (adverts : List (Option Advert)) (told : List ℕ) (at near : ℕ)
-    (neighbours : List ℕ) → IsDatabase adverts told → neighbours ≡ set told at near →
+pub named_links_held : (adverts : List (Option Advert)) (named : List ℕ) (at near : ℕ)
+    (neighbours : List ℕ) → IsDatabase adverts named → neighbours ≡ set named at near →
     neighbours ≡ named_links adverts at near
 unfolding named_links
-told_links_held adverts told at near neighbours held e =
+named_links_held adverts named at near neighbours held e =
     e ∙ ap (λ all. set all at near) held.neighbours
 
 -- ---- isolated targets

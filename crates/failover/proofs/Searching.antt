@@ -7,7 +7,7 @@ use Rattle.std.proofs.lemmas.List.Elements.{All-cons, All-nil}
 use Rattle.std.proofs.lemmas.Map.Steps.{length-le_from_distinct_below}
 use Rattle.failover.specs.declared.advert.Advert.{Advert}
 use Rattle.masks.specs.Masks.{has, switches}
-use Rattle.failover.specs.Links.{known_links, Leads, IsPath, IsReachable}
+use Rattle.failover.specs.Links.{known_links, LinksLead, IsPath, IsReachable}
 use Rattle.failover.specs.Paths.{IsAtMost, IsLeastPath, IsRoute}
 use Rattle.failover.specs.Routes.{wider, ball, onward, links_away, route_to, first_route, route_of}
 use Rattle.failover.specs.RouteList.{IsRouteList}
@@ -18,7 +18,7 @@ use Rattle.failover.proofs.LeastPaths.{length-onward, onward_leads, onward_disti
 -- ---- paths
 
 switch_below : (links : List ℕ) (target at : ℕ) (rest : List ℕ) → at < 64 →
-    Leads links target at rest → (q : ℕ) → list_any (nat_eq q) (at ∷ rest) ≡ true → q < 64
+    LinksLead links target at rest → (q : ℕ) → list_any (nat_eq q) (at ∷ rest) ≡ true → q < 64
 switch_below links target at [] fits leads q h =
     elim (or_cases (nat_eq q at) false h) [
       | inl same ↦ (let e = same_number q at same in omega arith)
@@ -32,7 +32,7 @@ switch_below links target at (next ∷ rest) fits leads q h =
     ]
 
 all_below : (links : List ℕ) (target at : ℕ) (rest : List ℕ) → at < 64 →
-    Leads links target at rest → All (λ x. x < 64) (at ∷ rest)
+    LinksLead links target at rest → All (λ x. x < 64) (at ∷ rest)
 all_below links target at [] fits leads = All-cons (λ x. x < 64) at [] fits (All-nil (λ x. x < 64))
 all_below links target at (next ∷ rest) fits leads =
     All-cons (λ x. x < 64) at (next ∷ rest) fits (all_below links target next rest leads.0 leads.2)
@@ -50,7 +50,7 @@ path_is_route_list links from target (first ∷ rest) path = record {
 }
 
 pub target_below : (links : List ℕ) (target at : ℕ) (rest : List ℕ) → at < 64 →
-    Leads links target at rest → target < 64
+    LinksLead links target at rest → target < 64
 target_below links target at [] fits leads = subst (λ (x : ℕ). x < 64) leads fits
 target_below links target at (next ∷ rest) fits leads =
     target_below links target next rest leads.0 leads.2
@@ -58,7 +58,7 @@ target_below links target at (next ∷ rest) fits leads =
 -- ---- what was found is the least path
 
 no_fewer : (links : List ℕ) (target k at : ℕ) (rest : List ℕ) → length links ≡ 64 → at < 64 →
-    IsAway links target k at → Leads links target at rest → k ≤ length rest
+    IsAway links target k at → LinksLead links target at rest → k ≤ length rest
 no_fewer links target k at rest rows fits away leads =
     elim (cases_lt (length rest) k) [
       | inl short ↦ apart_tests _ (reaches links target at rest (length rest) rows fits leads
@@ -75,8 +75,8 @@ fewest_of : (links : List ℕ) (target k from : ℕ) → length links ≡ 64 →
 unfolding IsPath
 fewest_of links target k from rows fits away [] path = absurd path
 fewest_of links target k from rows fits away (first ∷ rest) path =
-    let leads : Leads links target from rest =
-    subst (λ (x : ℕ). Leads links target x rest) path.0 path.2 in
+    let leads : LinksLead links target from rest =
+    subst (λ (x : ℕ). LinksLead links target x rest) path.0 path.2 in
     omega (arith, no_fewer links target k from rest rows fits away leads)
 
 least_of_all : (links : List ℕ) (target k from : ℕ) → length links ≡ 64 → target < 64 → from < 64 →
@@ -85,8 +85,8 @@ least_of_all : (links : List ℕ) (target k from : ℕ) → length links ≡ 64 
 unfolding IsPath
 least_of_all links target k from rows target_fits fits away [] path long = absurd path
 least_of_all links target k from rows target_fits fits away (first ∷ rest) path long =
-    let leads : Leads links target from rest =
-    subst (λ (x : ℕ). Leads links target x rest) path.0 path.2 in
+    let leads : LinksLead links target from rest =
+    subst (λ (x : ℕ). LinksLead links target x rest) path.0 path.2 in
     inr (
       sym path.0,
       onward_least links target k from rest rows target_fits fits away leads
@@ -129,8 +129,8 @@ unfolding IsPath IsOutOfReach
 no_path links target from rows fits out [] path = path
 no_path links target from rows fits out (first ∷ rest) path =
     let few = (path_is_route_list links from target (first ∷ rest) path).few in
-    let leads : Leads links target from rest =
-    subst (λ (x : ℕ). Leads links target x rest) path.0 path.2 in
+    let leads : LinksLead links target from rest =
+    subst (λ (x : ℕ). LinksLead links target x rest) path.0 path.2 in
     apart_tests _ (reaches links target from rest 63 rows fits leads (omega arith))
     (out 63 (omega arith))
 
@@ -309,7 +309,7 @@ away_or_out links target from = search_up_to links target from 64
 -- ---- a way that meets a switch again
 
 pub straight_path : (links : List ℕ) (from target : ℕ) (rest : List ℕ) → length links ≡ 64 →
-    from < 64 → Leads links target from rest → IsReachable links from target
+    from < 64 → LinksLead links target from rest → IsReachable links from target
 unfolding IsReachable
 straight_path links from target rest rows fits leads =
     elim (search_up_to links target from (suc (length rest))) [

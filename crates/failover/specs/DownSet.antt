@@ -1,4 +1,4 @@
--- A set of links between two different switches, as 64 masks: row k has the greater numbers to
+-- A set of links between two different switches, as 64 masks: mask k has the greater numbers to
 -- which k has a link in the set.
 use Rattle.std.specs.Prelude.{ℕ, ◌≡◌, ◌<◌, Bool, ◌&&◌, ◌||◌, ◌==◌, List, length, slice_index, IsTrue}
 use Rattle.masks.specs.Masks.{has}

@@ -17,9 +17,9 @@ is_isolated adverts at target near down =
 
 -- what a database holds: each advert at the place of its origin, and beside it the neighbours that
 -- it names
-pub record IsDatabase (adverts : List (Option Advert)) (told : List ℕ) : Type 0 where
+pub record IsDatabase (adverts : List (Option Advert)) (named : List ℕ) : Type 0 where
   pub by_origin : AreByOrigin adverts
-  pub neighbours : told ≡ map neighbours_named adverts
+  pub neighbours : named ≡ map neighbours_named adverts
 
 -- for each switch those to which it has a link
 unfoldable pub links_of_each : List ℕ → List ℕ → List ℕ

@@ -5,7 +5,7 @@ use Rattle.failover.specs.declared.advert.Advert.{Advert}
 use Rattle.masks.specs.Masks.{has}
 use Rattle.failover.specs.Adverts.{held, is_news, after_hearing, after_hearing_all, no_adverts, first_of, first_adverts}
 use Rattle.failover.specs.DownSet.{is_link_of, IsLinkSet}
-use Rattle.failover.specs.Links.{named_links, is_link, known_links, has_link, no_links, with_link, Leads, IsPath, IsReachable}
+use Rattle.failover.specs.Links.{named_links, is_link, known_links, has_link, no_links, with_link, LinksLead, IsPath, IsReachable}
 use Rattle.failover.specs.Paths.{IsIsolated, IsRoute}
 use Rattle.failover.specs.RouteList.{IsRouteList}
 use Rattle.failover.specs.Routes.{route_of}
@@ -45,7 +45,7 @@ pub record LinkSetLaws : Type 0 where
   pub same : (a b : List ℕ) → IsLinkSet a → IsLinkSet b →
       ((x y : ℕ) → has_link a x y ≡ has_link b x y) → a ≡ b
 
-pub record KnownRowLaws : Type 0 where
+pub record LinksAtLaws : Type 0 where
   -- a link is known where both ends name each other
   pub known : (adverts : List (Option Advert)) (at near : ℕ) (down : List ℕ) (one other : ℕ) →
       one < 64 → other < 64 →
@@ -83,4 +83,4 @@ pub record RouteLaws : Type 0 where
       IsRouteList path
   -- a way to the target that meets a switch again shows that a path leads there too
   pub straightened : (links : List ℕ) (from target : ℕ) (rest : List ℕ) → length links ≡ 64 →
-      from < 64 → Leads links target from rest → IsReachable links from target
+      from < 64 → LinksLead links target from rest → IsReachable links from target

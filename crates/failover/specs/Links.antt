@@ -45,16 +45,16 @@ abbrev pub AreJoined : List ℕ → ℕ → ℕ → Type 0
 AreJoined links one other = IsTrue (has (slice_index links one) other)
 
 -- from a switch over these, each joined to the one before it, to the target
-abbrev pub Leads : List ℕ → ℕ → ℕ → List ℕ → Type 0
-Leads links target at [] = at ≡ target
-Leads links target at (next ∷ rest) =
-    (next < 64) × AreJoined links at next × Leads links target next rest
+abbrev pub LinksLead : List ℕ → ℕ → ℕ → List ℕ → Type 0
+LinksLead links target at [] = at ≡ target
+LinksLead links target at (next ∷ rest) =
+    (next < 64) × AreJoined links at next × LinksLead links target next rest
 
 -- distinct switches, whose neighbours are joined by links, from one to the other
 unfoldable pub IsPath : List ℕ → ℕ → ℕ → List ℕ → Type 0
 IsPath links from target [] = ⊥
 IsPath links from target (first ∷ rest) =
-    (first ≡ from) × (first < 64) × Leads links target first rest × IsDistinct nat_eq (first ∷ rest)
+    (first ≡ from) × (first < 64) × LinksLead links target first rest × IsDistinct nat_eq (first ∷ rest)
 
 -- some path leads to the target
 unfoldable pub IsReachable : List ℕ → ℕ → ℕ → Type 0

@@ -22,7 +22,7 @@ use std::marker::Model;
 pub struct Database {
     adverts: [Option<Advert>; 64],
     // The neighbours that each advert names, beside it: so no route has to gather them.
-    told: [u64; 64],
+    named: [u64; 64],
 }
 
 impl Model for Database {
@@ -34,7 +34,7 @@ impl Model for Database {
 
     ghost view = { λ d. d.adverts };
 
-    ghost invariant = { λ d. IsDatabase d.adverts d.told };
+    ghost invariant = { λ d. IsDatabase d.adverts d.named };
 }
 
 impl Database {
@@ -66,8 +66,8 @@ impl Database {
         requires { AreByOrigin adverts }
         ensures { result ≡ adverts }
     {
-        let told = all_told(&adverts);
-        Database { adverts, told }
+        let named = all_named(&adverts);
+        Database { adverts, named }
     }
 
     /// Holds the advert, and answers true, exactly where it is news: its origin is below 64, and
@@ -80,7 +80,7 @@ impl Database {
             return false;
         }
         self.adverts[advert.origin as usize] = Some(*advert);
-        self.told[advert.origin as usize] = advert.up;
+        self.named[advert.origin as usize] = advert.up;
         true
     }
 
@@ -120,7 +120,7 @@ impl Database {
         ensures route { IsRoute (known_links self.now from near down.now) from targets.now result }
         ensures list { IfSome result IsRouteList }
     {
-        let mut neighbours = self.told;
+        let mut neighbours = self.named;
         set_own(&mut neighbours, from, near);
         first_route(&neighbours, down, from, targets.items())
     }
@@ -135,13 +135,13 @@ impl Database {
         if target == at {
             return false;
         }
-        let mut neighbours = self.told;
+        let mut neighbours = self.named;
         set_own(&mut neighbours, at, near);
         is_linkless(&neighbours, down, target)
     }
 }
 
-// Puts the neighbours that this switch sees in the place of those that it told.
+// Puts the neighbours that this switch sees in the place of those that it named.
 fn set_own(neighbours: &mut [u64; 64], at: u32, near: u64)
     ensures { neighbours.new ≡ slice_set neighbours.old at near }
 {
@@ -151,18 +151,18 @@ fn set_own(neighbours: &mut [u64; 64], at: u32, near: u64)
 }
 
 // The neighbours that each of these adverts names.
-fn all_told(adverts: &[Option<Advert>; 64]) -> [u64; 64]
+fn all_named(adverts: &[Option<Advert>; 64]) -> [u64; 64]
     ensures { result ≡ map neighbours_named adverts.now }
 {
-    let mut told = [0; 64];
+    let mut named = [0; 64];
     for origin in 0..64 {
-        told[origin] = neighbours_told(&adverts[origin]);
+        named[origin] = neighbours_named(&adverts[origin]);
     }
-    told
+    named
 }
 
 // The neighbours that an advert names, if there is one.
-fn neighbours_told(advert: &Option<Advert>) -> u64
+fn neighbours_named(advert: &Option<Advert>) -> u64
     ensures { result ≡ neighbours_named advert.now }
 {
     match advert {

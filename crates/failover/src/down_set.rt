@@ -12,7 +12,7 @@ use std::marker::Model;
 /// set; so equal sets are equal values.
 #[derive(Clone, Copy, Debug, PartialEq, Eq)]
 pub struct DownSet {
-    rows: [u64; 64],
+    masks: [u64; 64],
 }
 
 const _: () = prove!(size_of::<DownSet>() <= 512);
@@ -23,11 +23,11 @@ impl Model for DownSet {
 
     ghost Value = { List ℕ };
 
-    ghost view = { λ d. d.rows };
+    ghost view = { λ d. d.masks };
 
-    ghost invariant = { λ d. IsLinkSet d.rows };
+    ghost invariant = { λ d. IsLinkSet d.masks };
 
-    ghost inverse = { λ rows. record { rows = rows } };
+    ghost inverse = { λ masks. record { masks = masks } };
 }
 
 impl DownSet {
@@ -38,7 +38,7 @@ impl DownSet {
         ensures value { result ≡ no_links }
         ensures links { (x y : ℕ) → has_link result x y ≡ false }
     {
-        DownSet { rows: [0; 64] }
+        DownSet { masks: [0; 64] }
     }
 
     /// Adds the link of these two switches.
@@ -52,7 +52,7 @@ impl DownSet {
     {
         let low = one.min(two);
         let high = one.max(two);
-        self.rows[low as usize] |= only_if(true, high);
+        self.masks[low as usize] |= only_if(true, high);
     }
 
     /// Whether the link of these two switches, in either order, is in the set.
@@ -60,11 +60,11 @@ impl DownSet {
         ensures link { result ≡ has_link self.now one two }
         ensures set { IsLinkSet self.now }
     {
-        let rows = &self.rows;
+        let masks = &self.masks;
         if one >= SWITCHES || two >= SWITCHES {
             return false;
         }
-        // The row of the higher number doesn't have the lower: to look is less than to order them.
-        has(rows[one as usize], two) || has(rows[two as usize], one)
+        // The mask of the higher number doesn't have the lower: to look is less than to order them.
+        has(masks[one as usize], two) || has(masks[two as usize], one)
     }
 }

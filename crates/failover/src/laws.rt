@@ -1,4 +1,4 @@
-ghost use Rattle.failover.specs.Laws.{AdvertLaws, KnownRowLaws, LinkSetLaws, RouteLaws};
+ghost use Rattle.failover.specs.Laws.{AdvertLaws, LinksAtLaws, LinkSetLaws, RouteLaws};
 
 /// What is held at first, and what a list of heard adverts leaves: of each origin the newest, of
 /// equally new ones the first.
@@ -15,7 +15,7 @@ pub fn link_set_laws()
 /// A link is known exactly where both ends name each other and it isn't down; a target is isolated
 /// exactly where it is another switch and no known link ends at it.
 pub fn link_laws()
-    ensures { KnownRowLaws }
+    ensures { LinksAtLaws }
 {}
 
 /// The function that computes a route gives the defined one, and there is no other; a path has at

@@ -12,14 +12,14 @@ pub fn links_within(neighbours: &[u64; 64], down: &DownSet, one: u32, within: u6
     requires { one < 64 }
     ensures { result ≡ bit_and (links_at neighbours.now down.now one) within }
 {
-    let mut row = 0;
+    let mut mask = 0;
     let mut rest = neighbours[one as usize] & within;
     while rest != 0 {
         let other = rest.trailing_zeros();
-        row |= only_if(is_link_to(neighbours, down, one, other), other);
+        mask |= only_if(is_link_to(neighbours, down, one, other), other);
         rest ^= only_if(true, other);
     }
-    row
+    mask
 }
 
 // Whether a link leads to this switch, which the first one names.

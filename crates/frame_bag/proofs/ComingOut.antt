@@ -6,7 +6,7 @@ use Rattle.std.proofs.lemmas.List.Elements.{All-head}
 use Rattle.std.proofs.lemmas.Option.{slice_get_within}
 use Rattle.ctrl_msg.specs.declared.message.Message.{Message}
 use Rattle.wire.specs.Assembly.{AreAllHeld, IsRefusedFrame, with_frame}
-use Rattle.wire.specs.Frames.{AreFrames, count_of, frames, piece_of}
+use Rattle.wire.specs.Frames.{AreFrames, count_in_frame, frames, piece_of}
 use Rattle.wire.specs.Messages.{IsSpelling}
 use Rattle.wire.proofs.Assembling.{spelled_by}
 use Rattle.wire.proofs.Decoding.{one_message}
@@ -74,22 +74,22 @@ goes_on first fs held after next other place m fed is at = record {
 }
 
 pub comes_out : (first : List ℕ) (fs held after : List (List ℕ)) (next : List ℕ) (place : ℕ) (m answer : Message)
-    → IsFedTo first fs held next place m → after ≡ with_frame held next → AreAllHeld after (count_of next)
+    → IsFedTo first fs held next place m → after ≡ with_frame held next → AreAllHeld after (count_in_frame next)
     → AreFrames answer after → AreFrames answer (first ∷ drop 1 fs)
 comes_out first fs held after next place m answer fed is all are =
     let now = joined first fs held after next place m fed is in
     let last : place + 1 ≡ length (frames m) =
-    (comes_next m place next fed.has fed.next_is).none (subst (λ h. AreAllHeld h (count_of next)) now all) in
+    (comes_next m place next fed.has fed.next_is).none (subst (λ h. AreAllHeld h (count_in_frame next)) now all) in
     subst (AreFrames answer) (now ∙ ap (frames_before m) last ∙ all_before m fed.has ∙ sym fed.is) are
 
 -- there is one more as long as not all are held
 pub never_short : (first : List ℕ) (fs held after : List (List ℕ)) (next : List ℕ) (place : ℕ) (m : Message)
-    → IsFedTo first fs held next place m → after ≡ with_frame held next → (AreAllHeld after (count_of next) → ⊥)
+    → IsFedTo first fs held next place m → after ≡ with_frame held next → (AreAllHeld after (count_in_frame next) → ⊥)
     → length fs ≤ place + 1 → ⊥
 never_short first fs held after next place m fed is none short =
     let within = slice_get_within (frames m) place next fed.next_is in
     let last : place + 1 ≡ length (frames m) = omega (arith, ap length fed.is, length-drop 1 fs) in
-    none (subst (λ h. AreAllHeld h (count_of next)) (sym (joined first fs held after next place m fed is))
+    none (subst (λ h. AreAllHeld h (count_in_frame next)) (sym (joined first fs held after next place m fed is))
     ((comes_next m place next fed.has fed.next_is).some last))
 
 pub never_past : (first : List ℕ) (fs held : List (List ℕ)) (next : List ℕ) (place : ℕ) (m : Message)

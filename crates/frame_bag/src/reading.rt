@@ -5,7 +5,7 @@ ghost use Rattle.ctrl_msg.specs.declared.message.Receiver.{Receiver};
 ghost use Rattle.frame_laws.specs.Installing.{table_frames};
 ghost use Rattle.wire.specs.Assembly.{AreAllHeld, IsRefusedFrame, with_frame};
 ghost use Rattle.wire.specs.Fields as fields;
-ghost use Rattle.wire.specs.Frames.{AreFrames, count_of};
+ghost use Rattle.wire.specs.Frames.{AreFrames, count_in_frame};
 ghost use Rattle.wire.specs.Messages.{IsFront};
 ghost use Rattle.frame_bag.specs.Kept.{AreOfInstall, AreOfMessage, SayTables, tables_version};
 
@@ -40,7 +40,7 @@ fn feed(
     requires { IsRefusedFrame assembler.old frame.now → ⊥ }
     ensures held { OnOk result (assembler.new ≡ with_frame assembler.old frame.now) }
     ensures some { IfOk result (λ answer.
-        IsSome answer ↔ AreAllHeld assembler.new (count_of frame.now)) }
+        IsSome answer ↔ AreAllHeld assembler.new (count_in_frame frame.now)) }
     ensures message { IfOk result (λ answer. IfSome answer (λ m. AreFrames m assembler.new)) }
 {
     match assembler.feed(alloc, frame) {

@@ -5,7 +5,7 @@ use Rattle.std.specs.List.{Contains, flat_map}
 use Rattle.std.proofs.lemmas.Bool.{cases_eq}
 use Rattle.std.proofs.lemmas.List.Elements.{All-contains, All-contains_itself, All-head, All-tail}
 use Rattle.ctrl_msg.specs.declared.message.Message.{Message}
-use Rattle.wire.specs.Frames.{AreFrames, count_of, frames, piece_of, pieces, place_in_frame}
+use Rattle.wire.specs.Frames.{AreFrames, count_in_frame, frames, piece_of, pieces, place_in_frame}
 use Rattle.wire.specs.Assembly.{held_at, with_frame, AreAllHeld, AreRising, IsOfCount, IsRefusedFrame, too_short, too_long, past_the_count, another_count, another_frame, no_message}
 use Rattle.wire.proofs.Laws.{some_is}
 use Rattle.wire.proofs.Assembling.{spelled_by}
@@ -72,7 +72,7 @@ never_refused m p q f has one joined (another_frame g at other) =
 never_refused m p q f has one joined (no_message all none) =
     let held : AreAllHeld (part q (frames m)) (length (pieces m)) =
     subst (λ n. AreAllHeld (part q (frames m)) n) one.of.count_is
-    (subst (λ fs. AreAllHeld fs (count_of f)) joined all) in
+    (subst (λ fs. AreAllHeld fs (count_in_frame f)) joined all) in
     none m (record { fits = has.fits; frames_are = joined ∙ all_are m q has held })
 
 -- ---- frames that have come, in any order
@@ -136,7 +136,7 @@ frame_come m fed g has of there come =
     subst (Contains fed) same found.0
 
 pub all_come : (m : Message) (f : List ℕ) (fed : List (List ℕ)) → HasFrames m → AreOf m (f ∷ fed)
-    → (AreAllHeld (held_after (f ∷ fed)) (count_of f) ↔ AreAllAmong m (f ∷ fed))
+    → (AreAllHeld (held_after (f ∷ fed)) (count_in_frame f) ↔ AreAllAmong m (f ∷ fed))
 all_come m f fed has of = (forth, back)
   where
     count : ℕ
@@ -145,19 +145,19 @@ all_come m f fed has of = (forth, back)
     one : IsOneOf m f
     one = is_one_of m f has (All-head (Contains (frames m)) f fed of)
 
-    forth : AreAllHeld (held_after (f ∷ fed)) (count_of f) → AreAllAmong m (f ∷ fed)
+    forth : AreAllHeld (held_after (f ∷ fed)) (count_in_frame f) → AreAllAmong m (f ∷ fed)
     forth held = λ k d lt.
         let g = slice_index_or (frames m) k d in
         let there : Contains (frames m) g = All-contains_itself (frames m) k d lt in
         let below : place_in_frame g < count = (is_one_of m g has there).of.below in
         let all : AreAllHeld (part (has_come (f ∷ fed)) (frames m)) count =
         subst (AreAllHeld (part (has_come (f ∷ fed)) (frames m))) one.of.count_is
-        (subst (λ fs. AreAllHeld fs (count_of f)) (held_is m (f ∷ fed) has of) held) in
+        (subst (λ fs. AreAllHeld fs (count_in_frame f)) (held_is m (f ∷ fed) has of) held) in
         frame_come m (f ∷ fed) g has of there (passes m (has_come (f ∷ fed)) (place_in_frame g) (all (place_in_frame g) below))
 
-    back : AreAllAmong m (f ∷ fed) → AreAllHeld (held_after (f ∷ fed)) (count_of f)
+    back : AreAllAmong m (f ∷ fed) → AreAllHeld (held_after (f ∷ fed)) (count_in_frame f)
     back among =
-        subst (λ fs. AreAllHeld fs (count_of f)) (sym (whole m (f ∷ fed) has of among))
+        subst (λ fs. AreAllHeld fs (count_in_frame f)) (sym (whole m (f ∷ fed) has of among))
         (subst (AreAllHeld (frames m)) (sym one.of.count_is)
         (all_held count (frames m) (frames_rise m has) (length_frames m)))
 

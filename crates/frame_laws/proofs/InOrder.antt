@@ -6,7 +6,7 @@ use Rattle.std.specs.List.{Contains}
 use Rattle.std.proofs.lemmas.Bool.{cases_lt, le-ltb, lt-ltb}
 use Rattle.std.proofs.lemmas.Option.{slice_get_within}
 use Rattle.ctrl_msg.specs.declared.message.Message.{Message}
-use Rattle.wire.specs.Frames.{count_of, frame, frames, frames_from, pieces, place_in_frame}
+use Rattle.wire.specs.Frames.{count_in_frame, frame, frames, frames_from, pieces, place_in_frame}
 use Rattle.wire.specs.Assembly.{held_at, with_frame, AreAllHeld, IsRefusedFrame}
 use Rattle.wire.proofs.Framing.{place_of_frame}
 use Rattle.wire.proofs.Holding.{all_held}
@@ -59,8 +59,8 @@ beside n place other =
 pub record ComesNext (m : Message) (place : ℕ) (f : List ℕ) : Type 0 where
   pub taken : IsRefusedFrame (frames_before m place) f → ⊥
   pub held : with_frame (frames_before m place) f ≡ frames_before m (place + 1)
-  pub some : place + 1 ≡ length (frames m) → AreAllHeld (frames_before m (place + 1)) (count_of f)
-  pub none : AreAllHeld (frames_before m (place + 1)) (count_of f) → place + 1 ≡ length (frames m)
+  pub some : place + 1 ≡ length (frames m) → AreAllHeld (frames_before m (place + 1)) (count_in_frame f)
+  pub none : AreAllHeld (frames_before m (place + 1)) (count_in_frame f) → place + 1 ≡ length (frames m)
 
 pub comes_next : (m : Message) (place : ℕ) (f : List ℕ) → HasFrames m → slice_get (frames m) place ≡ Some f
     → ComesNext m place f

@@ -5,7 +5,7 @@ ghost use Rattle.ctrl_msg.specs.declared.message.Message.{Message};
 ghost use Rattle.ctrl_msg.specs.declared.message.Receiver.{Receiver};
 ghost use Rattle.switch_table.specs.declared.tables.Tables.{Tables};
 ghost use Rattle.wire.specs.Assembly.{AreAllHeld, IsRefusedFrame};
-ghost use Rattle.wire.specs.Frames.{AreFrames, count_of, frames, frames_of_version};
+ghost use Rattle.wire.specs.Frames.{AreFrames, count_in_frame, frames, frames_of_version};
 ghost use Rattle.frame_laws.specs.Feeding.{AreAllAmong, AreOf, HasFrames, held_after};
 ghost use Rattle.frame_laws.specs.Installing.{install_frames};
 
@@ -20,7 +20,7 @@ pub fn frames_come_in_any_order()
         → AreOf m (f ∷ fed) → IsRefusedFrame (held_after fed) f → ⊥ }
     ensures all_held { (m : Message) (f : List ℕ) (fed : List (List ℕ)) → HasFrames m
         → AreOf m (f ∷ fed)
-        → (AreAllHeld (held_after (f ∷ fed)) (count_of f) ↔ AreAllAmong m (f ∷ fed)) }
+        → (AreAllHeld (held_after (f ∷ fed)) (count_in_frame f) ↔ AreAllAmong m (f ∷ fed)) }
     ensures whole { (m : Message) (fed : List (List ℕ)) → HasFrames m → AreOf m fed
         → AreAllAmong m fed → held_after fed ≡ frames m }
 {}

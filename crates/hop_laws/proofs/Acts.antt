@@ -25,7 +25,7 @@ use Rattle.update_machine.specs.Travels.{leg_of, travels}
 use Rattle.update_machine.specs.Ways.{next_switch}
 use Rattle.boot_laws.specs.ItemCauses.{HasItemCause}
 use Rattle.way_laws.specs.OnWay.{IsOnWay, IsSeeking}
-use Rattle.way_laws.specs.Words.{PacketWords, words_of}
+use Rattle.way_laws.specs.Facts.{PacketFacts, what_is_known}
 use Rattle.way_laws.specs.Kept.{AllKept}
 use Rattle.way_laws.specs.Rest.{AreResting}
 use Rattle.way_laws.specs.Stages.{stage_of}
@@ -88,7 +88,7 @@ record IsMoved (setting : Setting) (journal : List Item) (i s : ℕ) : Type 0 wh
   is : IsSetting setting
   have : HaveCauses (HasItemCause setting) [] journal
   here : IsHere setting journal i s
-  way : IsOnWay setting journal (words_of journal i)
+  way : IsOnWay setting journal (what_is_known journal i)
 
 rules_there : (setting : Setting) (journal : List Item) (i s : ℕ)
     → IsMoved setting journal i s → RulesAreThere setting journal i s
@@ -107,9 +107,9 @@ sought_there : (setting : Setting) (journal : List Item) (i s version partition 
     → IsTrue (is_some (authority_rule setting journal version partition
     (first_place setting journal version partition (header_at journal i))))
 sought_there setting journal i s version partition moved seeks =
-    let words : PacketWords = words_of journal i in
-    let on : IsSeeking setting journal words moved.here.under.header version partition =
-    seeking_of setting journal words moved.here.under.header version partition moved.way
+    let facts : PacketFacts = what_is_known journal i in
+    let on : IsSeeking setting journal facts moved.here.under.header version partition =
+    seeking_of setting journal facts moved.here.under.header version partition moved.way
     moved.here.under.entered (leg_in journal i (Some (Seek version partition)) seeks) in
     let planned : IsPlanned setting (policy_at setting journal version)
     (plan_at setting journal version) =
@@ -131,9 +131,9 @@ sought_there setting journal i s version partition moved seeks =
     (λ p. IsTrue (is_some (authority_rule setting journal version partition p)))
     (sym place) (rw rule refl)
 
-leg_out : (journal : List Item) (i : ℕ) (leg : Option Leg) → (words_of journal i).leg ≡ leg
+leg_out : (journal : List Item) (i : ℕ) (leg : Option Leg) → (what_is_known journal i).leg ≡ leg
     → leg_of journal i ≡ leg
-unfolding words_of
+unfolding what_is_known
 leg_out journal i leg is = is
 
 arrive_names : (setting : Setting) (i s : ℕ) (journal : List Item) → IsMoved setting journal i s

@@ -7,7 +7,7 @@ use Rattle.steps.specs.declared.step.Step.TheVariants.{Hop}
 use Rattle.update_machine.specs.Travels.{travels}
 use Rattle.update_machine.proofs.Examples.{one}
 use Rattle.hop_laws.specs.Hops.{hops_taken, most_switches}
-use Rattle.hop_laws.specs.Routes.{finds_down, hops_on_route}
+use Rattle.hop_laws.specs.Routes.{finding_count, hops_on_route}
 
 abbrev seeking : List Item
 seeking = item.Entered 1 0 one ∷ item.Seeking 1 1 0 (0 ∷ 1 ∷ []) ∷ []
@@ -27,12 +27,12 @@ one_on_this_route : hops_on_route around 1 ≡ 1
 unfolding hops_on_route travels
 one_on_this_route = refl
 
-one_link : finds_down around 1 ≡ 1
-unfolding finds_down
+one_link : finding_count around 1 ≡ 1
+unfolding finding_count
 one_link = refl
 
-none_of_another : finds_down around 2 ≡ 0
-unfolding finds_down
+none_of_another : finding_count around 2 ≡ 0
+unfolding finding_count
 none_of_another = refl
 
 -- 65 hops on a route are one too many

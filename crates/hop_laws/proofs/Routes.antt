@@ -20,7 +20,7 @@ use Rattle.mark_laws.proofs.Marks.{bounded}
 use Rattle.mark_laws.proofs.Planned.{current_rises}
 use Rattle.version_laws.proofs.Planned.{versions_planned}
 use Rattle.way_laws.specs.OnWay.{IsOnWay, IsSeeking}
-use Rattle.way_laws.specs.Words.{PacketWords, names, words_after, words_of}
+use Rattle.way_laws.specs.Facts.{PacketFacts, is_of_packet, facts_after, what_is_known}
 use Rattle.way_laws.proofs.Words.{words_grow}
 use Rattle.hop_laws.specs.Hops.{detours, exits, routes_taken, searches}
 use Rattle.way_laws.specs.Kept.{AllKept}
@@ -33,32 +33,32 @@ use Rattle.way_laws.proofs.Kept.{Knows, seeking_after}
 use Rattle.way_laws.proofs.Rests.{IsWayItem, Past, switches_of_all}
 use Rattle.way_laws.proofs.Strong.{strongly_caused}
 use Rattle.way_laws.proofs.Served.{stage_next}
-use Rattle.hop_laws.specs.Routes.{finds_down, most_routes}
+use Rattle.hop_laws.specs.Routes.{finding_count, most_routes}
 use Rattle.hop_laws.proofs.Links.{FindsOne, few_unfound, finds_one, unfound}
 use Rattle.hop_laws.proofs.Tally.{Tally, tallied, tally_more, tally_of}
 
 -- what is kept of a packet's routes: it searched at most as often as the version that it seeks
 -- says, and left by no port before it was decided; the links that it didn't find down leave room
 -- for as many routes, and for one more where it just found one; each was found down once
-pub record IsFew (setting : Setting) (current : ℕ) (words : PacketWords) (stage : Option Stage)
+pub record IsFew (setting : Setting) (current : ℕ) (held : PacketFacts) (stage : Option Stage)
     (tally : Tally) : Type 0 where
-  pub none : words.leg ≡ None → tally.searches ≡ 0
-  pub sought : (version partition : ℕ) → words.leg ≡ Some (Seek version partition)
+  pub none : held.leg ≡ None → tally.searches ≡ 0
+  pub sought : (version partition : ℕ) → held.leg ≡ Some (Seek version partition)
       → tally.searches ≤ version
   pub searched : tally.searches ≤ current
-  pub undecided : words.decision ≡ None → tally.exits ≡ 0
+  pub undecided : held.decision ≡ None → tally.exits ≡ 0
   pub judged : stage ≡ Some Judged → tally.exits ≡ 0
   pub exited : tally.exits ≤ 1
-  pub set : IsLinkSet words.found
-  pub detoured : tally.detours + unfound setting.net.links words.found
+  pub set : IsLinkSet held.found
+  pub detoured : tally.detours + unfound setting.net.links held.found
       ≤ length setting.net.links
   pub blocked : stage ≡ Some Blocked
-      → tally.detours + unfound setting.net.links words.found < length setting.net.links
-  pub finds : tally.finds + unfound setting.net.links words.found ≤ length setting.net.links
+      → tally.detours + unfound setting.net.links held.found < length setting.net.links
+  pub finds : tally.finds + unfound setting.net.links held.found ≤ length setting.net.links
 
 abbrev pub IsFewOf : Setting → List Item → ℕ → Type 0
 IsFewOf setting journal i =
-    IsFew setting (current_mark journal) (words_of journal i) (stage_of journal i)
+    IsFew setting (current_mark journal) (what_is_known journal i) (stage_of journal i)
     (tally_of journal i)
 
 -- ---- lookups
@@ -78,8 +78,8 @@ is_raised setting before i version partition route known few takes raises =
     let here : IsHere setting before i takes.switch =
     here_of setting before i takes.switch (stage_of before i) knows_it.is knows_it.have
     knows_it.kept takes.at in
-    let after : PacketWords =
-    words_after 0 (item.Seeking i version partition route) (words_of before i) in
+    let after : PacketFacts =
+    facts_after 0 (item.Seeking i version partition route) (what_is_known before i) in
     let way : IsOnWay setting before after =
     (seeking_after setting before i 0 version partition route knows_it takes).on_way
     here.travelling (inl refl) in
@@ -94,7 +94,7 @@ is_raised setting before i version partition route known few takes raises =
     by_lookup : IsHere setting before i takes.switch → 1 ≤ version
         → IsLookedUp before i takes.switch → searches before i + 1 ≤ version
     by_lookup here first (inl came) =
-        let none : (words_of before i).leg ≡ None =
+        let none : (what_is_known before i).leg ≡ None =
         ((known.kept.packets i).came_in here.travelling came).1 in
         omega (arith, few.none none, first)
     by_lookup here first (inr misses) = omega (
@@ -110,20 +110,20 @@ is_raised setting before i version partition route known few takes raises =
 finds : (setting : Setting) (before : List Item) (i one two : ℕ) → Before setting before
     → IsFewOf setting before i → MeetsDown setting before i one two
     → StrongCause setting before (item.FoundDown i one two)
-    → FindsOne setting.net (words_of before i).found one two
+    → FindsOne setting.net (what_is_known before i).found one two
 finds setting before i one two known few meets strong =
     let knows_it : Knows setting before i (stage_of before i) = knows setting before i known in
-    let words : PacketWords = words_of before i in
+    let held : PacketFacts = what_is_known before i in
     let here : IsHere setting before i one =
     here_of setting before i one (stage_of before i) knows_it.is knows_it.have knows_it.kept
     meets.at in
-    let way : IsOnWay setting before words =
+    let way : IsOnWay setting before held =
     knows_it.kept.on_way here.travelling (inl meets.moving) in
     let place : way.under_way.place ≡ one =
-    some_same words.place way.under_way.place here.under.place way.under_way.stands
+    some_same held.stands way.under_way.place here.under.place way.under_way.stands
     here.under.stands ∙ sym here.at in
-    finds_one setting.net words.found one two known.is.net few.set strong.linked
-    (knows_it.kept.avoids here.travelling meets.moving words.hops one two
+    finds_one setting.net held.found one two known.is.net few.set strong.linked
+    (knows_it.kept.avoids here.travelling meets.moving held.hops one two
     (way.stands ∙ ap Some place) (sym (next_in before i) ∙ meets.goes_on))
 
 -- ---- items
@@ -135,14 +135,14 @@ record Facts (setting : Setting) (before : List Item) (next : Item) : Type 0 whe
   strong : StrongCause setting before next
 
 -- words that leave the leg, the decision and the links found as they were, at this stage
-kept_few : (setting : Setting) (before : List Item) (i current : ℕ) (words : PacketWords)
+kept_few : (setting : Setting) (before : List Item) (i current : ℕ) (held : PacketFacts)
     (stage : Option Stage) → current_mark before ≤ current → IsFewOf setting before i
-    → words.leg ≡ (words_of before i).leg → words.decision ≡ (words_of before i).decision
-    → words.found ≡ (words_of before i).found → (stage ≡ Some Judged → exits before i ≡ 0)
-    → (stage ≡ Some Blocked → detours before i + unfound setting.net.links (words_of before i).found
+    → held.leg ≡ (what_is_known before i).leg → held.decision ≡ (what_is_known before i).decision
+    → held.found ≡ (what_is_known before i).found → (stage ≡ Some Judged → exits before i ≡ 0)
+    → (stage ≡ Some Blocked → detours before i + unfound setting.net.links (what_is_known before i).found
     < length setting.net.links)
-    → IsFew setting current words stage (tally_of before i)
-kept_few setting before i current words stage more few leg decision found judged blocked = record {
+    → IsFew setting current held stage (tally_of before i)
+kept_few setting before i current held stage more few leg decision found judged blocked = record {
   none = λ is. few.none (sym leg ∙ is);
   sought = λ version partition is. few.sought version partition (sym leg ∙ is);
   searched = omega (arith, few.searched, more);
@@ -156,20 +156,20 @@ kept_few setting before i current words stage more few leg decision found judged
 }
 
 -- and the stage too
-still_few : (setting : Setting) (before : List Item) (i current : ℕ) (words : PacketWords)
+still_few : (setting : Setting) (before : List Item) (i current : ℕ) (held : PacketFacts)
     → current_mark before ≤ current → IsFewOf setting before i
-    → words.leg ≡ (words_of before i).leg → words.decision ≡ (words_of before i).decision
-    → words.found ≡ (words_of before i).found
-    → IsFew setting current words (stage_of before i) (tally_of before i)
-still_few setting before i current words more few leg decision found =
-    kept_few setting before i current words (stage_of before i) more few leg decision found
+    → held.leg ≡ (what_is_known before i).leg → held.decision ≡ (what_is_known before i).decision
+    → held.found ≡ (what_is_known before i).found
+    → IsFew setting current held (stage_of before i) (tally_of before i)
+still_few setting before i current held more few leg decision found =
+    kept_few setting before i current held (stage_of before i) more few leg decision found
     few.judged few.blocked
 
 named_few : (setting : Setting) (before : List Item) (next : Item) (i current : ℕ)
     → Facts setting before next → current_mark before ≤ current → (b : Bool)
-    → names i next ≡ b → IsFewOf setting before i
+    → is_of_packet i next ≡ b → IsFewOf setting before i
     → IsFew setting current
-    (if b then words_after (retired_mark before) next (words_of before i) else words_of before i)
+    (if b then facts_after (retired_mark before) next (what_is_known before i) else what_is_known before i)
     (option_or (tells_stage i next) (stage_of before i)) (tallied i next (tally_of before i))
 named_few setting before (item.Entered packet s header) i current facts more true e few =
     rw e (kept_few setting before i current _ _ more few refl refl refl (λ is. absurd cc)
@@ -199,7 +199,7 @@ named_few setting before (item.Exiting packet route) i current facts more true e
     subst (λ k. stage_of before k ≡ Some Judged) same facts.way.by.takes.judged in
     let first : exits before i ≡ 0 = few.judged judged in
     let decision : Decision = facts.way.by.takes.decision in
-    let decided : (words_of before i).decision ≡ Some decision =
+    let decided : (what_is_known before i).decision ≡ Some decision =
     decision_in before i (Some decision)
     (subst (λ k. decision_of before k ≡ Some decision) same facts.way.by.takes.decided) in
     rw e (record {
@@ -236,8 +236,8 @@ named_few setting before (item.Hopped packet s) i current facts more true e few 
     (λ is. absurd cc))
 named_few setting before (item.FoundDown packet one two) i current facts more true e few =
     let same : packet ≡ i = eqb-true packet i e in
-    let one_less : FindsOne setting.net (words_of before i).found one two =
-    subst (λ k. FindsOne setting.net (words_of before k).found one two) same
+    let one_less : FindsOne setting.net (what_is_known before i).found one two =
+    subst (λ k. FindsOne setting.net (what_is_known before k).found one two) same
     (finds setting before packet one two facts.known
     (subst (IsFewOf setting before) (sym same) few) facts.way facts.strong) in
     rw e (record {
@@ -254,7 +254,7 @@ named_few setting before (item.FoundDown packet one two) i current facts more tr
     })
 named_few setting before (item.Decided packet v rule act by) i current facts more true e few =
     let same : packet ≡ i = eqb-true packet i e in
-    let undecided : (words_of before i).decision ≡ None =
+    let undecided : (what_is_known before i).decision ≡ None =
     decision_in before i None
     (subst (λ k. decision_of before k ≡ None) same facts.strong.undecided) in
     rw e (record {
@@ -303,7 +303,7 @@ few_more : (setting : Setting) (before : List Item) (next : Item) (i : ℕ)
 few_more setting before next i facts cause few =
     rw (words_grow i before next, stage_next before next i, tally_more i before next)
     (named_few setting before next i (current_mark (before ++ next ∷ [])) facts
-    (current_rises setting before next cause) (names i next) refl few)
+    (current_rises setting before next cause) (is_of_packet i next) refl few)
 
 abbrev pub RoutesAreFew : Setting → List Item → Type 0
 RoutesAreFew setting journal = (i : ℕ) → IsFewOf setting journal i
@@ -322,7 +322,7 @@ facts_of setting before next is both = record {
 }
 
 few_at_first : (setting : Setting) → RoutesAreFew setting []
-unfolding words_of stage_of leg_of decision_of found_down searches exits detours finds_down
+unfolding what_is_known stage_of leg_of decision_of found_down searches exits detours finding_count
 few_at_first setting i = record {
   none = λ is. refl;
   sought = λ version partition is. absurd cc;
@@ -367,7 +367,7 @@ detoured_few setting journal is have i =
 
 pub finds_few : (setting : Setting) (journal : List Item) → IsSetting setting
     → HaveCauses (IsWayItem setting) [] journal → (i : ℕ)
-    → finds_down journal i ≤ length setting.net.links
+    → finding_count journal i ≤ length setting.net.links
 finds_few setting journal is have i =
     omega (arith, (routes_few setting journal is have i).finds)
 

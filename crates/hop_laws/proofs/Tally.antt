@@ -4,7 +4,7 @@ use Rattle.journal.specs.declared.item.Item.{Item}
 use Rattle.update_machine.specs.Folds.{count_of}
 use Rattle.update_machine.proofs.CallerLemmas.{count_of_append}
 use Rattle.hop_laws.specs.Hops.{detours, exits, is_detour, is_exit, is_search, searches}
-use Rattle.hop_laws.specs.Routes.{finds_down, is_finding}
+use Rattle.hop_laws.specs.Routes.{finding_count, is_finding}
 
 pub record Tally : Type 0 where
   pub searches : ℕ
@@ -17,7 +17,7 @@ tally_of journal i = record {
   searches = searches journal i;
   exits = exits journal i;
   detours = detours journal i;
-  finds = finds_down journal i;
+  finds = finding_count journal i;
 }
 
 -- what an item makes of it
@@ -41,7 +41,7 @@ count_more test before item =
 
 pub tally_more : (i : ℕ) (before : List Item) (item : Item)
     → tally_of (before ++ item ∷ []) i ≡ tallied i item (tally_of before i)
-unfolding searches exits detours finds_down
+unfolding searches exits detours finding_count
 tally_more i before item =
     rw (
       count_more (is_search i) before item,

@@ -10,13 +10,13 @@ use Rattle.update_machine.specs.Folds.{folded}
 use Rattle.update_machine.specs.Travels.{travels}
 use Rattle.update_machine.proofs.CallerLemmas.{folded_append}
 use Rattle.boot_laws.proofs.Facts.{AreKept, fact_on}
-use Rattle.way_laws.specs.Words.{names}
+use Rattle.way_laws.specs.Facts.{is_of_packet}
 use Rattle.way_laws.proofs.Others.{IsNoRow}
 
 abbrev pub changes_told : ℕ → List Item → Bool → Item → Bool
 changes_told i before told (item.Row row (Hop packet)) =
     if packet == i && travels before i then true else told
-changes_told i before told item = if names i item then false else told
+changes_told i before told item = if is_of_packet i item then false else told
 
 unfoldable pub is_told : List Item → ℕ → Bool
 is_told journal i = folded (changes_told i) false journal
@@ -33,7 +33,7 @@ either_false false = refl
 still_off : (i : ℕ) (before : List Item) (next : Item) → IsNoRow next
     → changes_told i before false next ≡ false
 still_off i before (item.Row row step) none = absurd none
-still_off i before next none = either_false (names i next)
+still_off i before next none = either_false (is_of_packet i next)
 
 off_kept : (i : ℕ) → AreKept (λ js next. IsNoRow next) (λ journal. is_told journal i ≡ false)
 off_kept i before next none off =
@@ -51,16 +51,16 @@ stays_off i before items none off =
 -- the first of the items names the packet
 abbrev pub NamesFirst : ℕ → List Item → Type 0
 NamesFirst i [] = ⊥
-NamesFirst i (next ∷ items) = IsTrue (names i next)
+NamesFirst i (next ∷ items) = IsTrue (is_of_packet i next)
 
 turned : (b told : Bool) → IsTrue b → (if b then false else told) ≡ false
 turned true told e = refl
 turned false told e = cc e
 
 named_off : (i : ℕ) (before : List Item) (told : Bool) (next : Item) → IsNoRow next
-    → IsTrue (names i next) → changes_told i before told next ≡ false
+    → IsTrue (is_of_packet i next) → changes_told i before told next ≡ false
 named_off i before told (item.Row row step) none named = absurd none
-named_off i before told next none named = turned (names i next) told named
+named_off i before told next none named = turned (is_of_packet i next) told named
 
 -- so it hops with the first item that names it
 pub turns_off : (i : ℕ) (before items : List Item)

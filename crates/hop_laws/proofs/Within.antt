@@ -16,7 +16,7 @@ use Rattle.update_machine.specs.Setting.{Setting, IsSetting}
 use Rattle.update_machine.proofs.CallerLemmas.{folded_append}
 use Rattle.boot_laws.proofs.Facts.{Behind, Both, fact_on, have_both, have_weaker}
 use Rattle.way_laws.specs.OnWay.{IsOnLeg, IsOnWay}
-use Rattle.way_laws.specs.Words.{PacketWords, names, words_after, words_of}
+use Rattle.way_laws.specs.Facts.{PacketFacts, is_of_packet, facts_after, what_is_known}
 use Rattle.way_laws.proofs.Words.{words_grow}
 use Rattle.hop_laws.specs.Hops.{changes_taken, hops_taken, most_hops, most_switches, routes_taken}
 use Rattle.way_laws.specs.Kept.{AllKept}
@@ -49,17 +49,17 @@ routes_in tally = tally.searches + tally.exits + tally.detours
 
 -- the packet took at most 64 hops for each route, and what is left of its route fits too, less the
 -- hop that it was told; on its last route it took as many as its place there says, and at most 64
-record IsWithin (words : PacketWords) (stage : Option Stage) (told : Bool) (tally : Tally)
+record IsWithin (held : PacketFacts) (stage : Option Stage) (told : Bool) (tally : Tally)
     (taken on : ℕ) : Type 0 where
   all : taken ≤ most_switches * routes_in tally
   each : on ≤ most_switches
-  place : IsTrue words.travels → stage ≡ Some OnWay → on ≤ words.hops + (if told then 1 else 0)
-  left : IsTrue words.travels → stage ≡ Some OnWay → taken + (length words.route - words.hops)
+  place : IsTrue held.travels → stage ≡ Some OnWay → on ≤ held.hops + (if told then 1 else 0)
+  left : IsTrue held.travels → stage ≡ Some OnWay → taken + (length held.route - held.hops)
       ≤ most_switches * routes_in tally + (if told then 1 else 0)
 
 abbrev IsWithinOf : List Item → ℕ → Type 0
 IsWithinOf journal i =
-    IsWithin (words_of journal i) (stage_of journal i) (is_told journal i) (tally_of journal i)
+    IsWithin (what_is_known journal i) (stage_of journal i) (is_told journal i) (tally_of journal i)
     (hops_taken journal i) (hops_on_route journal i)
 
 one_at_most : (b : Bool) → (if b then 1 else 0) ≤ 1
@@ -70,12 +70,12 @@ none_told : (b : Bool) → b ≡ false → (if b then 1 else 0) ≤ 0
 none_told true e = absurd cc
 none_told false e = omega arith
 
-route_few : (setting : Setting) (before : List Item) (words : PacketWords)
-    → IsOnWay setting before words → length words.route ≤ 64
-route_few setting before words way = by_leg way.leg way.on_leg
+route_few : (setting : Setting) (before : List Item) (held : PacketFacts)
+    → IsOnWay setting before held → length held.route ≤ 64
+route_few setting before held way = by_leg way.leg way.on_leg
   where
-    by_leg : (leg : Leg) → IsOnLeg setting before words way.under_way.header leg
-        → length words.route ≤ 64
+    by_leg : (leg : Leg) → IsOnLeg setting before held way.under_way.header leg
+        → length held.route ≤ 64
     by_leg (Seek version partition) on = on.leads.list.few
     by_leg (Exit port) on = on.leads.list.few
 
@@ -88,10 +88,10 @@ record Facts (setting : Setting) (before : List Item) (next : Item) : Type 0 whe
   begins : BeginsRested before next
 
 -- a packet that isn't on its way
-rests : {words : PacketWords} {stage : Option Stage} {told : Bool} {tally : Tally} {taken on : ℕ}
+rests : {held : PacketFacts} {stage : Option Stage} {told : Bool} {tally : Tally} {taken on : ℕ}
     → taken ≤ most_switches * routes_in tally → on ≤ most_switches
-    → (IsTrue words.travels → stage ≡ Some OnWay → ⊥)
-    → IsWithin words stage told tally taken on
+    → (IsTrue held.travels → stage ≡ Some OnWay → ⊥)
+    → IsWithin held stage told tally taken on
 rests all each elsewhere = record {
   all = all;
   each = each;
@@ -100,10 +100,10 @@ rests all each elsewhere = record {
 }
 
 -- or that begins a route
-begins_route : {words : PacketWords} {stage : Option Stage} {told : Bool} {tally : Tally}
+begins_route : {held : PacketFacts} {stage : Option Stage} {told : Bool} {tally : Tally}
     {taken : ℕ} → taken + most_switches ≤ most_switches * routes_in tally
-    → (IsTrue words.travels → length words.route ≤ 64)
-    → IsWithin words stage told tally taken 0
+    → (IsTrue held.travels → length held.route ≤ 64)
+    → IsWithin held stage told tally taken 0
 begins_route room few = record {
   all = omega (arith, room);
   each = omega arith;
@@ -114,25 +114,25 @@ begins_route room few = record {
 row_within : (setting : Setting) (before : List Item) (packet i : ℕ) → Before setting before
     → IsRested before → IsWithinOf before i → (b : Bool)
     → ((packet == i) && travels before i) ≡ b
-    → IsWithin (words_of before i) (stage_of before i) (if b then true else is_told before i)
+    → IsWithin (what_is_known before i) (stage_of before i) (if b then true else is_told before i)
     (tally_of before i) (if b then hops_taken before i + 1 else hops_taken before i)
     (if b then hops_on_route before i + 1 else hops_on_route before i)
 row_within setting before packet i known rested within false e = within
 row_within setting before packet i known rested within true e =
     let on : IsTrue (travels before i) = second (packet == i) (travels before i) e in
-    let words : PacketWords = words_of before i in
-    let travelling : IsTrue words.travels = travels_in before i on in
+    let held : PacketFacts = what_is_known before i in
+    let travelling : IsTrue held.travels = travels_in before i on in
     let moving : stage_of before i ≡ Some OnWay = rested.rests.moving i on in
-    let way : IsOnWay setting before words =
+    let way : IsOnWay setting before held =
     (known.kept.packets i).on_way travelling (inl moving) in
-    let inside : words.hops < length words.route =
-    slice_get_within words.route words.hops way.under_way.place way.stands in
+    let inside : held.hops < length held.route =
+    slice_get_within held.route held.hops way.under_way.place way.stands in
     let off = none_told (is_told before i) (rested.off i) in
     let left = within.left travelling moving in
     let place = within.place travelling moving in
     record {
       all = omega (arith, left, off, inside);
-      each = omega (arith, place, off, inside, route_few setting before words way);
+      each = omega (arith, place, off, inside, route_few setting before held way);
       place = λ tr is. omega (arith, place, off);
       left = λ tr is. omega (arith, left, off, inside);
     }
@@ -142,9 +142,9 @@ row_within setting before packet i known rested within true e =
     second false d both = cc both
 
 within_by : (setting : Setting) (before : List Item) (next : Item) (i : ℕ)
-    → Facts setting before next → (b : Bool) → names i next ≡ b → IsWithinOf before i
+    → Facts setting before next → (b : Bool) → is_of_packet i next ≡ b → IsWithinOf before i
     → IsWithin
-    (if b then words_after (retired_mark before) next (words_of before i) else words_of before i)
+    (if b then facts_after (retired_mark before) next (what_is_known before i) else what_is_known before i)
     (option_or (tells_stage i next) (stage_of before i))
     (changes_told i before (is_told before i) next) (tallied i next (tally_of before i))
     (changes_taken i before (hops_taken before i) next)
@@ -156,36 +156,36 @@ within_by setting before (item.Row row (Hop packet)) i facts false e within =
 within_by setting before (item.Entered packet s header) i facts true e within =
     rw e (rests within.all within.each (λ tr is. cc))
 within_by setting before (item.Seeking packet version partition route) i facts true e within =
-    let few : IsTrue (words_of before packet).travels → length route ≤ 64 = λ tr.
+    let few : IsTrue (what_is_known before packet).travels → length route ≤ 64 = λ tr.
     route_few setting before
-    (words_after 0 (item.Seeking packet version partition route) (words_of before packet))
+    (facts_after 0 (item.Seeking packet version partition route) (what_is_known before packet))
     ((seeking_after setting before packet 0 version partition route
     (knows setting before packet facts.known) facts.way).on_way tr (inl refl)) in
     rw e (begins_route (omega (arith, within.all)) (λ tr.
-    few (subst (λ k. IsTrue (words_of before k).travels) (sym (eqb-true packet i e)) tr)))
+    few (subst (λ k. IsTrue (what_is_known before k).travels) (sym (eqb-true packet i e)) tr)))
 within_by setting before (item.Exiting packet route) i facts true e within =
-    let few : IsTrue (words_of before packet).travels → length route ≤ 64 = λ tr.
-    route_few setting before (words_after 0 (item.Exiting packet route) (words_of before packet))
+    let few : IsTrue (what_is_known before packet).travels → length route ≤ 64 = λ tr.
+    route_few setting before (facts_after 0 (item.Exiting packet route) (what_is_known before packet))
     ((exiting_after setting before packet 0 route (knows setting before packet facts.known)
     facts.way).on_way tr (inl refl)) in
     rw e (begins_route (omega (arith, within.all)) (λ tr.
-    few (subst (λ k. IsTrue (words_of before k).travels) (sym (eqb-true packet i e)) tr)))
+    few (subst (λ k. IsTrue (what_is_known before k).travels) (sym (eqb-true packet i e)) tr)))
 within_by setting before (item.Rerouted packet route) i facts true e within =
-    let few : IsTrue (words_of before packet).travels → length route ≤ 64 = λ tr.
-    route_few setting before (words_after 0 (item.Rerouted packet route) (words_of before packet))
+    let few : IsTrue (what_is_known before packet).travels → length route ≤ 64 = λ tr.
+    route_few setting before (facts_after 0 (item.Rerouted packet route) (what_is_known before packet))
     ((rerouted_after setting before packet 0 route (knows setting before packet facts.known)
     facts.way).on_way tr (inl refl)) in
     rw e (begins_route (omega (arith, within.all)) (λ tr.
-    few (subst (λ k. IsTrue (words_of before k).travels) (sym (eqb-true packet i e)) tr)))
+    few (subst (λ k. IsTrue (what_is_known before k).travels) (sym (eqb-true packet i e)) tr)))
 within_by setting before (item.Hopped packet s) i facts true e within =
     let same : packet ≡ i = eqb-true packet i e in
     let moving : stage_of before i ≡ Some OnWay =
     subst (λ k. stage_of before k ≡ Some OnWay) same facts.way.moving in
-    let words : PacketWords = words_of before i in
-    let inside : IsTrue words.travels → words.hops < length words.route = λ tr.
-    let way : IsOnWay setting before words =
+    let held : PacketFacts = what_is_known before i in
+    let inside : IsTrue held.travels → held.hops < length held.route = λ tr.
+    let way : IsOnWay setting before held =
     (facts.known.kept.packets i).on_way tr (inl moving) in
-    slice_get_within words.route words.hops way.under_way.place way.stands in
+    slice_get_within held.route held.hops way.under_way.place way.stands in
     rw e (record {
       all = within.all;
       each = within.each;
@@ -249,10 +249,10 @@ within_more setting before next i facts within =
       tally_more i before next,
       hops_more before next i,
       on_route_more before next i,
-    ) (within_by setting before next i facts (names i next) refl within)
+    ) (within_by setting before next i facts (is_of_packet i next) refl within)
 
 within_at_first : (i : ℕ) → IsWithinOf [] i
-unfolding words_of stage_of is_told hops_taken hops_on_route travels
+unfolding what_is_known stage_of is_told hops_taken hops_on_route travels
 within_at_first i = record {
   all = omega arith;
   each = omega arith;

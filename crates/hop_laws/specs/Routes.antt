@@ -33,5 +33,5 @@ is_finding i (item.FoundDown packet one two) = packet == i
 is_finding i _ = false
 
 -- how often it found a link down
-unfoldable pub finds_down : List Item → ℕ → ℕ
-finds_down journal i = count_of (is_finding i) journal
+unfoldable pub finding_count : List Item → ℕ → ℕ
+finding_count journal i = count_of (is_finding i) journal

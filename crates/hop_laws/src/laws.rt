@@ -15,7 +15,7 @@ ghost use Rattle.update_machine.specs.Travels.{next_travelling};
 ghost use Rattle.boot_laws.specs.Always.{HoldsReached};
 ghost use Rattle.hop_laws.specs.Drains.{drain_left};
 ghost use Rattle.hop_laws.specs.Hops.{detours, exits, hops_taken, most_hops, most_switches, routes_taken, searches};
-ghost use Rattle.hop_laws.specs.Routes.{finds_down, hops_on_route, most_routes};
+ghost use Rattle.hop_laws.specs.Routes.{finding_count, hops_on_route, most_routes};
 ghost use Rattle.hop_laws.specs.Stops.{GoesOrStops};
 
 /// A packet takes few routes: at most as many to authority switches as there are versions, which
@@ -31,7 +31,7 @@ pub fn packets_take_few_routes()
     ensures detoured { HoldsReached (λ setting journal. IsSetting setting
         → (i : ℕ) → detours journal i ≤ length setting.net.links) }
     ensures found { HoldsReached (λ setting journal. IsSetting setting
-        → (i : ℕ) → finds_down journal i ≤ length setting.net.links) }
+        → (i : ℕ) → finding_count journal i ≤ length setting.net.links) }
     ensures few { HoldsReached (λ setting journal. IsSetting setting
         → (i : ℕ) → routes_taken journal i ≤ most_routes) }
 {}

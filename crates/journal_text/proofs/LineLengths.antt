@@ -20,7 +20,7 @@ use Rattle.policy_rules.specs.declared.policy.Action.{Action}
 use Rattle.ternary.specs.Word.{WordValue}
 use Rattle.journal.specs.declared.item.Item.{Item}
 use Rattle.journal.specs.declared.item.Item.TheVariants as item
-use Rattle.journal_text.specs.Lines.{advert_text, body_text, boot_text, cache_text, cause_text, decided_text, how_text, item_line, mask_text, named, numbered, packet_at, pair_text, receiver_text, state_text, step_text, submitted_text, tunnel_text, version_text}
+use Rattle.journal_text.specs.Lines.{advert_text, body_text, boot_text, cache_text, cause_text, decided_text, how_text, item_line, mask_text, named, with_number, packet_at, pair_text, receiver_text, state_text, step_text, submitted_text, tunnel_text, version_text}
 use Rattle.journal_text.specs.Sizes.{IsBodyOfType, IsHow, IsItemOfType, IsShortRoute, IsStepOfType, LinesFit}
 use Rattle.line_fields.proofs.Lengths.{IsWithin, all_of, row_of, with_word, widened, number, rule_within, action_within, fields_within, word_within, name_within, names_within}
 use Rattle.line_fields.specs.Sizes.{IsAction, IsNumber, IsRule}
@@ -28,7 +28,7 @@ use Rattle.steps.specs.declared.step.Step.{Step}
 use Rattle.steps.specs.declared.step.Step.TheVariants.{Packet, Hop, Lose, Deliver, Forget, Expire, Update, LinkDown, LinkUp, Crash, Restart, Confirm, Resend}
 
 numbered_within : {m : ℕ} {word : List ℕ} → IsWithin m word → (n : ℕ) → IsNumber n
-    → IsWithin (m + 1 + 10) (numbered word n)
+    → IsWithin (m + 1 + 10) (with_number word n)
 numbered_within w n small =
     row_of (with_word w (codes " ")) (number n small)
 

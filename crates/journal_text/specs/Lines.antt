@@ -25,8 +25,8 @@ use Rattle.steps.specs.declared.step.Step.TheVariants.{Packet, Hop, Lose, Delive
 -- ---- words
 
 -- a number behind a word, and a name behind one
-abbrev pub numbered : List ℕ → ℕ → List ℕ
-numbered word n = word ++ codes " " ++ decimal n
+abbrev pub with_number : List ℕ → ℕ → List ℕ
+with_number word n = word ++ codes " " ++ decimal n
 
 abbrev pub named : Net → List ℕ → ℕ → List ℕ
 named net word s = word ++ codes " " ++ name_of net s
@@ -38,7 +38,7 @@ mask_text net mask =
 
 -- a packet and a switch, as where the packet came in
 abbrev pub packet_at : Net → List ℕ → ℕ → ℕ → List ℕ
-packet_at net word packet s = numbered word packet ++ codes " " ++ name_of net s
+packet_at net word packet s = with_number word packet ++ codes " " ++ name_of net s
 
 -- two switches, as the ends of a link
 abbrev pub pair_text : Net → List ℕ → ℕ → ℕ → List ℕ
@@ -50,13 +50,13 @@ pair_text net word one two = named net word one ++ codes " " ++ name_of net two
 abbrev pub step_text : Net → Step → List ℕ
 step_text net (Packet switch header) =
     named net (codes "packet") switch ++ codes " " ++ fields_text header.fields
-step_text net (Hop packet) = numbered (codes "hop") packet
-step_text net (Lose packet) = numbered (codes "lose") packet
-step_text net (Deliver message) = numbered (codes "deliver") message
-step_text net (Forget message) = numbered (codes "forget") message
+step_text net (Hop packet) = with_number (codes "hop") packet
+step_text net (Lose packet) = with_number (codes "lose") packet
+step_text net (Deliver message) = with_number (codes "deliver") message
+step_text net (Forget message) = with_number (codes "forget") message
 step_text net (Expire switch place) =
     named net (codes "expire") switch ++ codes " " ++ decimal place
-step_text net (Update file) = numbered (codes "update") file
+step_text net (Update file) = with_number (codes "update") file
 step_text net (LinkDown one two) = pair_text net (codes "linkdown") (min one two) (max one two)
 step_text net (LinkUp one two) = pair_text net (codes "linkup") (min one two) (max one two)
 step_text net (Crash switch) = named net (codes "crash") switch
@@ -102,7 +102,7 @@ body_text net (Stamped switch boot version) =
 -- ---- items
 
 abbrev pub how_text : Net → How → List ℕ
-how_text net (Cached message) = numbered (codes "cache") message
+how_text net (Cached message) = with_number (codes "cache") message
 how_text net (Authority switch partition) =
     named net (codes "authority") switch ++ codes " part " ++ decimal partition
 
@@ -117,7 +117,7 @@ state_text false = codes "down"
 -- the version, the rule and the action that a packet got
 abbrev pub decided_text : ℕ → ℕ → Option ℕ → Action → List ℕ
 decided_text packet version rule action =
-    numbered (codes "  decided") packet ++ codes " v" ++ decimal version ++ codes " rule "
+    with_number (codes "  decided") packet ++ codes " v" ++ decimal version ++ codes " rule "
     ++ rule_text rule ++ codes " " ++ action_text action
 
 -- a packet begins to seek a partition of a version
@@ -134,39 +134,39 @@ submitted_text file version =
 -- the item's line without its line feed: a row at the left edge, each other item behind two blanks
 abbrev pub item_line : Net → Item → List ℕ
 item_line net (item.Row row step) =
-    numbered (codes "row") row ++ codes ": " ++ step_text net step
+    with_number (codes "row") row ++ codes ": " ++ step_text net step
 item_line net (item.Entered packet switch header) = packet_at net (codes "  entered") packet switch
 item_line net (item.Closed packet switch) = packet_at net (codes "  closed") packet switch
 item_line net (item.Seeking packet version partition route) =
     tunnel_text packet version partition ++ names_text net route
 item_line net (item.Exiting packet route) =
-    numbered (codes "  exit") packet ++ codes " via" ++ names_text net route
+    with_number (codes "  exit") packet ++ codes " via" ++ names_text net route
 item_line net (item.Hopped packet switch) = packet_at net (codes "  hopped") packet switch
 item_line net (item.FoundDown packet one two) =
-    pair_text net (numbered (codes "  found") packet) one two
+    pair_text net (with_number (codes "  found") packet) one two
 item_line net (item.Rerouted packet route) =
-    numbered (codes "  rerouted") packet ++ codes " via" ++ names_text net route
+    with_number (codes "  rerouted") packet ++ codes " via" ++ names_text net route
 item_line net (item.Decided packet version rule action how) =
     decided_text packet version rule action ++ codes " " ++ how_text net how
 item_line net (item.Left packet port leaving) =
-    numbered (codes "  out") packet ++ codes " port " ++ decimal port
-item_line net (item.Dropped packet) = numbered (codes "  dropped") packet
-item_line net (item.Lost packet) = numbered (codes "  lost") packet
+    with_number (codes "  out") packet ++ codes " port " ++ decimal port
+item_line net (item.Dropped packet) = with_number (codes "  dropped") packet
+item_line net (item.Lost packet) = with_number (codes "  lost") packet
 item_line net (item.Stuck packet switch cause leg down) =
     packet_at net (codes "  stuck") packet switch ++ codes " " ++ cause_text cause
 item_line net (item.Sent number message) =
-    numbered (codes "  sent") number ++ codes " " ++ receiver_text net message.to ++ codes " "
+    with_number (codes "  sent") number ++ codes " " ++ receiver_text net message.to ++ codes " "
     ++ body_text net message.body
-item_line net (item.Delivered number) = numbered (codes "  delivered") number
-item_line net (item.Forgotten number) = numbered (codes "  forgotten") number
+item_line net (item.Delivered number) = with_number (codes "  delivered") number
+item_line net (item.Forgotten number) = with_number (codes "  forgotten") number
 item_line net (item.Expired switch place message) =
     named net (codes "  expired") switch ++ codes " " ++ decimal place ++ codes " message "
     ++ decimal message
 item_line net (item.Submitted file version) = submitted_text file version
 item_line net (item.Refused file code) =
-    numbered (codes "  refused file") file ++ codes " code " ++ decimal code
-item_line net (item.Current version) = numbered (codes "  current") version
-item_line net (item.Retired version) = numbered (codes "  retired") version
+    with_number (codes "  refused file") file ++ codes " code " ++ decimal code
+item_line net (item.Current version) = with_number (codes "  current") version
+item_line net (item.Retired version) = with_number (codes "  retired") version
 item_line net (item.Booted switch boot) =
     named net (codes "  booted") switch ++ codes " " ++ decimal boot
 item_line net (item.Opened switch version) =

@@ -1,7 +1,7 @@
 ghost use Rattle.std.specs.Prelude.{◌≡◌, ◌++◌, ◌∷◌, [], IfOk, codes, decimal};
 ghost use Rattle.net_file.specs.Net.{IsNet, names_text};
 ghost use Rattle.journal.specs.declared.item.Item.TheVariants as item;
-ghost use Rattle.journal_text.specs.Lines.{cause_text, decided_text, how_text, item_line, journal_text, numbered, packet_at, submitted_text, tunnel_text};
+ghost use Rattle.journal_text.specs.Lines.{cause_text, decided_text, how_text, item_line, journal_text, with_number, packet_at, submitted_text, tunnel_text};
 ghost use Rattle.journal_text.specs.Sizes.{IsBodyOfType, IsItemOfType, IsShortRoute};
 ghost use Rattle.line_fields.specs.Sizes.{IsAction, IsRule};
 ghost use Rattle.text_line.specs.Pushes.{pushed};
@@ -116,7 +116,7 @@ fn push_seeking(
 #[tactic(auto, using(text_line::proofs::CallerLemmas::pushed_append))]
 fn push_route(line: &mut Line, net: &Net, word: &str, packet: u32, route: &SharedRoute)
     ensures text { line.new ≡ pushed line.old
-        (numbered word.now packet ++ codes " via" ++ names_text net.now route.now) }
+        (with_number word.now packet ++ codes " via" ++ names_text net.now route.now) }
     ensures of_type { IsShortRoute route.now }
 {
     push_numbered(line, word, packet);
@@ -182,7 +182,7 @@ fn push_decided(
 // Two numbers, each behind a word.
 #[tactic(auto, using(text_line::proofs::CallerLemmas::pushed_append))]
 fn push_two(line: &mut Line, word: &str, n: u32, next: &str, m: u32)
-    ensures { line.new ≡ pushed line.old (numbered word.now n ++ next.now ++ decimal m) }
+    ensures { line.new ≡ pushed line.old (with_number word.now n ++ next.now ++ decimal m) }
 {
     push_numbered(line, word, n);
     line.push(next);

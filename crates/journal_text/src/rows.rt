@@ -1,5 +1,5 @@
 ghost use Rattle.std.specs.Prelude.{◌≡◌};
-ghost use Rattle.journal_text.specs.Lines.{named, numbered, pair_text, step_text};
+ghost use Rattle.journal_text.specs.Lines.{named, with_number, pair_text, step_text};
 ghost use Rattle.journal_text.specs.Sizes.{IsStepOfType};
 ghost use Rattle.steps.specs.declared.step.Step.TheVariants.{Packet, Expire};
 ghost use Rattle.text_line.specs.Pushes.{pushed};
@@ -12,7 +12,7 @@ use steps::Step;
 /// Adds a number behind a word.
 #[tactic(auto, using(text_line::proofs::CallerLemmas::pushed_append))]
 pub(crate) fn push_numbered(line: &mut Line, word: &str, n: u32)
-    ensures { line.new ≡ pushed line.old (numbered word.now n) }
+    ensures { line.new ≡ pushed line.old (with_number word.now n) }
 {
     line.push(word);
     line.push(" ");

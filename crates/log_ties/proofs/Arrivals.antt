@@ -14,7 +14,7 @@ use Rattle.policy_rules.specs.declared.packet.Leg.TheVariants.{Seek, Exit}
 use Rattle.journal.specs.declared.item.Item.{Item}
 use Rattle.journal.specs.declared.item.Item.TheVariants as item
 use Rattle.switch_core.specs.Answering.{arrived_on, decided_at, decided_in, looked_up}
-use Rattle.switch_core.specs.Deciding.{first_place, part_numbered}
+use Rattle.switch_core.specs.Deciding.{place_of_first, part_numbered}
 use Rattle.switch_core.specs.Ends.{Site, around}
 use Rattle.switch_core.specs.State.{SwitchValue, held_tables}
 use Rattle.switch_core.specs.declared.answers.Arrived.{Arrived}
@@ -32,7 +32,7 @@ use Rattle.update_machine.specs.Versions.{holds_version, policy_at, tables_at, p
 use Rattle.update_machine.specs.Ways.{targets_of}
 use Rattle.update_machine.proofs.CallerLemmas.{policies_keep}
 use Rattle.way_laws.specs.OnWay.{IsOnLeg, IsSeeking}
-use Rattle.way_laws.specs.Words.{PacketWords, words_of}
+use Rattle.way_laws.specs.Facts.{PacketFacts, what_is_known}
 use Rattle.way_laws.proofs.Ends.{last_here, one_target}
 use Rattle.way_laws.proofs.Lookups.{current_planned}
 use Rattle.way_laws.proofs.Plans.{Finds, IsPlanned, in_plan}
@@ -62,12 +62,12 @@ IsAtEnd setting journal s header (Seek version partition) =
     IsOurs setting journal s header version partition
 IsAtEnd setting journal s header (Exit port) = owner_of setting.net.switches port ≡ Some s
 
-pub ours_of : (setting : Setting) (journal : List Item) (s : ℕ) (words : PacketWords)
+pub ours_of : (setting : Setting) (journal : List Item) (s : ℕ) (facts : PacketFacts)
     (header : Header) (version partition : ℕ) → Known setting journal → IsHeader header
-    → (seeks : IsSeeking setting journal words header version partition)
+    → (seeks : IsSeeking setting journal facts header version partition)
     → IsTrue (list_any (nat_eq s) seeks.placed.1)
     → IsOurs setting journal s header version partition
-ours_of setting journal s words header version partition knows sound seeks target =
+ours_of setting journal s facts header version partition knows sound seeks target =
     let planned : IsPlanned setting (policy_at setting journal version)
     (plan_at setting journal version) =
     current_planned setting journal version knows.is knows.caused
@@ -81,18 +81,18 @@ ours_of setting journal s words header version partition knows sound seeks targe
       target = target;
     }
 
-pub end_of_route : (setting : Setting) (journal : List Item) (s : ℕ) (words : PacketWords)
+pub end_of_route : (setting : Setting) (journal : List Item) (s : ℕ) (facts : PacketFacts)
     (header : Header) (leg : Leg) → Known setting journal → IsHeader header
-    → IsOnLeg setting journal words header leg
-    → slice_get words.route words.hops ≡ Some s → slice_get words.route (words.hops + 1) ≡ None
+    → IsOnLeg setting journal facts header leg
+    → slice_get facts.route facts.hops ≡ Some s → slice_get facts.route (facts.hops + 1) ≡ None
     → IsAtEnd setting journal s header leg
-end_of_route setting journal s words header (Exit port) knows sound on stands last =
+end_of_route setting journal s facts header (Exit port) knows sound on stands last =
     on.has_port ∙ ap Some (sym (one_target on.leads.ends.target on.owner on.leads.ends.own)
-    ∙ sym (last_here words.route words.hops s on.leads.ends.target stands last on.leads.ends.last))
-end_of_route setting journal s words header (Seek version partition) knows sound on stands last =
+    ∙ sym (last_here facts.route facts.hops s on.leads.ends.target stands last on.leads.ends.last))
+end_of_route setting journal s facts header (Seek version partition) knows sound on stands last =
     let target : on.leads.ends.target ≡ s =
-    sym (last_here words.route words.hops s on.leads.ends.target stands last on.leads.ends.last) in
-    ours_of setting journal s words header version partition knows sound on
+    sym (last_here facts.route facts.hops s on.leads.ends.target stands last on.leads.ends.last) in
+    ours_of setting journal s facts header version partition knows sound on
     (subst (λ at. IsTrue (list_any (nat_eq at) on.placed.1)) target on.leads.ends.own)
 
 -- items by which no policy comes keep the plan
@@ -150,10 +150,10 @@ module _ (setting : Setting) (journal : List Item) (s : ℕ) (w : SwitchValue) (
   -- and in the switch's own partition
   place_in_tables : (version partition : ℕ)
       (ours : IsOurs setting journal s packet.header version partition)
-      → first_place packet.header (part_numbered (tables_at setting journal version s) partition)
+      → place_of_first packet.header (part_numbered (tables_at setting journal version s) partition)
       ≡ ours.finds.place
   place_in_tables version partition ours =
-      ap (first_place packet.header)
+      ap (place_of_first packet.header)
       (own_numbered (plan_at setting journal version) s version partition ours.placed
       ours.planned.parts.sound.numbers
       (ap (slice_get (plan_at setting journal version)) (sym ours.number) ∙ ours.finds.at)
@@ -196,13 +196,13 @@ module _ (setting : Setting) (journal : List Item) (s : ℕ) (w : SwitchValue) (
       ∙ ap (λ b. if b then Some (tables_at setting journal version s) else None) held))
 
   pub arrive_law : (t : Traveller) (leg : Leg)
-      → AreOfWords t.version t.rule (words_of journal packet.number)
-      → (words_of journal packet.number).leg ≡ Some leg
+      → AreOfWords t.version t.rule (what_is_known journal packet.number)
+      → (what_is_known journal packet.number).leg ≡ Some leg
       → IsAtEnd setting journal s packet.header leg
       → arrive_items setting packet.number s journal
       ≡ arrived_items (next_message journal) (at_switch s packet) t
       (arrived_on w (around mask ports) packet leg)
-  unfolding arrive_items words_of
+  unfolding arrive_items what_is_known
   arrive_law t (Exit port) of takes end =
       let i : ℕ = packet.number in
       let left : Header → ℕ → Option ℕ → List Item = λ header version rule.
@@ -232,19 +232,19 @@ module _ (setting : Setting) (journal : List Item) (s : ℕ) (w : SwitchValue) (
       by_tables None = looked_goes setting journal s w mask ports packet asked
       by_tables (Some tables) =
           ruled_goes setting journal s tables.version
-          (first_place packet.header (part_numbered tables partition)) w mask ports packet
+          (place_of_first packet.header (part_numbered tables partition)) w mask ports packet
           (part_numbered tables partition) asked.owners
 
 -- ---- what becomes of the packet
 
 pub arrival_goes : (targets : Targets) (before : List Item) (number : ℕ) (at : Standing)
-    (t : Traveller) (what : Arrived) (words : PacketWords) → IsSeen at at.ingress words
-    → AreOfWords t.version t.rule words → GoesOut targets at what
+    (t : Traveller) (what : Arrived) (facts : PacketFacts) → IsSeen at at.ingress facts
+    → AreOfWords t.version t.rule facts → GoesOut targets at what
     → arrived_traveller t what
     ≡ traveller_by targets at.packet
-    (words_along at.packet before (arrived_items number at t what) words)
-arrival_goes targets before number at t (arrived.Out port) words seen of goes =
+    (words_along at.packet before (arrived_items number at t what) facts)
+arrival_goes targets before number at t (arrived.Out port) facts seen of goes =
     let own : (at.packet == at.packet) ≡ true = eq-eqb _ _ refl in
     rw own refl
-arrival_goes targets before number at t (arrived.Answered what) words seen of goes =
-    answer_goes targets before number at t.version t.rule what words seen of goes
+arrival_goes targets before number at t (arrived.Answered what) facts seen of goes =
+    answer_goes targets before number at t.version t.rule what facts seen of goes

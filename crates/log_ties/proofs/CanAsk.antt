@@ -18,7 +18,7 @@ use Rattle.update_machine.specs.LinkMasks.{near}
 use Rattle.update_machine.specs.Setting.{Setting}
 use Rattle.update_machine.specs.Versions.{plan_at}
 use Rattle.version_laws.specs.Authorities.{EndsAt}
-use Rattle.way_laws.specs.Words.{words_of}
+use Rattle.way_laws.specs.Facts.{what_is_known}
 use Rattle.travelling.specs.declared.travelling.Traveller.{Traveller}
 use Rattle.log_ties.proofs.Arrivals.{IsAtEnd}
 use Rattle.log_ties.proofs.Known.{Known}
@@ -48,7 +48,7 @@ pub stands_at : (setting : Setting) (journal : List Item) (i : ℕ) (t : Travell
     (standing : IsStanding setting journal i t) → here t.tunnel ≡ standing.place
 stands_at setting journal i t standing =
     ap (λ (u : Traveller). here u.tunnel) standing.is
-    ∙ got (words_of journal i).route (words_of journal i).hops standing.place standing.stands.here
+    ∙ got (what_is_known journal i).route (what_is_known journal i).hops standing.place standing.stands.here
 
 -- at the end of its route, the switch is where its leg leads
 ends_at : (setting : Setting) (journal : List Item) (s : ℕ) (header : Header) (leg : Leg)

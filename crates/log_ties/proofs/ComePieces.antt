@@ -7,7 +7,7 @@ use Rattle.journal.specs.declared.item.Item.{Item}
 use Rattle.journal.specs.declared.item.Item.TheVariants as item
 use Rattle.steps.specs.declared.step.Step.{Step}
 use Rattle.steps.specs.declared.step.Step.TheVariants.{Packet as PacketStep}
-use Rattle.switch_core.specs.State.{counted}
+use Rattle.switch_core.specs.State.{call_counted}
 use Rattle.switch_core.specs.declared.answers.Entered.{Entered}
 use Rattle.switch_core.specs.declared.answers.Entered.TheVariants as entered
 use Rattle.switch_ties.specs.Calls.{AreInStep}
@@ -19,7 +19,7 @@ use Rattle.update_machine.specs.Packets.{is_packet}
 use Rattle.update_machine.specs.Setting.{Setting}
 use Rattle.update_machine.specs.Ways.{targets_of}
 use Rattle.way_laws.specs.OnWay.{IsUnknown}
-use Rattle.way_laws.specs.Words.{words_of}
+use Rattle.way_laws.specs.Facts.{what_is_known}
 use Rattle.travelling.specs.declared.travelling.Traveller.{Traveller}
 use Rattle.world_log.specs.Writing.{answer_items, entered_items, entered_traveller}
 use Rattle.travelling.specs.Travelling.{Standing}
@@ -56,15 +56,15 @@ pub come_called : (setting : Setting) (journal : List Item) (row number q : ℕ)
     → (at.switch == q) ≡ b
     → switch_of setting (journal ++ item.Row row (PacketStep at.switch at.header)
     ∷ entered_items number at what) q
-    ≡ (if b then counted (switch_of setting journal q) else switch_of setting journal q)
+    ≡ (if b then call_counted (switch_of setting journal q) else switch_of setting journal q)
 come_called setting journal row number q at what b sends is =
     by_answer what sends
-    ∙ ap (λ b. if b then counted (switch_of setting journal q) else switch_of setting journal q) is
+    ∙ ap (λ b. if b then call_counted (switch_of setting journal q) else switch_of setting journal q) is
   where
     by_answer : (what : Entered) → SendFrom number (entered_items number at what)
         → switch_of setting (journal ++ item.Row row (PacketStep at.switch at.header)
         ∷ entered_items number at what) q
-        ≡ (if at.switch == q then counted (switch_of setting journal q)
+        ≡ (if at.switch == q then call_counted (switch_of setting journal q)
         else switch_of setting journal q)
     by_answer entered.Closed sends =
         call_ties.closed setting journal row at.packet at.switch q at.header
@@ -78,8 +78,8 @@ come_called setting journal row number q at what b sends is =
 
 pub come_along : (setting : Setting) (journal : List Item) (row number : ℕ) (taken : Step) (targets : Targets)
     (at : Standing) (answer : Entered) (kept : Option Traveller) (q : ℕ) (b : Bool)
-    → Known setting journal → (q == at.packet) ≡ b → IsUnknown (words_of journal at.packet)
-    → (words_of journal at.packet).found ≡ at.down → GoesIn targets at answer
+    → Known setting journal → (q == at.packet) ≡ b → IsUnknown (what_is_known journal at.packet)
+    → (what_is_known journal at.packet).found ≡ at.down → GoesIn targets at answer
     → ((leg : Leg) → targets leg ≡ targets_of setting journal leg)
     → NoneConcern concerns_policies journal
     (item.Row row taken ∷ entered_items number at answer)
@@ -90,10 +90,10 @@ come_along setting journal row number taken targets at answer kept q true knows 
     comes same none was =
     let first : Item = item.Row row taken in
     let i : ℕ = at.packet in
-    entered_goes targets (journal ++ first ∷ []) number at answer (words_of journal i) unknown
+    entered_goes targets (journal ++ first ∷ []) number at answer (what_is_known journal i) unknown
     unmarked comes
     ∙ by_targets targets (targets_of setting journal) i
-    (words_along i journal (first ∷ entered_items number at answer) (words_of journal i)) (same _)
+    (words_along i journal (first ∷ entered_items number at answer) (what_is_known journal i)) (same _)
     ∙ sym (traveller_along setting journal (first ∷ entered_items number at answer) i none)
     ∙ ap (traveller_in setting (journal ++ first ∷ entered_items number at answer))
     (sym (eqb-true q i is))

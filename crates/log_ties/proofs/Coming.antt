@@ -22,7 +22,7 @@ use Rattle.update_machine.specs.Pieces.{packet_items}
 use Rattle.update_machine.specs.Setting.{Setting}
 use Rattle.update_machine.proofs.CallerLemmas.{have_append, messages_keep, switch_keeps}
 use Rattle.boot_laws.specs.ItemCauses.{HasItemCause}
-use Rattle.way_laws.specs.Words.{words_of}
+use Rattle.way_laws.specs.Facts.{what_is_known}
 use Rattle.way_laws.proofs.Words.{words_grow}
 use Rattle.world_log.specs.Packets.{coming_in, entry}
 use Rattle.world_log.specs.Writing.{answer_items, entered_items}
@@ -42,7 +42,7 @@ coming i header s = record { number = i; header = header; ingress = s; down = no
 
 -- the packet has its header there, and found no link down
 coming_packet : (journal : List Item) (row i s : ℕ) (taken : Step) (header : Header)
-    → (words_of journal i).found ≡ no_links
+    → (what_is_known journal i).found ≡ no_links
     → IsPacket (looking journal row taken i s header) (coming i header s)
 coming_packet journal row i s taken header unmarked =
     let own : (i == i) ≡ true = eq-eqb i i refl in
@@ -63,7 +63,7 @@ pub record ComesTo (setting : Setting) (journal : List Item) (i s : ℕ) (header
   pub there : s < length setting.net.switches
   pub owners : AreOwners setting.net.switches ports
   pub sound : IsHeader header
-  pub unmarked : (words_of journal i).found ≡ no_links
+  pub unmarked : (what_is_known journal i).found ≡ no_links
 
 module _ (setting : Setting) (journal : List Item) (row i s : ℕ) (taken : Step)
     (header : Header) (w : SwitchValue) (mask : ℕ) (ports : Ports)

@@ -21,7 +21,7 @@ use Rattle.update_machine.specs.Ways.{found_down}
 use Rattle.update_machine.specs.Setting.{Setting}
 use Rattle.update_machine.specs.Travels.{is_at}
 use Rattle.update_machine.proofs.CallerLemmas.{count_of_append}
-use Rattle.way_laws.specs.Words.{words_of}
+use Rattle.way_laws.specs.Facts.{what_is_known}
 use Rattle.way_laws.proofs.Words.{words_grow}
 use Rattle.world_log.specs.Writing.{cache_message, decided_items, messages_in}
 use Rattle.log_ties.proofs.Ends.{IsDecided, end_law}
@@ -32,13 +32,13 @@ use Rattle.log_ties.proofs.Words.{words_all}
 
 -- a packet with this header that came in at this switch and found these links down
 pub record IsPacket (journal : List Item) (packet : Packet) : Type 0 where
-  pub entered : (words_of journal packet.number).header ≡ Some packet.header
-  pub came : (words_of journal packet.number).ingress ≡ Some packet.ingress
-  pub found : (words_of journal packet.number).found ≡ packet.down
+  pub entered : (what_is_known journal packet.number).header ≡ Some packet.header
+  pub came : (what_is_known journal packet.number).ingress ≡ Some packet.ingress
+  pub found : (what_is_known journal packet.number).found ≡ packet.down
 
 pub header_is : (journal : List Item) (i : ℕ) (header : Header)
-    → (words_of journal i).header ≡ Some header → header_at journal i ≡ header
-unfolding words_of
+    → (what_is_known journal i).header ≡ Some header → header_at journal i ≡ header
+unfolding what_is_known
 header_is journal i header entered =
     ap (λ h. unwrap_or h (header_of (record {
       src = 0;
@@ -50,7 +50,7 @@ header_is journal i header entered =
 
 pub found_of : (journal : List Item) (packet : Packet) → IsPacket journal packet
     → found_down journal packet.number ≡ packet.down
-unfolding words_of
+unfolding what_is_known
 found_of journal packet is = is.found
 
 -- ---- what is sent
@@ -86,7 +86,7 @@ sends_law : (setting : Setting) (journal : List Item) (s : ℕ) (packet : Packet
     (found : AuthorityRule) → IsPacket journal packet → IsOwnRule found
     → cache_items setting packet.number s found journal
     ≡ sent_from (next_message journal) (messages_in (told_by_rule s packet found))
-unfolding cache_items sent_from words_of
+unfolding cache_items sent_from what_is_known
 sends_law setting journal s packet found is own =
     ap (λ (ingress : Option ℕ). elim (is_at s ingress) [
       | true ↦ []
@@ -146,7 +146,7 @@ pub decided_words : (journal : List Item) (packet : Packet) (decision : Decision
     → IsPacket journal packet
     → IsDecided (journal ++ item.Decided packet.number decision.version decision.rule
     decision.action decision.how ∷ []) packet decision
-unfolding words_of
+unfolding what_is_known
 decided_words journal packet decision is =
     let decided : Item = item.Decided packet.number decision.version decision.rule
     decision.action decision.how in
@@ -162,12 +162,12 @@ decided_words journal packet decision is =
 decided_sent : (journal : List Item) (packet : Packet) (decision : Decision) (number : ℕ)
     (message : Option Message) → IsDecided journal packet decision
     → IsDecided (journal ++ sent_from number (messages_in message)) packet decision
-unfolding words_of
+unfolding what_is_known
 decided_sent journal packet decision number message is =
     let sent : List Item = sent_from number (messages_in message) in
-    let same : words_of (journal ++ sent) packet.number ≡ words_of journal packet.number =
+    let same : what_is_known (journal ++ sent) packet.number ≡ what_is_known journal packet.number =
     words_all packet.number journal sent
-    ∙ unnamed packet.number journal sent (words_of journal packet.number)
+    ∙ unnamed packet.number journal sent (what_is_known journal packet.number)
     (sends_unnamed packet.number number message) in
     record {
       entered = ap (λ words. words.header) same ∙ is.entered;

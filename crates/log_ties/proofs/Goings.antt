@@ -36,7 +36,7 @@ use Rattle.update_machine.specs.Ways.{no_switch, owner, targets_of}
 use Rattle.update_machine.specs.Setting.{Setting}
 use Rattle.update_machine.specs.Versions.{stamp_of, tables_at}
 use Rattle.way_laws.specs.OnWay.{IsUnknown}
-use Rattle.way_laws.specs.Words.{PacketWords, words_after}
+use Rattle.way_laws.specs.Facts.{PacketFacts, facts_after}
 use Rattle.way_laws.proofs.Lookups.{FindsTargets, IsStamped, redirect_told, stamped}
 use Rattle.world_log.specs.Writing.{answer_items, answer_traveller, cache_message, entered_items, entered_traveller, messages_in}
 use Rattle.travelling.specs.Travelling.{Standing}
@@ -183,44 +183,44 @@ module _ (setting : Setting) (journal : List Item) (s : ℕ) (w : SwitchValue) (
 -- ---- so what is known of it then is what the items say
 
 -- the version and the rule of its decision, as its words have them
-pub record AreOfWords (version : ℕ) (rule : Option ℕ) (words : PacketWords) : Type 0 where
-  pub its_version : version ≡ unwrap_or (option_map (λ decision. decision.version) words.decision) 0
-  pub its_rule : rule ≡ unwrap_or (option_map (λ decision. decision.rule) words.decision) None
+pub record AreOfWords (version : ℕ) (rule : Option ℕ) (facts : PacketFacts) : Type 0 where
+  pub its_version : version ≡ unwrap_or (option_map (λ decision. decision.version) facts.decision) 0
+  pub its_rule : rule ≡ unwrap_or (option_map (λ decision. decision.rule) facts.decision) None
 
 by_way : (targets : Targets) (before : List Item) (number : ℕ) (at : Standing)
-    (version partition : ℕ) (route : List ℕ) (words : PacketWords) → IsSeen at at.ingress words
+    (version partition : ℕ) (route : List ℕ) (facts : PacketFacts) → IsSeen at at.ingress facts
     → (let tunnel : TunnelValue = tunnel_begun at.packet at.header at.ingress (Seek version partition)
     (targets (Seek version partition)) route at.down in
-    answer_traveller (unwrap_or (option_map (λ decision. decision.version) words.decision) 0)
-    (unwrap_or (option_map (λ decision. decision.rule) words.decision) None) (answer.Seek tunnel)
+    answer_traveller (unwrap_or (option_map (λ decision. decision.version) facts.decision) 0)
+    (unwrap_or (option_map (λ decision. decision.rule) facts.decision) None) (answer.Seek tunnel)
     ≡ traveller_by targets at.packet
-    (words_along at.packet before (answer_items number at (answer.Seek tunnel)) words))
-by_way targets before number at version partition route words seen =
+    (words_along at.packet before (answer_items number at (answer.Seek tunnel)) facts))
+by_way targets before number at version partition route facts seen =
     let own : (at.packet == at.packet) ≡ true = eq-eqb _ _ refl in
     rw (own, seen.on, seen.header, seen.came, seen.found) refl
 
 pub answer_goes : (targets : Targets) (before : List Item) (number : ℕ) (at : Standing)
-    (version : ℕ) (rule : Option ℕ) (what : Answer) (words : PacketWords)
-    → IsSeen at at.ingress words → AreOfWords version rule words → IsComing targets at what
+    (version : ℕ) (rule : Option ℕ) (what : Answer) (facts : PacketFacts)
+    → IsSeen at at.ingress facts → AreOfWords version rule facts → IsComing targets at what
     → answer_traveller version rule what
     ≡ traveller_by targets at.packet
-    (words_along at.packet before (answer_items number at what) words)
-answer_goes targets before number at version rule (answer.Decided decision cache onward) words seen
+    (words_along at.packet before (answer_items number at what) facts)
+answer_goes targets before number at version rule (answer.Decided decision cache onward) facts seen
     of comes =
     decided_goes targets before
     (sent_from number (messages_in (cache_message at.ingress cache))) at at.ingress decision onward
-    words (sends_unnamed at.packet number (cache_message at.ingress cache)) seen comes
-answer_goes targets before number at version rule (answer.Seek tunnel) words seen of comes =
+    facts (sends_unnamed at.packet number (cache_message at.ingress cache)) seen comes
+answer_goes targets before number at version rule (answer.Seek tunnel) facts seen of comes =
     let P : ℕ → Option ℕ → TunnelValue → Type 0 = λ v r t. answer_traveller v r (answer.Seek t)
     ≡ traveller_by targets at.packet
-    (words_along at.packet before (answer_items number at (answer.Seek t)) words) in
+    (words_along at.packet before (answer_items number at (answer.Seek t)) facts) in
     subst (λ v. P v rule tunnel) (sym of.its_version)
-    (subst (λ r. P (unwrap_or (option_map (λ decision. decision.version) words.decision) 0) r
+    (subst (λ r. P (unwrap_or (option_map (λ decision. decision.version) facts.decision) 0) r
     tunnel) (sym of.its_rule)
-    (subst (P (unwrap_or (option_map (λ decision. decision.version) words.decision) 0)
-    (unwrap_or (option_map (λ decision. decision.rule) words.decision) None)) (sym comes.is)
-    (by_way targets before number at comes.version comes.partition comes.route words seen)))
-answer_goes targets before number at version rule (answer.Stuck cause leg) words seen of comes =
+    (subst (P (unwrap_or (option_map (λ decision. decision.version) facts.decision) 0)
+    (unwrap_or (option_map (λ decision. decision.rule) facts.decision) None)) (sym comes.is)
+    (by_way targets before number at comes.version comes.partition comes.route facts seen)))
+answer_goes targets before number at version rule (answer.Stuck cause leg) facts seen of comes =
     let own : (at.packet == at.packet) ≡ true = eq-eqb _ _ refl in
     rw own refl
 
@@ -231,21 +231,21 @@ GoesIn targets at (entered.Answered what) =
     (at.ingress ≡ at.switch) × IsComing targets at what
 
 pub entered_goes : (targets : Targets) (before : List Item) (number : ℕ) (at : Standing)
-    (what : Entered) (words : PacketWords) → IsUnknown words → words.found ≡ at.down
+    (what : Entered) (facts : PacketFacts) → IsUnknown facts → facts.found ≡ at.down
     → GoesIn targets at what
     → entered_traveller what
     ≡ traveller_by targets at.packet
-    (words_along at.packet before (entered_items number at what) words)
-entered_goes targets before number at entered.Closed words unknown unmarked comes =
+    (words_along at.packet before (entered_items number at what) facts)
+entered_goes targets before number at entered.Closed facts unknown unmarked comes =
     rw unknown.travels refl
-entered_goes targets before number at (entered.Answered what) words unknown unmarked comes =
+entered_goes targets before number at (entered.Answered what) facts unknown unmarked comes =
     let own : (at.packet == at.packet) ≡ true = eq-eqb _ _ refl in
     let came : Item = item.Entered at.packet at.switch at.header in
-    let seen : PacketWords = words_after (retired_mark before) came words in
+    let seen : PacketFacts = facts_after (retired_mark before) came facts in
     let P : Bool → Type 0 = λ b. answer_traveller 0 None what
     ≡ traveller_by targets at.packet (words_along at.packet (before ++ came ∷ [])
     (answer_items number at what)
-    (if b then words_after (retired_mark before) came words else words)) in
+    (if b then facts_after (retired_mark before) came facts else facts)) in
     subst P (sym own)
     (answer_goes targets (before ++ came ∷ []) number at 0 None what seen
     (record { on = refl; header = refl; came = ap Some (sym comes.0); found = unmarked })

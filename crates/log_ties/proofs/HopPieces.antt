@@ -9,7 +9,7 @@ use Rattle.steps.specs.declared.step.Step.TheVariants.{Hop}
 use Rattle.switch_core.specs.Ends.{around}
 use Rattle.switch_core.specs.Answering.{arrived}
 use Rattle.switch_core.specs.Moving.{link_found_down, hopped}
-use Rattle.switch_core.specs.State.{SwitchValue, counted}
+use Rattle.switch_core.specs.State.{SwitchValue, call_counted}
 use Rattle.switch_core.specs.declared.answers.HopEnd.{HopEnd}
 use Rattle.switch_core.specs.declared.answers.HopEnd.TheVariants as hop
 use Rattle.tunnel.specs.Moves.{next}
@@ -28,7 +28,7 @@ use Rattle.update_machine.specs.Pieces.{hop_items as hop_items_of}
 use Rattle.update_machine.specs.Setting.{Setting}
 use Rattle.update_machine.specs.Travels.{is_at, travels, travels_at}
 use Rattle.update_machine.specs.Ways.{targets_of}
-use Rattle.way_laws.specs.Words.{PacketWords, words_of}
+use Rattle.way_laws.specs.Facts.{PacketFacts, what_is_known}
 use Rattle.way_laws.proofs.Words.{words_grow}
 use Rattle.world_log.specs.Packets.{arrival_items, ended_items, ended_switch, hop_written, hop_traveller, hopped_traveller, turned_items}
 use Rattle.travelling.specs.Travelling.{standing_at}
@@ -50,24 +50,24 @@ abbrev begun : List Item → ℕ → ℕ → List Item
 begun journal row i = journal ++ item.Row row (Hop i) ∷ []
 
 same_words : (journal : List Item) (row i q : ℕ)
-    → words_of (begun journal row i) q ≡ words_of journal q
+    → what_is_known (begun journal row i) q ≡ what_is_known journal q
 same_words journal row i q = words_grow q journal (item.Row row (Hop i))
 
 pub hop_piece : (setting : Setting) (journal : List Item) (row i : ℕ) (t : Traveller) (s near : ℕ)
     (w : SwitchValue) (ports : Ports) → CanAsk setting journal i t s near w ports
     → piece setting journal row (Hop i)
     ≡ item.Row row (Hop i) ∷ hop_written (next_message journal) w near ports t
-unfolding piece hop_items_of words_of
+unfolding piece hop_items_of what_is_known
 hop_piece setting journal row i t s near w ports can =
     let new : List Item = begun journal row i in
-    let same : words_of new i ≡ words_of journal i = same_words journal row i i in
+    let same : what_is_known new i ≡ what_is_known journal i = same_words journal row i i in
     let standing : IsStanding setting journal i t = can.standing in
     ap (λ b. item.Row row (Hop i) ∷ elim b [
       | false ↦ nothing
       | true ↦ move_items setting i (unwrap_or (place_of new i) 0) new
-    ]) (ap (λ (words : PacketWords). words.travels) same ∙ standing.stands.on)
+    ]) (ap (λ (facts : PacketFacts). facts.travels) same ∙ standing.stands.on)
     ∙ ap (λ o. item.Row row (Hop i) ∷ move_items setting i (unwrap_or o 0) new)
-    (ap (λ (words : PacketWords). words.place) same ∙ standing.stands.stands)
+    (ap (λ (facts : PacketFacts). facts.stands) same ∙ standing.stands.stands)
     ∙ ap (λ items. item.Row row (Hop i) ∷ items)
     (hop_law setting journal row i standing.place standing.header standing.ingress standing.leg w
     near ports can.hops
@@ -76,13 +76,13 @@ hop_piece setting journal row i t s near w ports can =
 -- a packet that doesn't travel
 pub left_piece : (setting : Setting) (journal : List Item) (row i : ℕ) → travels journal i ≡ false
     → piece setting journal row (Hop i) ≡ item.Row row (Hop i) ∷ item.Nothing ∷ []
-unfolding piece hop_items_of words_of
+unfolding piece hop_items_of what_is_known
 left_piece setting journal row i off =
     let new : List Item = begun journal row i in
     ap (λ b. item.Row row (Hop i) ∷ elim b [
       | false ↦ nothing
       | true ↦ move_items setting i (unwrap_or (place_of new i) 0) new
-    ]) (ap (λ (words : PacketWords). words.travels) (same_words journal row i i) ∙ off)
+    ]) (ap (λ (facts : PacketFacts). facts.travels) (same_words journal row i i) ∙ off)
 
 -- ---- the calls that it counts
 
@@ -106,7 +106,7 @@ pub hop_later : (number : ℕ) (w : SwitchValue) (near : ℕ) (ports : Ports) (t
 hop_later number w near ports t =
     turned_later t.tunnel.packet w.number (link_found_down near (next t.tunnel))
     (hopped w near t.tunnel).end (hopped w near t.tunnel).tunnel.route _
-    (ended_later number (counted w) near ports (hopped_traveller w near t)
+    (ended_later number (call_counted w) near ports (hopped_traveller w near t)
     (hopped w near t.tunnel).end)
 
 pub hop_packets : (row i : ℕ) (items : List Item) → AreInStep items
@@ -116,7 +116,7 @@ hop_packets row i items later =
     omega (arith, sum, later_packets items later)
 
 hopped_by : (w : SwitchValue) (end : HopEnd)
-    → (if stays_by end then counted w else counted (counted w)) ≡ ended_switch (counted w) end
+    → (if stays_by end then call_counted w else call_counted (call_counted w)) ≡ ended_switch (call_counted w) end
 hopped_by w hop.Arrive = refl
 hopped_by w (hop.Move other) = refl
 hopped_by w (hop.Stuck cause) = refl
@@ -127,7 +127,7 @@ calls_of_hop : (setting : Setting) (journal items : List Item) (row i place k : 
     → NoneConcern (concerns_known k) journal (item.Row row (Hop i) ∷ items)
     → travels journal i ≡ true → place_of journal i ≡ Some place → (place == k) ≡ b
     → switch_of setting (journal ++ item.Row row (Hop i) ∷ items) k
-    ≡ (if b then ended_switch (counted (switch_of setting journal k)) end
+    ≡ (if b then ended_switch (call_counted (switch_of setting journal k)) end
     else switch_of setting journal k)
 calls_of_hop setting journal items row i place k end b later stays none on stands is =
     let w : SwitchValue = switch_of setting journal k in
@@ -135,8 +135,8 @@ calls_of_hop setting journal items row i place k end b later stays none on stand
     ap (λ x. x && is_at k (place_of journal i)) on
     ∙ ap (is_at k) stands ∙ is in
     call_ties.hopped setting journal row i k items later none
-    ∙ ap (λ x. if x then (if stays_on_way items then counted w else counted (counted w)) else w) at
-    ∙ ap (λ x. if b then (if x then counted w else counted (counted w)) else w) stays
+    ∙ ap (λ x. if x then (if stays_on_way items then call_counted w else call_counted (call_counted w)) else w) at
+    ∙ ap (λ x. if b then (if x then call_counted w else call_counted (call_counted w)) else w) stays
     ∙ ap (λ (u : SwitchValue). if b then u else w) (hopped_by w end)
 
 -- ---- other packets
@@ -163,10 +163,10 @@ hop_other q number w near ports t other =
     let m = hopped w near t.tunnel in
     none_more q
     (turned_items t.tunnel.packet w.number (link_found_down near (next t.tunnel)) m.end m.tunnel.route)
-    (ended_items number (counted w) near ports (hopped_traveller w near t) m.end)
+    (ended_items number (call_counted w) near ports (hopped_traveller w near t) m.end)
     (turned_other q t.tunnel.packet w.number (link_found_down near (next t.tunnel)) m.end
     m.tunnel.route other)
-    (ended_other q number (counted w) near ports (hopped_traveller w near t) m.end
+    (ended_other q number (call_counted w) near ports (hopped_traveller w near t) m.end
     (ap (λ k. k == q) (hopped_same w near t.tunnel).packet ∙ other))
 
 -- ---- the packet and its switch
@@ -195,14 +195,14 @@ module _ (setting : Setting) (journal : List Item) (row i : ℕ) (t : Traveller)
       w near ports can.hops
       ∙ sym (traveller_along setting journal
       (item.Row row (Hop i) ∷ hop_written number w near ports
-      (on_leg (targets_of setting journal) i (words_of journal i) standing.header
+      (on_leg (targets_of setting journal) i (what_is_known journal i) standing.header
       standing.ingress standing.leg)) i (
         refl,
         apart_policies number (begun journal row i)
             (hop_written number w near ports (on_leg (targets_of setting journal) i
-            (words_of journal i) standing.header standing.ingress standing.leg))
+            (what_is_known journal i) standing.header standing.ingress standing.leg))
             (hop_sends number w near ports (on_leg (targets_of setting journal) i
-            (words_of journal i) standing.header standing.ingress standing.leg)).0,
+            (what_is_known journal i) standing.header standing.ingress standing.leg)).0,
       )))
 
   stays : stays_on_way items ≡ stays_by end
@@ -218,9 +218,9 @@ module _ (setting : Setting) (journal : List Item) (row i : ℕ) (t : Traveller)
 
   pub hop_called : (k : ℕ) (b : Bool) → (s == k) ≡ b
       → switch_of setting (journal ++ all) k
-      ≡ (if b then ended_switch (counted (switch_of setting journal k)) end
+      ≡ (if b then ended_switch (call_counted (switch_of setting journal k)) end
       else switch_of setting journal k)
-  unfolding words_of
+  unfolding what_is_known
   hop_called k b is =
       calls_of_hop setting journal items row i s k end b (hop_later number w near ports t) stays
       (refl, apart_known k number (begun journal row i) items (hop_sends number w near ports t).0)

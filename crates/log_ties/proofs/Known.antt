@@ -26,7 +26,7 @@ use Rattle.version_laws.specs.Serving.{ServingHold}
 use Rattle.version_laws.proofs.Planned.{tables_planned, versions_planned}
 use Rattle.version_laws.proofs.Serving.{serving_hold}
 use Rattle.way_laws.specs.OnWay.{IsOnLeg, IsOnWay}
-use Rattle.way_laws.specs.Words.{PacketWords, words_of}
+use Rattle.way_laws.specs.Facts.{PacketFacts, what_is_known}
 use Rattle.way_laws.specs.Kept.{AllKept}
 use Rattle.way_laws.specs.Rest.{IsServed}
 use Rattle.way_laws.proofs.AllKept.{Before, all_kept}
@@ -101,12 +101,12 @@ before_of setting journal knows =
 
 -- a packet that travels is on its way, where it is served
 pub record Travels (setting : Setting) (journal : List Item) (i : ℕ) : Type 0 where
-  pub way : IsOnWay setting journal (words_of journal i)
+  pub way : IsOnWay setting journal (what_is_known journal i)
   pub served : IsServed journal i
 
 pub travels_known : (setting : Setting) (journal : List Item) (i : ℕ) → Known setting journal
-    → (words_of journal i).travels ≡ true → Travels setting journal i
-unfolding words_of
+    → (what_is_known journal i).travels ≡ true → Travels setting journal i
+unfolding what_is_known
 travels_known setting journal i knows on = record {
   way = (knows.kept.packets i).on_way (travels_in journal i on)
       (inl (knows.settled.rests.moving i on));
@@ -123,15 +123,15 @@ there_is setting journal v knows above below =
     (omega (arith, below, (bounded setting journal knows.caused).there)) in
     rw has.of refl
 
-leg_targets : (setting : Setting) (journal items : List Item) (words : PacketWords) (leg : Leg)
-    → Known setting journal → (on : IsOnWay setting journal words)
-    → IsOnLeg setting journal words on.under_way.header leg
+leg_targets : (setting : Setting) (journal items : List Item) (facts : PacketFacts) (leg : Leg)
+    → Known setting journal → (on : IsOnWay setting journal facts)
+    → IsOnLeg setting journal facts on.under_way.header leg
     → targets_of setting (journal ++ items) leg ≡ targets_of setting journal leg
-leg_targets setting journal items words (Seek version partition) knows on leg =
+leg_targets setting journal items facts (Seek version partition) knows on leg =
     ap (λ plan. targets_in plan partition)
     (plan_kept setting journal items version
     (there_is setting journal version knows (omega (arith, leg.not_retired)) leg.current))
-leg_targets setting journal items words (Exit port) knows on leg = refl
+leg_targets setting journal items facts (Exit port) knows on leg = refl
 
 -- whatever items come that name no packet, also new versions: packets stay on their way
 pub traveller_stays : (setting : Setting) (journal items : List Item) (i : ℕ)
@@ -140,19 +140,19 @@ pub traveller_stays : (setting : Setting) (journal items : List Item) (i : ℕ)
 traveller_stays setting journal items i knows none =
     traveller_now setting (journal ++ items) i
     ∙ ap (traveller_by (targets_of setting (journal ++ items)) i)
-    (words_all i journal items ∙ unnamed i journal items (words_of journal i) none)
-    ∙ by_travels (words_of journal i).travels refl
+    (words_all i journal items ∙ unnamed i journal items (what_is_known journal i) none)
+    ∙ by_travels (what_is_known journal i).travels refl
     ∙ sym (traveller_now setting journal i)
   where
-    by_travels : (b : Bool) → (words_of journal i).travels ≡ b
-        → traveller_by (targets_of setting (journal ++ items)) i (words_of journal i)
-        ≡ traveller_by (targets_of setting journal) i (words_of journal i)
+    by_travels : (b : Bool) → (what_is_known journal i).travels ≡ b
+        → traveller_by (targets_of setting (journal ++ items)) i (what_is_known journal i)
+        ≡ traveller_by (targets_of setting journal) i (what_is_known journal i)
     by_travels false off = rw off refl
     by_travels true on =
-        let way : IsOnWay setting journal (words_of journal i) =
+        let way : IsOnWay setting journal (what_is_known journal i) =
         (travels_known setting journal i knows on).way in
         by_targets (targets_of setting (journal ++ items)) (targets_of setting journal) i
-        (words_of journal i)
+        (what_is_known journal i)
         (subst (λ (o : Option Leg). targets_of setting (journal ++ items) (unwrap_or o (Exit 0))
         ≡ targets_of setting journal (unwrap_or o (Exit 0))) (sym way.takes)
-        (leg_targets setting journal items (words_of journal i) way.leg knows way way.on_leg))
+        (leg_targets setting journal items (what_is_known journal i) way.leg knows way way.on_leg))

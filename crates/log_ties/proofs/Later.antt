@@ -12,7 +12,7 @@ use Rattle.journal.specs.declared.item.Item.TheVariants as item
 use Rattle.switch_core.specs.Answering.{arrived}
 use Rattle.switch_core.specs.Ends.{around}
 use Rattle.switch_core.specs.Moving.{link_found_down, hopped}
-use Rattle.switch_core.specs.State.{SwitchValue, counted}
+use Rattle.switch_core.specs.State.{SwitchValue, call_counted}
 use Rattle.switch_core.specs.declared.answers.Answer.{Answer}
 use Rattle.switch_core.specs.declared.answers.Answer.TheVariants as answer
 use Rattle.switch_core.specs.declared.answers.Arrived.{Arrived}
@@ -192,5 +192,5 @@ pub hop_sends : (number : ℕ) (switch : SwitchValue) (near : ℕ) (ports : Port
 hop_sends number switch near ports t =
     turned_sends number t.tunnel.packet switch.number (link_found_down near (next_switch t.tunnel))
     (hopped switch near t.tunnel).end (hopped switch near t.tunnel).tunnel.route _ _
-    (ended_sends number (counted switch) near ports (hopped_traveller switch near t)
+    (ended_sends number (call_counted switch) near ports (hopped_traveller switch near t)
     (hopped switch near t.tunnel).end)

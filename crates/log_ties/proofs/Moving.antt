@@ -17,7 +17,7 @@ use Rattle.steps.specs.declared.step.Step.TheVariants.{Hop}
 use Rattle.switch_core.specs.Answering.{arrived, arrived_on}
 use Rattle.switch_core.specs.Ends.{around, cause_of}
 use Rattle.switch_core.specs.Moving.{Moved, link_found_down as found_by, hopped, hopped_to, moved, moved_along, rerouted_here}
-use Rattle.switch_core.specs.State.{SwitchValue, counted}
+use Rattle.switch_core.specs.State.{SwitchValue, call_counted}
 use Rattle.switch_core.specs.declared.answers.Arrived.{Arrived}
 use Rattle.switch_core.specs.declared.answers.HopEnd.{HopEnd}
 use Rattle.switch_core.specs.declared.answers.HopEnd.TheVariants as hop
@@ -38,7 +38,7 @@ use Rattle.update_machine.specs.Travels.{leg_of}
 use Rattle.update_machine.proofs.CallerLemmas.{have_append, messages_keep, switch_keeps}
 use Rattle.boot_laws.specs.ItemCauses.{HasItemCause}
 use Rattle.way_laws.specs.OnWay.{IsOnLeg}
-use Rattle.way_laws.specs.Words.{PacketWords, words_of}
+use Rattle.way_laws.specs.Facts.{PacketFacts, what_is_known}
 use Rattle.way_laws.proofs.Words.{words_grow}
 use Rattle.way_laws.specs.Stages.{stage_of}
 use Rattle.way_laws.proofs.AllKept.{knows}
@@ -64,8 +64,8 @@ use Rattle.log_ties.proofs.Words.{Targets, by_targets, same_targets, traveller_b
 own : (i : ℕ) → (i == i) ≡ true
 own i = eq-eqb i i refl
 
-leg_in_words : (journal : List Item) (i : ℕ) → leg_of journal i ≡ (words_of journal i).leg
-unfolding words_of
+leg_in_words : (journal : List Item) (i : ℕ) → leg_of journal i ≡ (what_is_known journal i).leg
+unfolding what_is_known
 leg_in_words journal i = refl
 
 -- the packet goes on, or is stuck before it arrives
@@ -91,14 +91,14 @@ pub record StaysAsked (setting : Setting) (journal : List Item) (place : ℕ) (h
   pub at_end : IsAtEnd setting journal place header leg → IsAtEnd setting now place header leg
 
 -- and the packet has these words there, on its leg
-pub record AreWordsNow (words : PacketWords) (header : Header) (ingress : ℕ) (leg : Leg) (i : ℕ)
-    (now : List Item) (ws : PacketWords) (found : List ℕ) : Type 0 where
-  pub same : words_of now i ≡ ws
+pub record AreWordsNow (facts : PacketFacts) (header : Header) (ingress : ℕ) (leg : Leg) (i : ℕ)
+    (now : List Item) (ws : PacketFacts) (found : List ℕ) : Type 0 where
+  pub same : what_is_known now i ≡ ws
   pub entered : ws.header ≡ Some header
   pub came : ws.ingress ≡ Some ingress
   pub takes : ws.leg ≡ Some leg
   pub on : ws.travels ≡ true
-  pub decision : ws.decision ≡ words.decision
+  pub decision : ws.decision ≡ facts.decision
   pub marked : ws.found ≡ found
 
 module _ (setting : Setting) (journal : List Item) (row i place : ℕ) (header : Header)
@@ -113,20 +113,20 @@ module _ (setting : Setting) (journal : List Item) (row i place : ℕ) (header :
   abbrev turned : ℕ → List ℕ → List Item
   turned two route = met two ++ item.Rerouted i route ∷ []
 
-  abbrev words : PacketWords
-  words = words_of journal i
+  abbrev facts : PacketFacts
+  facts = what_is_known journal i
 
   abbrev targets : Targets
   targets = targets_of setting journal
 
   abbrev down : ℕ → List ℕ
-  down two = with_link words.found place two
+  down two = with_link facts.found place two
 
   abbrev at_place : List ℕ → ℕ → List ℕ → Traveller
-  at_place route k found = on_route_of targets i words header ingress leg route k found
+  at_place route k found = on_route_of targets i facts header ingress leg route k found
 
   abbrev t : Traveller
-  t = at_place words.route words.hops words.found
+  t = at_place facts.route facts.hops facts.found
 
   abbrev number : ℕ
   number = next_message journal
@@ -188,35 +188,35 @@ module _ (setting : Setting) (journal : List Item) (row i place : ℕ) (header :
 
   -- ---- the packet's words there
 
-  words_begun : words_of begun i ≡ words
+  words_begun : what_is_known begun i ≡ facts
   words_begun = words_grow i journal (item.Row row (Hop i))
 
-  abbrev words_met : ℕ → PacketWords
-  words_met two = record words { found = down two }
+  abbrev words_met : ℕ → PacketFacts
+  words_met two = record facts { found = down two }
 
-  met_is : (two : ℕ) → words_of (met two) i ≡ words_met two
+  met_is : (two : ℕ) → what_is_known (met two) i ≡ words_met two
   met_is two = words_grow i begun (item.FoundDown i place two) ∙ rw (own i, words_begun) refl
 
-  abbrev words_turned : ℕ → List ℕ → PacketWords
-  words_turned two route = record words {
+  abbrev words_turned : ℕ → List ℕ → PacketFacts
+  words_turned two route = record facts {
     found = down two;
     route = route;
     hops = 0;
   }
 
   turned_is : (two : ℕ) (route : List ℕ)
-      → words_of (turned two route) i ≡ words_turned two route
+      → what_is_known (turned two route) i ≡ words_turned two route
   turned_is two route =
       words_grow i (met two) (item.Rerouted i route) ∙ rw (own i, met_is two) refl
 
   -- ---- where it arrives
 
-  abbrev AreNow : List Item → PacketWords → List ℕ → Type 0
-  AreNow now ws found = AreWordsNow (words_of journal i) header ingress leg i now ws found
+  abbrev AreNow : List Item → PacketFacts → List ℕ → Type 0
+  AreNow now ws found = AreWordsNow (what_is_known journal i) header ingress leg i now ws found
 
-  asked_now : (now : List Item) (ws : PacketWords) (found : List ℕ) → Stays now
+  asked_now : (now : List Item) (ws : PacketFacts) (found : List ℕ) → Stays now
       → AreNow now ws found
-      → IsAsked setting now place (counted w) mask ports (packet found)
+      → IsAsked setting now place (call_counted w) mask ports (packet found)
   asked_now now ws found stays are = record {
     is = hops.stands.knows.is;
     caused = stays.caused;
@@ -232,7 +232,7 @@ module _ (setting : Setting) (journal : List Item) (row i place : ℕ) (header :
     };
   }
 
-  of_now : (now : List Item) (ws : PacketWords) (found : List ℕ) → AreNow now ws found
+  of_now : (now : List Item) (ws : PacketFacts) (found : List ℕ) → AreNow now ws found
       → AreOfWords t.version t.rule ws
   of_now now ws found are = record {
     its_version = ap (λ d. unwrap_or (option_map (λ decision. decision.version) d) 0)
@@ -242,15 +242,15 @@ module _ (setting : Setting) (journal : List Item) (row i place : ℕ) (header :
   }
 
   -- the switch's answer is what the journal's definitions say
-  arrival_is : (now : List Item) (ws : PacketWords) (route : List ℕ) (k : ℕ) (found : List ℕ)
+  arrival_is : (now : List Item) (ws : PacketFacts) (route : List ℕ) (k : ℕ) (found : List ℕ)
       → Stays now → AreNow now ws found → IsAtEnd setting now place header leg
       → arrive_items setting i place now
-      ≡ arrival_items number (counted w) mask ports (at_place route k found)
+      ≡ arrival_items number (call_counted w) mask ports (at_place route k found)
   unfolding arrival_items arrived
   arrival_is now ws route k found stays are end =
       let u : Traveller = at_place route k found in
-      let what : Arrived = arrived_on (counted w) (around mask ports) (packet found) leg in
-      arrive_law setting now place (counted w) mask ports (packet found)
+      let what : Arrived = arrived_on (call_counted w) (around mask ports) (packet found) leg in
+      arrive_law setting now place (call_counted w) mask ports (packet found)
       (asked_now now ws found stays are) u leg
       (subst (AreOfWords t.version t.rule) (sym are.same) (of_now now ws found are))
       (ap (λ ws. ws.leg) are.same ∙ are.takes) end
@@ -258,20 +258,20 @@ module _ (setting : Setting) (journal : List Item) (row i place : ℕ) (header :
       ∙ ap (λ s. arrived_items number (standing_at s u) u what) (sym hops.sees.number)
 
   -- and so the packet goes on
-  arrival_goes_on : (now : List Item) (ws : PacketWords) (route : List ℕ) (k : ℕ)
+  arrival_goes_on : (now : List Item) (ws : PacketFacts) (route : List ℕ) (k : ℕ)
       (found : List ℕ) → Stays now → AreNow now ws found
-      → arrival (counted w) mask ports (at_place route k found)
+      → arrival (call_counted w) mask ports (at_place route k found)
       ≡ traveller_by targets i (words_along i now
-      (arrival_items number (counted w) mask ports (at_place route k found)) ws)
+      (arrival_items number (call_counted w) mask ports (at_place route k found)) ws)
   unfolding arrival arrival_items arrived
   arrival_goes_on now ws route k found stays are =
       let u : Traveller = at_place route k found in
-      let what : Arrived = arrived_on (counted w) (around mask ports) (packet found) leg in
+      let what : Arrived = arrived_on (call_counted w) (around mask ports) (packet found) leg in
       let at : Standing = at_switch place (packet found) in
       arrival_goes (targets_of setting now) now number at u what ws
       (record { on = are.on; header = are.entered; came = are.came; found = are.marked })
       (of_now now ws found are)
-      (arrive_comes setting now place (counted w) mask ports (packet found)
+      (arrive_comes setting now place (call_counted w) mask ports (packet found)
       (asked_now now ws found stays are) leg)
       ∙ by_targets (targets_of setting now) targets i
       (words_along i now (arrived_items number at u what) ws) (stays.leads _)
@@ -280,12 +280,12 @@ module _ (setting : Setting) (journal : List Item) (row i place : ℕ) (header :
       (sym hops.sees.number)
 
   arrival_stays : (route : List ℕ) (k : ℕ) (found : List ℕ)
-      → stays_on_way (arrival_items number (counted w) mask ports (at_place route k found)) ≡ false
+      → stays_on_way (arrival_items number (call_counted w) mask ports (at_place route k found)) ≡ false
   unfolding arrival_items
   arrival_stays route k found =
       let u : Traveller = at_place route k found in
-      arrived_still number (standing_at (counted w).number u) u
-      (arrived (counted w) (around mask ports) u.tunnel)
+      arrived_still number (standing_at (call_counted w).number u) u
+      (arrived (call_counted w) (around mask ports) u.tunnel)
 
   -- ---- what a hop comes to
 
@@ -295,14 +295,14 @@ module _ (setting : Setting) (journal : List Item) (row i place : ℕ) (header :
   abbrev written : ℕ → Option ℕ → Moved → List Item
   written at found m =
       turned_items i at found m.end m.tunnel.route
-      ++ ended_items number (counted w) mask ports (moved_to m) m.end
+      ++ ended_items number (call_counted w) mask ports (moved_to m) m.end
 
   -- what it writes, where the packet is then, and how many calls it is
   abbrev Outcome : ℕ → Option ℕ → Moved → Type 0
   Outcome at found m =
       (move_items setting i place begun ≡ written at found m)
-      × (ended_traveller (counted w) mask ports (moved_to m) m.end
-      ≡ traveller_by targets i (words_along i begun (written at found m) words))
+      × (ended_traveller (call_counted w) mask ports (moved_to m) m.end
+      ≡ traveller_by targets i (words_along i begun (written at found m) facts))
       × (stays_on_way (written at found m) ≡ stays_by m.end)
 
   abbrev move_by : Option ℕ → List Item
@@ -316,7 +316,7 @@ module _ (setting : Setting) (journal : List Item) (row i place : ℕ) (header :
 
   next_is : next_switch begun i ≡ next t.tunnel
   next_is = next_in begun i
-      ∙ ap (λ (ws : PacketWords). slice_get ws.route (ws.hops + 1)) words_begun
+      ∙ ap (λ (ws : PacketFacts). slice_get ws.route (ws.hops + 1)) words_begun
 
   moves_are : (o : Option ℕ) → next t.tunnel ≡ o → move_items setting i place begun ≡ move_by o
   unfolding move_items
@@ -325,7 +325,7 @@ module _ (setting : Setting) (journal : List Item) (row i place : ℕ) (header :
   links_are : (two : ℕ) (b : Bool) → has mask two ≡ b → has (near setting begun place) two ≡ b
   links_are two b is = ap (λ links. has links two) (sym stays_begun.sees.usable) ∙ is
 
-  are_begun : AreNow begun words words.found
+  are_begun : AreNow begun facts facts.found
   are_begun = record {
     same = words_begun;
     entered = hops.stands.entered;
@@ -340,11 +340,11 @@ module _ (setting : Setting) (journal : List Item) (row i place : ℕ) (header :
   arrives : next t.tunnel ≡ None → Outcome place None (moved t.tunnel None)
   arrives last = (
     moves_are None last
-        ∙ arrival_is begun words words.route words.hops words.found stays_begun are_begun
-        (stays_begun.at_end (end_of_route setting journal place words header leg hops.stands.knows
+        ∙ arrival_is begun facts facts.route facts.hops facts.found stays_begun are_begun
+        (stays_begun.at_end (end_of_route setting journal place facts header leg hops.stands.knows
         hops.stands.sound hops.stands.on_leg hops.stands.here last)),
-    arrival_goes_on begun words words.route words.hops words.found stays_begun are_begun,
-    arrival_stays words.route words.hops words.found,
+    arrival_goes_on begun facts facts.route facts.hops facts.found stays_begun are_begun,
+    arrival_stays facts.route facts.hops facts.found,
   )
 
   -- it moves over a link that is usable
@@ -369,14 +369,14 @@ module _ (setting : Setting) (journal : List Item) (row i place : ℕ) (header :
   -- ---- the link is found down
 
   abbrev tunnel_down : ℕ → TunnelValue
-  tunnel_down two = tunnel_on targets i header ingress leg words.route words.hops (down two)
+  tunnel_down two = tunnel_on targets i header ingress leg facts.route facts.hops (down two)
 
   -- the route that the switch knows around it
   abbrev route_down : ℕ → Leg → Option (List ℕ)
   route_down two leg = route_of w.database w.number (targets leg) mask (down two)
 
   here_is : here t.tunnel ≡ place
-  here_is = got words.route words.hops place hops.stands.here
+  here_is = got facts.route facts.hops place hops.stands.here
 
   found_is : (two : ℕ) → next t.tunnel ≡ Some two → has mask two ≡ false
       → found_by mask (next t.tunnel) ≡ Some two
@@ -387,14 +387,14 @@ module _ (setting : Setting) (journal : List Item) (row i place : ℕ) (header :
   unfolding hopped rerouted_here
   blocked_is two goes off =
       let along : ℕ → ℕ → Moved = λ n k. moved_along w mask
-      (tunnel_on targets i header ingress leg words.route words.hops (with_link words.found n two))
-      (route_of w.database k (targets leg) mask (with_link words.found n two)) in
+      (tunnel_on targets i header ingress leg facts.route facts.hops (with_link facts.found n two))
+      (route_of w.database k (targets leg) mask (with_link facts.found n two)) in
       ap (hopped_to w mask t.tunnel) (found_is two goes off)
       ∙ ap (λ n. along n n) here_is
       ∙ ap (along place) (sym hops.sees.number)
 
   found_met : (two : ℕ) → found_down (met two) i ≡ down two
-  found_met two = found_in (met two) i ∙ ap (λ (ws : PacketWords). ws.found) (met_is two)
+  found_met two = found_in (met two) i ∙ ap (λ (ws : PacketFacts). ws.found) (met_is two)
 
   route_met : (two : ℕ) → route_for setting (met two) i place leg ≡ route_down two leg
   route_met two =
@@ -413,7 +413,7 @@ module _ (setting : Setting) (journal : List Item) (row i place : ℕ) (header :
   unfolding reroute_items
   reroutes two o is =
       ap (λ l. reroute_by setting i place l (met two))
-      (leg_in_words (met two) i ∙ ap (λ (ws : PacketWords). ws.leg) (met_is two)
+      (leg_in_words (met two) i ∙ ap (λ (ws : PacketFacts). ws.leg) (met_is two)
       ∙ hops.stands.takes)
       ∙ ap (reroute_by_route two) (route_met two ∙ is)
 
@@ -454,7 +454,7 @@ module _ (setting : Setting) (journal : List Item) (row i place : ℕ) (header :
       → next_switch (turned two route) i ≡ slice_get route 1
   next_turned two route =
       next_in (turned two route) i
-      ∙ ap (λ (ws : PacketWords). slice_get ws.route (ws.hops + 1)) (turned_is two route)
+      ∙ ap (λ (ws : PacketFacts). slice_get ws.route (ws.hops + 1)) (turned_is two route)
 
   abbrev go_by : ℕ → List ℕ → Option ℕ → List Item
   go_by two route o = elim o [
@@ -485,7 +485,7 @@ module _ (setting : Setting) (journal : List Item) (row i place : ℕ) (header :
   links_there : Knows setting journal i (stage_of journal i)
   links_there = knows setting journal i (before_of setting journal hops.stands.knows)
 
-  ends_there : (two : ℕ) (route : List ℕ) (l : Leg) → IsOnLeg setting journal words header l
+  ends_there : (two : ℕ) (route : List ℕ) (l : Leg) → IsOnLeg setting journal facts header l
       → route_down two l ≡ Some route → slice_get route 1 ≡ None
       → IsAtEnd setting journal place header l
   ends_there two route (Exit port) on is last =
@@ -505,7 +505,7 @@ module _ (setting : Setting) (journal : List Item) (row i place : ℕ) (header :
       sym (last_here route 0 place way.leads.ends.target way.begins last way.leads.ends.last) in
       let of : targets (Seek version partition) ≡ on.placed.1 =
       ap (λ (o : Option Placed). unwrap_or (option_map (λ p. p.1) o) []) on.own.found in
-      ours_of setting journal place words header version partition hops.stands.knows
+      ours_of setting journal place facts header version partition hops.stands.knows
       hops.stands.sound on
       (subst (λ all. IsTrue (list_any (nat_eq place) all)) of
       (subst (λ k. IsTrue (list_any (nat_eq k) (targets (Seek version partition)))) target
@@ -524,7 +524,7 @@ module _ (setting : Setting) (journal : List Item) (row i place : ℕ) (header :
   }
 
   turned_along : (two : ℕ) (route : List ℕ) (items : List Item)
-      → words_along i begun (item.FoundDown i place two ∷ item.Rerouted i route ∷ items) words
+      → words_along i begun (item.FoundDown i place two ∷ item.Rerouted i route ∷ items) facts
       ≡ words_along i (turned two route) items (words_turned two route)
   turned_along two route items = rw (own i) refl
 
@@ -535,7 +535,7 @@ module _ (setting : Setting) (journal : List Item) (row i place : ℕ) (header :
   arrives_there two route goes off is last =
       let now : List Item = turned two route in
       let items : List Item =
-      arrival_items number (counted w) mask ports (at_place route 0 (down two)) in (
+      arrival_items number (call_counted w) mask ports (at_place route 0 (down two)) in (
         blocked_items two (Some route) goes off is
             ∙ ap (λ o. item.FoundDown i place two ∷ item.Rerouted i route ∷ go_by two route o)
             (next_turned two route ∙ last)
@@ -600,7 +600,7 @@ module _ (setting : Setting) (journal : List Item) (row i place : ℕ) (header :
       by_next (Some two) goes = by_link two (has mask two) goes refl
 
   -- where it arrives its switch is asked once more
-  pub arrives_at_end : (hopped w mask (on_leg (targets_of setting journal) i (words_of journal i)
+  pub arrives_at_end : (hopped w mask (on_leg (targets_of setting journal) i (what_is_known journal i)
       header ingress leg).tunnel).end ≡ hop.Arrive → IsAtEnd setting journal place header leg
   arrives_at_end arrive = by_next (next t.tunnel) refl
     where
@@ -639,29 +639,29 @@ module _ (setting : Setting) (journal : List Item) (row i place : ℕ) (header :
 
       by_next : (o : Option ℕ) → next t.tunnel ≡ o → IsAtEnd setting journal place header leg
       by_next None last =
-          end_of_route setting journal place words header leg hops.stands.knows hops.stands.sound
+          end_of_route setting journal place facts header leg hops.stands.knows hops.stands.sound
           hops.stands.on_leg hops.stands.here last
       by_next (Some two) goes = by_link two (has mask two) goes refl
 
   -- what it writes
   pub hop_law : move_items setting i place (journal ++ item.Row row (Hop i) ∷ [])
       ≡ hop_written (next_message journal) w mask ports
-      (on_leg (targets_of setting journal) i (words_of journal i) header ingress leg)
+      (on_leg (targets_of setting journal) i (what_is_known journal i) header ingress leg)
   hop_law = outcome.0
 
   -- where the packet is then
   pub hop_goes : hop_traveller w mask ports
-      (on_leg (targets_of setting journal) i (words_of journal i) header ingress leg)
+      (on_leg (targets_of setting journal) i (what_is_known journal i) header ingress leg)
       ≡ traveller_by (targets_of setting journal) i
       (words_along i (journal ++ item.Row row (Hop i) ∷ [])
       (hop_written (next_message journal) w mask ports
-      (on_leg (targets_of setting journal) i (words_of journal i) header ingress leg))
-      (words_of journal i))
+      (on_leg (targets_of setting journal) i (what_is_known journal i) header ingress leg))
+      (what_is_known journal i))
   hop_goes = outcome.1
 
   -- and whether its switch is called once or twice
   pub hop_stays : stays_on_way (hop_written (next_message journal) w mask ports
-      (on_leg (targets_of setting journal) i (words_of journal i) header ingress leg))
-      ≡ stays_by (hopped w mask (on_leg (targets_of setting journal) i (words_of journal i) header
+      (on_leg (targets_of setting journal) i (what_is_known journal i) header ingress leg))
+      ≡ stays_by (hopped w mask (on_leg (targets_of setting journal) i (what_is_known journal i) header
       ingress leg).tunnel).end
   hop_stays = outcome.2

@@ -11,7 +11,7 @@ use Rattle.update_machine.specs.Links.{serves}
 use Rattle.update_machine.specs.Ways.{targets_of}
 use Rattle.update_machine.specs.Setting.{Setting}
 use Rattle.way_laws.specs.OnWay.{IsOnLeg, IsOnWay}
-use Rattle.way_laws.specs.Words.{PacketWords, words_of}
+use Rattle.way_laws.specs.Facts.{PacketFacts, what_is_known}
 use Rattle.way_laws.specs.Rest.{IsServed}
 use Rattle.travelling.specs.declared.travelling.Traveller.{Traveller}
 use Rattle.log_ties.proofs.Arrivals.{some_same}
@@ -32,27 +32,27 @@ tunnel_on targets i header ingress leg route place down = record {
 }
 
 -- what is known of it with these words, wherever it stands
-abbrev pub on_route_of : Targets → ℕ → PacketWords → Header → ℕ → Leg → List ℕ → ℕ → List ℕ
+abbrev pub on_route_of : Targets → ℕ → PacketFacts → Header → ℕ → Leg → List ℕ → ℕ → List ℕ
     → Traveller
-on_route_of targets i words header ingress leg route place down = record {
+on_route_of targets i facts header ingress leg route place down = record {
   tunnel = tunnel_on targets i header ingress leg route place down;
-  version = unwrap_or (option_map (λ decision. decision.version) words.decision) 0;
-  rule = unwrap_or (option_map (λ decision. decision.rule) words.decision) None;
+  version = unwrap_or (option_map (λ decision. decision.version) facts.decision) 0;
+  rule = unwrap_or (option_map (λ decision. decision.rule) facts.decision) None;
 }
 
-abbrev pub on_leg : Targets → ℕ → PacketWords → Header → ℕ → Leg → Traveller
-on_leg targets i words header ingress leg =
-    on_route_of targets i words header ingress leg words.route words.hops words.found
+abbrev pub on_leg : Targets → ℕ → PacketFacts → Header → ℕ → Leg → Traveller
+on_leg targets i facts header ingress leg =
+    on_route_of targets i facts header ingress leg facts.route facts.hops facts.found
 
-pub known_by : (targets : Targets) (i : ℕ) (words : PacketWords) (header : Header) (ingress : ℕ)
-    (leg : Leg) → words.travels ≡ true → words.header ≡ Some header
-    → words.ingress ≡ Some ingress → words.leg ≡ Some leg
-    → traveller_by targets i words ≡ Some (on_leg targets i words header ingress leg)
-known_by targets i words header ingress leg on its came takes = rw (on, its, came, takes) refl
+pub known_by : (targets : Targets) (i : ℕ) (facts : PacketFacts) (header : Header) (ingress : ℕ)
+    (leg : Leg) → facts.travels ≡ true → facts.header ≡ Some header
+    → facts.ingress ≡ Some ingress → facts.leg ≡ Some leg
+    → traveller_by targets i facts ≡ Some (on_leg targets i facts header ingress leg)
+known_by targets i facts header ingress leg on its came takes = rw (on, its, came, takes) refl
 
-travels_by : (targets : Targets) (i : ℕ) (words : PacketWords) (t : Traveller)
-    → traveller_by targets i words ≡ Some t → words.travels ≡ true
-travels_by targets i words t is = by_case words.travels _ t is
+travels_by : (targets : Targets) (i : ℕ) (facts : PacketFacts) (t : Traveller)
+    → traveller_by targets i facts ≡ Some t → facts.travels ≡ true
+travels_by targets i facts t is = by_case facts.travels _ t is
   where
     by_case : (b : Bool) (x t : Traveller) → (if b then Some x else None) ≡ Some t → b ≡ true
     by_case true x t is = refl
@@ -67,17 +67,17 @@ got xs k x is =
 pub record Stands (setting : Setting) (journal : List Item) (i place : ℕ) (header : Header)
     (ingress : ℕ) (leg : Leg) : Type 0 where
   pub knows : Known setting journal
-  pub on : (words_of journal i).travels ≡ true
-  pub entered : (words_of journal i).header ≡ Some header
-  pub came : (words_of journal i).ingress ≡ Some ingress
-  pub stands : (words_of journal i).place ≡ Some place
-  pub takes : (words_of journal i).leg ≡ Some leg
+  pub on : (what_is_known journal i).travels ≡ true
+  pub entered : (what_is_known journal i).header ≡ Some header
+  pub came : (what_is_known journal i).ingress ≡ Some ingress
+  pub stands : (what_is_known journal i).stands ≡ Some place
+  pub takes : (what_is_known journal i).leg ≡ Some leg
   pub at_first : ingress < length setting.net.switches
   pub there : place < length setting.net.switches
   pub serving : IsTrue (serves journal place)
   pub sound : IsHeader header
-  pub on_leg : IsOnLeg setting journal (words_of journal i) header leg
-  pub here : slice_get (words_of journal i).route (words_of journal i).hops ≡ Some place
+  pub on_leg : IsOnLeg setting journal (what_is_known journal i) header leg
+  pub here : slice_get (what_is_known journal i).route (what_is_known journal i).hops ≡ Some place
 
 -- a packet of the table, as the journal tells of it
 pub record IsStanding (setting : Setting) (journal : List Item) (i : ℕ) (t : Traveller) : Type 0
@@ -87,26 +87,26 @@ pub record IsStanding (setting : Setting) (journal : List Item) (i : ℕ) (t : T
     pub ingress : ℕ
     pub leg : Leg
     pub stands : Stands setting journal i place header ingress leg
-    pub is : t ≡ on_leg (targets_of setting journal) i (words_of journal i) header ingress leg
+    pub is : t ≡ on_leg (targets_of setting journal) i (what_is_known journal i) header ingress leg
 
 serves_here : (setting : Setting) (journal : List Item) (i place : ℕ) → IsServed journal i
-    → (words_of journal i).place ≡ Some place → IsTrue (serves journal place)
-unfolding words_of
+    → (what_is_known journal i).stands ≡ Some place → IsTrue (serves journal place)
+unfolding what_is_known
 serves_here setting journal i place served stands =
     let same : served.place ≡ place =
-    some_same (words_of journal i).place served.place place served.stands stands in
+    some_same (what_is_known journal i).stands served.place place served.stands stands in
     rw (sym same) served.serving
 
 pub standing_by : (setting : Setting) (journal : List Item) (i : ℕ) (t : Traveller)
     → Known setting journal
-    → traveller_by (targets_of setting journal) i (words_of journal i) ≡ Some t
+    → traveller_by (targets_of setting journal) i (what_is_known journal i) ≡ Some t
     → IsStanding setting journal i t
 standing_by setting journal i t knows by =
-    let words : PacketWords = words_of journal i in
+    let facts : PacketFacts = what_is_known journal i in
     let targets : Targets = targets_of setting journal in
-    let on : words.travels ≡ true = travels_by targets i words t by in
+    let on : facts.travels ≡ true = travels_by targets i facts t by in
     let travelling : Travels setting journal i = travels_known setting journal i knows on in
-    let way : IsOnWay setting journal words = travelling.way in
+    let way : IsOnWay setting journal facts = travelling.way in
     record {
       place = way.under_way.place;
       header = way.under_way.header;
@@ -127,8 +127,8 @@ standing_by setting journal i t knows by =
         on_leg = way.on_leg;
         here = way.stands;
       };
-      is = some_same (traveller_by targets i words) t
-          (on_leg targets i words way.under_way.header way.under_way.ingress way.leg) by
-          (known_by targets i words way.under_way.header way.under_way.ingress way.leg on
+      is = some_same (traveller_by targets i facts) t
+          (on_leg targets i facts way.under_way.header way.under_way.ingress way.leg) by
+          (known_by targets i facts way.under_way.header way.under_way.ingress way.leg on
           way.under_way.entered way.under_way.came way.takes);
     }

@@ -17,7 +17,7 @@ use Rattle.switch_core.specs.declared.answers.Next.TheVariants as next
 use Rattle.update_machine.specs.Marks.{retired_mark}
 use Rattle.update_machine.specs.Messages.{sent_from}
 use Rattle.update_machine.specs.Moves.{takes_route}
-use Rattle.way_laws.specs.Words.{PacketWords, names, words_after}
+use Rattle.way_laws.specs.Facts.{PacketFacts, is_of_packet, facts_after}
 use Rattle.world_log.specs.Writing.{answer_items, arrived_items, cache_message, end_item, entered_items, messages_in}
 use Rattle.travelling.specs.Travelling.{Standing}
 use Rattle.travelling.specs.declared.travelling.Traveller.{Traveller}
@@ -26,25 +26,25 @@ use Rattle.log_ties.proofs.Words.{words_along}
 -- none of the items names the packet
 abbrev pub NoneName : ℕ → List Item → Type 0
 NoneName i [] = ⊤
-NoneName i (first ∷ items) = (names i first ≡ false) × NoneName i items
+NoneName i (first ∷ items) = (is_of_packet i first ≡ false) × NoneName i items
 
-pub unnamed : (i : ℕ) (before items : List Item) (words : PacketWords) → NoneName i items
-    → words_along i before items words ≡ words
-unnamed i before [] words none = refl
-unnamed i before (first ∷ items) words none =
-    rw none.0 (unnamed i (before ++ first ∷ []) items words none.1)
+pub unnamed : (i : ℕ) (before items : List Item) (facts : PacketFacts) → NoneName i items
+    → words_along i before items facts ≡ facts
+unnamed i before [] facts none = refl
+unnamed i before (first ∷ items) facts none =
+    rw none.0 (unnamed i (before ++ first ∷ []) items facts none.1)
 
 -- so what stands behind them says what it says right away
-pub unnamed_first : (i : ℕ) (before first items : List Item) (words : PacketWords)
+pub unnamed_first : (i : ℕ) (before first items : List Item) (facts : PacketFacts)
     → NoneName i first
-    → words_along i before (first ++ items) words ≡ words_along i (before ++ first) items words
-unnamed_first i before [] items words none =
-    ap (λ js. words_along i js items words) (sym (append-nil before))
-unnamed_first i before (one ∷ first) items words none =
+    → words_along i before (first ++ items) facts ≡ words_along i (before ++ first) items facts
+unnamed_first i before [] items facts none =
+    ap (λ js. words_along i js items facts) (sym (append-nil before))
+unnamed_first i before (one ∷ first) items facts none =
     ap (λ b. words_along i (before ++ one ∷ []) (first ++ items)
-    (if b then words_after (retired_mark before) one words else words)) none.0
-    ∙ unnamed_first i (before ++ one ∷ []) first items words none.1
-    ∙ ap (λ js. words_along i js items words) (append_assoc before (one ∷ []) first)
+    (if b then facts_after (retired_mark before) one facts else facts)) none.0
+    ∙ unnamed_first i (before ++ one ∷ []) first items facts none.1
+    ∙ ap (λ js. words_along i js items facts) (append_assoc before (one ∷ []) first)
 
 pub none_more : (i : ℕ) (first items : List Item) → NoneName i first → NoneName i items
     → NoneName i (first ++ items)
@@ -59,12 +59,12 @@ sends_unnamed i number None = tt
 sends_unnamed i number (Some message) = (refl, tt)
 
 route_other : (q i : ℕ) (leg : Leg) (route : List ℕ) → (i == q) ≡ false
-    → names q (takes_route i leg route) ≡ false
+    → is_of_packet q (takes_route i leg route) ≡ false
 route_other q i (Seek version partition) route other = other
 route_other q i (Exit port) route other = other
 
 end_other : (q : ℕ) (at : Standing) (decision : Decision) (onward : Next)
-    → (at.packet == q) ≡ false → names q (end_item at decision onward) ≡ false
+    → (at.packet == q) ≡ false → is_of_packet q (end_item at decision onward) ≡ false
 end_other q at decision next.Dropped other = other
 end_other q at decision (next.Out port) other = other
 end_other q at decision (next.Exit tunnel) other =

@@ -6,7 +6,7 @@ use Rattle.std.proofs.lemmas.Bool.Decides.{nat_tests}
 use Rattle.std.proofs.lemmas.Option.{slice_get_within}
 use Rattle.bag.specs.Deliveries.{delivered, forgotten}
 use Rattle.bag.specs.Numbered.{numbered, with_changed}
-use Rattle.bag.specs.Posts.{Post, framed, frames_posted, is_deliverable as is_deliverable_in, posted, remembered, with_delivered, with_forgotten, with_status}
+use Rattle.bag.specs.Posts.{Post, framed, frames_posted, is_post_deliverable, posted, remembered, with_delivered, with_forgotten, with_status}
 use Rattle.bag.proofs.Numbered.{length_changed, numbered_changed, numbered_pushed}
 use Rattle.ctrl_msg.specs.declared.message.Message.{Message}
 use Rattle.journal.specs.declared.item.Item.{Item}
@@ -160,7 +160,7 @@ within_posts posts (suc place) fs is = by_post (slice_get posts place) refl is
     by_post None e none = absurd cc
     by_post (Some post) e some = omega (arith, slice_get_within posts place post e)
 
-pub some_within : (posts : List Post) (n : ℕ) → is_deliverable_in posts n ≡ true
+pub some_within : (posts : List Post) (n : ℕ) → is_post_deliverable posts n ≡ true
     → n ≤ length posts
 some_within posts n there = by_frames (frames_posted posts n) refl there
   where

@@ -5,7 +5,7 @@ use Rattle.failover.specs.Isolated.{is_isolated}
 use Rattle.failover.specs.Routes.{route_of}
 use Rattle.five_tuple.specs.declared.header.Header.{Header}
 use Rattle.journal.specs.declared.item.Item.{Item}
-use Rattle.switch_core.specs.State.{SwitchValue, counted, held_tables, holds_version, no_tables, serves, stamp_tables}
+use Rattle.switch_core.specs.State.{SwitchValue, call_counted, held_tables, holds_version, no_tables, serves, stamp_tables}
 use Rattle.switch_table.specs.Lookup.{lookup_of}
 use Rattle.switch_table.specs.declared.tables.Tables.{Tables}
 use Rattle.switch_ties.specs.SwitchOf.{switch_of}
@@ -81,7 +81,7 @@ sees setting journal s knows there =
 
 -- one more call changes nothing of it
 pub sees_counted : (setting : Setting) (journal : List Item) (s : ℕ) (w : SwitchValue) (mask : ℕ)
-    → Sees setting journal s w mask → Sees setting journal s (counted w) mask
+    → Sees setting journal s w mask → Sees setting journal s (call_counted w) mask
 sees_counted setting journal s w mask sees = record {
   number = sees.number;
   serving = sees.serving;

@@ -18,7 +18,7 @@ use Rattle.update_machine.specs.Pieces.{piece}
 use Rattle.update_machine.specs.Setting.{Setting}
 use Rattle.update_machine.specs.Ways.{targets_of}
 use Rattle.way_laws.specs.OnWay.{IsUnknown}
-use Rattle.way_laws.specs.Words.{words_of}
+use Rattle.way_laws.specs.Facts.{what_is_known}
 use Rattle.world_log.specs.Packets.{coming_in}
 use Rattle.world_log.specs.Writing.{entered_items, entered_traveller}
 use Rattle.log_ties.specs.Ties.{BagTies, ComeTies, Comes, HopTies, IsOfNet, entry_at}
@@ -61,7 +61,7 @@ module _ (setting : Setting) (journal : List Item) (row s : ℕ) (header : Heade
   knows : Known setting journal
   knows = reached_known setting journal of.sound of.reached
 
-  unknown : IsUnknown (words_of journal i)
+  unknown : IsUnknown (what_is_known journal i)
   unknown = knows.kept.unknown i (omega arith)
 
   comes : ComesTo setting journal i s header w mask ports

@@ -10,23 +10,23 @@ use Rattle.update_machine.specs.Marks.{retired_mark}
 use Rattle.update_machine.specs.Ways.{targets_in, targets_of}
 use Rattle.update_machine.specs.Setting.{Setting}
 use Rattle.update_machine.proofs.CallerLemmas.{policies_keep}
-use Rattle.way_laws.specs.Words.{PacketWords, names, words_after, words_of}
+use Rattle.way_laws.specs.Facts.{PacketFacts, is_of_packet, facts_after, what_is_known}
 use Rattle.way_laws.proofs.Words.{words_grow}
 use Rattle.log_ties.specs.Travellers.{traveller_in, traveller_of}
 use Rattle.travelling.specs.declared.travelling.Traveller.{Traveller}
 
 -- the words of a packet behind these items
-abbrev pub words_along : ℕ → List Item → List Item → PacketWords → PacketWords
-words_along i before [] words = words
-words_along i before (item ∷ items) words =
+abbrev pub words_along : ℕ → List Item → List Item → PacketFacts → PacketFacts
+words_along i before [] facts = facts
+words_along i before (item ∷ items) facts =
     words_along i (before ++ item ∷ []) items
-    (if names i item then words_after (retired_mark before) item words else words)
+    (if is_of_packet i item then facts_after (retired_mark before) item facts else facts)
 
 pub words_all : (i : ℕ) (before items : List Item)
-    → words_of (before ++ items) i ≡ words_along i before items (words_of before i)
-words_all i before [] = ap (λ js. words_of js i) (append-nil before)
+    → what_is_known (before ++ items) i ≡ words_along i before items (what_is_known before i)
+words_all i before [] = ap (λ js. what_is_known js i) (append-nil before)
 words_all i before (item ∷ items) =
-    ap (λ js. words_of js i) (sym (append_assoc before (item ∷ []) items))
+    ap (λ js. what_is_known js i) (sym (append_assoc before (item ∷ []) items))
     ∙ words_all i (before ++ item ∷ []) items
     ∙ ap (words_along i (before ++ item ∷ []) items) (words_grow i before item)
 
@@ -47,44 +47,44 @@ same_targets setting before items none (Exit port) = refl
 -- ---- what is known of a packet
 
 -- what is known of a packet with these words
-abbrev pub traveller_by : Targets → ℕ → PacketWords → Option Traveller
-traveller_by targets i words = if words.travels then Some (record {
+abbrev pub traveller_by : Targets → ℕ → PacketFacts → Option Traveller
+traveller_by targets i facts = if facts.travels then Some (record {
   tunnel = record {
     packet = i;
-    header = unwrap_or words.header
+    header = unwrap_or facts.header
         (header_of (record { src = 0; dst = 0; sport = 0; dport = 0; proto = 0 }));
-    ingress = unwrap_or words.ingress 0;
-    leg = unwrap_or words.leg (Exit 0);
-    targets = targets (unwrap_or words.leg (Exit 0));
-    route = words.route;
-    place = words.hops;
-    down = words.found;
+    ingress = unwrap_or facts.ingress 0;
+    leg = unwrap_or facts.leg (Exit 0);
+    targets = targets (unwrap_or facts.leg (Exit 0));
+    route = facts.route;
+    place = facts.hops;
+    down = facts.found;
   };
-  version = unwrap_or (option_map (λ decision. decision.version) words.decision) 0;
-  rule = unwrap_or (option_map (λ decision. decision.rule) words.decision) None;
+  version = unwrap_or (option_map (λ decision. decision.version) facts.decision) 0;
+  rule = unwrap_or (option_map (λ decision. decision.rule) facts.decision) None;
 }) else None
 
 pub traveller_now : (setting : Setting) (journal : List Item) (i : ℕ)
     → traveller_in setting journal i
-    ≡ traveller_by (targets_of setting journal) i (words_of journal i)
-unfolding traveller_in traveller_of words_of
+    ≡ traveller_by (targets_of setting journal) i (what_is_known journal i)
+unfolding traveller_in traveller_of what_is_known
 traveller_now setting journal i = refl
 
 -- by the targets of its own leg alone
-pub by_targets : (one other : Targets) (i : ℕ) (words : PacketWords)
-    → one (unwrap_or words.leg (Exit 0)) ≡ other (unwrap_or words.leg (Exit 0))
-    → traveller_by one i words ≡ traveller_by other i words
-by_targets one other i words same = rw same refl
+pub by_targets : (one other : Targets) (i : ℕ) (facts : PacketFacts)
+    → one (unwrap_or facts.leg (Exit 0)) ≡ other (unwrap_or facts.leg (Exit 0))
+    → traveller_by one i facts ≡ traveller_by other i facts
+by_targets one other i facts same = rw same refl
 
 -- behind items by which no policy comes
 pub traveller_along : (setting : Setting) (before items : List Item) (i : ℕ)
     → NoneConcern concerns_policies before items
     → traveller_in setting (before ++ items) i
     ≡ traveller_by (targets_of setting before) i
-    (words_along i before items (words_of before i))
+    (words_along i before items (what_is_known before i))
 traveller_along setting before items i none =
     traveller_now setting (before ++ items) i
     ∙ ap (traveller_by (targets_of setting (before ++ items)) i) (words_all i before items)
     ∙ by_targets (targets_of setting (before ++ items)) (targets_of setting before) i
-    (words_along i before items (words_of before i))
+    (words_along i before items (what_is_known before i))
     (same_targets setting before items none _)

@@ -5,9 +5,9 @@ use Rattle.std.specs.Prelude.{◌||◌, IsTrue, filter, filter_map, nat_eq, opti
 use Rattle.std.specs.List.{AllByRecursion, list_all, list_any, range_with_len}
 use Rattle.std.proofs.lemmas.List.Elements.{filter_map-append}
 use Rattle.ctrl_msg.specs.declared.message.Body.{Body}
+use Rattle.ctrl_msg.specs.Kinds.{to_controller}
 use Rattle.journal.specs.declared.item.Item.{Item}
 use Rattle.journal.specs.declared.item.Item.TheVariants as item
-use Rattle.update_machine.specs.Deliveries.{to_controller}
 use Rattle.update_machine.specs.Marks.{controller_heard, said_to_controller}
 use Rattle.update_machine.specs.Links.{message_of}
 use Rattle.boot_laws.proofs.Boots.{said_sent}

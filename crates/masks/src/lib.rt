@@ -1,4 +1,4 @@
-//! Sets of numbers below 64, as of switches and of ports, held as the bits of a word.
+//! Sets of numbers below 64, as of switches and of ports, held as the bits of a number.
 //!
 //! ```text
 //! let ends = with(only_if(true, 3), 5); // 0b101000

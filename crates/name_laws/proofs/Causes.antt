@@ -7,6 +7,7 @@ use Rattle.ctrl_msg.specs.declared.message.Body.{Body}
 use Rattle.ctrl_msg.specs.declared.message.Body.TheVariants.{Install, OpenAt, Stamp, Collect, CacheRule, Advertise, Hello, Installed, Stamped}
 use Rattle.ctrl_msg.specs.declared.message.Message.{Message}
 use Rattle.ctrl_msg.specs.declared.message.Receiver.{Receiver}
+use Rattle.ctrl_msg.specs.Kinds.{to_controller}
 use Rattle.ctrl_msg.specs.declared.message.Receiver.TheVariants as receiver
 use Rattle.failover.specs.declared.advert.Advert.{Advert}
 use Rattle.switch_table.specs.declared.tables.Tables.{Tables}
@@ -17,7 +18,7 @@ use Rattle.steps.specs.declared.step.Step.TheVariants.{Packet, Hop, Lose, Delive
 use Rattle.update_machine.specs.Adverts.{held_adverts}
 use Rattle.update_machine.specs.Boots.{is_up}
 use Rattle.update_machine.specs.Causes.{HaveCauses}
-use Rattle.update_machine.specs.Deliveries.{advert_to, after_hello, controller_items, is_new_boot, link_changes, passed_on, switch_items, to_controller, switches_in}
+use Rattle.update_machine.specs.Deliveries.{advert_to, after_hello, controller_items, is_new_boot, link_changes, passed_on, switch_items, switches_in}
 use Rattle.update_machine.specs.LinkMasks.{near}
 use Rattle.update_machine.specs.Marks.{current_mark, has_acked, hello_boot, is_joining, is_member, is_over, known_boot, members, retired_mark, said_to_controller}
 use Rattle.update_machine.specs.Messages.{next_message, sends, sent_from}

@@ -4,7 +4,7 @@ use Rattle.toml.specs.Data.{Data}
 use Rattle.net_file.specs.declared.error.NetRefusal.{NetRefusal}
 use Rattle.net_file.specs.declared.error.NetError.{NetError}
 use Rattle.net_file.specs.declared.error.NetError.TheVariants as error
-use Rattle.net_file.specs.Refusals.{IsNetRefusal, Refusal, in_row, with_value}
+use Rattle.net_file.specs.Refusals.{IsNetRefusal, RefusedNet, in_row, with_value}
 use Rattle.net_file.specs.Reading.{rows_read}
 
 -- the next value states a row
@@ -14,7 +14,7 @@ pub next_row : {X : Type 0} (base : ℕ) (read : List X → Data → Result X Ne
 next_row base read earlier d ds row e = rw e refl
 
 -- a refusal ends what follows it
-pub refused_with : {X Y : Type 0} (read : Result X Refusal) (next : X → Result Y Refusal)
+pub refused_with : {X Y : Type 0} (read : Result X RefusedNet) (next : X → Result Y RefusedNet)
     (e : NetError) → IsNetRefusal read e → IsNetRefusal (with_value read next) e
 refused_with read next (error.Refused refusal row) h = rw h refl
 refused_with read next error.NoMemory h = tt
@@ -28,6 +28,6 @@ refused_row base read earlier d ds row e same h =
     refused_with (in_row (base + (length earlier + 1)) (read earlier d))
     (λ next. rows_read base read (earlier ++ next ∷ []) ds) e (rw same h)
 
-pub refused_same : {X : Type 0} (a b : Result X Refusal) (e : NetError) → a ≡ b → IsNetRefusal b e
+pub refused_same : {X : Type 0} (a b : Result X RefusedNet) (e : NetError) → a ≡ b → IsNetRefusal b e
     → IsNetRefusal a e
 refused_same a b e same h = rw same h

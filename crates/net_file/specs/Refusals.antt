@@ -20,7 +20,7 @@ net_code refusal.TooMany = 10
 
 -- what is wrong, and in which row: 0 for a key of the document, k for the k-th switch, 100 + k for
 -- the k-th link
-pub record Refusal : Type 0 where
+pub record RefusedNet : Type 0 where
   pub refusal : NetRefusal
   pub row : ℕ
 
@@ -34,11 +34,11 @@ abbrev pub require : {Y E : Type 0} → Bool → E → Result Y E → Result Y E
 require holds refusal next = if holds then next else Err refusal
 
 -- a value, or its refusal in this row
-abbrev pub in_row : {X : Type 0} → ℕ → Result X NetRefusal → Result X Refusal
+abbrev pub in_row : {X : Type 0} → ℕ → Result X NetRefusal → Result X RefusedNet
 in_row row (Ok value) = Ok value
 in_row row (Err refusal) = Err (record { refusal = refusal; row = row })
 
 -- the error is the refusal, or want of memory
-abbrev pub IsNetRefusal : {X : Type 0} → Result X Refusal → NetError → Type 0
+abbrev pub IsNetRefusal : {X : Type 0} → Result X RefusedNet → NetError → Type 0
 IsNetRefusal read (error.Refused refusal row) = read ≡ Err (record { refusal = refusal; row = row })
 IsNetRefusal read error.NoMemory = ⊤

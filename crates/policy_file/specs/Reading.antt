@@ -27,7 +27,7 @@ policy_code why.SamePriority = 10
 policy_code why.TooManyRows = 11
 
 -- why a text is refused, and in which row, counted from 1; the heading is row 0
-pub record Refusal : Type 0 where
+pub record RefusedPolicy : Type 0 where
   pub refusal : PolicyRefusal
   pub row : ℕ
 
@@ -87,35 +87,35 @@ first_some at zero = None
 first_some at (suc n) = option_or (first_some at n) (at n)
 
 -- the same, with the row, counted from 1
-abbrev pub refused_at : List (List (List ℕ)) → ℕ → Option Refusal
+abbrev pub refused_at : List (List (List ℕ)) → ℕ → Option RefusedPolicy
 refused_at records place =
     option_map (λ refusal. record { refusal = refusal; row = place + 1 }) (refusal_at records place)
 
 -- the first refusal among the records
-abbrev pub first_refusal : List (List (List ℕ)) → Option Refusal
+abbrev pub first_refusal : List (List (List ℕ)) → Option RefusedPolicy
 first_refusal records = first_some (refused_at records) (length records)
 
 -- the rows that the records state, one each, or the first refusal among them
-abbrev pub rows_of : List (List (List ℕ)) → Result (List Row) Refusal
+abbrev pub rows_of : List (List (List ℕ)) → Result (List Row) RefusedPolicy
 rows_of records =
     option_map_or Err (first_refusal records)
     (Ok (filter_map (λ fields. result_ok (row_read fields)) records))
 
-abbrev pub no_policy_heading : Result (List Row) Refusal
+abbrev pub no_policy_heading : Result (List Row) RefusedPolicy
 no_policy_heading = Err (record { refusal = why.Heading; row = 0 })
 
 -- the rows under the heading
-abbrev pub rows_under_heading : List (List (List ℕ)) → Result (List Row) Refusal
+abbrev pub rows_under_heading : List (List (List ℕ)) → Result (List Row) RefusedPolicy
 rows_under_heading [] = no_policy_heading
 rows_under_heading (first ∷ records) =
     if is_heading policy_heading first then rows_of records else no_policy_heading
 
 -- the policy that a text states
-unfoldable pub policy_of : List ℕ → Result (List Row) Refusal
+unfoldable pub policy_of : List ℕ → Result (List Row) RefusedPolicy
 policy_of bytes = rows_under_heading (records_of bytes)
 
 -- a refusal, or want of memory
-abbrev pub IsPolicyRefusal : Result (List Row) Refusal → PolicyError → Type 0
+abbrev pub IsPolicyRefusal : Result (List Row) RefusedPolicy → PolicyError → Type 0
 IsPolicyRefusal policy (error.Refused refusal row) =
     policy ≡ Err (record { refusal = refusal; row = row })
 IsPolicyRefusal policy error.NoMemory = ⊤

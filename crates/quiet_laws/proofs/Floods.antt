@@ -9,6 +9,7 @@ use Rattle.ctrl_msg.specs.declared.message.Body.{Body}
 use Rattle.ctrl_msg.specs.declared.message.Body.TheVariants.{Install, OpenAt, Stamp, Advertise}
 use Rattle.ctrl_msg.specs.declared.message.Message.{Message}
 use Rattle.ctrl_msg.specs.declared.message.Receiver.{Receiver}
+use Rattle.ctrl_msg.specs.Kinds.{to_controller}
 use Rattle.ctrl_msg.specs.declared.message.Receiver.TheVariants as receiver
 use Rattle.failover.specs.Adverts.{first_advert, first_adverts, held, is_news, is_newer}
 use Rattle.failover.specs.declared.advert.Advert.{Advert}
@@ -25,7 +26,7 @@ use Rattle.update_machine.specs.Adverts.{advert_known, adverts_known, own_advert
 use Rattle.update_machine.specs.Answers.{StepOfRow, after_steps}
 use Rattle.update_machine.specs.Boots.{said_to}
 use Rattle.update_machine.specs.Causes.{HaveCauses}
-use Rattle.update_machine.specs.Deliveries.{advert_to, delivery_items, is_news_to, link_changes, passed_on, received_items, switch_items, to_controller, switches_in}
+use Rattle.update_machine.specs.Deliveries.{advert_to, delivery_items, is_news_to, link_changes, passed_on, received_items, switch_items, switches_in}
 use Rattle.update_machine.specs.LinkMasks.{near, adverts_begun, adverts_heard, other_advert}
 use Rattle.update_machine.specs.Messages.{is_to_controller, sends}
 use Rattle.update_machine.specs.Moves.{put}

@@ -6,7 +6,7 @@ use Rattle.std.proofs.lemmas.Bool.{cases_eq}
 use Rattle.std.proofs.lemmas.Bool.Decides.{nat_tests}
 use Rattle.std.proofs.lemmas.List.{length-map}
 use Rattle.std.proofs.lemmas.List.Elements.{All-from_recursion}
-use Rattle.failover.specs.Links.{is_link, neighbours_named, named_links, has_link, AreJoined, IsReachable, Leads}
+use Rattle.failover.specs.Links.{is_link, neighbours_named, named_links, has_link, AreJoined, IsReachable, LinksLead}
 use Rattle.failover.proofs.Searching.{length-known_links, straight_path}
 use Rattle.masks.specs.Masks.{has}
 use Rattle.net_file.specs.Joins.{are_linked}
@@ -157,7 +157,7 @@ leads_known : (setting : Setting) (journal : List Item) → AreQuiet setting jou
     → (s target : ℕ) (down : List ℕ) → IsThere setting journal s
     → AreUnusable setting journal down → (at : ℕ) (rest : List ℕ) → Reaches setting journal s at
     → LeadsOver setting journal target at rest
-    → Leads (links_known setting journal s down) target at rest
+    → LinksLead (links_known setting journal s down) target at rest
 leads_known setting journal are s target down is unusable at [] reaches leads = leads
 leads_known setting journal are s target down is unusable at (next ∷ rest) reaches leads = (
   small_of setting are.net next (ends_there setting journal at next are.net leads.0).other,
@@ -175,7 +175,7 @@ each_unreached P Q f (x ∷ xs) all = (f x all.0, each_unreached P Q f xs all.1)
 way_known : (setting : Setting) (journal : List Item) → AreQuiet setting journal
     → (s target : ℕ) (down : List ℕ) → AreUnusable setting journal down → (rest : List ℕ)
     → LeadsOver setting journal target s rest
-    → Leads (links_known setting journal s down) target s rest
+    → LinksLead (links_known setting journal s down) target s rest
 way_known setting journal are s target down unusable [] leads = leads
 way_known setting journal are s target down unusable (next ∷ rest) leads =
     leads_known setting journal are s target down (record {

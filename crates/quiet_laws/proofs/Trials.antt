@@ -3,12 +3,12 @@ use Rattle.std.proofs.Common.{ℕ, ◌≡◌, ◌-◌, ◌||◌, true, false, no
 use Rattle.std.specs.Prelude.{IsTrue}
 use Rattle.std.proofs.lemmas.List.Elements.{All-from_recursion}
 use Rattle.ctrl_msg.specs.declared.message.Body.TheVariants.{Hello}
+use Rattle.ctrl_msg.specs.Kinds.{to_controller}
 use Rattle.failover.specs.Adverts.{first_advert}
 use Rattle.failover.specs.Links.{has_link, no_links, with_link}
 use Rattle.masks.specs.Masks.{has, mask_of, mask_where, switches}
 use Rattle.journal.specs.declared.item.Item.TheVariants as item
 use Rattle.update_machine.specs.Boots.{is_up}
-use Rattle.update_machine.specs.Deliveries.{to_controller}
 use Rattle.update_machine.specs.Links.{is_link_up, serves, message_of}
 use Rattle.update_machine.specs.Marks.{current_mark}
 use Rattle.update_machine.specs.Messages.{is_deliverable, is_forgotten, next_waiting, was_delivered}

@@ -5,13 +5,13 @@ use Rattle.std.specs.Option.{option_map_or}
 use Rattle.net_file.specs.declared.net.Net.{Net}
 use Rattle.steps.specs.declared.step.Event.{Event}
 use Rattle.schedule.specs.Reading.{events_in, refusals_from}
-use Rattle.schedule.specs.Refusals.{Refusal}
+use Rattle.schedule.specs.Refusals.{RefusedSchedule}
 
 abbrev pub Records : Type 0
 Records = List (List (List ℕ))
 
 -- what is read in the end, once these events were read and these records are left
-abbrev pub goes_on : Net → ℕ → List Event → Records → Result (List Event) Refusal
+abbrev pub goes_on : Net → ℕ → List Event → Records → Result (List Event) RefusedSchedule
 goes_on net files events left =
     option_map_or Err (slice_get (refusals_from net files (length events + 1) left) 0)
     (Ok (events ++ events_in net files left))

@@ -7,7 +7,7 @@ use Rattle.csv_records.specs.Texts.{is_heading, records_of}
 use Rattle.net_file.specs.declared.net.Net.{Net}
 use Rattle.steps.specs.Steps.{IsEvent, max_events}
 use Rattle.steps.specs.declared.step.Event.{Event}
-use Rattle.schedule.specs.Refusals.{Refusal}
+use Rattle.schedule.specs.Refusals.{RefusedSchedule}
 use Rattle.schedule.specs.Rows.{event_of, schedule_heading}
 use Rattle.schedule.specs.declared.error.ScheduleError.{ScheduleError}
 use Rattle.schedule.specs.declared.error.ScheduleError.TheVariants as error
@@ -20,13 +20,13 @@ refusal_in net files row fields =
     if nat_lt max_events row then Some why.TooManyRows else result_err (event_of net files fields)
 
 -- the same with the row's number
-abbrev pub refused_row : Net → ℕ → ℕ × List (List ℕ) → Option Refusal
+abbrev pub refused_row : Net → ℕ → ℕ × List (List ℕ) → Option RefusedSchedule
 refused_row net files row =
     option_map (λ refusal. record { refusal = refusal; row = row.0 })
     (refusal_in net files row.0 row.1)
 
 -- the refusals of all these rows, the first of which has this number
-abbrev pub refusals_from : Net → ℕ → ℕ → List (List (List ℕ)) → List Refusal
+abbrev pub refusals_from : Net → ℕ → ℕ → List (List (List ℕ)) → List RefusedSchedule
 refusals_from net files first records =
     filter_map (refused_row net files) (enumerate_from first records)
 
@@ -35,27 +35,27 @@ abbrev pub events_in : Net → ℕ → List (List (List ℕ)) → List Event
 events_in net files records = filter_map (λ fields. result_ok (event_of net files fields)) records
 
 -- the events that the rows state, one each; or the first refusal
-abbrev pub events_of : Net → ℕ → List (List (List ℕ)) → Result (List Event) Refusal
+abbrev pub events_of : Net → ℕ → List (List (List ℕ)) → Result (List Event) RefusedSchedule
 events_of net files records =
     option_map_or Err (slice_get (refusals_from net files 1 records) 0)
     (Ok (events_in net files records))
 
-abbrev pub no_schedule_heading : Result (List Event) Refusal
+abbrev pub no_schedule_heading : Result (List Event) RefusedSchedule
 no_schedule_heading = Err (record { refusal = why.Heading; row = 0 })
 
 -- the events under the heading
 abbrev pub events_under_heading : Net → ℕ → List (List (List ℕ))
-    → Result (List Event) Refusal
+    → Result (List Event) RefusedSchedule
 events_under_heading net files [] = no_schedule_heading
 events_under_heading net files (first ∷ records) =
     if is_heading schedule_heading first then events_of net files records else no_schedule_heading
 
 -- the events that a text states
-unfoldable pub schedule_of : Net → ℕ → List ℕ → Result (List Event) Refusal
+unfoldable pub schedule_of : Net → ℕ → List ℕ → Result (List Event) RefusedSchedule
 schedule_of net files bytes = events_under_heading net files (records_of bytes)
 
 -- a refusal, or want of memory
-abbrev pub IsScheduleRefusal : Result (List Event) Refusal → ScheduleError → Type 0
+abbrev pub IsScheduleRefusal : Result (List Event) RefusedSchedule → ScheduleError → Type 0
 IsScheduleRefusal events (error.Refused refusal row) =
     events ≡ Err (record { refusal = refusal; row = row })
 IsScheduleRefusal events error.NoMemory = ⊤

@@ -6,6 +6,7 @@ use Rattle.ctrl_msg.specs.declared.message.Body.{Body}
 use Rattle.ctrl_msg.specs.declared.message.Body.TheVariants.{Hello}
 use Rattle.ctrl_msg.specs.declared.message.Message.{Message}
 use Rattle.ctrl_msg.specs.declared.message.Receiver.{Receiver}
+use Rattle.ctrl_msg.specs.Kinds.{to_controller}
 use Rattle.ctrl_msg.specs.declared.message.Receiver.TheVariants as receiver
 use Rattle.journal.specs.declared.item.Item.{Item}
 use Rattle.journal.specs.declared.item.Item.TheVariants as item
@@ -14,7 +15,7 @@ use Rattle.steps.specs.declared.step.Step.TheVariants.{Deliver, Update, Confirm}
 use Rattle.update_machine.specs.Answers.{StepOfRow, after_steps}
 use Rattle.update_machine.specs.Causes.{HaveCauses}
 use Rattle.update_machine.specs.Concerns.{is_message_to_controller}
-use Rattle.update_machine.specs.Deliveries.{after_hello, controller_items, delivery_items, received_items, to_controller}
+use Rattle.update_machine.specs.Deliveries.{after_hello, controller_items, delivery_items, received_items}
 use Rattle.update_machine.specs.Marks.{AreSettled, is_member, is_over}
 use Rattle.update_machine.specs.Moves.{put}
 use Rattle.update_machine.specs.Pieces.{confirm_items, deliver_items, nothing, piece, step_items, update_items}

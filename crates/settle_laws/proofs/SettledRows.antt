@@ -1,9 +1,9 @@
 -- Marks that aren't settled, computed on two switches.
 use Rattle.std.proofs.Common.{◌≡◌, true, false, List, [], ◌∷◌, refl, arith}
 use Rattle.ctrl_msg.specs.declared.message.Body.TheVariants.{Hello, Installed, Stamped}
+use Rattle.ctrl_msg.specs.Kinds.{to_controller}
 use Rattle.journal.specs.declared.item.Item.{Item}
 use Rattle.journal.specs.declared.item.Item.TheVariants as item
-use Rattle.update_machine.specs.Deliveries.{to_controller}
 use Rattle.update_machine.specs.Marks.{AreSettled, acked_stamp, controller_heard, current_mark, has_acked, is_member, is_over, known_boot, next_retired, opened_at, retired_mark}
 use Rattle.update_machine.specs.Links.{message_of}
 use Rattle.update_machine.proofs.Examples.{open_net}

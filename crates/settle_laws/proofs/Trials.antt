@@ -2,11 +2,11 @@
 use Rattle.std.proofs.Common.{ℕ, ◌≡◌, ◌<◌, ◌≤◌, true, false, List, [], ◌∷◌, ◌++◌, refl, subst, arith}
 use Rattle.std.specs.Prelude.{IsTrue}
 use Rattle.ctrl_msg.specs.declared.message.Body.TheVariants.{Install, Installed}
+use Rattle.ctrl_msg.specs.Kinds.{to_controller}
 use Rattle.switch_table.specs.declared.tables.Tables.{Tables}
 use Rattle.journal.specs.declared.item.Item.{Item}
 use Rattle.journal.specs.declared.item.Item.TheVariants as item
 use Rattle.steps.specs.declared.step.Step.TheVariants as step
-use Rattle.update_machine.specs.Deliveries.{to_controller}
 use Rattle.update_machine.specs.Marks.{all_acked, current_mark, controller_heard, has_acked, is_member, is_over, known_boot, opened_at}
 use Rattle.update_machine.specs.Links.{message_of}
 use Rattle.update_machine.specs.Settling.{to_switch}

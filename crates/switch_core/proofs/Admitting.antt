@@ -6,7 +6,7 @@ use Rattle.net_file.specs.declared.ports.Ports.{Ports}
 use Rattle.switch_core.specs.Answering.{entered, incoming, looked_up}
 use Rattle.switch_core.specs.Deciding.{packet_with}
 use Rattle.switch_core.specs.Ends.{Site, are_isolated, around, cause_of, set_out}
-use Rattle.switch_core.specs.State.{SwitchValue, counted, serves}
+use Rattle.switch_core.specs.State.{SwitchValue, call_counted, serves}
 use Rattle.switch_core.specs.Verdicts.{answer_of}
 use Rattle.switch_core.specs.declared.answers.Answer.{Answer}
 use Rattle.switch_core.specs.declared.answers.Entered.TheVariants as entry
@@ -17,13 +17,13 @@ use Rattle.switch_core.proofs.Arrivals.{entry_by}
 
 -- one more call changes no answer
 pub answer_counted : (s after : SwitchValue) (near : ℕ) (packet : Packet) (verdict : Verdict) →
-    after ≡ counted s → answer_of after near packet verdict ≡ answer_of s near packet verdict
+    after ≡ call_counted s → answer_of after near packet verdict ≡ answer_of s near packet verdict
 unfolding set_out cause_of are_isolated
 answer_counted s after near packet verdict is =
     ap (λ w. answer_of w near packet verdict) is ∙ by_verdict verdict
   where
     by_verdict : (verdict : Verdict) →
-        answer_of (counted s) near packet verdict ≡ answer_of s near packet verdict
+        answer_of (call_counted s) near packet verdict ≡ answer_of s near packet verdict
     by_verdict (Here decision cache end) = refl
     by_verdict (Away decision cache port owner) = refl
     by_verdict (Seek leg targets) = refl
@@ -31,7 +31,7 @@ answer_counted s after near packet verdict is =
 module _ (s after : SwitchValue) (near : ℕ) (ports : Ports) (number : ℕ) (header : Header)
     (verdict : Verdict) where
   -- what is said of a packet that comes in at a switch that serves
-  pub admitted : (ingress : ℕ) → after ≡ counted s → serves s ≡ true → ingress ≡ s.number →
+  pub admitted : (ingress : ℕ) → after ≡ call_counted s → serves s ≡ true → ingress ≡ s.number →
       answer_of s near (packet_with number header ingress no_links) verdict
       ≡ looked_up s (around near ports) (packet_with number header ingress no_links) →
       entry.Answered (answer_of after near (incoming s number header) verdict)

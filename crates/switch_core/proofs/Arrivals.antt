@@ -10,7 +10,7 @@ use Rattle.tunnel.specs.Tunnel.{TunnelValue}
 use Rattle.switch_table.specs.declared.tables.Tables.{Tables}
 use Rattle.switch_core.specs.AnswerLaws.{IsRightAnswer, IsArriving, IsDecidedIn, IsEntry, IsReady}
 use Rattle.switch_core.specs.Answering.{IsAtAuthority, arrived, arrived_on, decided_in, entered, looked_up, packet_of}
-use Rattle.switch_core.specs.Deciding.{IsFirstHit, first_place, no_part, own_part, part_numbered}
+use Rattle.switch_core.specs.Deciding.{IsFirstHit, place_of_first, no_part, own_part, part_numbered}
 use Rattle.switch_core.specs.Ends.{Site}
 use Rattle.switch_core.specs.State.{SwitchValue, held_tables, holds_version, serves}
 use Rattle.switch_core.specs.declared.answers.Answer.{Answer}
@@ -71,7 +71,7 @@ arrived_by s site t version partition held leg is =
 hit_on : (s : SwitchValue) (t : TunnelValue) (version partition : ℕ) (tables : Tables) →
     IsArriving s t → t.leg ≡ Seek version partition → held_tables s version ≡ Some tables →
     IsSomeAnd (own_part tables partition) (λ part. IsFirstHit t.header part
-    (first_place t.header (part_numbered tables partition)))
+    (place_of_first t.header (part_numbered tables partition)))
 hit_on s t version partition tables arriving leg held =
     let at : IsAtAuthority s t.header (Seek version partition) =
     subst (λ (leg : Leg). IsAtAuthority s t.header leg) leg arriving.authority in
@@ -82,7 +82,7 @@ hit_on s t version partition tables arriving leg held =
     by_part : (part : Option Partition) → own_part tables partition ≡ part →
         IsSomeAnd part (λ part. IsTrue (is_in t.header part)) →
         IsSomeAnd part (λ own. IsFirstHit t.header own
-        (first_place t.header (unwrap_or part no_part)))
+        (place_of_first t.header (unwrap_or part no_part)))
     by_part (Some part) is inside = own_hit tables partition part t.header
         (sound_held s version tables arriving.ready.switch held) arriving.ready.is_header is
         inside

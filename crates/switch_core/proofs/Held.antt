@@ -21,7 +21,7 @@ use Rattle.switch_table.specs.Tables.{AreSoundTables}
 use Rattle.switch_table.specs.declared.cache.CacheEntry.{CacheEntry}
 use Rattle.switch_table.specs.declared.tables.Tables.{Tables}
 use Rattle.switch_table.specs.declared.search.Found.TheVariants.{Cached}
-use Rattle.switch_core.specs.Deciding.{IsFirstHit, IsFound, first_place, no_part, own_part, part_numbered}
+use Rattle.switch_core.specs.Deciding.{IsFirstHit, IsFound, place_of_first, no_part, own_part, part_numbered}
 
 -- tables that are found are sound, as all of them are
 pub sound_found : (list : List Tables) (version : ℕ) (tables : Tables) → All AreSoundTables list →
@@ -71,7 +71,7 @@ find_numbered (first ∷ parts) part distinct there =
 
 -- where some rule holds the header, the first place is that of the first such rule
 first_hit : (header : Header) (part : Partition) → IsTrue (is_in header part) →
-    IsSome (first_rule part.rules header) → IsFirstHit header part (first_place header part)
+    IsSome (first_rule part.rules header) → IsFirstHit header part (place_of_first header part)
 first_hit header part held some = record {
   region = held;
   first = by_case (position (is_held (number_of header)) part.rules)
@@ -90,7 +90,7 @@ first_hit header part held some = record {
 -- a partition of one's own has a first hit for each header of its region
 pub own_hit : (tables : Tables) (number : ℕ) (part : Partition) (header : Header) →
     AreSoundTables tables → IsHeader header → own_part tables number ≡ Some part →
-    IsTrue (is_in header part) → IsFirstHit header part (first_place header part)
+    IsTrue (is_in header part) → IsFirstHit header part (place_of_first header part)
 own_hit tables number part header sound is found held =
     let there = (find-there (λ (p : Partition). p.number == number) tables.auth part found).0 in
     first_hit header part held
@@ -112,7 +112,7 @@ lookup_is_found entries tables header sound is =
         let own : own_part tables part.number ≡ Some part =
         find_numbered tables.auth part sound.distinct there.0 in
         subst (λ (o : Option Partition). IsSomeAnd o
-        (λ p. IsFirstHit header p (first_place header part))) (sym own)
+        (λ p. IsFirstHit header p (place_of_first header part))) (sym own)
         (own_hit tables part.number part header sound is own there.1)
 
     by_entry : (entry : Option CacheEntry) →
@@ -123,9 +123,9 @@ lookup_is_found entries tables header sound is =
 -- what a search in the own partition of a number finds for a header of its region
 pub record IsOwnFirst (tables : Tables) (number : ℕ) (header : Header) (found : Option ℕ)
     : Type 0 where
-  pub place : found ≡ Some (first_place header (part_numbered tables number))
+  pub place : found ≡ Some (place_of_first header (part_numbered tables number))
   pub first : IsFirstHit header (part_numbered tables number)
-      (first_place header (part_numbered tables number))
+      (place_of_first header (part_numbered tables number))
 
 pub own_first : (tables : Tables) (number : ℕ) (header : Header) (found : Option ℕ) →
     AreSoundTables tables → IsHeader header →
@@ -139,8 +139,8 @@ own_first tables number header found sound is own searched =
     by_part : (o : Option Partition) → own_part tables number ≡ o →
         IsSomeAnd o (λ part. IsTrue (is_in header part)) →
         found ≡ option_and_then (λ part. position (is_held (number_of header)) part.rules) o →
-        (found ≡ Some (first_place header (unwrap_or o no_part)))
-        × IsFirstHit header (unwrap_or o no_part) (first_place header (unwrap_or o no_part))
+        (found ≡ Some (place_of_first header (unwrap_or o no_part)))
+        × IsFirstHit header (unwrap_or o no_part) (place_of_first header (unwrap_or o no_part))
     by_part None none own searched = absurd own
     by_part (Some part) there held searched =
         let hit = own_hit tables number part header sound is there held in

@@ -20,7 +20,7 @@ use Rattle.switch_table.specs.Cache.{CacheValue, raised}
 use Rattle.switch_table.specs.declared.tables.Tables.{Tables}
 use Rattle.switch_core.specs.declared.packet.Packet.{Packet}
 use Rattle.switch_core.specs.Ends.{are_isolated, cause_of, is_seek, set_out}
-use Rattle.switch_core.specs.Hearing.{after_body, collected_to, heard, informed, installed, obeys, raised_to}
+use Rattle.switch_core.specs.Hearing.{after_body, collected_to, with_message, informed, installed, obeys, raised_to}
 use Rattle.switch_core.specs.Laws.{IsHeard}
 use Rattle.switch_core.specs.State.{HasOwnUpTo, SwitchValue, own_advert}
 
@@ -144,11 +144,11 @@ heard_body s number (Advertise advert) = either s _ _ _
     (omega arith) (omega arith)) (same s)
 heard_body s number _ = same s
 
-pub heard_keeps : (s : SwitchValue) (number : ℕ) (body : Body) → IsHeard s (heard s number body)
-unfolding heard
+pub heard_keeps : (s : SwitchValue) (number : ℕ) (body : Body) → IsHeard s (with_message s number body)
+unfolding with_message
 heard_keeps s number body = either s _ _ (obeys s body) (heard_body s number body) (same s)
 
 pub not_obeyed : (s : SwitchValue) (number : ℕ) (body : Body) → obeys s body ≡ false →
-    heard s number body ≡ s
-unfolding heard
+    with_message s number body ≡ s
+unfolding with_message
 not_obeyed s number body other = rw other refl

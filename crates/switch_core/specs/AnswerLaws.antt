@@ -1,4 +1,4 @@
--- What a switch answers to packets, as relations in the words of lookups, rules, routes and
+-- What a switch answers to packets, as relations in terms of lookups, rules, routes and
 -- tunnels: `x_laws` of the crate ensures that each call's answer is one, and the only one.
 use Rattle.std.specs.Prelude.{ℕ, ◌≡◌, ◌≢◌, ◌+◌, ◌↔◌, ◌⊎◌, ◌==◌, if◌then◌else◌, Bool, true, false, Option, Some, None, List, [], ◌∷◌, map, slice_get, IsTrue, IsFalse, IsSome, MatchOption}
 use Rattle.five_tuple.specs.Header.{IsHeader, number_of}
@@ -50,7 +50,7 @@ use Rattle.switch_core.specs.declared.answers.Next.{Next}
 use Rattle.switch_core.specs.declared.answers.Next.TheVariants as goes
 use Rattle.switch_core.specs.declared.packet.Packet.{Packet}
 
--- ---- words
+-- ---- terms
 
 -- a switch that serves, with the tables of its stamp, and a header
 pub record IsReady (s : SwitchValue) (header : Header) : Type 0 where

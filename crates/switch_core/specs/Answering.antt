@@ -23,7 +23,7 @@ use Rattle.switch_core.specs.declared.answers.Arrived.TheVariants as arrival
 use Rattle.switch_core.specs.declared.answers.Entered.{Entered}
 use Rattle.switch_core.specs.declared.answers.Entered.TheVariants as entry
 use Rattle.switch_core.specs.declared.packet.Packet.{Packet}
-use Rattle.switch_core.specs.Deciding.{by_entry, by_rule, rule_for_cache, first_place, own_part, part_numbered, rule_in}
+use Rattle.switch_core.specs.Deciding.{by_entry, by_rule, rule_for_cache, place_of_first, own_part, part_numbered, rule_in}
 use Rattle.switch_core.specs.Ends.{Site, next_of, set_out}
 use Rattle.switch_core.specs.State.{SwitchValue, held_tables, holds_version, serves, stamp_tables}
 
@@ -62,7 +62,7 @@ looked_up s site packet =
 unfoldable pub decided_in : SwitchValue → Site → Packet → ℕ → Tables → Answer
 decided_in s site packet partition tables =
     let part = part_numbered tables partition in
-    decided_at s site packet tables.version part (first_place packet.header part)
+    decided_at s site packet tables.version part (place_of_first packet.header part)
 
 -- ---- a packet comes in
 

@@ -40,8 +40,8 @@ abbrev pub rule_in : Partition → ℕ → Rule
 rule_in part place = slice_index_or part.rules place no_rule
 
 -- the place of its first rule that holds the header
-abbrev pub first_place : Header → Partition → ℕ
-first_place header part = unwrap_or (position (is_held (number_of header)) part.rules) 0
+abbrev pub place_of_first : Header → Partition → ℕ
+place_of_first header part = unwrap_or (position (is_held (number_of header)) part.rules) 0
 
 -- ---- decisions
 

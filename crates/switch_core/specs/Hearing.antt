@@ -14,8 +14,8 @@ use Rattle.ctrl_msg.specs.Bodies.{body_boot}
 use Rattle.ctrl_msg.specs.declared.message.Body.{Body}
 use Rattle.ctrl_msg.specs.declared.message.Body.TheVariants.{Install, OpenAt, Stamp, Collect, CacheRule, Advertise, Installed, Stamped}
 use Rattle.ctrl_msg.specs.declared.message.Message.{Message}
-use Rattle.ctrl_msg.specs.declared.message.Receiver.TheVariants.{Switch, Controller}
-use Rattle.ctrl_msg.specs.Kinds.{is_for_controller}
+use Rattle.ctrl_msg.specs.declared.message.Receiver.TheVariants.{Switch}
+use Rattle.ctrl_msg.specs.Kinds.{is_for_controller, to_controller}
 use Rattle.switch_core.specs.State.{SwitchValue, holds_version}
 
 -- tables that come in are sound
@@ -83,13 +83,10 @@ after_body s number (CacheRule version word rule action) = learnt s (record {
 after_body s number (Advertise advert) = informed s advert
 after_body s number _ = s
 
-unfoldable pub heard : SwitchValue → ℕ → Body → SwitchValue
-heard s number body = if obeys s body then after_body s number body else s
+unfoldable pub with_message : SwitchValue → ℕ → Body → SwitchValue
+with_message s number body = if obeys s body then after_body s number body else s
 
 -- ---- what it sends
-
-abbrev pub tell_controller : Body → Message
-tell_controller body = record { to = Controller; body = body }
 
 -- to each neighbour, ascending
 unfoldable pub flood : ℕ → Body → List Message
@@ -98,8 +95,8 @@ flood near body = map (λ other. record { to = Switch other; body = body })
 
 abbrev pub replies_to : SwitchValue → ℕ → Body → List Message
 replies_to s near (Install boot tables) =
-    tell_controller (Installed s.number s.boot tables.version) ∷ []
-replies_to s near (Stamp boot version) = tell_controller (Stamped s.number s.boot version) ∷ []
+    to_controller (Installed s.number s.boot tables.version) ∷ []
+replies_to s near (Stamp boot version) = to_controller (Stamped s.number s.boot version) ∷ []
 replies_to s near (Advertise advert) =
     if is_news_here s advert then flood near (Advertise advert) else []
 replies_to s near _ = []

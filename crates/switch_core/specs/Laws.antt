@@ -11,7 +11,7 @@ use Rattle.ctrl_msg.specs.declared.message.Body.{Body}
 use Rattle.switch_table.specs.declared.tables.Tables.{Tables}
 use Rattle.switch_core.specs.declared.packet.Packet.{Packet}
 use Rattle.switch_core.specs.Ends.{cause_of, is_seek, set_out}
-use Rattle.switch_core.specs.Hearing.{collected_to, heard, informed, installed, obeys, raised_to}
+use Rattle.switch_core.specs.Hearing.{collected_to, with_message, informed, installed, obeys, raised_to}
 use Rattle.switch_core.specs.State.{HasOwnUpTo, SwitchValue, held_tables}
 
 -- what a message leaves as it is, and that a stamp and a collect mark never fall within a boot
@@ -38,9 +38,9 @@ pub record SwitchLaws : Type 0 where
       (IsTrue (is_seek leg)
       × All (λ target. IsTrue (is_isolated s.database s.number target near down)) targets)
   pub after_message : (s : SwitchValue) (number : ℕ) (body : Body) →
-      IsHeard s (heard s number body)
+      IsHeard s (with_message s number body)
   pub not_obeyed : (s : SwitchValue) (number : ℕ) (body : Body) → obeys s body ≡ false →
-      heard s number body ≡ s
+      with_message s number body ≡ s
   -- tables that come in are held, unless those of their version are or the collect mark is there
   pub after_install : (s : SwitchValue) (tables : Tables) (version : ℕ) →
       held_tables (installed s tables) version

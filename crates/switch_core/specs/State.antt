@@ -64,8 +64,8 @@ abbrev pub stamp_tables : SwitchValue → Tables
 stamp_tables s = unwrap_or (held_tables s s.stamp) no_tables
 
 -- one more packet call; the count stands still at its last value
-abbrev pub counted : SwitchValue → SwitchValue
-counted s = record s { handled = min (s.handled + 1) (2 ^ 64 - 1) }
+abbrev pub call_counted : SwitchValue → SwitchValue
+call_counted s = record s { handled = min (s.handled + 1) (2 ^ 64 - 1) }
 
 abbrev pub own_advert : ℕ → ℕ → ℕ → ℕ → Advert
 own_advert number boot seq up = record { origin = number; boot = boot; seq = seq; up = up }

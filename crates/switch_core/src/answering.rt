@@ -5,7 +5,7 @@ ghost use Rattle.switch_core.specs.declared.answers.Arrived.TheVariants.{Answere
 ghost use Rattle.switch_core.specs.Answering.{CanLookUp, IsAtAuthority, IsUncached, answer_by, arrived, arrived_on, decided_at, decided_in, entered, incoming, looked_up, packet_of};
 ghost use Rattle.switch_core.specs.Deciding.{IsFirstHit, IsFound, own_part, packet_with};
 ghost use Rattle.switch_core.specs.Ends.{around};
-ghost use Rattle.switch_core.specs.State.{counted, holds_version, serves};
+ghost use Rattle.switch_core.specs.State.{call_counted, holds_version, serves};
 ghost use Rattle.switch_core.specs.Verdicts.{answer_of, arrived_as, entered_as};
 
 use crate::answers::{Arrived, Decision, Entered};
@@ -33,7 +33,7 @@ impl Switch {
         ensures answer { result
             ≡ entered self.old (around near ports.now) (incoming self.old packet h.now) }
         ensures uncached { IsUncached result }
-        ensures after { self.new ≡ counted self.old }
+        ensures after { self.new ≡ call_counted self.old }
     {
         let packet = Packet {
             number: packet,
@@ -60,7 +60,7 @@ impl Switch {
             ≡ entered self.old (around near ports.now) (incoming self.old number h.now) }
         ensures uncached { (near number : ℕ) →
             IsUncached (entered_as self.new near (incoming self.old number h.now) result) }
-        ensures after { self.new ≡ counted self.old }
+        ensures after { self.new ≡ call_counted self.old }
     {
         if !self.serves() {
             self.count();
@@ -82,7 +82,7 @@ impl Switch {
         requires stamped { CanLookUp self.old }
         requires authority { IsAtAuthority self.old t.now.header t.now.leg }
         ensures answer { result ≡ arrived self.old (around near ports.now) t.now }
-        ensures after { self.new ≡ counted self.old }
+        ensures after { self.new ≡ call_counted self.old }
     {
         match self.receive(&t.header, t.ingress, t.leg, ports) {
             Received::Out(port) => Arrived::Out(port),
@@ -104,7 +104,7 @@ impl Switch {
             arrived_as self.new near (packet_with number h.now ingress down) result
             ≡ arrived_on self.old (around near ports.now)
             (packet_with number h.now ingress down) leg }
-        ensures after { self.new ≡ counted self.old }
+        ensures after { self.new ≡ call_counted self.old }
     {
         match leg {
             Leg::Exit { port } => {

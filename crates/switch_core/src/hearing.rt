@@ -1,7 +1,8 @@
 ghost use Rattle.std.specs.Prelude.{◌≡◌, ◌<◌, OnErr, OnOk, IfOk, IsTrue};
 ghost use Rattle.switch_table.specs.Tables.{AreSoundTables};
 ghost use Rattle.ctrl_msg.specs.declared.message.Body.TheVariants.{Advertise};
-ghost use Rattle.switch_core.specs.Hearing.{IsSoundBody, collected_to, flood, heard, informed, installed, is_news_here, learnt, obeys, opened, opened_with, opened_by, raised_to, replies, replies_to, tell_controller};
+ghost use Rattle.ctrl_msg.specs.Kinds.{to_controller};
+ghost use Rattle.switch_core.specs.Hearing.{IsSoundBody, collected_to, flood, with_message, informed, installed, is_news_here, learnt, obeys, opened, opened_with, opened_by, raised_to, replies, replies_to};
 
 use crate::answers::{Heard, Replies};
 use crate::kept::KeptTables;
@@ -20,7 +21,7 @@ impl Switch {
     ///
     /// # Errors
     /// Want of memory alone; nothing changes then, and the message is as good as not delivered.
-    #[tactic(auto, unfolding(crate::specs::Hearing::heard, crate::specs::Hearing::replies, crate::specs::Hearing::opened))]
+    #[tactic(auto, unfolding(crate::specs::Hearing::with_message, crate::specs::Hearing::replies, crate::specs::Hearing::opened))]
     pub fn hear(
         &mut self,
         alloc: Global,
@@ -29,7 +30,7 @@ impl Switch {
         near: u64,
     ) -> Result<Heard, AllocError>
         requires { IsSoundBody body.now }
-        ensures after { OnOk result (self.new ≡ heard self.old number body.now) }
+        ensures after { OnOk result (self.new ≡ with_message self.old number body.now) }
         ensures replies { IfOk result (λ h. h.replies ≡ replies self.old near body.now) }
         ensures opened { IfOk result (λ h. h.opened ≡ opened self.old body.now) }
         ensures err { OnErr result (self.new ≡ self.old) }
@@ -192,7 +193,7 @@ impl Switch {
 
 // A message for the controller.
 fn to_controller(body: Body) -> Message
-    ensures { result ≡ tell_controller body }
+    ensures { result ≡ to_controller body }
 {
     Message {
         to: Receiver::Controller,

@@ -1,7 +1,7 @@
 ghost use Rattle.std.specs.Prelude.{◌≡◌, ◌<◌, IfSome, if◌then◌else◌};
 ghost use Rattle.tunnel.specs.Moves.{next};
 ghost use Rattle.switch_core.specs.Moving.{link_found_down, hopped, is_free, rerouted_here};
-ghost use Rattle.switch_core.specs.State.{counted};
+ghost use Rattle.switch_core.specs.State.{call_counted};
 
 use crate::answers::{Hop, HopEnd};
 use crate::switch::Switch;
@@ -19,7 +19,7 @@ impl Switch {
         ensures found { result.found ≡ link_found_down near (next t.old) }
         ensures end { result.end ≡ (hopped self.old near t.old).end }
         ensures tunnel { t.new ≡ (hopped self.old near t.old).tunnel }
-        ensures after { self.new ≡ counted self.old }
+        ensures after { self.new ≡ call_counted self.old }
     {
         let hop = match t.next() {
             None => Hop {
@@ -51,7 +51,7 @@ impl Switch {
     pub fn pass(&mut self, next: Option<u32>, near: u64) -> bool
         requires { IfSome next (λ other. other < 64) }
         ensures free { result ≡ is_free near next }
-        ensures after { self.new ≡ (if result then counted self.old else self.old) }
+        ensures after { self.new ≡ (if result then call_counted self.old else self.old) }
     {
         if is_free(next, near) {
             self.count();

@@ -3,7 +3,7 @@ ghost use Rattle.five_tuple.specs.Header.{IsHeader};
 ghost use Rattle.policy_rules.specs.Placed.{is_in};
 ghost use Rattle.switch_table.specs.Lookup.{lookup_of};
 ghost use Rattle.switch_table.specs.Tables.{AreSoundTables};
-ghost use Rattle.switch_core.specs.Deciding.{IsFirstHit, first_place, own_part, part_numbered};
+ghost use Rattle.switch_core.specs.Deciding.{IsFirstHit, place_of_first, own_part, part_numbered};
 
 use ctrl_msg::SharedTables;
 use five_tuple::Header;
@@ -57,7 +57,7 @@ impl KeptTables {
     /// The place of the first rule that holds the header, in the own partition of this number.
     pub fn first_place(&self, partition: u32, header: &Header) -> u32
         requires { IsSomeAnd (own_part self.now partition) (λ part. IsTrue (is_in header.now part)) }
-        ensures place { result ≡ first_place header.now (part_numbered self.now partition) }
+        ensures place { result ≡ place_of_first header.now (part_numbered self.now partition) }
         ensures first { IsFirstHit header.now (part_numbered self.now partition) result }
     {
         let place = self.finder.first(partition, header).unwrap();

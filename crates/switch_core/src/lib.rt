@@ -2,7 +2,7 @@
 //!
 //! A `Switch` promises that each of its calls is a step that `specs/` states on the record that
 //! contracts see: its number, boot, stamp, tables by version, cache, database of adverts, and how
-//! many packet calls it answered. The laws say what those steps are in the words of lookups, rules,
+//! many packet calls it answered. The laws say what those steps are in terms of lookups, rules,
 //! routes and tunnels. Only `begin` and `hear` take memory.
 //!
 //! ```text

@@ -2,7 +2,7 @@ ghost use Rattle.std.specs.Prelude.{◌≡◌, ◌<◌, ◌==◌, find, IfOk, If
 ghost use Rattle.std.specs.Option.{option_copied};
 ghost use Rattle.failover.specs.Adverts.{held};
 ghost use Rattle.switch_table.specs.Tables.{AreSoundTables};
-ghost use Rattle.switch_core.specs.State.{HasOwnUpTo, IsSwitch, begun, counted, held_tables, holds_version, serves, stamp_tables};
+ghost use Rattle.switch_core.specs.State.{HasOwnUpTo, IsSwitch, begun, call_counted, held_tables, holds_version, serves, stamp_tables};
 
 use crate::kept::KeptTables;
 use ctrl_msg::SharedTables;
@@ -157,7 +157,7 @@ impl Switch {
 
     /// Counts one more packet call.
     pub(crate) fn count(&mut self)
-        ensures { self.new ≡ counted self.old }
+        ensures { self.new ≡ call_counted self.old }
     {
         self.handled = self.handled.saturating_add(1);
     }

@@ -8,6 +8,7 @@ use Rattle.std.proofs.lemmas.List.Elements.{recursion_from_All}
 use Rattle.ctrl_msg.specs.declared.message.Body.{Body}
 use Rattle.ctrl_msg.specs.declared.message.Body.TheVariants.{Install, OpenAt, Stamp, Advertise, Installed, Stamped}
 use Rattle.ctrl_msg.specs.declared.message.Message.{Message}
+use Rattle.ctrl_msg.specs.Kinds.{to_controller}
 use Rattle.masks.specs.Masks.{has, switches}
 use Rattle.failover.specs.declared.advert.Advert.{Advert}
 use Rattle.net_file.specs.Net.{IsLink, IsNet}
@@ -17,14 +18,14 @@ use Rattle.policy_rules.proofs.CallerLemmas.{filter_more}
 use Rattle.journal.specs.declared.item.Item.{Item}
 use Rattle.journal.specs.declared.item.Item.TheVariants as item
 use Rattle.steps.specs.declared.step.Step.TheVariants.{Deliver}
-use Rattle.switch_core.specs.Hearing.{flood, heard as hears, is_news_here as is_news_at, opened, opened_by, replies, replies_to}
+use Rattle.switch_core.specs.Hearing.{flood, with_message, is_news_here as is_news_at, opened, opened_by, replies, replies_to}
 use Rattle.switch_core.specs.Life.{next_advert}
 use Rattle.switch_core.specs.State.{SwitchValue}
 use Rattle.switch_core.proofs.SwitchLaws.{heard_keeps}
 use Rattle.update_machine.specs.Adverts.{own_advert, own_seq}
 use Rattle.update_machine.specs.Boots.{boot_of, heard, is_for_boot, is_up, tells_boot, tells_up}
 use Rattle.update_machine.specs.Concerns.{is_message_to}
-use Rattle.update_machine.specs.Deliveries.{advert_to, delivery_items, has_changed, is_news_to, link_changes, passed_on, received_items, switch_items, to_controller}
+use Rattle.update_machine.specs.Deliveries.{advert_to, delivery_items, has_changed, is_news_to, link_changes, passed_on, received_items, switch_items}
 use Rattle.update_machine.specs.Laws.{LinksKeep}
 use Rattle.update_machine.specs.LinkMasks.{near}
 use Rattle.update_machine.specs.Messages.{sends, sent_from}
@@ -87,7 +88,7 @@ row_keeps setting before row n s =
 delivered_is : (setting : Setting) (before : List Item) (row n s : ℕ) (body : Body)
     → IsSentTo setting before n s body
     → switch_of setting (delivering before row n []) s
-    ≡ record (hears (switch_of setting before s) n body) {
+    ≡ record (with_message (switch_of setting before s) n body) {
       is_open = (switch_of setting before s).is_open;
     }
 delivered_is setting before row n s body is =
@@ -98,17 +99,17 @@ delivered_is setting before row n s body is =
     (message_more before (item.Row row (Deliver n)) n ∙ is.sent)
     (subst AreVersioned (sym bodies) (all_versioned setting before s is.names))
     (versioned setting before s body (is.names.sent n (to_switch s body) is.sent))
-    ∙ ap (λ (switch : SwitchValue). record (hears switch n body) { is_open = switch.is_open })
+    ∙ ap (λ (switch : SwitchValue). record (with_message switch n body) { is_open = switch.is_open })
     (row_keeps setting before row n s)
 
 shut_is : (setting : Setting) (before : List Item) (row n s : ℕ) (body : Body)
     → IsSentTo setting before n s body → opened (switch_of setting before s) body ≡ None
     → switch_of setting (delivering before row n []) s
-    ≡ hears (switch_of setting before s) n body
+    ≡ with_message (switch_of setting before s) n body
 shut_is setting before row n s body is shut =
     let switch : SwitchValue = switch_of setting before s in
     delivered_is setting before row n s body is
-    ∙ ap (λ b. record (hears switch n body) { is_open = b }) (sym (open_kept switch n body shut))
+    ∙ ap (λ b. record (with_message switch n body) { is_open = b }) (sym (open_kept switch n body shut))
 
 -- ---- a switch that opens
 
@@ -187,7 +188,7 @@ opening_is : (setting : Setting) (before : List Item) (row n s stamp : ℕ) (bod
     → IsSentTo setting before n s body → opened (switch_of setting before s) body ≡ Some stamp
     → let now = delivering before row n (item.Opened s stamp ∷ []) in
     switch_of setting now s
-    ≡ relinked setting before now s (hears (switch_of setting before s) n body)
+    ≡ relinked setting before now s (with_message (switch_of setting before s) n body)
 opening_is setting before row n s stamp body is opens =
     by_words setting now s _ (opened_words setting before row n s stamp)
     ∙ relinks s (record w { serving = true }) _ _ _ _ (near setting now s)
@@ -208,7 +209,7 @@ opening_is setting before row n s stamp body is opens =
     w = words_of setting here s
 
     heard_now : SwitchValue
-    heard_now = hears (switch_of setting before s) n body
+    heard_now = with_message (switch_of setting before s) n body
 
     same : has_changed setting before now s ≡ false
         → (near setting now s ≡ near setting here s) ⊎ (own_seq setting here s ≡ 0)
@@ -221,16 +222,16 @@ opening_advert : (setting : Setting) (before : List Item) (row n s stamp : ℕ) 
     → let now = delivering before row n (item.Opened s stamp ∷ []) in
     IsTrue (has_changed setting before now s)
     → own_advert setting now s
-    ≡ next_advert (hears (switch_of setting before s) n body) (near setting now s)
+    ≡ next_advert (with_message (switch_of setting before s) n body) (near setting now s)
 opening_advert setting before row n s stamp body changes =
     let now : List Item = before ++ opening row n s stamp in
     let switch : SwitchValue = switch_of setting before s in
     let heard_so = heard_keeps switch n body in
-    let boot : boot_of now s ≡ (hears switch n body).boot =
+    let boot : boot_of now s ≡ (with_message switch n body).boot =
     same_boot before row n s stamp ∙ boot_shown setting before s ∙ sym heard_so.boot in
-    let number : (hears switch n body).number ≡ s =
+    let number : (with_message switch n body).number ≡ s =
     heard_so.number ∙ number_shown setting before s in
-    let seq : own_seq setting now s ≡ (hears switch n body).seq + 1 =
+    let seq : own_seq setting now s ≡ (with_message switch n body).seq + 1 =
     opened_seq setting before row n s stamp
     ∙ ap (λ b. own_seq setting (delivering before row n []) s + one_if b) changes
     ∙ ap (λ k. k + 1) ((kept_until setting before row n).seq s ∙ seq_shown setting before s

@@ -11,7 +11,7 @@ use Rattle.ctrl_msg.specs.Kinds.{is_for_controller}
 use Rattle.failover.specs.Adverts.{after_hearing}
 use Rattle.journal.specs.declared.item.Item.{Item}
 use Rattle.journal.specs.declared.item.Item.TheVariants as item
-use Rattle.switch_core.specs.Hearing.{after_body, collected_to, heard as hears, informed, installed, is_news_here, obeys, opened, opened_by, raised_to, replies_to}
+use Rattle.switch_core.specs.Hearing.{after_body, collected_to, with_message, informed, installed, is_news_here, obeys, opened, opened_by, raised_to, replies_to}
 use Rattle.switch_core.specs.State.{SwitchValue, holds_version}
 use Rattle.switch_table.specs.Cache.{raised}
 use Rattle.switch_table.specs.declared.tables.Tables.{Tables}
@@ -71,8 +71,8 @@ controller_shut switch _ is = refl
 
 pub obeyed_by : (switch : SwitchValue) (n : ℕ) (body : Body) (up own : Bool)
     → switch.is_up ≡ up → option_map_or (λ boot. boot == switch.boot) (body_boot body) true ≡ own
-    → hears switch n body ≡ (if up && own then after_body switch n body else switch)
-unfolding hears
+    → with_message switch n body ≡ (if up && own then after_body switch n body else switch)
+unfolding with_message
 obeyed_by switch n body up own is mine =
     by_obeying switch body up own (after_body switch n body) switch is mine
     (controller_kept switch n body)
@@ -87,13 +87,13 @@ said_is before s n body sent = rw (sent, eq-eqb s s refl, said_to) refl
 
 -- the switch once it heard the body, open or closed as it was
 abbrev hears_shut : ℕ → Body → SwitchValue → SwitchValue
-hears_shut n body switch = record (hears switch n body) { is_open = switch.is_open }
+hears_shut n body switch = record (with_message switch n body) { is_open = switch.is_open }
 
 pub heard_is : (setting : Setting) (before : List Item) (n s : ℕ) (body : Body)
     → message_of before n ≡ Some (to_switch s body)
     → AreVersioned (heard before s) → IsVersioned body
     → switch_of setting (before ++ item.Delivered n ∷ []) s
-    ≡ record (hears (switch_of setting before s) n body) {
+    ≡ record (with_message (switch_of setting before s) n body) {
       is_open = (switch_of setting before s).is_open;
     }
 heard_is setting before n s body sent olds new =
@@ -167,8 +167,8 @@ kept_by switch n _ shut = refl
 
 -- a switch that doesn't open is open or closed as before
 pub open_kept : (switch : SwitchValue) (n : ℕ) (body : Body) → opened switch body ≡ None
-    → (hears switch n body).is_open ≡ switch.is_open
-unfolding hears opened
+    → (with_message switch n body).is_open ≡ switch.is_open
+unfolding with_message opened
 open_kept switch n body shut = by_test (obeys switch body) shut
   where
     by_test : (b : Bool) → (if b then opened_by switch body else None) ≡ None
@@ -202,8 +202,8 @@ opens_by switch n stamp _ opens = absurd cc
 
 -- one that opens is open, with this stamp
 pub opens_as : (switch : SwitchValue) (n stamp : ℕ) (body : Body) → opened switch body ≡ Some stamp
-    → ((hears switch n body).is_open ≡ true) × (stamp ≡ (hears switch n body).stamp)
-unfolding hears opened
+    → ((with_message switch n body).is_open ≡ true) × (stamp ≡ (with_message switch n body).stamp)
+unfolding with_message opened
 opens_as switch n stamp body opens = by_test (obeys switch body) opens
   where
     by_test : (b : Bool) → (if b then opened_by switch body else None) ≡ Some stamp

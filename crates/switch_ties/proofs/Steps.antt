@@ -6,7 +6,7 @@ use Rattle.journal.specs.declared.item.Item.{Item}
 use Rattle.journal.specs.declared.item.Item.TheVariants as item
 use Rattle.steps.specs.declared.step.Step.{Step}
 use Rattle.steps.specs.declared.step.Step.TheVariants.{Packet, Hop}
-use Rattle.switch_core.specs.State.{SwitchValue, counted}
+use Rattle.switch_core.specs.State.{SwitchValue, call_counted}
 use Rattle.update_machine.specs.Concerns.{NoneConcern, concerns_known}
 use Rattle.update_machine.specs.Folds.{count_of, folded_from}
 use Rattle.update_machine.specs.Handled.{handled_count, hop_calls, is_entry_at, most_handled, stays_on_way}
@@ -126,7 +126,7 @@ called_by setting before row t step items none apart =
 
 -- by how many calls there were
 one_call : (w : SwitchValue) (calls : ℕ) → calls ≡ 1
-    → record w { handled = min most_handled (w.handled + calls) } ≡ counted w
+    → record w { handled = min most_handled (w.handled + calls) } ≡ call_counted w
 one_call w calls one =
     ap (λ count. record w { handled = count }) (clips w.handled calls one)
   where
@@ -135,7 +135,7 @@ one_call w calls one =
     clips handled calls one = omega (arith, one)
 
 two_calls : (w : SwitchValue) (calls : ℕ) → calls ≡ 2
-    → record w { handled = min most_handled (w.handled + calls) } ≡ counted (counted w)
+    → record w { handled = min most_handled (w.handled + calls) } ≡ call_counted (call_counted w)
 two_calls w calls two =
     ap (λ count. record w { handled = count }) (clips w.handled calls two)
   where
@@ -174,7 +174,7 @@ came_in : (setting : Setting) (before : List Item) (row s t : ℕ) (header : Hea
     → is_entry_at t one ≡ (s == t)
     → NoneConcern (concerns_known t) before (item.Row row (Packet s header) ∷ one ∷ items)
     → switch_of setting (before ++ item.Row row (Packet s header) ∷ one ∷ items) t
-    ≡ (if s == t then counted (switch_of setting before t) else switch_of setting before t)
+    ≡ (if s == t then call_counted (switch_of setting before t) else switch_of setting before t)
 came_in setting before row s t header one items begins all is apart =
     called_by setting before row t (Packet s header) (one ∷ items) (begins, no_rows items all) apart
     ∙ by_test (s == t) refl
@@ -194,7 +194,7 @@ came_in setting before row s t header one items begins all is apart =
 
     by_test : (b : Bool) → (s == t) ≡ b
         → record switch { handled = min most_handled (switch.handled + calls) }
-        ≡ (if b then counted switch else switch)
+        ≡ (if b then call_counted switch else switch)
     by_test true e = one_call switch calls (calls_are ∙ ap (λ b. cond b 1 0) e)
     by_test false e = no_call setting before t calls (calls_are ∙ ap (λ b. cond b 1 0) e)
 
@@ -202,8 +202,8 @@ went_on : (setting : Setting) (before : List Item) (row i t : ℕ) (items : List
     → AreInStep items → NoneConcern (concerns_known t) before (item.Row row (Hop i) ∷ items)
     → switch_of setting (before ++ item.Row row (Hop i) ∷ items) t
     ≡ (if travels_at before t i then (if stays_on_way items
-    then counted (switch_of setting before t)
-    else counted (counted (switch_of setting before t))) else switch_of setting before t)
+    then call_counted (switch_of setting before t)
+    else call_counted (call_counted (switch_of setting before t))) else switch_of setting before t)
 went_on setting before row i t items all apart =
     called_by setting before row t (Hop i) items (no_rows items all) apart
     ∙ by_test (travels_at before t i) refl (stays_on_way items) refl
@@ -222,7 +222,7 @@ went_on setting before row i t items all apart =
 
     by_test : (b : Bool) → travels_at before t i ≡ b → (c : Bool) → stays_on_way items ≡ c
         → record switch { handled = min most_handled (switch.handled + calls) }
-        ≡ (if b then (if c then counted switch else counted (counted switch)) else switch)
+        ≡ (if b then (if c then call_counted switch else call_counted (call_counted switch)) else switch)
     by_test true at true stays = one_call switch calls (calls_are ∙ rw (at, stays) refl)
     by_test true at false stays = two_calls switch calls (calls_are ∙ rw (at, stays) refl)
     by_test false at c stays = no_call setting before t calls (calls_are ∙ rw at refl)

@@ -6,7 +6,7 @@ use Rattle.five_tuple.specs.declared.header.Header.{Header}
 use Rattle.policy_rules.specs.declared.packet.Leg.{Leg}
 use Rattle.journal.specs.declared.item.Item.{Item}
 use Rattle.switch_core.specs.Answering.{CanLookUp, IsAtAuthority}
-use Rattle.switch_core.specs.Hearing.{IsSoundBody, heard}
+use Rattle.switch_core.specs.Hearing.{IsSoundBody, with_message}
 use Rattle.switch_core.specs.State.{SwitchValue, serves}
 use Rattle.update_machine.specs.Boots.{is_up}
 use Rattle.update_machine.specs.Setting.{Setting}
@@ -28,7 +28,7 @@ pub record CanReceive (switch : SwitchValue) (header : Header) (leg : Leg) : Typ
 -- there is a next number for its own advert, now and once it heard any message
 pub record HasNextSeq (switch : SwitchValue) : Type 0 where
   pub now : switch.seq < 2 ^ 32 - 1
-  pub then : (n : ℕ) (body : Body) → (heard switch n body).seq < 2 ^ 32 - 1
+  pub then : (n : ℕ) (body : Body) → (with_message switch n body).seq < 2 ^ 32 - 1
 
 -- what `restart` asks of it
 pub record CanRestart (switch : SwitchValue) : Type 0 where

@@ -4,7 +4,7 @@ use Rattle.five_tuple.specs.declared.header.Header.{Header}
 use Rattle.journal.specs.declared.item.Item.{Item}
 use Rattle.journal.specs.declared.item.Item.TheVariants as item
 use Rattle.steps.specs.declared.step.Step.TheVariants.{Packet, Hop}
-use Rattle.switch_core.specs.State.{counted}
+use Rattle.switch_core.specs.State.{call_counted}
 use Rattle.update_machine.specs.Concerns.{NoneConcern, concerns_known}
 use Rattle.update_machine.specs.Handled.{stays_on_way}
 use Rattle.update_machine.specs.Travels.{travels_at}
@@ -40,14 +40,14 @@ pub record CallTies : Type 0 where
       let all = item.Row row (Packet s header) ∷ item.Entered i s header ∷ items in
       NoneConcern (concerns_known t) before all →
       switch_of setting (before ++ all) t
-      ≡ (if s == t then counted (switch_of setting before t) else switch_of setting before t)
+      ≡ (if s == t then call_counted (switch_of setting before t) else switch_of setting before t)
   pub closed : (setting : Setting) (before : List Item) (row i s t : ℕ) (header : Header) →
       switch_of setting (before ++ item.Row row (Packet s header) ∷ item.Closed i s ∷ []) t
-      ≡ (if s == t then counted (switch_of setting before t) else switch_of setting before t)
+      ≡ (if s == t then call_counted (switch_of setting before t) else switch_of setting before t)
   pub hopped : (setting : Setting) (before : List Item) (row i t : ℕ) (items : List Item) →
       AreInStep items → let all = item.Row row (Hop i) ∷ items in
       NoneConcern (concerns_known t) before all →
       switch_of setting (before ++ all) t
       ≡ (if travels_at before t i then (if stays_on_way items
-      then counted (switch_of setting before t)
-      else counted (counted (switch_of setting before t))) else switch_of setting before t)
+      then call_counted (switch_of setting before t)
+      else call_counted (call_counted (switch_of setting before t))) else switch_of setting before t)

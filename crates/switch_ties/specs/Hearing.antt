@@ -5,7 +5,7 @@ use Rattle.net_file.specs.Net.{IsNet}
 use Rattle.journal.specs.declared.item.Item.{Item}
 use Rattle.journal.specs.declared.item.Item.TheVariants as item
 use Rattle.steps.specs.declared.step.Step.TheVariants.{Deliver}
-use Rattle.switch_core.specs.Hearing.{heard, opened, replies}
+use Rattle.switch_core.specs.Hearing.{with_message, opened, replies}
 use Rattle.switch_core.specs.Life.{next_advert}
 use Rattle.update_machine.specs.Adverts.{own_advert}
 use Rattle.update_machine.specs.Concerns.{is_message_to}
@@ -35,7 +35,7 @@ delivering before row n items = before ++ item.Row row (Deliver n) ∷ item.Deli
 pub record HearsShut (setting : Setting) (before : List Item) (n s : ℕ) (body : Body)
     : Type 0 where
   pub record_of : (row : ℕ) → switch_of setting (delivering before row n []) s
-      ≡ heard (switch_of setting before s) n body
+      ≡ with_message (switch_of setting before s) n body
   pub items : (row : ℕ) → delivery_items setting before n (delivering before row n [])
       ≡ sends (delivering before row n [])
       (replies (switch_of setting before s) (near setting before s) body)
@@ -46,12 +46,12 @@ pub record HearsOpening (setting : Setting) (before : List Item) (n s : ℕ) (bo
   pub record_of : (row : ℕ) →
       let now = delivering before row n (item.Opened s stamp ∷ []) in
       switch_of setting now s
-      ≡ relinked setting before now s (heard (switch_of setting before s) n body)
+      ≡ relinked setting before now s (with_message (switch_of setting before s) n body)
   pub advert : (row : ℕ) →
       let now = delivering before row n (item.Opened s stamp ∷ []) in
       IsTrue (has_changed setting before now s) →
       own_advert setting now s
-      ≡ next_advert (heard (switch_of setting before s) n body) (near setting now s)
+      ≡ next_advert (with_message (switch_of setting before s) n body) (near setting now s)
   pub items : (row : ℕ) → delivery_items setting before n (delivering before row n [])
       ≡ put (item.Opened s stamp ∷ []) (link_changes setting before) (delivering before row n [])
 
@@ -60,7 +60,7 @@ pub record HearTies : Type 0 where
   pub heard_but_open : (setting : Setting) (before : List Item) (n s : ℕ) (body : Body) →
       IsSentTo setting before n s body →
       switch_of setting (before ++ item.Delivered n ∷ []) s
-      ≡ record (heard (switch_of setting before s) n body) {
+      ≡ record (with_message (switch_of setting before s) n body) {
         is_open = (switch_of setting before s).is_open;
       }
   -- by whether it opens

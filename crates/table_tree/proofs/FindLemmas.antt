@@ -27,10 +27,10 @@ use Rattle.switch_table.specs.declared.search.Found.TheVariants.{Authority, Redi
 use Rattle.switch_table.specs.declared.tables.PartRow.{PartRow}
 use Rattle.switch_table.specs.declared.tables.Tables.{Tables}
 use Rattle.switch_table.proofs.TableLemmas.{count_by-map, find-there, row_at}
-use Rattle.table_tree.specs.Regions.{AreNodeSpots, has, spots_of_side, spots_from, spots_of}
+use Rattle.table_tree.specs.Regions.{AreNodeSpots, has_number, spots_of_side, spots_from, spots_of}
 use Rattle.table_tree.specs.Ruling.{RegionTree, part_tree, rule_shape, rule_tree, seen_tree}
 use Rattle.table_tree.specs.declared.rule_tree.RuleTree.{RuleTree}
-use Rattle.table_tree.specs.Finding.{SpotShape, Place, Sides, AreTreesOf, CutsHeaderBits, IsEnd, IsFinderTree, IsGrown, IsSpotTreeOf, place_at, spot_shape_of}
+use Rattle.table_tree.specs.Finding.{SpotShape, Place, Sides, AreTreesOf, CutsHeaderBits, IsEnd, IsFinderTree, IsGrownShape, IsSpotTreeOf, place_at, spot_shape_of}
 use Rattle.table_tree.specs.declared.node.Spot.{Spot}
 use Rattle.table_tree.specs.declared.trees.Trees.{Trees}
 use Rattle.table_tree.proofs.NodeLemmas.{count-cons, cut_is_free, found_from_count, half_node, never_stuck, root_node, several_spots, side_finds, spot_at, spots_count, weight}
@@ -60,7 +60,7 @@ end_is (first ∷ second ∷ rest) spot place one is same = absurd (omega (arith
 
 -- a tree that is grown of regions that meet a region of the header space is theirs
 pub grown_tree : HoldsLaws → MeetLaws → (tree : SpotShape) (spots : List Spot) (region : WordValue)
-    → AreNodeSpots spots region → IsGrown spots region tree → IsSpotTreeOf spots region tree
+    → AreNodeSpots spots region → IsGrownShape spots region tree → IsSpotTreeOf spots region tree
 grown_tree holds_laws meet_laws (Place place) spots region node (inl end) = end
 grown_tree holds_laws meet_laws (Place place) spots region node (inr stuck) =
     absurd (stuck.not_one (never_stuck holds_laws meet_laws spots region node stuck.none))
@@ -94,10 +94,10 @@ in_half region bit number one free held is =
 -- the bits of a header lead to the place of the region that has it
 pub leads : (tree : SpotShape) (spots : List Spot) (region : WordValue) (number : ℕ) (spot : Spot)
     → IsSpotTreeOf spots region tree → IsTrue (holds region number)
-    → find (has number) spots ≡ Some spot → place_at number tree ≡ spot.place
+    → find (has_number number) spots ≡ Some spot → place_at number tree ≡ spot.place
 leads (Place place) spots region number spot is held found =
     sym (All-contains (λ (s : Spot). s.place ≡ place) spots spot is.there
-    (find-there (has number) spots spot found).0)
+    (find-there (has_number number) spots spot found).0)
 leads (Sides bit low high) spots region number spot is held found =
     by_case (bit_at number bit == 1) refl
     (λ inside. leads high (spots_of_side spots region bit true) (fix_of region bit true) number spot
@@ -124,7 +124,7 @@ leads (Sides bit low high) spots region number spot is held found =
 
 -- the spot that is found has the place of the row
 spot_place : (place number : ℕ) (rows : List PartRow) (spot : Spot)
-    → find (has number) (spots_from place rows) ≡ Some spot
+    → find (has_number number) (spots_from place rows) ≡ Some spot
     → (spot.place ≡ place + position_or_len (λ (row : PartRow). holds row.region number) rows)
     × (position_or_len (λ (row : PartRow). holds row.region number) rows < length rows)
 spot_place place number [] spot found = absurd (none-some spot found)
@@ -133,8 +133,8 @@ spot_place place number (row ∷ rows) spot found =
   where
     by_case : (b : Bool) → holds row.region number ≡ b
         → cond b (Some (spot_at place row))
-        (find (has number) (spots_from (place + 1) rows)) ≡ Some spot
-        → (find (has number) (spots_from (place + 1) rows) ≡ Some spot
+        (find (has_number number) (spots_from (place + 1) rows)) ≡ Some spot
+        → (find (has_number number) (spots_from (place + 1) rows) ≡ Some spot
         → (spot.place ≡ place + 1 + position_or_len (λ (r : PartRow). holds r.region number) rows)
         × (position_or_len (λ (r : PartRow). holds r.region number) rows < length rows))
         → (spot.place ≡ place + cond (not b) (1 + position_or_len (λ (r : PartRow). holds r.region number) rows) 0)
@@ -151,11 +151,11 @@ pub leads_to_row : (rows : List PartRow) (tree : SpotShape) (header : Header)
     → IsSpotTreeOf (spots_of rows) any_word tree → count_by (row_has header) rows ≡ 1
     → position (row_has header) rows ≡ Some (place_at (number_of header) tree)
 leads_to_row rows tree header is one =
-    by_case (find (has (number_of header)) (spots_of rows)) refl
-    (found_from_count (has (number_of header)) (spots_of rows)
+    by_case (find (has_number (number_of header)) (spots_of rows)) refl
+    (found_from_count (has_number (number_of header)) (spots_of rows)
     (omega (arith, spots_count 0 (number_of header) rows, one)))
   where
-    by_case : (found : Option Spot) → find (has (number_of header)) (spots_of rows) ≡ found
+    by_case : (found : Option Spot) → find (has_number (number_of header)) (spots_of rows) ≡ found
         → IsSome found
         → position (row_has header) rows ≡ Some (place_at (number_of header) tree)
     by_case None none some = absurd (both_ways false refl some)

@@ -22,7 +22,7 @@ use Rattle.switch_table.specs.declared.tables.PartRow.{PartRow}
 use Rattle.cut_tree.specs.Cuts.{IsFreeBit}
 use Rattle.cut_tree.specs.DefinedTree.{free_count}
 use Rattle.table_tree.specs.Cutting.{NoneFree}
-use Rattle.table_tree.specs.Regions.{AreNodeSpots, AreRegions, IsCutBit, has, spot_meets, spots_of_side, some_fix, spots_from, spots_of}
+use Rattle.table_tree.specs.Regions.{AreNodeSpots, AreRegions, IsCutBit, has_number, spot_meets, spots_of_side, some_fix, spots_from, spots_of}
 use Rattle.table_tree.specs.declared.node.Spot.{Spot}
 
 -- ---- lists
@@ -72,13 +72,13 @@ abbrev pub spot_at : ℕ → PartRow → Spot
 spot_at place row = record { place = place; region = row.region }
 
 pub spots_count : (place number : ℕ) (rows : List PartRow)
-    → count_by (has number) (spots_from place rows)
+    → count_by (has_number number) (spots_from place rows)
     ≡ count_by (λ (row : PartRow). holds row.region number) rows
 spots_count place number [] = refl
 spots_count place number (row ∷ rows) =
     omega (
       arith,
-      count-cons (has number) (spot_at place row) (spots_from (place + 1) rows),
+      count-cons (has_number number) (spot_at place row) (spots_from (place + 1) rows),
       count-cons (λ (r : PartRow). holds r.region number) row rows,
       spots_count (place + 1) number rows,
     )
@@ -93,7 +93,7 @@ pub root_node : HeaderLaws → (rows : List PartRow)
     → ((header : Header) → IsHeader header → count_by (row_has header) rows ≡ 1)
     → AreRegions (spots_of rows) → AreNodeSpots (spots_of rows) any_word
 root_node laws rows one words =
-    let count : (number : ℕ) → number < 2 ^ 104 → count_by (has number) (spots_of rows) ≡ 1 =
+    let count : (number : ℕ) → number < 2 ^ 104 → count_by (has_number number) (spots_of rows) ≡ 1 =
     λ number small. spots_count 0 number rows
     ∙ ap (λ n. count_by (λ (row : PartRow). holds row.region n) rows)
     (sym (laws.numbered number small))
@@ -103,7 +103,7 @@ root_node laws rows one words =
       words = words;
       meet = any_meets (spots_of rows);
       one = λ number small. omega (arith, count number small);
-      held = λ number small inside. found_from_count (has number) (spots_of rows)
+      held = λ number small inside. found_from_count (has_number number) (spots_of rows)
           (omega (arith, count number small));
     }
 
@@ -136,9 +136,9 @@ half_holds region bit number one free held =
 -- on a side, the one that has a header of the half is that of the node
 pub side_finds : (spots : List Spot) (region : WordValue) (bit number : ℕ) (one : Bool)
     → IsTrue (holds (fix_of region bit one) number)
-    → find (has number) (spots_of_side spots region bit one) ≡ find (has number) spots
+    → find (has_number number) (spots_of_side spots region bit one) ≡ find (has_number number) spots
 side_finds spots region bit number one held =
-    find_kept (has number) (spot_meets (fix_of region bit one)) spots
+    find_kept (has_number number) (spot_meets (fix_of region bit one)) spots
     (λ spot has_it. held_meets spot.region (fix_of region bit one) number has_it held)
 
 pub half_node : (spots : List Spot) (region : WordValue) (bit : ℕ) (one : Bool)
@@ -153,7 +153,7 @@ half_node spots region bit one node free =
       one = λ number small. omega (
         arith,
         node.one number small,
-        count-filter (has number) (spot_meets half) spots,
+        count-filter (has_number number) (spot_meets half) spots,
       );
       held = λ number small inside. subst (λ found. IsSome found)
           (sym (side_finds spots region bit number one inside))
@@ -218,8 +218,8 @@ never_stuck holds_laws meet_laws (a ∷ b ∷ rest) region node none =
     absurd (omega (
       arith,
       node.one number shared.1,
-      count-cons (has number) a (b ∷ rest),
-      count-cons (has number) b rest,
+      count-cons (has_number number) a (b ∷ rest),
+      count-cons (has_number number) b rest,
       ap weight shared.2,
       ap weight shared.3,
     ))
@@ -228,7 +228,7 @@ never_stuck holds_laws meet_laws (a ∷ b ∷ rest) region node none =
     first_unfixed true b e = e
     first_unfixed false b e = refl
 
-some_spot : (spots : List Spot) (number : ℕ) → IsSome (find (has number) spots)
+some_spot : (spots : List Spot) (number : ℕ) → IsSome (find (has_number number) spots)
     → 0 < length spots
 some_spot [] number found = absurd (both_ways false refl found)
 some_spot (spot ∷ spots) number found = omega arith

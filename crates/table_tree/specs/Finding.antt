@@ -57,12 +57,12 @@ pub record IsStuck (spots : List Spot) (region : WordValue) : Type 0 where
   pub none : NoneFree region (some_fix spots)
 
 -- a tree that is grown in the same way of regions of any kind, some of which can't be parted
-abbrev pub IsGrown : List Spot → WordValue → SpotShape → Type 0
-IsGrown spots region (Place place) = IsEnd spots place ⊎ IsStuck spots region
-IsGrown spots region (Sides bit low high) =
+abbrev pub IsGrownShape : List Spot → WordValue → SpotShape → Type 0
+IsGrownShape spots region (Place place) = IsEnd spots place ⊎ IsStuck spots region
+IsGrownShape spots region (Sides bit low high) =
     (length spots ≢ 1) × IsCutBit spots region bit
-    × IsGrown (spots_of_side spots region bit false) (fix_of region bit false) low
-    × IsGrown (spots_of_side spots region bit true) (fix_of region bit true) high
+    × IsGrownShape (spots_of_side spots region bit false) (fix_of region bit false) low
+    × IsGrownShape (spots_of_side spots region bit true) (fix_of region bit true) high
 
 -- the tree of the partition rules
 abbrev pub IsFinderTree : List PartRow → SpotShape → Type 0
@@ -71,7 +71,7 @@ IsFinderTree rows tree = IsSpotTreeOf (spots_of rows) any_word tree
 -- the trees that are grown of these partition rules and authority partitions
 pub record AreTreesOf (rows : List PartRow) (parts : List Partition) (trees : Trees) : Type 0 where
   pub words : AreRegions (spots_of rows)
-  pub tree : IsGrown (spots_of rows) any_word (spot_shape_of trees.tree)
+  pub tree : IsGrownShape (spots_of rows) any_word (spot_shape_of trees.tree)
   pub rules : map seen_tree trees.rule_trees.items ≡ map part_tree parts
 
 -- the tables of a finder, and its tree

@@ -17,8 +17,8 @@ abbrev pub spots_of : List PartRow → List Spot
 spots_of rows = spots_from 0 rows
 
 -- the spot's region holds this header number
-abbrev pub has : ℕ → Spot → Bool
-has number spot = holds spot.region number
+abbrev pub has_number : ℕ → Spot → Bool
+has_number number spot = holds spot.region number
 
 abbrev pub spot_meets : WordValue → Spot → Bool
 spot_meets region spot = meets spot.region region
@@ -53,6 +53,6 @@ pub record AreNodeSpots (spots : List Spot) (region : WordValue) : Type 0 where
   pub whole : IsWord region
   pub words : AreRegions spots
   pub meet : All (λ spot. IsTrue (spot_meets region spot)) spots
-  pub one : (number : ℕ) → number < 2 ^ 104 → count_by (has number) spots ≤ 1
+  pub one : (number : ℕ) → number < 2 ^ 104 → count_by (has_number number) spots ≤ 1
   pub held : (number : ℕ) → number < 2 ^ 104 → IsTrue (holds region number)
-      → IsSome (find (has number) spots)
+      → IsSome (find (has_number number) spots)

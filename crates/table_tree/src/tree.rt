@@ -1,5 +1,5 @@
 ghost use Rattle.std.specs.Prelude.{◌≡◌, IfOk};
-ghost use Rattle.table_tree.specs.Finding.{CutsHeaderBits, IsGrown, place_at, spot_shape_of};
+ghost use Rattle.table_tree.specs.Finding.{CutsHeaderBits, IsGrownShape, place_at, spot_shape_of};
 
 use crate::bits::cut_bit;
 use crate::node::Node;
@@ -43,7 +43,7 @@ impl Tree {
 /// at place 0: there is none in the tree of sound tables.
 #[tactic(auto, using(crate::proofs::NodeLemmas::half_smaller, crate::proofs::FindLemmas::end_is))]
 pub fn grow(alloc: Global, node: Node) -> Result<Tree, AllocError>
-    ensures { IfOk result (λ tree. IsGrown node.spots.items node.region (spot_shape_of tree)) }
+    ensures { IfOk result (λ tree. IsGrownShape node.spots.items node.region (spot_shape_of tree)) }
 {
     if node.spots.len() == 1 {
         let place = node.spots[0].place;

@@ -5,7 +5,7 @@ use Rattle.std.specs.List.{AllByRecursion}
 use Rattle.std.proofs.lemmas.List.{map-set}
 use Rattle.std.proofs.lemmas.Bool.Decides.{nat_tests}
 use Rattle.failover.specs.Adverts.{after_hearing, after_hearing_all, first_adverts, held, no_adverts}
-use Rattle.failover.specs.Links.{is_link, known_links, links_at, neighbours_named, named_links, IsPath, IsReachable, Leads}
+use Rattle.failover.specs.Links.{is_link, known_links, links_at, neighbours_named, named_links, IsPath, IsReachable, LinksLead}
 use Rattle.failover.specs.Paths.{IsIsolated, IsRoute}
 use Rattle.failover.specs.declared.advert.Advert.{Advert}
 use Rattle.failover.specs.Newest.{AreByOrigin, IsNewest}
@@ -146,7 +146,7 @@ cut_off_known setting journal s target down =
 
 -- each path ends at a switch
 ends_below : (links : List ℕ) (at target : ℕ) (path : List ℕ) → at < 64 → 64 ≤ target
-    → Leads links target at path → ⊥
+    → LinksLead links target at path → ⊥
 ends_below links at target [] here past leads = omega (arith, leads, here, past)
 ends_below links at target (next ∷ path) here past leads =
     ends_below links next target path leads.0 past leads.2

@@ -1,5 +1,5 @@
 -- Which items concern a switch, a packet, a message, the links, the policies or the controller:
--- other items change none of their words.
+-- other items change nothing of what a journal says of them.
 use Rattle.std.specs.Prelude.{ℕ, Bool, true, false, ◌||◌, ◌==◌, List, IsFalse}
 use Rattle.std.specs.Option.{option_map_or}
 use Rattle.ctrl_msg.specs.declared.message.Body.{Body}
@@ -76,7 +76,7 @@ concerns_controller before (item.Current version) = true
 concerns_controller before (item.Retired version) = true
 concerns_controller before _ = false
 
--- ---- words that stand on several
+-- ---- what stands on several
 
 -- whether the switch hears of links or sees its own: what it knows of the network
 abbrev pub concerns_known : ℕ → List Item → Item → Bool

@@ -5,6 +5,7 @@ use Rattle.std.specs.List.{flat_map}
 use Rattle.ctrl_msg.specs.declared.message.Body.{Body}
 use Rattle.ctrl_msg.specs.declared.message.Body.TheVariants.{Install, OpenAt, Stamp, Advertise, Hello, Installed, Stamped}
 use Rattle.ctrl_msg.specs.declared.message.Message.{Message}
+use Rattle.ctrl_msg.specs.Kinds.{to_controller}
 use Rattle.ctrl_msg.specs.declared.message.Receiver.TheVariants as receiver
 use Rattle.failover.specs.Adverts.{is_news}
 use Rattle.masks.specs.Masks.{has}
@@ -56,9 +57,6 @@ link_changes setting before journal =
     (filter (has_changed setting before journal) (switches_of setting)))
 
 -- ---- at a switch
-
-abbrev pub to_controller : Body → Message
-to_controller body = record { to = receiver.Controller; body = body }
 
 -- the switch passes an advert on to its neighbours
 abbrev pub passed_on : Setting → List Item → ℕ → Advert → List Message

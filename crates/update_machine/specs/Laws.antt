@@ -1,4 +1,4 @@
--- The laws of words over journals: each is ensured by a function of the crate that has no body.
+-- The laws of what journals say: each is ensured by a function of the crate that has no body.
 use Rattle.std.specs.Prelude.{ℕ, ◌≡◌, ◌≢◌, ◌<◌, ◌≤◌, ◌↔◌, true, false, ◌==◌, if◌then◌else◌, Some, None, option_to_list, IsTrue, List, [], ◌∷◌, ◌++◌, length, map}
 use Rattle.failover.specs.Adverts.{first_advert, first_adverts, held}
 use Rattle.failover.specs.Links.{no_links}
@@ -49,7 +49,7 @@ pub record MessageStarts (n : ℕ) : Type 0 where
   pub forgotten : is_forgotten [] n ≡ false
   pub deliverable : is_deliverable [] n ≡ false
 
--- the words of a journal without items
+-- what a journal without items says
 pub record StartLaws : Type 0 where
   pub boot : (s : ℕ) → boot_of [] s ≡ 1
   pub up : (s : ℕ) → is_up [] s ≡ true
@@ -92,7 +92,7 @@ pub record StartLaws : Type 0 where
   pub lookup : (setting : Setting) (s : ℕ) (header : Header) →
       lookup_at setting [] s header ≡ table_lookup (tables_at setting [] 1 s) header
 
--- items that don't concern a switch leave its words as they are
+-- items that don't concern a switch leave what is said of it as it is
 pub record SwitchKeeps (setting : Setting) (s : ℕ) (before after : List Item) : Type 0 where
   pub boot : boot_of after s ≡ boot_of before s
   pub up : is_up after s ≡ is_up before s
@@ -102,7 +102,7 @@ pub record SwitchKeeps (setting : Setting) (s : ℕ) (before after : List Item) 
   pub versions : (v : ℕ) → holds_version after s v ≡ holds_version before s v
   pub cache : cache_of setting after s ≡ cache_of setting before s
 
--- those that don't concern a packet, its words
+-- those that don't concern a packet, what is said of that
 pub record PacketKeeps (i : ℕ) (before after : List Item) : Type 0 where
   pub header : header_in after i ≡ header_in before i
   pub ingress : ingress_of after i ≡ ingress_of before i
@@ -146,7 +146,7 @@ pub record KnownKeeps (setting : Setting) (s : ℕ) (before after : List Item) :
   pub cut_off : (down : List ℕ) (target : ℕ) →
       is_cut_off setting after s down target ≡ is_cut_off setting before s down target
 
--- those that don't concern a message, its words
+-- those that don't concern a message, what is said of that
 pub record MessageKeeps (n : ℕ) (before after : List Item) : Type 0 where
   pub message : message_of after n ≡ message_of before n
   pub delivered : was_delivered after n ≡ was_delivered before n

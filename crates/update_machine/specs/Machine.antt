@@ -42,8 +42,8 @@ start setting = record {
 }
 
 -- the policy of a version, if it was submitted; versions are numbered from 1
-abbrev pub policy_of : Machine → ℕ → Option (List Row)
-policy_of machine version = slice_get machine.policies (version - 1)
+abbrev pub submitted_policy : Machine → ℕ → Option (List Row)
+submitted_policy machine version = slice_get machine.policies (version - 1)
 
 -- the machine with this packet in the place of what it knew of it
 abbrev pub with_packet : Machine → ℕ → Packet → Machine
@@ -80,7 +80,7 @@ pub record Decides (old : Machine) (number version : ℕ) (hit : Hit) (new : Mac
   pub undecided : packet.decision ≡ None
   pub not_ended : packet.end ≡ None
   pub not_retired : packet.entry_mark < version
-  pub submitted : policy_of old version ≡ Some policy
+  pub submitted : submitted_policy old version ≡ Some policy
   pub first_match : IsFirstMatch policy packet.header hit
   pub after : new ≡ with_packet old number (record packet { decision = Some hit })
 

@@ -5,6 +5,7 @@ use Rattle.std.specs.Prelude.{ℕ, ◌+◌, ◌-◌, Bool, true, false, ◌==◌
 use Rattle.std.specs.List.{flat_map}
 use Rattle.ctrl_msg.specs.declared.message.Body.TheVariants.{Hello}
 use Rattle.ctrl_msg.specs.declared.message.Message.{Message}
+use Rattle.ctrl_msg.specs.Kinds.{to_controller}
 use Rattle.five_tuple.specs.declared.header.Header.{Header}
 use Rattle.policy_rules.specs.Placed.{NoPlan, TooManyWords, TooManyLeaves, NoRoom}
 use Rattle.journal.specs.declared.item.Item.{Item}
@@ -14,7 +15,7 @@ use Rattle.steps.specs.declared.step.Step.TheVariants.{Packet, Hop, Lose, Delive
 use Rattle.update_machine.specs.Adverts.{held_adverts}
 use Rattle.update_machine.specs.Boots.{boot_of, is_up}
 use Rattle.update_machine.specs.Caches.{cache_of}
-use Rattle.update_machine.specs.Deliveries.{advert_to, delivery_items, link_changes, to_controller, switches_in}
+use Rattle.update_machine.specs.Deliveries.{advert_to, delivery_items, link_changes, switches_in}
 use Rattle.update_machine.specs.Links.{is_link_up, serves}
 use Rattle.update_machine.specs.Marks.{most_live, most_versions, retired_mark}
 use Rattle.update_machine.specs.Messages.{is_deliverable, sends}

@@ -111,7 +111,7 @@ pub fn journals_start()
 {}
 
 /// Items that don't concern a switch, a packet, a message, the links, the policies or the
-/// controller change none of its words.
+/// controller change nothing of what a journal says of it.
 pub fn other_items_change_nothing()
     ensures { ConcernLaws }
 {}

@@ -12,6 +12,7 @@ use Rattle.std.proofs.lemmas.List.Elements.{filter_map-append}
 use Rattle.std.proofs.lemmas.Option.{slice_get-get_or}
 use Rattle.ctrl_msg.specs.declared.message.Body.TheVariants.{Hello}
 use Rattle.ctrl_msg.specs.declared.message.Message.{Message}
+use Rattle.ctrl_msg.specs.Kinds.{to_controller}
 use Rattle.failover.specs.Adverts.{held}
 use Rattle.failover.specs.declared.advert.Advert.{Advert}
 use Rattle.masks.specs.Masks.{has, only_if, switches}
@@ -20,7 +21,7 @@ use Rattle.policy_rules.proofs.CallerLemmas.{filter_more, range_more}
 use Rattle.switch_core.specs.State.{SwitchValue, serves}
 use Rattle.switch_core.specs.Life.{near_changed, next_advert}
 use Rattle.switch_ties.specs.Links.{all_held}
-use Rattle.update_machine.specs.Deliveries.{advert_to, to_controller}
+use Rattle.update_machine.specs.Deliveries.{advert_to}
 use Rattle.usable_links.specs.Linking.{all_told, changes, near_where, relinked_as, serves_at, told_again, told_as, told_at, told_if, told_to}
 
 -- ---- adverts

@@ -4,6 +4,7 @@ use Rattle.std.specs.List.{flat_map, range_with_len}
 use Rattle.std.specs.Option.{option_map_or}
 use Rattle.ctrl_msg.specs.declared.message.Body.TheVariants.{Hello}
 use Rattle.ctrl_msg.specs.declared.message.Message.{Message}
+use Rattle.ctrl_msg.specs.Kinds.{to_controller}
 use Rattle.failover.specs.declared.advert.Advert.{Advert}
 use Rattle.masks.specs.Masks.{has, mask_of}
 use Rattle.net_file.specs.Joins.{joins}
@@ -14,7 +15,7 @@ use Rattle.steps.specs.declared.step.Step.TheVariants.{LinkDown, LinkUp}
 use Rattle.switch_core.specs.Life.{near_changed, next_advert}
 use Rattle.switch_core.specs.State.{SwitchValue, serves}
 use Rattle.switch_ties.specs.Links.{all_held}
-use Rattle.update_machine.specs.Deliveries.{advert_to, to_controller}
+use Rattle.update_machine.specs.Deliveries.{advert_to}
 
 -- ---- links that are up
 

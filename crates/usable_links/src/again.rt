@@ -1,7 +1,7 @@
 //! What a switch tells again, for it may have been lost.
 ghost use Rattle.std.specs.Prelude.{◌≡◌, ◌<◌, ◌≤◌, ◌++◌, IfOk, OnOk};
 ghost use Rattle.ctrl_msg.specs.declared.message.Body.TheVariants.{Hello};
-ghost use Rattle.update_machine.specs.Deliveries.{to_controller};
+ghost use Rattle.ctrl_msg.specs.Kinds.{to_controller};
 ghost use Rattle.usable_links.specs.Linking.{told_again, told_all_near};
 
 use crate::links::tell_all;

@@ -11,7 +11,7 @@ use Rattle.version_update.specs.declared.record.Phase.TheVariants.{Member}
 use Rattle.version_update.specs.declared.record.SwitchRecord.{SwitchRecord}
 use Rattle.version_update.specs.declared.marks.Settled.{Settled}
 use Rattle.version_update.specs.Record.{is_member, opens_at, opened_record}
-use Rattle.version_update.specs.Marks.{MarksValue, stamps, least_of, AreMarksSettled}
+use Rattle.version_update.specs.Marks.{MarksValue, acked_stamps, least_of, AreMarksSettled}
 use Rattle.version_update.specs.Settling.{Names, rises_to, RisesTo, Tells, Settles}
 use Rattle.version_update.specs.Laws.{nothing_rose, IsLeast}
 
@@ -40,8 +40,8 @@ one_result before a b x y left right =
     right.current in
     let switches : a.switches ≡ b.switches = left.switches
     ∙ ap (λ c. map (opened_record c) before.switches) current ∙ sym right.switches in
-    let allowed = ap (λ c. unwrap_or (least_of (stamps a.switches)) c - 1) current
-    ∙ ap (λ (l : List SwitchRecord). unwrap_or (least_of (stamps l)) b.current - 1) switches in
+    let allowed = ap (λ c. unwrap_or (least_of (acked_stamps a.switches)) c - 1) current
+    ∙ ap (λ (l : List SwitchRecord). unwrap_or (least_of (acked_stamps l)) b.current - 1) switches in
     let retired : a.retired ≡ b.retired = left.retired ∙ allowed ∙ sym right.retired in
     ap (λ n. record a { count = n }) count
     ∙ ap (λ n. record a { count = b.count; current = n }) current

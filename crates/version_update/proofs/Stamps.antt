@@ -5,7 +5,7 @@ use Rattle.std.specs.List.{fold}
 use Rattle.std.proofs.lemmas.List.Elements.{All-nil, All-cons, All-head, All-tail}
 use Rattle.version_update.specs.declared.record.SwitchRecord.{SwitchRecord}
 use Rattle.version_update.specs.Record.{is_member, IsSoundRecord}
-use Rattle.version_update.specs.Marks.{member_records, stamps, least_of}
+use Rattle.version_update.specs.Marks.{member_records, acked_stamps, least_of}
 
 -- from 1 to count
 abbrev IsVersion : ℕ → ℕ → Type 0
@@ -27,7 +27,7 @@ least-version count d (n ∷ more) here all =
     (All-tail (IsVersion count) n more all)
 
 stamps-versions : (count : ℕ) (switches : List SwitchRecord) → All (IsSoundRecord count) switches
-    → All (IsVersion count) (stamps switches)
+    → All (IsVersion count) (acked_stamps switches)
 stamps-versions count [] sound = All-nil (IsVersion count)
 stamps-versions count (known ∷ more) sound = by_phase (is_member known.phase) refl
     (stamps-versions count more (All-tail (IsSoundRecord count) known more sound))
@@ -36,19 +36,19 @@ stamps-versions count (known ∷ more) sound = by_phase (is_member known.phase) 
     here = All-head (IsSoundRecord count) known more sound
 
     by_phase : (member : Bool) → is_member known.phase ≡ member
-        → All (IsVersion count) (stamps more)
+        → All (IsVersion count) (acked_stamps more)
         → All (IsVersion count) (map (λ k. k.acked_stamp)
         (cond member (known ∷ member_records more) (member_records more)))
     by_phase true is rest =
         let low = here.open_version is in
         let high = here.acked_stamp is in
-        All-cons (IsVersion count) known.acked_stamp (stamps more)
+        All-cons (IsVersion count) known.acked_stamp (acked_stamps more)
         (omega (arith, low, high), here.stamp_bound) rest
     by_phase false is rest = rest
 
 -- the least acknowledged stamp is a version, and so is what stands where there is no member
 pub least_stamp-version : (count d : ℕ) (switches : List SwitchRecord) → 1 ≤ d → d ≤ count
-    → All (IsSoundRecord count) switches → (1 ≤ unwrap_or (least_of (stamps switches)) d)
-    × (unwrap_or (least_of (stamps switches)) d ≤ count)
-least_stamp-version count d switches low high sound = least-version count d (stamps switches)
+    → All (IsSoundRecord count) switches → (1 ≤ unwrap_or (least_of (acked_stamps switches)) d)
+    × (unwrap_or (least_of (acked_stamps switches)) d ≤ count)
+least_stamp-version count d switches low high sound = least-version count d (acked_stamps switches)
     (low, high) (stamps-versions count switches sound)

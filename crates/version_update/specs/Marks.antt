@@ -45,8 +45,8 @@ abbrev pub all_have_acked : ℕ → List SwitchRecord → Bool
 all_have_acked version switches = list_all (λ known. has_acked known version) (member_records switches)
 
 -- the stamps that the members acknowledged
-abbrev pub stamps : List SwitchRecord → List ℕ
-stamps switches = map (λ known. known.acked_stamp) (member_records switches)
+abbrev pub acked_stamps : List SwitchRecord → List ℕ
+acked_stamps switches = map (λ known. known.acked_stamp) (member_records switches)
 
 -- ---- the rule of the marks
 
@@ -56,7 +56,7 @@ least_of numbers = reduce min numbers
 
 -- the least acknowledged stamp of the members less 1, and current less 1 where there is no member
 abbrev pub retired_of : MarksValue → ℕ
-retired_of marks = unwrap_or (least_of (stamps marks.switches)) marks.current - 1
+retired_of marks = unwrap_or (least_of (acked_stamps marks.switches)) marks.current - 1
 
 -- the marks are of 1 to 64 versions and of 1 to 64 switches
 pub record AreBounded (marks : MarksValue) : Type 0 where

@@ -1,7 +1,7 @@
 //! Questions over what is known of all switches, each answered in one walk.
 ghost use Rattle.std.specs.Prelude.{ℕ, ◌≡◌, ◌+◌, ◌-◌, ◌<◌, ◌≤◌, ◌&&◌, map, length};
 ghost use Rattle.version_update.specs.Record.{is_member, opens_at, opened_record};
-ghost use Rattle.version_update.specs.Marks.{all_have_acked, stamps, least_of};
+ghost use Rattle.version_update.specs.Marks.{all_have_acked, acked_stamps, least_of};
 ghost use Rattle.version_update.specs.Settling.{Names};
 ghost use Rattle.version_update.specs.declared.record.SwitchRecord.{SwitchRecord};
 
@@ -49,7 +49,7 @@ pub fn all_acked(switches: &[SwitchRecord], version: u32) -> bool
 
 /// The least stamp that a member acknowledged; `None` where there is no member.
 pub fn least_stamp(switches: &[SwitchRecord]) -> Option<u32>
-    ensures { result ≡ least_of (stamps switches.now) }
+    ensures { result ≡ least_of (acked_stamps switches.now) }
 {
     switches
         .iter()

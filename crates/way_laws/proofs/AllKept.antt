@@ -33,7 +33,7 @@ use Rattle.advert_laws.proofs.BothCauses.{HasBothCauses}
 use Rattle.advert_laws.proofs.NetLinks.{links_there}
 use Rattle.way_laws.specs.Rules.{IsRightEntry, IsRightRule}
 use Rattle.way_laws.specs.OnWay.{IsUnknown}
-use Rattle.way_laws.specs.Words.{names, words_after, words_of}
+use Rattle.way_laws.specs.Facts.{is_of_packet, facts_after, what_is_known}
 use Rattle.way_laws.proofs.Words.{words_named, words_other}
 use Rattle.way_laws.specs.Kept.{AllKept, BringsRight, IsJudged, IsKept}
 use Rattle.way_laws.specs.Stages.{Blocked, CameIn, Judged, OnWay, Stage, stage_of, tells_stage}
@@ -102,28 +102,28 @@ same_packet packet i e = eqb-true packet i e
 -- the packet that an item names
 named_as : (setting : Setting) (before : List Item) (packet i : ℕ) (next : Item) (stage : Stage)
     → (packet == i) ≡ true → tells_stage i next ≡ Some stage
-    → IsKept setting before (words_after (retired_mark before) next (words_of before packet))
+    → IsKept setting before (facts_after (retired_mark before) next (what_is_known before packet))
     (Some stage)
-    → IsKept setting before (words_after (retired_mark before) next (words_of before i))
+    → IsKept setting before (facts_after (retired_mark before) next (what_is_known before i))
     (stage_of (before ++ next ∷ []) i)
 named_as setting before packet i next stage named tells kept =
-    subst (IsKept setting before (words_after (retired_mark before) next (words_of before i)))
+    subst (IsKept setting before (facts_after (retired_mark before) next (what_is_known before i)))
     (sym (stage_more before next i stage tells))
-    (subst (λ k. IsKept setting before (words_after (retired_mark before) next (words_of before k))
+    (subst (λ k. IsKept setting before (facts_after (retired_mark before) next (what_is_known before k))
     (Some stage)) (same_packet packet i named) kept)
 
 named_after : (setting : Setting) (before : List Item) (next : Item) (i : ℕ)
-    → Before setting before → WayCause setting before next → names i next ≡ true
-    → IsKept setting before (words_after (retired_mark before) next (words_of before i))
+    → Before setting before → WayCause setting before next → is_of_packet i next ≡ true
+    → IsKept setting before (facts_after (retired_mark before) next (what_is_known before i))
     (stage_of (before ++ next ∷ []) i)
 named_after setting before (item.Entered packet s header) i known way named =
     let own : NamesOwn setting (Packet s header) =
     present_asked setting before known.have (Packet s header) way.0.row in
-    let none : IsUnknown (words_of before packet) =
+    let none : IsUnknown (what_is_known before packet) =
     known.kept.unknown packet (omega (arith, way.0.number)) in
     named_as setting before packet i (item.Entered packet s header) CameIn named
     (rw named refl)
-    (entered_after setting before packet s header (words_of before packet) own.0 own.1
+    (entered_after setting before packet s header (what_is_known before packet) own.0 own.1
     none.decision none.leg)
 named_after setting before (item.Seeking packet version partition route) i known way named =
     named_as setting before packet i (item.Seeking packet version partition route) OnWay named
@@ -160,7 +160,7 @@ named_after setting before (item.Stuck packet switch cause leg down) i known way
     gone setting before _ _ refl
 named_after setting before next i known way named = absurd cc
 
-unnamed_stage : (i : ℕ) (next : Item) → names i next ≡ false → tells_stage i next ≡ None
+unnamed_stage : (i : ℕ) (next : Item) → is_of_packet i next ≡ false → tells_stage i next ≡ None
 unnamed_stage i (item.Entered packet s header) e = rw e refl
 unnamed_stage i (item.Seeking packet version partition route) e = rw e refl
 unnamed_stage i (item.Exiting packet route) e = rw e refl
@@ -172,12 +172,12 @@ unnamed_stage i _ e = refl
 
 packets_on : (setting : Setting) (before : List Item) (next : Item) → Before setting before
     → IsWayItem setting before next → Grows setting before (before ++ next ∷ []) → (i : ℕ)
-    → IsKept setting (before ++ next ∷ []) (words_of (before ++ next ∷ []) i)
+    → IsKept setting (before ++ next ∷ []) (what_is_known (before ++ next ∷ []) i)
     (stage_of (before ++ next ∷ []) i)
-packets_on setting before next known cause grow i = by_name (names i next) refl
+packets_on setting before next known cause grow i = by_name (is_of_packet i next) refl
   where
-    by_name : (b : Bool) → names i next ≡ b
-        → IsKept setting (before ++ next ∷ []) (words_of (before ++ next ∷ []) i)
+    by_name : (b : Bool) → is_of_packet i next ≡ b
+        → IsKept setting (before ++ next ∷ []) (what_is_known (before ++ next ∷ []) i)
         (stage_of (before ++ next ∷ []) i)
     by_name true e =
         subst (λ words. IsKept setting (before ++ next ∷ []) words
@@ -187,7 +187,7 @@ packets_on setting before next known cause grow i = by_name (names i next) refl
     by_name false e =
         subst (λ words. IsKept setting (before ++ next ∷ []) words
         (stage_of (before ++ next ∷ []) i)) (sym (words_other i before next e))
-        (subst (IsKept setting (before ++ next ∷ []) (words_of before i))
+        (subst (IsKept setting (before ++ next ∷ []) (what_is_known before i))
         (sym (stage_stays before next i (unnamed_stage i next e)))
         (kept_on setting before (before ++ next ∷ []) _ _ grow (known.kept.packets i)))
 
@@ -195,7 +195,7 @@ packets_on setting before next known cause grow i = by_name (names i next) refl
 
 -- an item names a packet that travels, or the next one, which comes in
 named_travels : (setting : Setting) (before : List Item) (next : Item) (i : ℕ)
-    → WayCause setting before next → names i next ≡ true
+    → WayCause setting before next → is_of_packet i next ≡ true
     → IsTrue (travels before i)
     ⊎ ((i ≡ next_packet before) × (next_packet (before ++ next ∷ []) ≡ next_packet before + 1))
 named_travels setting before (item.Entered packet s header) i way named =
@@ -227,19 +227,19 @@ named_travels setting before next i way named = absurd cc
 
 unknown_on : (setting : Setting) (before : List Item) (next : Item) → Before setting before
     → WayCause setting before next → (i : ℕ) → next_packet (before ++ next ∷ []) ≤ i
-    → IsUnknown (words_of (before ++ next ∷ []) i)
-unknown_on setting before next known way i past = by_name (names i next) refl
+    → IsUnknown (what_is_known (before ++ next ∷ []) i)
+unknown_on setting before next known way i past = by_name (is_of_packet i next) refl
   where
     not_named : IsTrue (travels before i)
         ⊎ ((i ≡ next_packet before) × (next_packet (before ++ next ∷ []) ≡ next_packet before + 1))
-        → IsUnknown (words_of (before ++ next ∷ []) i)
+        → IsUnknown (what_is_known (before ++ next ∷ []) i)
     not_named (inl travelling) =
         let number = numbered setting before (ways_of_all setting [] before known.have) i
         travelling in
         absurd (omega (arith, number.1, past, packet_more before next))
     not_named (inr own) = absurd (omega (arith, own.0, own.1, past))
 
-    by_name : (b : Bool) → names i next ≡ b → IsUnknown (words_of (before ++ next ∷ []) i)
+    by_name : (b : Bool) → is_of_packet i next ≡ b → IsUnknown (what_is_known (before ++ next ∷ []) i)
     by_name true e = not_named (named_travels setting before next i way e)
     by_name false e =
         subst IsUnknown (sym (words_other i before next e))
@@ -265,9 +265,9 @@ told_right setting before message known tells =
     let here : IsHere setting before i s =
     here_of setting before i s (stage_of before i) known.is knows_it.have knows_it.kept tells.at in
     let header : Header = here.under.header in
-    let judged : IsJudged setting before (words_of before i) header =
+    let judged : IsJudged setting before (what_is_known before i) header =
     knows_it.kept.judged here.travelling tells.judged header here.under.entered in
-    let rules : Rules setting before (words_of before i) header tells.found.version tells.found =
+    let rules : Rules setting before (what_is_known before i) header tells.found.version tells.found =
     rules_of setting before i s tells.found.version tells.found known.is knows_it.have here
     judged.sought tells.finds in
     let version : ℕ = tells.found.version in
@@ -358,9 +358,9 @@ kept_more setting is before next cause kept =
     }
 
 pub kept_at_first : (setting : Setting) → AllKept setting []
-unfolding words_of travels header_in decision_of leg_of found_down message_of cache_of
+unfolding what_is_known travels header_in decision_of leg_of found_down message_of cache_of
 kept_at_first setting = record {
-  packets = λ i. gone setting [] (words_of [] i) (stage_of [] i) refl;
+  packets = λ i. gone setting [] (what_is_known [] i) (stage_of [] i) refl;
   unknown = λ i past. record {
     header = refl;
     travels = refl;

@@ -10,7 +10,7 @@ use Rattle.update_machine.specs.Packets.{header_in, standing}
 use Rattle.update_machine.specs.Setting.{Setting}
 use Rattle.version_laws.specs.Authorities.{EndsAt}
 use Rattle.way_laws.specs.OnWay.{EndsAtTarget, IsOnLeg, IsOnWay}
-use Rattle.way_laws.specs.Words.{PacketWords, words_of}
+use Rattle.way_laws.specs.Facts.{PacketFacts, what_is_known}
 use Rattle.way_laws.specs.Arriving.{IsAtEnd, PacketsArrive}
 use Rattle.way_laws.specs.Kept.{AllKept}
 use Rattle.way_laws.proofs.Ends.{last_here, one_target}
@@ -18,13 +18,13 @@ use Rattle.way_laws.proofs.Here.{header_in_words, leg_in, next_in, place_in, som
 
 -- it stands at a target of its leg
 at_target : (setting : Setting) (journal : List Item) (i s : ℕ) (header : Header) (leg : Leg)
-    (targets : List ℕ) (way : IsOnWay setting journal (words_of journal i))
-    → IsAtEnd journal i s header leg → EndsAtTarget (words_of journal i).route targets
+    (targets : List ℕ) (way : IsOnWay setting journal (what_is_known journal i))
+    → IsAtEnd journal i s header leg → EndsAtTarget (what_is_known journal i).route targets
     → IsTrue (list_any (nat_eq s) targets)
 at_target setting journal i s header leg targets way at ends =
-    let words : PacketWords = words_of journal i in
+    let facts : PacketFacts = what_is_known journal i in
     let last : way.under_way.place ≡ ends.target =
-    last_here words.route words.hops way.under_way.place ends.target way.stands
+    last_here facts.route facts.hops way.under_way.place ends.target way.stands
     (sym (next_in journal i) ∙ at.arrives.last) ends.last in
     let place : way.under_way.place ≡ s =
     some_same (standing journal i) way.under_way.place s
@@ -32,8 +32,8 @@ at_target setting journal i s header leg targets way at ends =
     subst (λ k. IsTrue (list_any (nat_eq k) targets)) (sym last ∙ place) ends.own
 
 by_leg : (setting : Setting) (journal : List Item) (i s : ℕ) (header : Header) (leg : Leg)
-    (way : IsOnWay setting journal (words_of journal i)) → IsAtEnd journal i s header leg
-    → IsOnLeg setting journal (words_of journal i) header leg
+    (way : IsOnWay setting journal (what_is_known journal i)) → IsAtEnd journal i s header leg
+    → IsOnLeg setting journal (what_is_known journal i) header leg
     → EndsAt setting journal s header leg
 by_leg setting journal i s header (Seek version partition) way at on = record {
   placed = on.placed;
@@ -50,14 +50,14 @@ by_leg setting journal i s header (Exit port) way at on =
 pub packets_arrive : (setting : Setting) (journal : List Item) → AllKept setting journal
     → PacketsArrive setting journal
 packets_arrive setting journal kept i s header leg at =
-    let words : PacketWords = words_of journal i in
-    let way : IsOnWay setting journal words =
+    let facts : PacketFacts = what_is_known journal i in
+    let way : IsOnWay setting journal facts =
     (kept.packets i).on_way (travels_in journal i at.travelling) (inl at.arrives.moving) in
     let same : way.leg ≡ leg =
-    some_same words.leg way.leg leg way.takes (leg_in journal i (Some leg) at.takes) in
+    some_same facts.leg way.leg leg way.takes (leg_in journal i (Some leg) at.takes) in
     let own : way.under_way.header ≡ header =
     some_same (header_in journal i) way.under_way.header header
     (header_in_words journal i way.under_way.header way.under_way.entered) at.with_header in
     by_leg setting journal i s header leg way at
-    (subst (λ h. IsOnLeg setting journal words h leg) own
-    (subst (λ l. IsOnLeg setting journal words way.under_way.header l) same way.on_leg))
+    (subst (λ h. IsOnLeg setting journal facts h leg) own
+    (subst (λ l. IsOnLeg setting journal facts way.under_way.header l) same way.on_leg))

@@ -30,7 +30,7 @@ use Rattle.update_machine.specs.Ways.{next_switch, route_in, route_place}
 use Rattle.update_machine.specs.LinkMasks.{near}
 use Rattle.update_machine.proofs.CallerLemmas.{ends_within}
 use Rattle.update_machine.proofs.Examples.{all_dropped, any_word, on, one, open_net, other, plan_p, ring, row_of_three, rule}
-use Rattle.way_laws.specs.Words.{entry_mark}
+use Rattle.way_laws.specs.Facts.{entry_mark}
 use Rattle.way_laws.specs.StrongCauses.{StrongCause}
 use Rattle.way_laws.specs.WayCauses.{IsLostInCrash}
 

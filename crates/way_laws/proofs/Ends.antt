@@ -32,7 +32,7 @@ use Rattle.update_machine.proofs.CallerLemmas.{plan_is, unreached}
 use Rattle.advert_laws.proofs.Claims.{own_end}
 use Rattle.advert_laws.proofs.NetLinks.{linked_by_mask}
 use Rattle.way_laws.specs.OnWay.{FollowsLinks, IsExiting, IsOnLeg, IsOnWay, IsPartitionOf, IsSeeking}
-use Rattle.way_laws.specs.Words.{PacketWords, entry_mark, words_of}
+use Rattle.way_laws.specs.Facts.{PacketFacts, entry_mark, what_is_known}
 use Rattle.way_laws.specs.Kept.{IsJudged}
 use Rattle.way_laws.specs.Stages.{stage_of}
 use Rattle.way_laws.specs.StrongCauses.{SeeksRightly}
@@ -42,8 +42,8 @@ use Rattle.way_laws.proofs.Kept.{Knows, here_known, port_named, redirected_to, s
 use Rattle.way_laws.proofs.OpenWays.{Sees, none_leads, open_joined}
 
 pub decision_out : (journal : List Item) (i : ℕ) (decision : Option Decision)
-    → (words_of journal i).decision ≡ decision → decision_of journal i ≡ decision
-unfolding words_of
+    → (what_is_known journal i).decision ≡ decision → decision_of journal i ≡ decision
+unfolding what_is_known
 decision_out journal i decision is = is
 
 stands_at : (setting : Setting) (before : List Item) (i s : ℕ) → IsHere setting before i s
@@ -73,12 +73,12 @@ finds_next_down setting before i one two knows meets =
       unusable = meets.unusable;
     }
 
-follows : (setting : Setting) (journal : List Item) (words : PacketWords) (way : IsOnWay setting journal words)
-    → FollowsLinks setting words.route
-follows setting journal words way = by_leg way.leg way.on_leg
+follows : (setting : Setting) (journal : List Item) (facts : PacketFacts) (way : IsOnWay setting journal facts)
+    → FollowsLinks setting facts.route
+follows setting journal facts way = by_leg way.leg way.on_leg
   where
-    by_leg : (leg : Leg) → IsOnLeg setting journal words way.under_way.header leg
-        → FollowsLinks setting words.route
+    by_leg : (leg : Leg) → IsOnLeg setting journal facts way.under_way.header leg
+        → FollowsLinks setting facts.route
     by_leg (Seek version partition) on = on.leads.joined
     by_leg (Exit port) on = on.leads.joined
 
@@ -87,16 +87,16 @@ pub meets_link : (setting : Setting) (before : List Item) (i one two : ℕ)
     → Knows setting before i (stage_of before i) → MeetsDown setting before i one two
     → IsTrue (are_linked setting.net.links one two)
 meets_link setting before i one two knows meets =
-    let words : PacketWords = words_of before i in
+    let facts : PacketFacts = what_is_known before i in
     let here : IsHere setting before i one =
     here_known setting before i one knows meets.at in
-    let way : IsOnWay setting before words =
+    let way : IsOnWay setting before facts =
     knows.kept.on_way here.travelling (inl meets.moving) in
     let place : way.under_way.place ≡ one =
-    some_same words.place way.under_way.place here.under.place way.under_way.stands
+    some_same facts.stands way.under_way.place here.under.place way.under_way.stands
     here.under.stands ∙ sym here.at in
     linked_by_mask setting.net.links one two
-    (follows setting before words way words.hops one two (way.stands ∙ ap Some place)
+    (follows setting before facts way facts.hops one two (way.stands ∙ ap Some place)
     (sym (next_in before i) ∙ meets.goes_on))
 
 -- ---- losses
@@ -123,8 +123,8 @@ seeks_part : (setting : Setting) (before : List Item) (i s version partition : �
 seeks_part setting before i s version partition knows here (inl takes) =
     redirected_to setting before i s version partition here takes
 seeks_part setting before i s version partition knows here (inr blocked) =
-    let on : IsSeeking setting before (words_of before i) here.under.header version partition =
-    seeking_of setting before (words_of before i) here.under.header version partition
+    let on : IsSeeking setting before (what_is_known before i) here.under.header version partition =
+    seeking_of setting before (what_is_known before i) here.under.header version partition
     (knows.kept.on_way here.travelling (inr blocked.blocked)) here.under.entered
     (leg_in before i (Some (Seek version partition)) blocked.takes) in
     (on.placed, on.own)
@@ -138,8 +138,8 @@ exits_by : (setting : Setting) (before : List Item) (i s port : ℕ)
 exits_by setting before i s port knows here (inl takes) =
     (takes.decision, takes.decided, takes.action)
 exits_by setting before i s port knows here (inr blocked) =
-    let on : IsExiting setting (words_of before i) port =
-    exiting_of setting before (words_of before i) port
+    let on : IsExiting setting (what_is_known before i) port =
+    exiting_of setting before (what_is_known before i) port
     (knows.kept.on_way here.travelling (inr blocked.blocked))
     (leg_in before i (Some (Exit port)) blocked.takes) in
     (on.decision, decision_out before i (Some on.decision) on.decided, on.action)
@@ -156,8 +156,8 @@ own_leg setting before i s (Seek version partition) knows here on =
 own_leg setting before i s (Exit port) knows here on =
     exits_by setting before i s port knows here on
 
-pub mark_in : (journal : List Item) (i : ℕ) → (words_of journal i).mark ≡ entry_mark journal i
-unfolding words_of
+pub mark_in : (journal : List Item) (i : ℕ) → (what_is_known journal i).mark ≡ entry_mark journal i
+unfolding what_is_known
 mark_in journal i = refl
 
 pub seeks_rightly : (setting : Setting) (before : List Item) (i s : ℕ) (version partition : ℕ)
@@ -179,8 +179,8 @@ seeks_rightly setting before i s version partition knows here (inl takes) = reco
   current = omega (arith, here.stamped.current, takes.stamp);
 }
 seeks_rightly setting before i s version partition knows here (inr blocked) =
-    let on : IsSeeking setting before (words_of before i) here.under.header version partition =
-    seeking_of setting before (words_of before i) here.under.header version partition
+    let on : IsSeeking setting before (what_is_known before i) here.under.header version partition =
+    seeking_of setting before (what_is_known before i) here.under.header version partition
     (knows.kept.on_way here.travelling (inr blocked.blocked)) here.under.entered
     (leg_in before i (Some (Seek version partition)) blocked.takes) in
     record {
@@ -352,17 +352,17 @@ leaves_by : (setting : Setting) (before : List Item) (i port : ℕ) (leaving : L
     → IsHere setting before i way.switch → LeavesBy setting before i way.switch port
 leaves_by setting before i port leaving knows way here = by_port way.at_port
   where
-    words : PacketWords
-    words = words_of before i
+    facts : PacketFacts
+    facts = what_is_known before i
 
     by_port : IsAtPort setting before i way.switch port
         → LeavesBy setting before i way.switch port
     by_port (inl now) =
         let decision : Decision = now.2.0 in
-        let judged : IsJudged setting before words here.under.header =
+        let judged : IsJudged setting before facts here.under.header =
         knows.kept.judged here.travelling now.0 here.under.header here.under.entered in
         let same : judged.decision ≡ decision =
-        some_same words.decision judged.decision decision judged.decided
+        some_same facts.decision judged.decision decision judged.decided
         (decision_in before i (Some decision) now.2.1) in
         let home : owner_of setting.net.switches port ≡ Some (owner setting port) =
         port_named setting port judged.decision.action
@@ -374,15 +374,15 @@ leaves_by setting before i port leaving knows way here = by_port way.at_port
           action = now.2.2;
         }
     by_port (inr arrived) =
-        let was : IsOnWay setting before words =
+        let was : IsOnWay setting before facts =
         knows.kept.on_way here.travelling (inl arrived.0.moving) in
-        let on : IsExiting setting words port =
-        exiting_of setting before words port was (leg_in before i (Some (Exit port)) arrived.1) in
+        let on : IsExiting setting facts port =
+        exiting_of setting before facts port was (leg_in before i (Some (Exit port)) arrived.1) in
         let ends : was.under_way.place ≡ on.leads.ends.target =
-        last_here words.route words.hops was.under_way.place on.leads.ends.target was.stands
+        last_here facts.route facts.hops was.under_way.place on.leads.ends.target was.stands
         (sym (next_in before i) ∙ arrived.0.last) on.leads.ends.last in
         let place : was.under_way.place ≡ here.under.place =
-        some_same words.place was.under_way.place here.under.place was.under_way.stands
+        some_same facts.stands was.under_way.place here.under.place was.under_way.stands
         here.under.stands in
         let home : on.owner ≡ way.switch =
         sym (one_target on.leads.ends.target on.owner on.leads.ends.own) ∙ sym ends ∙ place

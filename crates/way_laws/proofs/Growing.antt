@@ -22,7 +22,7 @@ use Rattle.version_laws.specs.Planned.{HasPlan}
 use Rattle.version_laws.proofs.Planned.{versions_planned}
 use Rattle.way_laws.specs.Rules.{IsRightRule}
 use Rattle.way_laws.specs.OnWay.{IsOnLeg, IsOnWay, IsPartitionOf, IsUnderWay}
-use Rattle.way_laws.specs.Words.{PacketWords}
+use Rattle.way_laws.specs.Facts.{PacketFacts}
 use Rattle.way_laws.specs.Kept.{IsJudged, IsKept, IsSought}
 use Rattle.way_laws.specs.Stages.{Stage}
 
@@ -76,10 +76,10 @@ part_on setting before after header version partition placed grow above below ow
   holds = own.holds;
 }
 
-leg_on : (setting : Setting) (before after : List Item) (words : PacketWords) (header : Header)
-    (leg : Leg) → Grows setting before after → IsOnLeg setting before words header leg
-    → IsOnLeg setting after words header leg
-leg_on setting before after words header (Seek version partition) grow on = record {
+leg_on : (setting : Setting) (before after : List Item) (facts : PacketFacts) (header : Header)
+    (leg : Leg) → Grows setting before after → IsOnLeg setting before facts header leg
+    → IsOnLeg setting after facts header leg
+leg_on setting before after facts header (Seek version partition) grow on = record {
   undecided = on.undecided;
   not_retired = on.not_retired;
   current = omega (arith, on.current, grow.current);
@@ -88,12 +88,12 @@ leg_on setting before after words header (Seek version partition) grow on = reco
       (omega (arith, on.not_retired)) on.current on.own;
   leads = on.leads;
 }
-leg_on setting before after words header (Exit port) grow on = on
+leg_on setting before after facts header (Exit port) grow on = on
 
-under_on : (setting : Setting) (before after : List Item) (words : PacketWords)
-    → Grows setting before after → IsUnderWay setting before words
-    → IsUnderWay setting after words
-under_on setting before after words grow under = record {
+under_on : (setting : Setting) (before after : List Item) (facts : PacketFacts)
+    → Grows setting before after → IsUnderWay setting before facts
+    → IsUnderWay setting after facts
+under_on setting before after facts grow under = record {
   header = under.header;
   ingress = under.ingress;
   place = under.place;
@@ -106,21 +106,21 @@ under_on setting before after words grow under = record {
   mark = omega (arith, under.mark, grow.retired);
 }
 
-way_on : (setting : Setting) (before after : List Item) (words : PacketWords)
-    → Grows setting before after → IsOnWay setting before words → IsOnWay setting after words
+way_on : (setting : Setting) (before after : List Item) (facts : PacketFacts)
+    → Grows setting before after → IsOnWay setting before facts → IsOnWay setting after facts
 unfolding under_on
-way_on setting before after words grow way = record {
-  under_way = under_on setting before after words grow way.under_way;
+way_on setting before after facts grow way = record {
+  under_way = under_on setting before after facts grow way.under_way;
   leg = way.leg;
   takes = way.takes;
-  on_leg = leg_on setting before after words way.under_way.header way.leg grow way.on_leg;
+  on_leg = leg_on setting before after facts way.under_way.header way.leg grow way.on_leg;
   stands = way.stands;
 }
 
-judged_on : (setting : Setting) (before after : List Item) (words : PacketWords)
-    (header : Header) → Grows setting before after → IsJudged setting before words header
-    → IsJudged setting after words header
-judged_on setting before after words header grow judged = record {
+judged_on : (setting : Setting) (before after : List Item) (facts : PacketFacts)
+    (header : Header) → Grows setting before after → IsJudged setting before facts header
+    → IsJudged setting after facts header
+judged_on setting before after facts header grow judged = record {
   decision = judged.decision;
   decided = judged.decided;
   not_retired = judged.not_retired;
@@ -130,7 +130,7 @@ judged_on setting before after words header grow judged = record {
       ∙ judged.first_match;
   named = judged.named;
   sought = λ version partition takes.
-      let sought : IsSought setting before words header version partition =
+      let sought : IsSought setting before facts header version partition =
       judged.sought version partition takes in
       record {
         not_retired = sought.not_retired;
@@ -141,14 +141,14 @@ judged_on setting before after words header grow judged = record {
       };
 }
 
-pub kept_on : (setting : Setting) (before after : List Item) (words : PacketWords)
-    (stage : Option Stage) → Grows setting before after → IsKept setting before words stage
-    → IsKept setting after words stage
-kept_on setting before after words stage grow kept = record {
-  under_way = λ travels. under_on setting before after words grow (kept.under_way travels);
+pub kept_on : (setting : Setting) (before after : List Item) (facts : PacketFacts)
+    (stage : Option Stage) → Grows setting before after → IsKept setting before facts stage
+    → IsKept setting after facts stage
+kept_on setting before after facts stage grow kept = record {
+  under_way = λ travels. under_on setting before after facts grow (kept.under_way travels);
   came_in = kept.came_in;
   judged = λ travels is header entered.
-      judged_on setting before after words header grow (kept.judged travels is header entered);
-  on_way = λ travels is. way_on setting before after words grow (kept.on_way travels is);
+      judged_on setting before after facts header grow (kept.judged travels is header entered);
+  on_way = λ travels is. way_on setting before after facts grow (kept.on_way travels is);
   avoids = kept.avoids;
 }

@@ -19,7 +19,7 @@ use Rattle.update_machine.specs.Travels.{leg_of, travels}
 use Rattle.update_machine.specs.Ways.{found_down, next_switch}
 use Rattle.boot_laws.specs.ItemCauses.{HasItemCause}
 use Rattle.way_laws.specs.OnWay.{IsExiting, IsOnLeg, IsOnWay, IsSeeking, IsUnderWay}
-use Rattle.way_laws.specs.Words.{PacketWords, words_of}
+use Rattle.way_laws.specs.Facts.{PacketFacts, what_is_known}
 use Rattle.way_laws.specs.Kept.{IsKept, IsSought}
 use Rattle.way_laws.specs.Stages.{Stage}
 use Rattle.way_laws.specs.WayCauses.{AuthorityFinds, IsAt}
@@ -32,56 +32,56 @@ pub some_same : {X : Type 0} (o : Option X) (x y : X) → o ≡ Some x → o ≡
 some_same o x y p q = cc
 
 pub travels_in : (journal : List Item) (i : ℕ) → IsTrue (travels journal i)
-    → IsTrue (words_of journal i).travels
-unfolding words_of
+    → IsTrue (what_is_known journal i).travels
+unfolding what_is_known
 travels_in journal i is = is
 
 pub leg_in : (journal : List Item) (i : ℕ) (leg : Option Leg) → leg_of journal i ≡ leg
-    → (words_of journal i).leg ≡ leg
-unfolding words_of
+    → (what_is_known journal i).leg ≡ leg
+unfolding what_is_known
 leg_in journal i leg is = is
 
 pub decision_in : (journal : List Item) (i : ℕ) (decision : Option Decision)
-    → decision_of journal i ≡ decision → (words_of journal i).decision ≡ decision
-unfolding words_of
+    → decision_of journal i ≡ decision → (what_is_known journal i).decision ≡ decision
+unfolding what_is_known
 decision_in journal i decision is = is
 
-pub found_in : (journal : List Item) (i : ℕ) → found_down journal i ≡ (words_of journal i).found
-unfolding words_of
+pub found_in : (journal : List Item) (i : ℕ) → found_down journal i ≡ (what_is_known journal i).found
+unfolding what_is_known
 found_in journal i = refl
 
 pub next_in : (journal : List Item) (i : ℕ) → next_switch journal i
-    ≡ slice_get (words_of journal i).route ((words_of journal i).hops + 1)
-unfolding words_of next_switch
+    ≡ slice_get (what_is_known journal i).route ((what_is_known journal i).hops + 1)
+unfolding what_is_known next_switch
 next_in journal i = refl
 
-pub place_in : (journal : List Item) (i : ℕ) (place : ℕ) → (words_of journal i).place ≡ Some place
+pub place_in : (journal : List Item) (i : ℕ) (place : ℕ) → (what_is_known journal i).stands ≡ Some place
     → standing journal i ≡ Some place
-unfolding words_of
+unfolding what_is_known
 place_in journal i place is = is
 
 pub header_in_words : (journal : List Item) (i : ℕ) (header : Header)
-    → (words_of journal i).header ≡ Some header → header_in journal i ≡ Some header
-unfolding words_of
+    → (what_is_known journal i).header ≡ Some header → header_in journal i ≡ Some header
+unfolding what_is_known
 header_in_words journal i header is = is
 
 -- ---- at a switch
 
 -- the packet is under way at the serving switch, whose stamp is of a planned version
 pub record IsHere (setting : Setting) (before : List Item) (i s : ℕ) : Type 0 where
-  pub travelling : IsTrue (words_of before i).travels
-  pub under : IsUnderWay setting before (words_of before i)
+  pub travelling : IsTrue (what_is_known before i).travels
+  pub under : IsUnderWay setting before (what_is_known before i)
   pub at : s ≡ under.place
   pub header : header_at before i ≡ under.header
   pub stamped : IsStamped setting before s
 
 pub here_of : (setting : Setting) (before : List Item) (i s : ℕ) (stage : Option Stage)
     → IsSetting setting → HaveCauses (HasItemCause setting) [] before
-    → IsKept setting before (words_of before i) stage → IsAt before i s
+    → IsKept setting before (what_is_known before i) stage → IsAt before i s
     → IsHere setting before i s
 here_of setting before i s stage is have kept at =
-    let travelling : IsTrue (words_of before i).travels = travels_in before i at.travelling in
-    let under : IsUnderWay setting before (words_of before i) = kept.under_way travelling in
+    let travelling : IsTrue (what_is_known before i).travels = travels_in before i at.travelling in
+    let under : IsUnderWay setting before (what_is_known before i) = kept.under_way travelling in
     let same : s ≡ under.place =
     sym at.place ∙ ap (λ o. unwrap_or o 0) (place_in before i under.place under.stands) in
     record {
@@ -95,35 +95,35 @@ here_of setting before i s stage is have kept at =
 
 -- ---- legs
 
-leg_is : (one other : Leg) (words : PacketWords) → words.leg ≡ Some one
-    → words.leg ≡ Some other → one ≡ other
-leg_is one other words p q = some_same words.leg one other p q
+leg_is : (one other : Leg) (facts : PacketFacts) → facts.leg ≡ Some one
+    → facts.leg ≡ Some other → one ≡ other
+leg_is one other facts p q = some_same facts.leg one other p q
 
-pub seeking_of : (setting : Setting) (journal : List Item) (words : PacketWords) (header : Header)
-    (version partition : ℕ) → IsOnWay setting journal words → words.header ≡ Some header
-    → words.leg ≡ Some (Seek version partition)
-    → IsSeeking setting journal words header version partition
-seeking_of setting journal words header version partition way entered seeks =
+pub seeking_of : (setting : Setting) (journal : List Item) (facts : PacketFacts) (header : Header)
+    (version partition : ℕ) → IsOnWay setting journal facts → facts.header ≡ Some header
+    → facts.leg ≡ Some (Seek version partition)
+    → IsSeeking setting journal facts header version partition
+seeking_of setting journal facts header version partition way entered seeks =
     let same : way.leg ≡ Seek version partition =
-    leg_is way.leg (Seek version partition) words way.takes seeks in
+    leg_is way.leg (Seek version partition) facts way.takes seeks in
     let own : way.under_way.header ≡ header =
-    some_same words.header way.under_way.header header way.under_way.entered entered in
-    subst (λ h. IsSeeking setting journal words h version partition) own
-    (subst (λ leg. IsOnLeg setting journal words way.under_way.header leg) same way.on_leg)
+    some_same facts.header way.under_way.header header way.under_way.entered entered in
+    subst (λ h. IsSeeking setting journal facts h version partition) own
+    (subst (λ leg. IsOnLeg setting journal facts way.under_way.header leg) same way.on_leg)
 
-pub exiting_of : (setting : Setting) (journal : List Item) (words : PacketWords) (port : ℕ)
-    → IsOnWay setting journal words → words.leg ≡ Some (Exit port)
-    → IsExiting setting words port
-exiting_of setting journal words port way exits =
-    let same : way.leg ≡ Exit port = leg_is way.leg (Exit port) words way.takes exits in
-    subst (λ leg. IsOnLeg setting journal words way.under_way.header leg) same way.on_leg
+pub exiting_of : (setting : Setting) (journal : List Item) (facts : PacketFacts) (port : ℕ)
+    → IsOnWay setting journal facts → facts.leg ≡ Some (Exit port)
+    → IsExiting setting facts port
+exiting_of setting journal facts port way exits =
+    let same : way.leg ≡ Exit port = leg_is way.leg (Exit port) facts way.takes exits in
+    subst (λ leg. IsOnLeg setting journal facts way.under_way.header leg) same way.on_leg
 
 -- ---- authority rules
 
 -- the rule is the one by which the plan of the version decides the header
-pub record Rules (setting : Setting) (before : List Item) (words : PacketWords) (header : Header)
+pub record Rules (setting : Setting) (before : List Item) (facts : PacketFacts) (header : Header)
     (version : ℕ) (found : AuthorityRule) : Type 0 where
-  pub not_retired : words.mark < version
+  pub not_retired : facts.mark < version
   pub current : version ≤ current_mark before
   pub planned : IsPlanned setting (policy_at setting before version)
       (plan_at setting before version)
@@ -139,10 +139,10 @@ rule_is o one other p q = cc
 pub rules_of : (setting : Setting) (before : List Item) (i s version : ℕ) (found : AuthorityRule)
     → IsSetting setting → HaveCauses (HasItemCause setting) [] before
     → (here : IsHere setting before i s)
-    → ((v p : ℕ) → (words_of before i).leg ≡ Some (Seek v p)
-    → IsSought setting before (words_of before i) here.under.header v p)
+    → ((v p : ℕ) → (what_is_known before i).leg ≡ Some (Seek v p)
+    → IsSought setting before (what_is_known before i) here.under.header v p)
     → AuthorityFinds setting before i s version found
-    → Rules setting before (words_of before i) here.under.header version found
+    → Rules setting before (what_is_known before i) here.under.header version found
 rules_of setting before i s version found is have here sought finds = elim finds.says [
   | inl told ↦
       let stamp : ℕ = stamp_of before s in
@@ -154,7 +154,7 @@ rules_of setting before i s version found is have here sought finds = elim finds
       ap (authority_rule setting before stamp finds.partition) own.found_at
       ∙ subst (λ v. authority_rule setting before v finds.partition finds.place ≡ Some found)
       told.stamp finds.rule in
-      subst (λ v. Rules setting before (words_of before i) here.under.header v found)
+      subst (λ v. Rules setting before (what_is_known before i) here.under.header v found)
       (sym told.stamp) (record {
         not_retired = omega (arith, here.under.mark, here.stamped.retired);
         current = here.stamped.current;
@@ -167,7 +167,7 @@ rules_of setting before i s version found is have here sought finds = elim finds
             own.part.finds own.part.number);
       })
   | inr by ↦
-      let leg : IsSought setting before (words_of before i) here.under.header version
+      let leg : IsSought setting before (what_is_known before i) here.under.header version
       finds.partition =
       sought version finds.partition (leg_in before i (Some (Seek version finds.partition)) by.seeks)
       in

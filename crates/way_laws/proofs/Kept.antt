@@ -45,7 +45,7 @@ use Rattle.advert_laws.specs.Adverts.{LinksAreThere}
 use Rattle.advert_laws.proofs.BothCauses.{HasBothCauses}
 use Rattle.way_laws.specs.Rules.{IsRightEntry}
 use Rattle.way_laws.specs.OnWay.{IsExiting, IsOnLeg, IsOnWay, IsPartitionOf, IsSeeking, IsUnderWay, LeadsTo}
-use Rattle.way_laws.specs.Words.{PacketWords, port_decided, words_after, words_of}
+use Rattle.way_laws.specs.Facts.{PacketFacts, port_decided, facts_after, what_is_known}
 use Rattle.way_laws.specs.Kept.{Avoids, IsJudged, IsKept, IsSought}
 use Rattle.way_laws.specs.Stages.{Blocked, CameIn, Judged, OnWay, Stage, stage_of}
 use Rattle.way_laws.specs.WayCauses.{AuthorityDecides, CacheDecides, DecidesBy, IsAt, IsDecided, IsRedirected, MeetsDown, MovesOver, TakesDetour, TakesExit, TakesRoute}
@@ -62,7 +62,7 @@ pub record Knows (setting : Setting) (before : List Item) (i : ℕ) (stage : Opt
     pub have : HaveCauses (HasItemCause setting) [] before
     pub both : HaveCauses (HasBothCauses setting) [] before
     pub links : LinksAreThere setting before
-    pub kept : IsKept setting before (words_of before i) stage
+    pub kept : IsKept setting before (what_is_known before i) stage
 
 -- where it stands
 pub here_known : (setting : Setting) (before : List Item) (i s : ℕ)
@@ -71,8 +71,8 @@ here_known setting before i s knows at =
     here_of setting before i s (stage_of before i) knows.is knows.have knows.kept at
 
 -- words that leave it under way as it was
-abbrev under_as : (setting : Setting) (before : List Item) (one other : PacketWords)
-    → other.header ≡ one.header → other.ingress ≡ one.ingress → other.place ≡ one.place
+abbrev under_as : (setting : Setting) (before : List Item) (one other : PacketFacts)
+    → other.header ≡ one.header → other.ingress ≡ one.ingress → other.stands ≡ one.stands
     → other.mark ≡ one.mark → IsUnderWay setting before one → IsUnderWay setting before other
 under_as setting before one other header ingress place mark under = record {
   header = under.header;
@@ -88,10 +88,10 @@ under_as setting before one other header ingress place mark under = record {
 }
 
 -- a packet that moves on
-moving_on : (setting : Setting) (before : List Item) (words : PacketWords)
-    → IsOnWay setting before words → Avoids words.found words.route
-    → IsKept setting before words (Some OnWay)
-moving_on setting before words on avoids = record {
+moving_on : (setting : Setting) (before : List Item) (facts : PacketFacts)
+    → IsOnWay setting before facts → Avoids facts.found facts.route
+    → IsKept setting before facts (Some OnWay)
+moving_on setting before facts on avoids = record {
   under_way = λ travels. on.under_way;
   came_in = λ travels is. absurd cc;
   judged = λ travels is header entered. absurd cc;
@@ -100,9 +100,9 @@ moving_on setting before words on avoids = record {
 }
 
 -- a packet that doesn't travel
-pub gone : (setting : Setting) (before : List Item) (words : PacketWords) (stage : Option Stage)
-    → words.travels ≡ false → IsKept setting before words stage
-gone setting before words stage ended = record {
+pub gone : (setting : Setting) (before : List Item) (facts : PacketFacts) (stage : Option Stage)
+    → facts.travels ≡ false → IsKept setting before facts stage
+gone setting before facts stage ended = record {
   under_way = λ travels. absurd cc;
   came_in = λ travels is. absurd cc;
   judged = λ travels is header entered. absurd cc;
@@ -130,28 +130,28 @@ linked_there setting one two net linked =
 -- ---- undecided packets
 
 pub undecided_of : (setting : Setting) (before : List Item) (i s : ℕ) (stage : Option Stage)
-    → IsKept setting before (words_of before i) stage
+    → IsKept setting before (what_is_known before i) stage
     → (here : IsHere setting before i s) → (stage ≡ Some CameIn) ⊎ ((stage ≡ Some OnWay)
-    × ((v : ℕ) × (p : ℕ) × ((words_of before i).leg ≡ Some (Seek v p))))
-    → (words_of before i).decision ≡ None
+    × ((v : ℕ) × (p : ℕ) × ((what_is_known before i).leg ≡ Some (Seek v p))))
+    → (what_is_known before i).decision ≡ None
 undecided_of setting before i s stage kept here (inl came) =
     (kept.came_in here.travelling came).0
 undecided_of setting before i s stage kept here (inr moving) =
-    (seeking_of setting before (words_of before i) here.under.header moving.1.0
+    (seeking_of setting before (what_is_known before i) here.under.header moving.1.0
     moving.1.1 (kept.on_way here.travelling (inl moving.0)) here.under.entered
     moving.1.2).undecided
 
 sought_of : (setting : Setting) (before : List Item) (i s : ℕ) (stage : Option Stage)
-    → IsKept setting before (words_of before i) stage
+    → IsKept setting before (what_is_known before i) stage
     → (here : IsHere setting before i s) → (stage ≡ Some CameIn) ⊎ (stage ≡ Some OnWay)
-    → (v p : ℕ) → (words_of before i).leg ≡ Some (Seek v p)
-    → IsSought setting before (words_of before i) here.under.header v p
+    → (v p : ℕ) → (what_is_known before i).leg ≡ Some (Seek v p)
+    → IsSought setting before (what_is_known before i) here.under.header v p
 sought_of setting before i s stage kept here (inl came) v p seeks =
-    let none : (words_of before i).leg ≡ None = (kept.came_in here.travelling came).1 in
+    let none : (what_is_known before i).leg ≡ None = (kept.came_in here.travelling came).1 in
     absurd cc
 sought_of setting before i s stage kept here (inr moving) v p seeks =
-    let on : IsSeeking setting before (words_of before i) here.under.header v p =
-    seeking_of setting before (words_of before i) here.under.header v p
+    let on : IsSeeking setting before (what_is_known before i) here.under.header v p =
+    seeking_of setting before (what_is_known before i) here.under.header v p
     (kept.on_way here.travelling (inl moving)) here.under.entered seeks in
     record {
       not_retired = on.not_retired;
@@ -163,7 +163,7 @@ sought_of setting before i s stage kept here (inr moving) v p seeks =
 -- where a packet is looked up or arrives
 pub stage_when : (before : List Item) (i s version : ℕ) → WhenDecided before i s version
     → (stage_of before i ≡ Some CameIn) ⊎ ((stage_of before i ≡ Some OnWay)
-    × ((v : ℕ) × (p : ℕ) × ((words_of before i).leg ≡ Some (Seek v p))))
+    × ((v : ℕ) × (p : ℕ) × ((what_is_known before i).leg ≡ Some (Seek v p))))
 stage_when before i s version (inl (inl came)) = inl came
 stage_when before i s version (inl (inr misses)) =
     inr (
@@ -223,21 +223,21 @@ pub seeking_after : (setting : Setting) (before : List Item) (i mark version par
     (route : List ℕ) → Knows setting before i (stage_of before i)
     → TakesRoute setting before i (Seek version partition) route
     → IsKept setting before
-    (words_after mark (item.Seeking i version partition route) (words_of before i)) (Some OnWay)
+    (facts_after mark (item.Seeking i version partition route) (what_is_known before i)) (Some OnWay)
 seeking_after setting before i mark version partition route knows takes =
-    let words : PacketWords = words_of before i in
-    let after : PacketWords = words_after mark (item.Seeking i version partition route) words in
+    let facts : PacketFacts = what_is_known before i in
+    let after : PacketFacts = facts_after mark (item.Seeking i version partition route) facts in
     let s : ℕ = takes.switch in
     let here : IsHere setting before i s = here_known setting before i s knows takes.at in
     let under : IsUnderWay setting before after =
-    under_as setting before words after refl refl refl refl here.under in
+    under_as setting before facts after refl refl refl refl here.under in
     let part = redirected_to setting before i s version partition here takes.takes in
     let placed : Placed = part.0 in
     let own : IsPartitionOf setting before here.under.header version partition placed = part.1 in
     let targets : targets_of setting before (Seek version partition) ≡ placed.1 =
     seek_targets setting before here.under.header version partition placed own in
-    let way : IsWay setting s placed.1 words.found route =
-    route_way setting before s placed.1 words.found route knows.links
+    let way : IsWay setting s placed.1 facts.found route =
+    route_way setting before s placed.1 facts.found route knows.links
     (subst (λ down. route_from setting before s placed.1 down ≡ Some route) (found_in before i)
     (ap (λ all. route_from setting before s all (found_down before i)) (sym targets)
     ∙ takes.leads)) in
@@ -269,29 +269,29 @@ port_named setting port act is named =
 
 pub exiting_after : (setting : Setting) (before : List Item) (i mark : ℕ) (route : List ℕ)
     → Knows setting before i (stage_of before i) → TakesExit setting before i route
-    → IsKept setting before (words_after mark (item.Exiting i route) (words_of before i)) (Some OnWay)
+    → IsKept setting before (facts_after mark (item.Exiting i route) (what_is_known before i)) (Some OnWay)
 exiting_after setting before i mark route knows exits =
-    let words : PacketWords = words_of before i in
-    let after : PacketWords = words_after mark (item.Exiting i route) words in
+    let facts : PacketFacts = what_is_known before i in
+    let after : PacketFacts = facts_after mark (item.Exiting i route) facts in
     let s : ℕ = exits.by.switch in
     let out = exits.by.takes in
     let here : IsHere setting before i s = here_known setting before i s knows exits.by.at in
     let under : IsUnderWay setting before after =
-    under_as setting before words after refl refl refl refl here.under in
-    let judged : IsJudged setting before words here.under.header =
+    under_as setting before facts after refl refl refl refl here.under in
+    let judged : IsJudged setting before facts here.under.header =
     knows.kept.judged here.travelling out.judged here.under.header here.under.entered in
-    let decided : words.decision ≡ Some out.decision =
+    let decided : facts.decision ≡ Some out.decision =
     decision_in before i (Some out.decision) out.decided in
     let same : judged.decision ≡ out.decision =
-    some_same words.decision judged.decision out.decision judged.decided decided in
+    some_same facts.decision judged.decision out.decision judged.decided decided in
     let has_port : owner_of setting.net.switches exits.port ≡ Some (owner setting exits.port) =
     port_named setting exits.port judged.decision.action
     (ap (λ (d : Decision). d.action) same ∙ out.action) judged.named in
-    let way : IsWay setting s (owner setting exits.port ∷ []) words.found route =
-    route_way setting before s (owner setting exits.port ∷ []) words.found route knows.links
+    let way : IsWay setting s (owner setting exits.port ∷ []) facts.found route =
+    route_way setting before s (owner setting exits.port ∷ []) facts.found route knows.links
     (subst (λ down. route_from setting before s (owner setting exits.port ∷ []) down ≡ Some route)
     (found_in before i) exits.by.leads) in
-    let port : port_decided words.decision ≡ exits.port = rw (decided, out.action) refl in
+    let port : port_decided facts.decision ≡ exits.port = rw (decided, out.action) refl in
     let exiting : IsExiting setting after exits.port = record {
       decision = out.decision;
       decided = decided;
@@ -302,19 +302,19 @@ exiting_after setting before i mark route knows exits =
     } in
     moving_on setting before after (record {
       under_way = under;
-      leg = Exit (port_decided words.decision);
+      leg = Exit (port_decided facts.decision);
       takes = refl;
       on_leg = subst (IsExiting setting after) (sym port) exiting;
       stands = way.begins ∙ ap Some here.at;
     }) way.avoids
 
 -- on its leg with another route
-leg_by : (setting : Setting) (before : List Item) (words after : PacketWords) (header : Header)
-    (leg : Leg) → after.decision ≡ words.decision → after.mark ≡ words.mark
-    → IsOnLeg setting before words header leg
+leg_by : (setting : Setting) (before : List Item) (facts after : PacketFacts) (header : Header)
+    (leg : Leg) → after.decision ≡ facts.decision → after.mark ≡ facts.mark
+    → IsOnLeg setting before facts header leg
     → LeadsTo setting (targets_of setting before leg) after.route
     → IsOnLeg setting before after header leg
-leg_by setting before words after header (Seek version partition) decision mark on leads = record {
+leg_by setting before facts after header (Seek version partition) decision mark on leads = record {
   undecided = decision ∙ on.undecided;
   not_retired = subst (λ m. m < version) (sym mark) on.not_retired;
   current = on.current;
@@ -323,7 +323,7 @@ leg_by setting before words after header (Seek version partition) decision mark 
   leads = subst (λ targets. LeadsTo setting targets after.route)
       (seek_targets setting before header version partition on.placed on.own) leads;
 }
-leg_by setting before words after header (Exit port) decision mark on leads = record {
+leg_by setting before facts after header (Exit port) decision mark on leads = record {
   decision = on.decision;
   decided = decision ∙ on.decided;
   action = on.action;
@@ -335,66 +335,66 @@ leg_by setting before words after header (Exit port) decision mark on leads = re
 
 pub rerouted_after : (setting : Setting) (before : List Item) (i mark : ℕ) (route : List ℕ)
     → Knows setting before i (stage_of before i) → TakesDetour setting before i route
-    → IsKept setting before (words_after mark (item.Rerouted i route) (words_of before i)) (Some OnWay)
+    → IsKept setting before (facts_after mark (item.Rerouted i route) (what_is_known before i)) (Some OnWay)
 rerouted_after setting before i mark route knows turns =
-    let words : PacketWords = words_of before i in
-    let after : PacketWords = words_after mark (item.Rerouted i route) words in
+    let facts : PacketFacts = what_is_known before i in
+    let after : PacketFacts = facts_after mark (item.Rerouted i route) facts in
     let s : ℕ = turns.switch in
     let here : IsHere setting before i s = here_known setting before i s knows turns.at in
     let under : IsUnderWay setting before after =
-    under_as setting before words after refl refl refl refl here.under in
-    let was : IsOnWay setting before words =
+    under_as setting before facts after refl refl refl refl here.under in
+    let was : IsOnWay setting before facts =
     knows.kept.on_way here.travelling (inr turns.blocked.blocked) in
     let leg : was.leg ≡ turns.leg =
-    some_same words.leg was.leg turns.leg was.takes
+    some_same facts.leg was.leg turns.leg was.takes
     (leg_in before i (Some turns.leg) turns.blocked.takes) in
     let header : was.under_way.header ≡ here.under.header =
-    some_same words.header was.under_way.header here.under.header was.under_way.entered
+    some_same facts.header was.under_way.header here.under.header was.under_way.entered
     here.under.entered in
-    let way : IsWay setting s (targets_of setting before turns.leg) words.found route =
-    route_way setting before s (targets_of setting before turns.leg) words.found route knows.links
+    let way : IsWay setting s (targets_of setting before turns.leg) facts.found route =
+    route_way setting before s (targets_of setting before turns.leg) facts.found route knows.links
     (subst (λ down. route_from setting before s (targets_of setting before turns.leg) down
     ≡ Some route) (found_in before i) turns.leads) in
     moving_on setting before after (record {
       under_way = under;
       leg = turns.leg;
       takes = was.takes ∙ ap Some leg;
-      on_leg = leg_by setting before words after here.under.header turns.leg refl refl
-          (subst (λ l. IsOnLeg setting before words here.under.header l) leg
-          (subst (λ h. IsOnLeg setting before words h was.leg) header was.on_leg)) way.leads;
+      on_leg = leg_by setting before facts after here.under.header turns.leg refl refl
+          (subst (λ l. IsOnLeg setting before facts here.under.header l) leg
+          (subst (λ h. IsOnLeg setting before facts h was.leg) header was.on_leg)) way.leads;
       stands = way.begins ∙ ap Some here.at;
     }) way.avoids
 
 -- the route of a packet on its leg leads to a target of it
-leads_on : (setting : Setting) (before : List Item) (words : PacketWords) (header : Header)
-    (leg : Leg) → IsOnLeg setting before words header leg
-    → LeadsTo setting (targets_of setting before leg) words.route
-leads_on setting before words header (Seek version partition) on =
-    subst (λ targets. LeadsTo setting targets words.route)
+leads_on : (setting : Setting) (before : List Item) (facts : PacketFacts) (header : Header)
+    (leg : Leg) → IsOnLeg setting before facts header leg
+    → LeadsTo setting (targets_of setting before leg) facts.route
+leads_on setting before facts header (Seek version partition) on =
+    subst (λ targets. LeadsTo setting targets facts.route)
     (sym (seek_targets setting before header version partition on.placed on.own)) on.leads
-leads_on setting before words header (Exit port) on =
-    subst (λ home. LeadsTo setting (home ∷ []) words.route)
+leads_on setting before facts header (Exit port) on =
+    subst (λ home. LeadsTo setting (home ∷ []) facts.route)
     (sym (ap (λ o. unwrap_or o no_switch) on.has_port)) on.leads
 
 -- on its leg and its route as it was
-leg_same : (setting : Setting) (before : List Item) (words after : PacketWords) (header : Header)
-    (leg : Leg) → after.decision ≡ words.decision → after.mark ≡ words.mark
-    → after.route ≡ words.route → IsOnLeg setting before words header leg
+leg_same : (setting : Setting) (before : List Item) (facts after : PacketFacts) (header : Header)
+    (leg : Leg) → after.decision ≡ facts.decision → after.mark ≡ facts.mark
+    → after.route ≡ facts.route → IsOnLeg setting before facts header leg
     → IsOnLeg setting before after header leg
-leg_same setting before words after header leg decision mark route on =
-    leg_by setting before words after header leg decision mark on
+leg_same setting before facts after header leg decision mark route on =
+    leg_by setting before facts after header leg decision mark on
     (subst (LeadsTo setting (targets_of setting before leg)) (sym route)
-    (leads_on setting before words header leg on))
+    (leads_on setting before facts header leg on))
 
 pub hopped_after : (setting : Setting) (before : List Item) (i mark next : ℕ)
     → Knows setting before i (stage_of before i) → MovesOver setting before i next
-    → IsKept setting before (words_after mark (item.Hopped i next) (words_of before i)) (Some OnWay)
+    → IsKept setting before (facts_after mark (item.Hopped i next) (what_is_known before i)) (Some OnWay)
 hopped_after setting before i mark next knows moves =
-    let words : PacketWords = words_of before i in
-    let after : PacketWords = words_after mark (item.Hopped i next) words in
+    let facts : PacketFacts = what_is_known before i in
+    let after : PacketFacts = facts_after mark (item.Hopped i next) facts in
     let s : ℕ = moves.switch in
     let here : IsHere setting before i s = here_known setting before i s knows moves.at in
-    let was : IsOnWay setting before words = knows.kept.on_way here.travelling (inl moves.moving) in
+    let was : IsOnWay setting before facts = knows.kept.on_way here.travelling (inl moves.moving) in
     let under : IsUnderWay setting before after = record {
       header = was.under_way.header;
       ingress = was.under_way.ingress;
@@ -412,22 +412,22 @@ hopped_after setting before i mark next knows moves =
       under_way = under;
       leg = was.leg;
       takes = was.takes;
-      on_leg = leg_same setting before words after was.under_way.header was.leg refl refl refl
+      on_leg = leg_same setting before facts after was.under_way.header was.leg refl refl refl
           was.on_leg;
       stands = sym (next_in before i) ∙ moves.goes_on;
     }) (knows.kept.avoids here.travelling moves.moving)
 
 pub found_after : (setting : Setting) (before : List Item) (i mark one two : ℕ)
     → Knows setting before i (stage_of before i) → MeetsDown setting before i one two
-    → IsKept setting before (words_after mark (item.FoundDown i one two) (words_of before i))
+    → IsKept setting before (facts_after mark (item.FoundDown i one two) (what_is_known before i))
     (Some Blocked)
 found_after setting before i mark one two knows meets =
-    let words : PacketWords = words_of before i in
-    let after : PacketWords = words_after mark (item.FoundDown i one two) words in
+    let facts : PacketFacts = what_is_known before i in
+    let after : PacketFacts = facts_after mark (item.FoundDown i one two) facts in
     let here : IsHere setting before i one = here_known setting before i one knows meets.at in
-    let was : IsOnWay setting before words = knows.kept.on_way here.travelling (inl meets.moving) in
+    let was : IsOnWay setting before facts = knows.kept.on_way here.travelling (inl meets.moving) in
     let under : IsUnderWay setting before after =
-    under_as setting before words after refl refl refl refl was.under_way in
+    under_as setting before facts after refl refl refl refl was.under_way in
     record {
       under_way = λ travels. under;
       came_in = λ travels is. absurd cc;
@@ -436,23 +436,23 @@ found_after setting before i mark one two knows meets =
         under_way = under;
         leg = was.leg;
         takes = was.takes;
-        on_leg = leg_same setting before words after under.header was.leg refl refl refl
-            (subst (λ h. IsOnLeg setting before words h was.leg)
-            (some_same words.header was.under_way.header under.header was.under_way.entered
+        on_leg = leg_same setting before facts after under.header was.leg refl refl refl
+            (subst (λ h. IsOnLeg setting before facts h was.leg)
+            (some_same facts.header was.under_way.header under.header was.under_way.entered
             under.entered) was.on_leg);
         stands = was.stands ∙ ap Some
-            (some_same words.place was.under_way.place under.place was.under_way.stands
+            (some_same facts.stands was.under_way.place under.place was.under_way.stands
             under.stands);
       };
       avoids = λ travels is. absurd cc;
     }
 
 pub entered_after : (setting : Setting) (before : List Item) (i s : ℕ) (header : Header)
-    (words : PacketWords) → s < length setting.net.switches → IsHeader header
-    → words.decision ≡ None → words.leg ≡ None
-    → IsKept setting before (words_after (retired_mark before) (item.Entered i s header) words)
+    (facts : PacketFacts) → s < length setting.net.switches → IsHeader header
+    → facts.decision ≡ None → facts.leg ≡ None
+    → IsKept setting before (facts_after (retired_mark before) (item.Entered i s header) facts)
     (Some CameIn)
-entered_after setting before i s header words there sound undecided no_leg = record {
+entered_after setting before i s header facts there sound undecided no_leg = record {
   under_way = λ travels. record {
     header = header;
     ingress = s;
@@ -505,9 +505,9 @@ cached_told setting journal s header entry told =
     by_entry (Some other) e = cc
 
 -- what decides the packet
-pub record DecidesRightly (setting : Setting) (before : List Item) (words : PacketWords)
+pub record DecidesRightly (setting : Setting) (before : List Item) (facts : PacketFacts)
     (header : Header) (version : ℕ) (rule : Option ℕ) (act : Action) : Type 0 where
-  pub not_retired : words.mark < version
+  pub not_retired : facts.mark < version
   pub current : version ≤ current_mark before
   pub first_match : scan (policy_at setting before version) header
       ≡ record { rule = rule; action = act }
@@ -517,7 +517,7 @@ cache_decides : (setting : Setting) (before : List Item) (i s version : ℕ) (ru
     (act : Action) (message : ℕ) → (here : IsHere setting before i s)
     → All (IsRightEntry setting before) (cache_of setting before s).entries
     → CacheDecides setting before i s version rule act message
-    → DecidesRightly setting before (words_of before i) here.under.header version rule act
+    → DecidesRightly setting before (what_is_known before i) here.under.header version rule act
 cache_decides setting before i s version rule act message here right by =
     let entry : CacheEntry = by.entry in
     let header : Header = here.under.header in
@@ -560,10 +560,10 @@ authority_decides : (setting : Setting) (before : List Item) (i s version : ℕ)
     (act : Action) (partition : ℕ) → Knows setting before i (stage_of before i)
     → (here : IsHere setting before i s)
     → AuthorityDecides setting before i s version rule act partition
-    → DecidesRightly setting before (words_of before i) here.under.header version rule act
+    → DecidesRightly setting before (what_is_known before i) here.under.header version rule act
 authority_decides setting before i s version rule act partition knows here by =
     let header : Header = here.under.header in
-    let rules : Rules setting before (words_of before i) header version by.found =
+    let rules : Rules setting before (what_is_known before i) header version by.found =
     rules_of setting before i s version by.found knows.is knows.have here
     (sought_of setting before i s (stage_of before i) knows.kept here
     (stage_alone (stage_when before i s version by.when))) by.finds in
@@ -587,7 +587,7 @@ authority_decides setting before i s version rule act partition knows here by =
 pub record IsDecidedNow (setting : Setting) (before : List Item) (i s version : ℕ) (rule : Option ℕ)
     (act : Action) (header : Header) : Type 0 where
   pub when : WhenDecided before i s version
-  pub rightly : DecidesRightly setting before (words_of before i) header version rule act
+  pub rightly : DecidesRightly setting before (what_is_known before i) header version rule act
 
 pub decided_now : (setting : Setting) (before : List Item) (i s version : ℕ) (rule : Option ℕ)
     (act : Action) (by : How) → Knows setting before i (stage_of before i)
@@ -612,11 +612,11 @@ pub decided_after : (setting : Setting) (before : List Item) (i mark version : �
     (act : Action) (by : How) → Knows setting before i (stage_of before i)
     → ((s : ℕ) → All (IsRightEntry setting before) (cache_of setting before s).entries)
     → IsDecided setting before i version rule act by
-    → IsKept setting before (words_after mark (item.Decided i version rule act by) (words_of before i))
+    → IsKept setting before (facts_after mark (item.Decided i version rule act by) (what_is_known before i))
     (Some Judged)
 decided_after setting before i mark version rule act by knows right decided =
-    let words : PacketWords = words_of before i in
-    let after : PacketWords = words_after mark (item.Decided i version rule act by) words in
+    let facts : PacketFacts = what_is_known before i in
+    let after : PacketFacts = facts_after mark (item.Decided i version rule act by) facts in
     let s : ℕ = decided.switch in
     let here : IsHere setting before i s = here_known setting before i s knows decided.at in
     let now : IsDecidedNow setting before i s version rule act here.under.header =
@@ -629,7 +629,7 @@ decided_after setting before i mark version rule act by knows right decided =
       first_match = now.rightly.first_match;
       named = now.rightly.named;
       sought = λ v p seeks.
-          let sought : IsSought setting before words here.under.header v p =
+          let sought : IsSought setting before facts here.under.header v p =
           sought_of setting before i s (stage_of before i) knows.kept here
           (stage_alone (stage_when before i s version now.when)) v p seeks in
           record {
@@ -640,11 +640,11 @@ decided_after setting before i mark version rule act by knows right decided =
           };
     } in
     record {
-      under_way = λ travels. under_as setting before words after refl refl refl refl here.under;
+      under_way = λ travels. under_as setting before facts after refl refl refl refl here.under;
       came_in = λ travels is. absurd cc;
       judged = λ travels is header entered.
           subst (IsJudged setting before after)
-          (some_same words.header here.under.header header here.under.entered entered) judged;
+          (some_same facts.header here.under.header header here.under.entered entered) judged;
       on_way = λ travels is. absurd_stage is;
       avoids = λ travels is. absurd cc;
     }

@@ -6,7 +6,7 @@ use Rattle.std.specs.List.{list_any}
 use Rattle.std.proofs.lemmas.Bool.{cases_eq}
 use Rattle.std.proofs.lemmas.List.{get_or-map, length-map}
 use Rattle.failover.specs.Adverts.{held}
-use Rattle.failover.specs.Links.{is_link, neighbours_named, named_links, has_link, AreJoined, IsReachable, Leads as LeadsByMasks}
+use Rattle.failover.specs.Links.{is_link, neighbours_named, named_links, has_link, AreJoined, IsReachable, LinksLead}
 use Rattle.failover.specs.declared.advert.Advert.{Advert}
 use Rattle.failover.specs.Isolated.{names}
 use Rattle.failover.proofs.Rows.{has_known}
@@ -27,7 +27,7 @@ use Rattle.advert_laws.proofs.Claims.{IsNamed, names_end, own_end}
 
 leads_over : (joined : ℕ → ℕ → Bool) (links : List ℕ) (at target : ℕ) (path : List ℕ)
     → ((one two : ℕ) → IsTrue (joined one two) → (two < 64) × AreJoined links one two)
-    → Leads joined at path target → LeadsByMasks links target at path
+    → Leads joined at path target → LinksLead links target at path
 leads_over joined links at target [] over leads = leads
 leads_over joined links at target (next ∷ path) over leads =
     let step : (next < 64) × AreJoined links at next = over at next leads.0 in

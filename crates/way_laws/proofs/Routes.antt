@@ -4,7 +4,7 @@ use Rattle.std.proofs.Common.{ℕ, zero, suc, ◌≡◌, ◌+◌, ◌-◌, ◌<�
 use Rattle.std.specs.Prelude.{IsTrue, IsFalse, nat_eq, slice_get, slice_index}
 use Rattle.std.specs.List.{list_any}
 use Rattle.std.proofs.lemmas.Bool.{eq-eqb}
-use Rattle.failover.specs.Links.{is_link, named_links, has_link, AreJoined, IsPath, Leads}
+use Rattle.failover.specs.Links.{is_link, named_links, has_link, AreJoined, IsPath, LinksLead}
 use Rattle.masks.specs.Masks.{has}
 use Rattle.failover.specs.Paths.{IsRoute}
 use Rattle.failover.proofs.Searching.{path_is_route_list}
@@ -57,13 +57,13 @@ good_link setting journal at one two down there one_small two_small joined =
 last_of : (first : ℕ) (rest : List ℕ) → length (first ∷ rest) - 1 ≡ length rest
 last_of first rest = omega arith
 
-leads_last : (links : List ℕ) (target at : ℕ) (rest : List ℕ) → Leads links target at rest
+leads_last : (links : List ℕ) (target at : ℕ) (rest : List ℕ) → LinksLead links target at rest
     → slice_get (at ∷ rest) (length rest) ≡ Some target
 leads_last links target at [] leads = ap Some leads
 leads_last links target at (next ∷ rest) leads = leads_last links target next rest leads.2
 
 leads_at : (links : List ℕ) (target at : ℕ) (rest : List ℕ) (k one two : ℕ) → at < 64
-    → Leads links target at rest →
+    → LinksLead links target at rest →
     slice_get (at ∷ rest) k ≡ Some one → slice_get (at ∷ rest) (suc k) ≡ Some two → (one < 64)
     × (two < 64) × AreJoined links one two
 leads_at links target at [] zero one two fits way here there = absurd cc

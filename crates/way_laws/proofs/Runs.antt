@@ -16,7 +16,7 @@ use Rattle.policy_rules.proofs.CallerLemmas.{first_match-scan}
 use Rattle.journal.specs.declared.item.Item.{Item}
 use Rattle.journal.specs.declared.item.Item.TheVariants as item
 use Rattle.update_machine.specs.Causes.{HaveCauses}
-use Rattle.update_machine.specs.Machine.{Dropped, End, Ends, IsRun, LeftBy, Lost, Machine, MayEnd, Packet, Runs, Stuck, Takes, policy_of, start, with_packet}
+use Rattle.update_machine.specs.Machine.{Dropped, End, Ends, IsRun, LeftBy, Lost, Machine, MayEnd, Packet, Runs, Stuck, Takes, submitted_policy, start, with_packet}
 use Rattle.update_machine.specs.Marks.{retired_mark, tells_retired}
 use Rattle.update_machine.specs.Numbers.{VersionsAreNumbered}
 use Rattle.update_machine.specs.Packets.{Decision, header_in, next_packet}
@@ -31,7 +31,7 @@ use Rattle.boot_laws.proofs.Grown.{count_more, retired_more}
 use Rattle.boot_laws.proofs.Versions.{caused_numbered}
 use Rattle.mark_laws.proofs.Marks.{bounded}
 use Rattle.way_laws.specs.OnWay.{IsUnknown}
-use Rattle.way_laws.specs.Words.{PacketWords, names, words_after, words_of}
+use Rattle.way_laws.specs.Facts.{PacketFacts, is_of_packet, facts_after, what_is_known}
 use Rattle.way_laws.proofs.Words.{other_number, own_number, words_named, words_other}
 use Rattle.way_laws.proofs.Words.{words_grow}
 use Rattle.way_laws.specs.Kept.{AllKept}
@@ -48,37 +48,37 @@ use Rattle.way_laws.proofs.Rests.{IsWayItem, Past, switches_of_all}
 abbrev hit_in : Decision → Hit
 hit_in decision = record { rule = decision.rule; action = decision.action }
 
-record IsSeen (packet : Packet) (words : PacketWords) : Type 0 where
-  header : words.header ≡ Some packet.header
-  mark : packet.entry_mark ≡ words.mark
-  decision : packet.decision ≡ option_map hit_in words.decision
-  end : IsTrue words.travels → packet.end ≡ None
+record IsSeen (packet : Packet) (facts : PacketFacts) : Type 0 where
+  header : facts.header ≡ Some packet.header
+  mark : packet.entry_mark ≡ facts.mark
+  decision : packet.decision ≡ option_map hit_in facts.decision
+  end : IsTrue facts.travels → packet.end ≡ None
 
-abbrev SeenAs : Option Packet → PacketWords → Type 0
-SeenAs None words = words.header ≡ None
-SeenAs (Some packet) words = IsSeen packet words
+abbrev SeenAs : Option Packet → PacketFacts → Type 0
+SeenAs None facts = facts.header ≡ None
+SeenAs (Some packet) facts = IsSeen packet facts
 
 -- the machine has the policies of all versions, the retired mark and the packets
 record Matches (setting : Setting) (machine : Machine) (journal : List Item) : Type 0 where
   count : length machine.policies ≡ version_count journal
   policies : (v : ℕ) → 1 ≤ v → v ≤ version_count journal
-      → policy_of machine v ≡ Some (policy_at setting journal v)
+      → submitted_policy machine v ≡ Some (policy_at setting journal v)
   mark : machine.mark ≡ retired_mark journal
-  packets : (i : ℕ) → SeenAs (machine.packets i) (words_of journal i)
+  packets : (i : ℕ) → SeenAs (machine.packets i) (what_is_known journal i)
 
-known : (o : Option Packet) (words : PacketWords) (header : Header) → SeenAs o words
-    → words.header ≡ Some header → (packet : Packet) × (o ≡ Some packet) × IsSeen packet words
-known None words header seen e = absurd cc
-known (Some packet) words header seen e = (packet, refl, seen)
+known : (o : Option Packet) (facts : PacketFacts) (header : Header) → SeenAs o facts
+    → facts.header ≡ Some header → (packet : Packet) × (o ≡ Some packet) × IsSeen packet facts
+known None facts header seen e = absurd cc
+known (Some packet) facts header seen e = (packet, refl, seen)
 
-not_known : (o : Option Packet) (words : PacketWords) → SeenAs o words → words.header ≡ None
+not_known : (o : Option Packet) (facts : PacketFacts) → SeenAs o facts → facts.header ≡ None
     → o ≡ None
-not_known None words seen e = refl
-not_known (Some packet) words seen e =
-    let there : words.header ≡ Some packet.header = seen.header in absurd cc
+not_known None facts seen e = refl
+not_known (Some packet) facts seen e =
+    let there : facts.header ≡ Some packet.header = seen.header in absurd cc
 
 -- words that the machine doesn't tell apart
-seen_same : (o : Option Packet) (one other : PacketWords) → other.header ≡ one.header
+seen_same : (o : Option Packet) (one other : PacketFacts) → other.header ≡ one.header
     → other.mark ≡ one.mark → other.decision ≡ one.decision → other.travels ≡ one.travels →
     SeenAs o one → SeenAs o other
 seen_same None one other h m d t seen = h ∙ seen
@@ -103,28 +103,28 @@ IsUnseen (item.Lost packet) = ⊥
 IsUnseen (item.Stuck packet switch cause leg down) = ⊥
 IsUnseen _ = ⊤
 
-unseen_words : (mark : ℕ) (item : Item) (words : PacketWords) (o : Option Packet) → IsUnseen item
-    → SeenAs o words → SeenAs o (words_after mark item words)
-unseen_words mark (item.Submitted file version) words o is seen = absurd is
-unseen_words mark (item.Retired version) words o is seen = absurd is
-unseen_words mark (item.Entered packet switch header) words o is seen = absurd is
-unseen_words mark (item.Decided packet version rule act by) words o is seen = absurd is
-unseen_words mark (item.Dropped packet) words o is seen = absurd is
-unseen_words mark (item.Left packet port leaving) words o is seen = absurd is
-unseen_words mark (item.Lost packet) words o is seen = absurd is
-unseen_words mark (item.Stuck packet switch cause leg down) words o is seen = absurd is
-unseen_words mark (item.Seeking packet version partition route) words o is seen =
-    seen_same o words (words_after mark (item.Seeking packet version partition route) words) refl refl
+unseen_words : (mark : ℕ) (item : Item) (facts : PacketFacts) (o : Option Packet) → IsUnseen item
+    → SeenAs o facts → SeenAs o (facts_after mark item facts)
+unseen_words mark (item.Submitted file version) facts o is seen = absurd is
+unseen_words mark (item.Retired version) facts o is seen = absurd is
+unseen_words mark (item.Entered packet switch header) facts o is seen = absurd is
+unseen_words mark (item.Decided packet version rule act by) facts o is seen = absurd is
+unseen_words mark (item.Dropped packet) facts o is seen = absurd is
+unseen_words mark (item.Left packet port leaving) facts o is seen = absurd is
+unseen_words mark (item.Lost packet) facts o is seen = absurd is
+unseen_words mark (item.Stuck packet switch cause leg down) facts o is seen = absurd is
+unseen_words mark (item.Seeking packet version partition route) facts o is seen =
+    seen_same o facts (facts_after mark (item.Seeking packet version partition route) facts) refl refl
     refl refl seen
-unseen_words mark (item.Exiting packet route) words o is seen =
-    seen_same o words (words_after mark (item.Exiting packet route) words) refl refl refl refl seen
-unseen_words mark (item.Rerouted packet route) words o is seen =
-    seen_same o words (words_after mark (item.Rerouted packet route) words) refl refl refl refl seen
-unseen_words mark (item.Hopped packet switch) words o is seen =
-    seen_same o words (words_after mark (item.Hopped packet switch) words) refl refl refl refl seen
-unseen_words mark (item.FoundDown packet one two) words o is seen =
-    seen_same o words (words_after mark (item.FoundDown packet one two) words) refl refl refl refl seen
-unseen_words mark _ words o is seen = seen
+unseen_words mark (item.Exiting packet route) facts o is seen =
+    seen_same o facts (facts_after mark (item.Exiting packet route) facts) refl refl refl refl seen
+unseen_words mark (item.Rerouted packet route) facts o is seen =
+    seen_same o facts (facts_after mark (item.Rerouted packet route) facts) refl refl refl refl seen
+unseen_words mark (item.Hopped packet switch) facts o is seen =
+    seen_same o facts (facts_after mark (item.Hopped packet switch) facts) refl refl refl refl seen
+unseen_words mark (item.FoundDown packet one two) facts o is seen =
+    seen_same o facts (facts_after mark (item.FoundDown packet one two) facts) refl refl refl refl seen
+unseen_words mark _ facts o is seen = seen
 
 no_submission : (next : Item) → IsUnseen next → is_submission next ≡ false
 no_submission (item.Submitted file version) is = absurd is
@@ -144,7 +144,7 @@ unseen_matches setting machine journal next is matches = record {
       ∙ ap Some (sym (keep.policy setting v));
   mark = matches.mark ∙ sym (rw (retired_more journal next, no_retirement next is) refl);
   packets = λ i. subst (SeenAs (machine.packets i)) (sym (words_grow i journal next))
-      (by_name i (names i next));
+      (by_name i (is_of_packet i next));
 }
   where
     keep : PoliciesKeep journal (journal ++ next ∷ [])
@@ -152,8 +152,8 @@ unseen_matches setting machine journal next is matches = record {
 
     by_name : (i : ℕ) (b : Bool)
         → SeenAs (machine.packets i)
-        (if b then words_after (retired_mark journal) next (words_of journal i) else words_of journal i)
-    by_name i true = unseen_words (retired_mark journal) next (words_of journal i)
+        (if b then facts_after (retired_mark journal) next (what_is_known journal i) else what_is_known journal i)
+    by_name i true = unseen_words (retired_mark journal) next (what_is_known journal i)
         (machine.packets i) is (matches.packets i)
     by_name i false = matches.packets i
 
@@ -175,8 +175,8 @@ keeps_marks setting journal next submits retires = record {
 changed_matches : (setting : Setting) (machine : Machine) (journal : List Item) (next : Item)
     (i : ℕ) (packet : Packet) → Matches setting machine journal
     → KeepsMarks setting journal (journal ++ next ∷ [])
-    → ((j : ℕ) → j ≢ i → names j next ≡ false) →
-    IsSeen packet (words_of (journal ++ next ∷ []) i)
+    → ((j : ℕ) → j ≢ i → is_of_packet j next ≡ false) →
+    IsSeen packet (what_is_known (journal ++ next ∷ []) i)
     → Matches setting (with_packet machine i packet) (journal ++ next ∷ [])
 changed_matches setting machine journal next i packet matches keeps others seen = record {
   count = matches.count ∙ sym keeps.keep.count;
@@ -187,11 +187,11 @@ changed_matches setting machine journal next i packet matches keeps others seen 
   packets = λ j. elim (cases_eq j i) [
     | inl same ↦
         subst (λ b. SeenAs (if b then Some packet else machine.packets j)
-        (words_of (journal ++ next ∷ []) j)) (sym (eq-eqb j i same))
-        (subst (λ k. IsSeen packet (words_of (journal ++ next ∷ []) k)) (sym same) seen)
+        (what_is_known (journal ++ next ∷ []) j)) (sym (eq-eqb j i same))
+        (subst (λ k. IsSeen packet (what_is_known (journal ++ next ∷ []) k)) (sym same) seen)
     | inr apart ↦
         subst (λ b. SeenAs (if b then Some packet else machine.packets j)
-        (words_of (journal ++ next ∷ []) j)) (sym (ne_eqb j i apart))
+        (what_is_known (journal ++ next ∷ []) j)) (sym (ne_eqb j i apart))
         (subst (SeenAs (machine.packets j)) (sym (words_other j journal next (others j apart)))
         (matches.packets j))
   ];
@@ -204,10 +204,10 @@ record Goes (setting : Setting) (machine : Machine) (journal : List Item) (next 
     takes : Takes setting machine next new
     matches : Matches setting new (journal ++ next ∷ [])
 
-ended_seen : (packet : Packet) (words after : PacketWords) (end : End)
-    → after ≡ record words { travels = false } → IsSeen packet words
+ended_seen : (packet : Packet) (facts after : PacketFacts) (end : End)
+    → after ≡ record facts { travels = false } → IsSeen packet facts
     → IsSeen (record packet { end = Some end }) after
-ended_seen packet words after end e seen = subst (IsSeen (record packet { end = Some end })) (sym e)
+ended_seen packet facts after end e seen = subst (IsSeen (record packet { end = Some end })) (sym e)
     (record {
       header = seen.header;
       mark = seen.mark;
@@ -215,10 +215,10 @@ ended_seen packet words after end e seen = subst (IsSeen (record packet { end = 
       end = λ travels. absurd cc;
     })
 
-action_of : (packet : Packet) (words : PacketWords) (decision : Decision) → IsSeen packet words
-    → words.decision ≡ Some decision → option_map (λ (h : Hit). h.action) packet.decision ≡ Some
+action_of : (packet : Packet) (facts : PacketFacts) (decision : Decision) → IsSeen packet facts
+    → facts.decision ≡ Some decision → option_map (λ (h : Hit). h.action) packet.decision ≡ Some
     decision.action
-action_of packet words decision seen decided = ap (option_map (λ (h : Hit). h.action))
+action_of packet facts decision seen decided = ap (option_map (λ (h : Hit). h.action))
     (seen.decision ∙ ap (option_map hit_in) decided)
 
 -- ---- ends
@@ -226,18 +226,18 @@ action_of packet words decision seen decided = ap (option_map (λ (h : Hit). h.a
 goes_end : (setting : Setting) (machine : Machine) (journal : List Item) (next : Item) (i : ℕ)
     (end : End) → Before setting journal → Matches setting machine journal
     → IsTrue (travels journal i)
-    → ((packet : Packet) → IsSeen packet (words_of journal i) → MayEnd packet end)
-    → words_of (journal ++ next ∷ []) i ≡ record (words_of journal i) { travels = false }
-    → ((j : ℕ) → j ≢ i → names j next ≡ false)
+    → ((packet : Packet) → IsSeen packet (what_is_known journal i) → MayEnd packet end)
+    → what_is_known (journal ++ next ∷ []) i ≡ record (what_is_known journal i) { travels = false }
+    → ((j : ℕ) → j ≢ i → is_of_packet j next ≡ false)
     → KeepsMarks setting journal (journal ++ next ∷ [])
     → ((new : Machine) → Ends machine i end new → Takes setting machine next new)
     → Goes setting machine journal next
 goes_end setting machine journal next i end before matches travelling may after others keeps takes =
-    let on : IsTrue (words_of journal i).travels = travels_in journal i travelling in
+    let on : IsTrue (what_is_known journal i).travels = travels_in journal i travelling in
     let under = (before.kept.packets i).under_way on in
     let at : (packet : Packet) × (machine.packets i ≡ Some packet)
-    × IsSeen packet (words_of journal i) =
-    known (machine.packets i) (words_of journal i) under.header (matches.packets i) under.entered in
+    × IsSeen packet (what_is_known journal i) =
+    known (machine.packets i) (what_is_known journal i) under.header (matches.packets i) under.entered in
     record {
       new = with_packet machine i (record at.0 { end = Some end });
       takes = takes (with_packet machine i (record at.0 { end = Some end })) (record {
@@ -248,7 +248,7 @@ goes_end setting machine journal next i end before matches travelling may after 
         after = refl;
       });
       matches = changed_matches setting machine journal next i (record at.0 { end = Some end })
-          matches keeps others (ended_seen at.0 (words_of journal i) _ end after at.2);
+          matches keeps others (ended_seen at.0 (what_is_known journal i) _ end after at.2);
     }
 
 -- ---- entries and decisions
@@ -264,14 +264,14 @@ goes_in setting machine journal i s header before matches number =
       decision = None;
       end = None;
     } in
-    let none : IsUnknown (words_of journal i) = before.kept.unknown i (omega (arith, number)) in
-    let after : words_of (journal ++ entered ∷ []) i
-    ≡ words_after (retired_mark journal) entered (words_of journal i) =
+    let none : IsUnknown (what_is_known journal i) = before.kept.unknown i (omega (arith, number)) in
+    let after : what_is_known (journal ++ entered ∷ []) i
+    ≡ facts_after (retired_mark journal) entered (what_is_known journal i) =
     words_named i journal entered (own_number i) in
     record {
       new = with_packet machine i packet;
       takes = record {
-        unknown = not_known (machine.packets i) (words_of journal i) (matches.packets i)
+        unknown = not_known (machine.packets i) (what_is_known journal i) (matches.packets i)
             none.header;
         after = refl;
       };
@@ -293,7 +293,7 @@ goes_decided : (setting : Setting) (machine : Machine) (journal : List Item) (i 
 goes_decided setting machine journal i version rule act by before matches way =
     let decided : Item = item.Decided i version rule act by in
     let knows_it : Knows setting journal i (stage_of journal i) = knows setting journal i before in
-    let words : PacketWords = words_of journal i in
+    let facts : PacketFacts = what_is_known journal i in
     let s : ℕ = way.switch in
     let here : IsHere setting journal i s =
     here_of setting journal i s (stage_of journal i) before.is knows_it.have knows_it.kept way.at in
@@ -301,20 +301,20 @@ goes_decided setting machine journal i version rule act by before matches way =
     let now : IsDecidedNow setting journal i s version rule act header =
     decided_now setting journal i s version rule act by knows_it here (before.kept.cached s)
     way.by in
-    let none : words.decision ≡ None =
+    let none : facts.decision ≡ None =
     undecided_of setting journal i s (stage_of journal i) knows_it.kept here
     (stage_when journal i s version now.when) in
-    let at : (packet : Packet) × (machine.packets i ≡ Some packet) × IsSeen packet words =
-    known (machine.packets i) words header (matches.packets i) here.under.entered in
+    let at : (packet : Packet) × (machine.packets i ≡ Some packet) × IsSeen packet facts =
+    known (machine.packets i) facts header (matches.packets i) here.under.entered in
     let same : header ≡ at.0.header =
-    some_same words.header header at.0.header here.under.entered at.2.header in
+    some_same facts.header header at.0.header here.under.entered at.2.header in
     let there : version ≤ version_count journal =
     omega (arith, now.rightly.current, (bounded setting journal knows_it.have).there) in
     let policy : List Row = policy_at setting journal version in
     let hit : scan policy at.0.header ≡ record { rule = rule; action = act } =
     ap (scan policy) (sym same) ∙ now.rightly.first_match in
-    let after : words_of (journal ++ decided ∷ []) i
-    ≡ words_after (retired_mark journal) decided words =
+    let after : what_is_known (journal ++ decided ∷ []) i
+    ≡ facts_after (retired_mark journal) decided facts =
     words_named i journal decided (own_number i) in
     let new : Packet = record at.0 { decision = Some (record { rule = rule; action = act }) } in
     record {
@@ -351,9 +351,9 @@ snoc_new (y ∷ xs) x = snoc_new xs x
 
 -- words of packets don't change with what names none
 packets_same : (machine : Machine) (journal : List Item) (next : Item)
-    → ((i : ℕ) → names i next ≡ false)
-    → ((i : ℕ) → SeenAs (machine.packets i) (words_of journal i))
-    → (i : ℕ) → SeenAs (machine.packets i) (words_of (journal ++ next ∷ []) i)
+    → ((i : ℕ) → is_of_packet i next ≡ false)
+    → ((i : ℕ) → SeenAs (machine.packets i) (what_is_known journal i))
+    → (i : ℕ) → SeenAs (machine.packets i) (what_is_known (journal ++ next ∷ []) i)
 packets_same machine journal next none seen i =
     subst (SeenAs (machine.packets i)) (sym (words_other i journal next (none i))) (seen i)
 
@@ -487,11 +487,11 @@ KeptItem setting = Behind (Past (IsWayItem setting)) (AllKept setting)
 
 left_action : (setting : Setting) (journal : List Item) (i port : ℕ) (leaving : Leaving)
     → Before setting journal → WayCause setting journal (item.Left i port leaving)
-    → (packet : Packet) → IsSeen packet (words_of journal i) → MayEnd packet (LeftBy port)
+    → (packet : Packet) → IsSeen packet (what_is_known journal i) → MayEnd packet (LeftBy port)
 left_action setting journal i port leaving before way packet seen =
     let rightly = leaves_rightly setting journal i port leaving (knows setting journal i before)
     way in
-    action_of packet (words_of journal i) _ seen (decision_in journal i _ rightly.decided)
+    action_of packet (what_is_known journal i) _ seen (decision_in journal i _ rightly.decided)
 
 goes : (setting : Setting) (machine : Machine) (journal : List Item) (next : Item)
     → Before setting journal → IsWayItem setting journal next → Matches setting machine journal
@@ -516,7 +516,7 @@ goes setting machine journal (item.Left i port leaving) before cause matches =
 goes setting machine journal (item.Dropped i) before cause matches =
     let next : Item = item.Dropped i in
     goes_end setting machine journal next i Dropped before matches cause.way.at.travelling
-    (λ packet seen. action_of packet (words_of journal i) cause.way.decision seen
+    (λ packet seen. action_of packet (what_is_known journal i) cause.way.decision seen
     (decision_in journal i (Some cause.way.decision) cause.way.decided)
     ∙ ap Some cause.way.action)
     (words_named i journal next (own_number i)) (λ j apart. other_number i j apart)
@@ -549,7 +549,7 @@ runs_from setting machine before (next ∷ items) is have matches =
     (rest.0, (step.new, step.takes, rest.1))
 
 matches_at_first : (setting : Setting) → IsSetting setting → Matches setting (start setting) []
-unfolding words_of header_in
+unfolding what_is_known header_in
 matches_at_first setting is = by_rows (policy_of_file setting 1) refl is.planned
   where
     by_rows : (o : Option (List Row)) → policy_of_file setting 1 ≡ o

@@ -18,7 +18,7 @@ use Rattle.boot_laws.specs.ItemCauses.{HasItemCause}
 use Rattle.boot_laws.proofs.Facts.{Behind, have_weaker}
 use Rattle.version_laws.proofs.Serving.{serving_hold}
 use Rattle.way_laws.specs.OnWay.{IsSeeking}
-use Rattle.way_laws.specs.Words.{PacketWords, words_of}
+use Rattle.way_laws.specs.Facts.{PacketFacts, what_is_known}
 use Rattle.way_laws.specs.Kept.{AllKept}
 use Rattle.way_laws.specs.Stages.{stage_of}
 use Rattle.way_laws.specs.StrongCauses.{AvoidsFound, FindsLinkDown, IsDecidedRightly, IsOnRightLeg, IsStuckOnLeg, RaisesVersion, StrongCause}
@@ -87,8 +87,8 @@ raises_version : (setting : Setting) (before : List Item) (i version partition :
 raises_version setting before i version partition route knows_it takes earlier part seeks =
     by_lookup takes.takes.looked_up
   where
-    words : PacketWords
-    words = words_of before i
+    facts : PacketFacts
+    facts = what_is_known before i
 
     s : ℕ
     s = takes.switch
@@ -100,7 +100,7 @@ raises_version setting before i version partition route knows_it takes earlier p
     there : s < length setting.net.switches
     there = subst (λ x. x < length setting.net.switches) (sym here.at) here.under.now
 
-    sought : words.leg ≡ Some (Seek earlier part)
+    sought : facts.leg ≡ Some (Seek earlier part)
     sought = leg_in before i (Some (Seek earlier part)) seeks
 
     by_held : IsTrue (holds_version before s earlier) ⊎ (earlier < stamp_of before s)
@@ -110,12 +110,12 @@ raises_version setting before i version partition route knows_it takes earlier p
 
     by_lookup : IsLookedUp before i s → earlier < version
     by_lookup (inl came) =
-        let none : words.leg ≡ None = (knows_it.kept.came_in here.travelling came).1 in
+        let none : facts.leg ≡ None = (knows_it.kept.came_in here.travelling came).1 in
         let clash : None ≡ Some (Seek earlier part) = sym none ∙ sought in
         absurd cc
     by_lookup (inr misses) =
-        let on : IsSeeking setting before words here.under.header earlier part =
-        seeking_of setting before words here.under.header earlier part
+        let on : IsSeeking setting before facts here.under.header earlier part =
+        seeking_of setting before facts here.under.header earlier part
         (knows_it.kept.on_way here.travelling (inl misses.arrives.moving)) here.under.entered
         sought in
         let same : Seek misses.version misses.partition ≡ Seek earlier part =

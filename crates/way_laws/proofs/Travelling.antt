@@ -7,7 +7,7 @@ use Rattle.update_machine.specs.Ways.{found_down, route_in}
 use Rattle.update_machine.specs.Setting.{Setting, IsSetting}
 use Rattle.version_laws.proofs.Serving.{serving_hold}
 use Rattle.way_laws.specs.OnWay.{IsOnWay}
-use Rattle.way_laws.specs.Words.{words_of}
+use Rattle.way_laws.specs.Facts.{what_is_known}
 use Rattle.way_laws.specs.Kept.{AllKept, Avoids}
 use Rattle.way_laws.specs.Travelling.{PacketsTravel, RulesAreRight}
 use Rattle.way_laws.proofs.AllKept.{all_kept}
@@ -15,18 +15,18 @@ use Rattle.way_laws.proofs.Here.{leg_in, seeking_of, travels_in}
 use Rattle.way_laws.proofs.Rests.{IsSettled, switches_of_all}
 
 avoids_in : (journal : List Item) (i : ℕ)
-    → Avoids (words_of journal i).found (words_of journal i).route
+    → Avoids (what_is_known journal i).found (what_is_known journal i).route
     → Avoids (found_down journal i) (route_in journal i)
-unfolding words_of
+unfolding what_is_known
 avoids_in journal i avoids = avoids
 
 pub packets_travel : (setting : Setting) (journal : List Item) → IsSetting setting
     → IsSettled setting journal → PacketsTravel setting journal
 packets_travel setting journal is settled i travelling =
     let kept : AllKept setting journal = all_kept setting journal is settled.causes in
-    let on : IsTrue (words_of journal i).travels = travels_in journal i travelling in
+    let on : IsTrue (what_is_known journal i).travels = travels_in journal i travelling in
     let moving = settled.rests.moving i travelling in
-    let way : IsOnWay setting journal (words_of journal i) =
+    let way : IsOnWay setting journal (what_is_known journal i) =
     (kept.packets i).on_way on (inl moving) in
     record {
       on_way = way;
@@ -35,7 +35,7 @@ packets_travel setting journal is settled i travelling =
       held = λ version partition s seeks there serving.
           (serving_hold setting journal (switches_of_all setting [] journal settled.causes) s there
           serving).held version
-          (seeking_of setting journal (words_of journal i) way.under_way.header version partition
+          (seeking_of setting journal (what_is_known journal i) way.under_way.header version partition
           way way.under_way.entered
           (leg_in journal i (Some (Seek version partition)) seeks)).current;
     }

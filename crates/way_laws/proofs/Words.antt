@@ -12,14 +12,14 @@ use Rattle.update_machine.specs.Packets.{decision_of, header_in, standing, tells
 use Rattle.update_machine.specs.Travels.{changes_leg, ingress_of, leg_of, tells_ingress, tells_travelling, travels}
 use Rattle.update_machine.specs.Ways.{changes_found, changes_hops, found_down, route_in, route_place, tells_route}
 use Rattle.update_machine.proofs.CallerLemmas.{folded_append, last_told_append}
-use Rattle.way_laws.specs.Words.{changes_mark, entry_mark, names, words_after, words_of}
+use Rattle.way_laws.specs.Facts.{changes_mark, entry_mark, is_of_packet, facts_after, what_is_known}
 
 -- the words behind one more item, each by its own fold
-words_more : (before : List Item) (i : ℕ) (item : Item) → words_of (before ++ item ∷ []) i
+words_more : (before : List Item) (i : ℕ) (item : Item) → what_is_known (before ++ item ∷ []) i
     ≡ record {
       header = option_or (tells_header i item) (header_in before i);
       ingress = option_or (tells_ingress i item) (ingress_of before i);
-      place = option_or (tells_standing i item) (standing before i);
+      stands = option_or (tells_standing i item) (standing before i);
       travels = unwrap_or (option_or (tells_travelling i item)
           (last_told (tells_travelling i) before))
           false;
@@ -30,7 +30,7 @@ words_more : (before : List Item) (i : ℕ) (item : Item) → words_of (before +
       found = changes_found i before (found_down before i) item;
       mark = changes_mark i before (entry_mark before i) item;
     }
-unfolding words_of header_in ingress_of standing travels decision_of leg_of route_in route_place
+unfolding what_is_known header_in ingress_of standing travels decision_of leg_of route_in route_place
     found_down entry_mark
 words_more before i item =
     rw (
@@ -46,10 +46,10 @@ words_more before i item =
       folded_append (changes_mark i) 0 before (item ∷ []),
     ) refl
 
-by_name : (before : List Item) (i : ℕ) (item : Item) (b : Bool) → names i item ≡ b →
-    words_of (before ++ item ∷ []) i
-    ≡ (if b then words_after (retired_mark before) item (words_of before i) else words_of before i)
-unfolding words_of header_in ingress_of standing travels decision_of leg_of route_in route_place
+by_name : (before : List Item) (i : ℕ) (item : Item) (b : Bool) → is_of_packet i item ≡ b →
+    what_is_known (before ++ item ∷ []) i
+    ≡ (if b then facts_after (retired_mark before) item (what_is_known before i) else what_is_known before i)
+unfolding what_is_known header_in ingress_of standing travels decision_of leg_of route_in route_place
     found_down entry_mark
 by_name before i (item.Entered packet switch header) true e = words_more before i
     (item.Entered packet switch header) ∙ rw e refl
@@ -97,21 +97,21 @@ by_name before i other true e = absurd cc
 by_name before i other false e = words_more before i other
 
 pub words_grow : (i : ℕ) (before : List Item) (item : Item) →
-    words_of (before ++ item ∷ []) i
-    ≡ (if names i item then words_after (retired_mark before) item (words_of before i) else words_of
+    what_is_known (before ++ item ∷ []) i
+    ≡ (if is_of_packet i item then facts_after (retired_mark before) item (what_is_known before i) else what_is_known
     before i)
-words_grow i before item = by_name before i item (names i item) refl
+words_grow i before item = by_name before i item (is_of_packet i item) refl
 
-pub words_named : (i : ℕ) (before : List Item) (item : Item) → names i item ≡ true
-    → words_of (before ++ item ∷ []) i ≡ words_after (retired_mark before) item (words_of before i)
+pub words_named : (i : ℕ) (before : List Item) (item : Item) → is_of_packet i item ≡ true
+    → what_is_known (before ++ item ∷ []) i ≡ facts_after (retired_mark before) item (what_is_known before i)
 words_named i before item named = words_grow i before item
-    ∙ ap (λ b. if b then words_after (retired_mark before) item (words_of before i) else words_of before
+    ∙ ap (λ b. if b then facts_after (retired_mark before) item (what_is_known before i) else what_is_known before
     i) named
 
-pub words_other : (i : ℕ) (before : List Item) (item : Item) → names i item ≡ false
-    → words_of (before ++ item ∷ []) i ≡ words_of before i
+pub words_other : (i : ℕ) (before : List Item) (item : Item) → is_of_packet i item ≡ false
+    → what_is_known (before ++ item ∷ []) i ≡ what_is_known before i
 words_other i before item other = words_grow i before item
-    ∙ ap (λ b. if b then words_after (retired_mark before) item (words_of before i) else words_of before
+    ∙ ap (λ b. if b then facts_after (retired_mark before) item (what_is_known before i) else what_is_known before
     i) other
 
 pub own_number : (i : ℕ) → (i == i) ≡ true

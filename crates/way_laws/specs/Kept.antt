@@ -17,7 +17,7 @@ use Rattle.update_machine.specs.Setting.{Setting, NamesOwnPort}
 use Rattle.update_machine.specs.Versions.{policy_at}
 use Rattle.way_laws.specs.Rules.{IsRightEntry, IsRightRule}
 use Rattle.way_laws.specs.OnWay.{IsOnWay, IsPartitionOf, IsUnderWay, IsUnknown}
-use Rattle.way_laws.specs.Words.{PacketWords, words_of}
+use Rattle.way_laws.specs.Facts.{PacketFacts, what_is_known}
 use Rattle.way_laws.specs.Stages.{Blocked, CameIn, Judged, OnWay, Stage, stage_of}
 
 -- the route uses none of the links of the set
@@ -27,39 +27,39 @@ Avoids down route = (k one two : ℕ) → slice_get route k ≡ Some one
 
 -- the packet sought the partition whose region holds its header, by a version that wasn't retired
 -- as it came in and is at most the current one
-pub record IsSought (setting : Setting) (journal : List Item) (words : PacketWords)
+pub record IsSought (setting : Setting) (journal : List Item) (facts : PacketFacts)
     (header : Header) (version partition : ℕ) : Type 0 where
-  pub not_retired : words.mark < version
+  pub not_retired : facts.mark < version
   pub current : version ≤ current_mark journal
   pub placed : Placed
   pub own : IsPartitionOf setting journal header version partition placed
 
 -- it was decided by the first match of such a version
-pub record IsJudged (setting : Setting) (journal : List Item) (words : PacketWords)
+pub record IsJudged (setting : Setting) (journal : List Item) (facts : PacketFacts)
     (header : Header) : Type 0 where
   pub decision : Decision
-  pub decided : words.decision ≡ Some decision
-  pub not_retired : words.mark < decision.version
+  pub decided : facts.decision ≡ Some decision
+  pub not_retired : facts.mark < decision.version
   pub current : decision.version ≤ current_mark journal
   pub first_match : scan (policy_at setting journal decision.version) header
       ≡ record { rule = decision.rule; action = decision.action }
   pub named : NamesOwnPort setting decision.action
-  pub sought : (version partition : ℕ) → words.leg ≡ Some (Seek version partition)
-      → IsSought setting journal words header version partition
+  pub sought : (version partition : ℕ) → facts.leg ≡ Some (Seek version partition)
+      → IsSought setting journal facts header version partition
 
--- what is kept of a packet with these words, in this stage: it is undecided as it comes in; it
+-- what is kept of a packet of which this is known, in this stage: it is undecided as it comes in; it
 -- stands at its place of a route that leads to a target of its leg, also where it found the next
 -- link down; and while it moves on, its route uses no link that it found down
-pub record IsKept (setting : Setting) (journal : List Item) (words : PacketWords)
+pub record IsKept (setting : Setting) (journal : List Item) (facts : PacketFacts)
     (stage : Option Stage) : Type 0 where
-  pub under_way : IsTrue words.travels → IsUnderWay setting journal words
-  pub came_in : IsTrue words.travels → stage ≡ Some CameIn
-      → (words.decision ≡ None) × (words.leg ≡ None)
-  pub judged : IsTrue words.travels → stage ≡ Some Judged
-      → (header : Header) → words.header ≡ Some header → IsJudged setting journal words header
-  pub on_way : IsTrue words.travels → (stage ≡ Some OnWay) ⊎ (stage ≡ Some Blocked)
-      → IsOnWay setting journal words
-  pub avoids : IsTrue words.travels → stage ≡ Some OnWay → Avoids words.found words.route
+  pub under_way : IsTrue facts.travels → IsUnderWay setting journal facts
+  pub came_in : IsTrue facts.travels → stage ≡ Some CameIn
+      → (facts.decision ≡ None) × (facts.leg ≡ None)
+  pub judged : IsTrue facts.travels → stage ≡ Some Judged
+      → (header : Header) → facts.header ≡ Some header → IsJudged setting journal facts header
+  pub on_way : IsTrue facts.travels → (stage ≡ Some OnWay) ⊎ (stage ≡ Some Blocked)
+      → IsOnWay setting journal facts
+  pub avoids : IsTrue facts.travels → stage ≡ Some OnWay → Avoids facts.found facts.route
 
 -- a cache rule that a body brings is right
 abbrev pub BringsRight : Setting → List Item → Body → Type 0
@@ -69,8 +69,8 @@ BringsRight setting journal _ = ⊤
 
 -- all packets, those that didn't come in, all messages that were sent, and all caches
 pub record AllKept (setting : Setting) (journal : List Item) : Type 0 where
-  pub packets : (i : ℕ) → IsKept setting journal (words_of journal i) (stage_of journal i)
-  pub unknown : (i : ℕ) → next_packet journal ≤ i → IsUnknown (words_of journal i)
+  pub packets : (i : ℕ) → IsKept setting journal (what_is_known journal i) (stage_of journal i)
+  pub unknown : (i : ℕ) → next_packet journal ≤ i → IsUnknown (what_is_known journal i)
   pub sent : (n : ℕ) (message : Message) → message_of journal n ≡ Some message
       → BringsRight setting journal message.body
   pub cached : (s : ℕ) → All (IsRightEntry setting journal) (cache_of setting journal s).entries

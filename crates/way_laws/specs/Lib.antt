@@ -1,4 +1,4 @@
-pub mod Words
+pub mod Facts
 pub mod OnWay
 pub mod Rules
 pub mod Stages

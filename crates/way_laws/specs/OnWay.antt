@@ -18,7 +18,7 @@ use Rattle.update_machine.specs.Marks.{current_mark, retired_mark}
 use Rattle.update_machine.specs.Packets.{Decision}
 use Rattle.update_machine.specs.Setting.{Setting}
 use Rattle.update_machine.specs.Versions.{plan_at}
-use Rattle.way_laws.specs.Words.{PacketWords}
+use Rattle.way_laws.specs.Facts.{PacketFacts}
 
 -- ---- routes
 
@@ -57,56 +57,56 @@ pub record IsPartitionOf (setting : Setting) (journal : List Item) (header : Hea
 
 -- on its way to an authority switch a packet is undecided, its version wasn't retired as it came in
 -- and is at most the current one, and it seeks the partition whose region holds its header
-pub record IsSeeking (setting : Setting) (journal : List Item) (words : PacketWords)
+pub record IsSeeking (setting : Setting) (journal : List Item) (facts : PacketFacts)
     (header : Header) (version partition : ℕ) : Type 0 where
-  pub undecided : words.decision ≡ None
-  pub not_retired : words.mark < version
+  pub undecided : facts.decision ≡ None
+  pub not_retired : facts.mark < version
   pub current : version ≤ current_mark journal
   pub placed : Placed
   pub own : IsPartitionOf setting journal header version partition placed
-  pub leads : LeadsTo setting placed.1 words.route
+  pub leads : LeadsTo setting placed.1 facts.route
 
 -- on its way out it was decided, by its port, whose switch its route leads to
-pub record IsExiting (setting : Setting) (words : PacketWords) (port : ℕ) : Type 0 where
+pub record IsExiting (setting : Setting) (facts : PacketFacts) (port : ℕ) : Type 0 where
   pub decision : Decision
-  pub decided : words.decision ≡ Some decision
+  pub decided : facts.decision ≡ Some decision
   pub action : decision.action ≡ Out port
   pub owner : ℕ
   pub has_port : owner_of setting.net.switches port ≡ Some owner
-  pub leads : LeadsTo setting (owner ∷ []) words.route
+  pub leads : LeadsTo setting (owner ∷ []) facts.route
 
-abbrev pub IsOnLeg : Setting → List Item → PacketWords → Header → Leg → Type 0
-IsOnLeg setting journal words header (Seek version partition) =
-    IsSeeking setting journal words header version partition
-IsOnLeg setting journal words header (Exit port) = IsExiting setting words port
+abbrev pub IsOnLeg : Setting → List Item → PacketFacts → Header → Leg → Type 0
+IsOnLeg setting journal facts header (Seek version partition) =
+    IsSeeking setting journal facts header version partition
+IsOnLeg setting journal facts header (Exit port) = IsExiting setting facts port
 
 -- ---- travelling packets
 
 -- a travelling packet has a header, came in at a switch, and stands at one
-pub record IsUnderWay (setting : Setting) (journal : List Item) (words : PacketWords) : Type 0 where
+pub record IsUnderWay (setting : Setting) (journal : List Item) (facts : PacketFacts) : Type 0 where
   pub header : Header
   pub ingress : ℕ
   pub place : ℕ
-  pub entered : words.header ≡ Some header
+  pub entered : facts.header ≡ Some header
   pub sound : IsHeader header
-  pub came : words.ingress ≡ Some ingress
+  pub came : facts.ingress ≡ Some ingress
   pub at_first : ingress < length setting.net.switches
-  pub stands : words.place ≡ Some place
+  pub stands : facts.stands ≡ Some place
   pub now : place < length setting.net.switches
-  pub mark : words.mark ≤ retired_mark journal
+  pub mark : facts.mark ≤ retired_mark journal
 
 -- and, once its switch is done with it, it stands at its place of the route of its leg
-pub record IsOnWay (setting : Setting) (journal : List Item) (words : PacketWords) : Type 0 where
-  pub under_way : IsUnderWay setting journal words
+pub record IsOnWay (setting : Setting) (journal : List Item) (facts : PacketFacts) : Type 0 where
+  pub under_way : IsUnderWay setting journal facts
   pub leg : Leg
-  pub takes : words.leg ≡ Some leg
-  pub on_leg : IsOnLeg setting journal words under_way.header leg
-  pub stands : slice_get words.route words.hops ≡ Some under_way.place
+  pub takes : facts.leg ≡ Some leg
+  pub on_leg : IsOnLeg setting journal facts under_way.header leg
+  pub stands : slice_get facts.route facts.hops ≡ Some under_way.place
 
--- a packet that didn't come in has no words
-pub record IsUnknown (words : PacketWords) : Type 0 where
-  pub header : words.header ≡ None
-  pub travels : words.travels ≡ false
-  pub decision : words.decision ≡ None
-  pub leg : words.leg ≡ None
-  pub found : words.found ≡ no_links
+-- of a packet that didn't come in nothing is known
+pub record IsUnknown (facts : PacketFacts) : Type 0 where
+  pub header : facts.header ≡ None
+  pub travels : facts.travels ≡ false
+  pub decision : facts.decision ≡ None
+  pub leg : facts.leg ≡ None
+  pub found : facts.found ≡ no_links

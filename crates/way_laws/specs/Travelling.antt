@@ -11,7 +11,7 @@ use Rattle.update_machine.specs.Travels.{leg_of, travels}
 use Rattle.update_machine.specs.Links.{serves, message_of}
 use Rattle.way_laws.specs.Rules.{IsRightEntry}
 use Rattle.way_laws.specs.OnWay.{IsOnWay}
-use Rattle.way_laws.specs.Words.{words_of}
+use Rattle.way_laws.specs.Facts.{what_is_known}
 use Rattle.way_laws.specs.Kept.{Avoids, BringsRight}
 use Rattle.way_laws.specs.Rest.{IsServed}
 
@@ -19,7 +19,7 @@ use Rattle.way_laws.specs.Rest.{IsServed}
 -- leg, and uses none that it found down; its switch serves; and the version by which it seeks an
 -- authority is held by each switch that serves, or below the stamp of that switch
 pub record IsTravelling (setting : Setting) (journal : List Item) (packet : ℕ) : Type 0 where
-  pub on_way : IsOnWay setting journal (words_of journal packet)
+  pub on_way : IsOnWay setting journal (what_is_known journal packet)
   pub served : IsServed journal packet
   pub avoids : Avoids (found_down journal packet) (route_in journal packet)
   pub held : (version partition s : ℕ) → leg_of journal packet ≡ Some (Seek version partition)

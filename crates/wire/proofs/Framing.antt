@@ -5,7 +5,7 @@ use Rattle.std.proofs.lemmas.List.{length-append, length-take, take_at, drop_at,
 use Rattle.std.proofs.lemmas.Nat.{be_bytes_4, from_be_bytes-to_be_bytes_4}
 use Rattle.wire.specs.Format.{spelled_number}
 use Rattle.wire.specs.Fields.{n4}
-use Rattle.wire.specs.Frames.{frame, frames_from, place_in_frame, count_of, piece_of, slices, cut, most_of_piece}
+use Rattle.wire.specs.Frames.{frame, frames_from, place_in_frame, count_in_frame, piece_of, slices, cut, most_of_piece}
 use Rattle.wire.proofs.Laws.{AreBytes, AreBytes-drop, AreBytes-take}
 
 pub length_n4 : (n : ℕ) → length (n4.spell n) ≡ 4
@@ -37,8 +37,8 @@ place_of_frame place count piece lt =
     ∙ ap (from_be_bytes w32) (take_at (n4.spell place) (n4.spell count ++ piece) 4 (length_n4 place))
     ∙ n4_back place lt
 
-pub count_of_frame : (place count : ℕ) (piece : List ℕ) → count < 2 ^ 32 → count_of (frame place count piece) ≡ count
-unfolding count_of
+pub count_of_frame : (place count : ℕ) (piece : List ℕ) → count < 2 ^ 32 → count_in_frame (frame place count piece) ≡ count
+unfolding count_in_frame
 count_of_frame place count piece lt =
     ap (λ bytes. from_be_bytes w32 (take 4 bytes)) (behind place count piece)
     ∙ ap (from_be_bytes w32) (take_at (n4.spell count) piece 4 (length_n4 count))
@@ -59,8 +59,8 @@ unfolding n4 spelled_number
 n4_again bytes len are = be_bytes_4 bytes _ len are refl
 
 -- bytes are the frame that they say
-pub frame_again : (bytes : List ℕ) → 8 ≤ length bytes → AreBytes bytes → bytes ≡ frame (place_in_frame bytes) (count_of bytes) (piece_of bytes)
-unfolding frame place_in_frame count_of
+pub frame_again : (bytes : List ℕ) → 8 ≤ length bytes → AreBytes bytes → bytes ≡ frame (place_in_frame bytes) (count_in_frame bytes) (piece_of bytes)
+unfolding frame place_in_frame count_in_frame
 frame_again bytes long are =
     let place : n4.spell (from_be_bytes w32 (take 4 bytes)) ≡ take 4 bytes =
     n4_again (take 4 bytes) (omega (arith, length-take 4 bytes)) (AreBytes-take 4 bytes are) in

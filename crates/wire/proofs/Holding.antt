@@ -8,7 +8,7 @@ use Rattle.ctrl_msg.specs.declared.message.Message.{Message}
 use Rattle.wire.specs.declared.assembler.Spot.TheVariants.{Held, New}
 use Rattle.wire.specs.declared.error.WireError.{WireError}
 use Rattle.wire.specs.declared.error.WireError.TheVariants.{Malformed, NoMemory}
-use Rattle.wire.specs.Frames.{place_in_frame, count_of, AreFrames}
+use Rattle.wire.specs.Frames.{place_in_frame, count_in_frame, AreFrames}
 use Rattle.wire.specs.Assembly.{held_at, with_frame, AreAllHeld, AreRising, AreTogether, IsOfCount, IsRefusedFrame, too_short, too_long, past_the_count, another_count, another_frame, no_message, Agree, IsAssembled, IsFed, Joins, IsSpot}
 use Rattle.wire.proofs.Laws.{AreBytes, some_is, passed}
 use Rattle.wire.proofs.Decoding.{none_is_not}
@@ -231,26 +231,26 @@ pub rising_together : (count : ℕ) (fs : List (List ℕ)) → AreRising 0 count
 rising_together count [] rising = tt
 rising_together count (f ∷ fs) rising = subst (λ n. AreRising 0 n (f ∷ fs)) (sym rising.1.count_is) rising
 
-pub held_count : (from count : ℕ) (fs : List (List ℕ)) (place : ℕ) (g : List ℕ) → AreRising from count fs → held_at fs place ≡ Some g → count_of g ≡ count
+pub held_count : (from count : ℕ) (fs : List (List ℕ)) (place : ℕ) (g : List ℕ) → AreRising from count fs → held_at fs place ≡ Some g → count_in_frame g ≡ count
 held_count from count [] place g rising e = absurd (none_is_not g e)
 held_count from count (f ∷ fs) place g rising e =
     elim (cases_eq (place_in_frame f) place) [
-      | inl same ↦ subst (λ h. count_of h ≡ count) (first_is f g fs place same e) rising.1.count_is
+      | inl same ↦ subst (λ h. count_in_frame h ≡ count) (first_is f g fs place same e) rising.1.count_is
       | inr other ↦
           let next : held_at (f ∷ fs) place ≡ held_at fs place = rw (differ (place_in_frame f) place other) refl in
           held_count (place_in_frame f + 1) count fs place g rising.2 (sym next ∙ e)
     ]
 
-pub agree_first : (fs : List (List ℕ)) (g : List ℕ) (count : ℕ) (b : Bool) → AreTogether fs → slice_get fs 0 ≡ Some g → b ≡ eqb (count_of g) count → Agree fs count b
+pub agree_first : (fs : List (List ℕ)) (g : List ℕ) (count : ℕ) (b : Bool) → AreTogether fs → slice_get fs 0 ≡ Some g → b ≡ eqb (count_in_frame g) count → Agree fs count b
 agree_first [] g count b together e is = absurd (none_is_not g e)
 agree_first (f ∷ fs) g count true together e is =
     let same : f ≡ g = some_is f g e in
-    let one : count_of f ≡ count = ap count_of same ∙ eqb-true _ _ (sym is) in
+    let one : count_in_frame f ≡ count = ap count_in_frame same ∙ eqb-true _ _ (sym is) in
     subst (λ n. AreRising 0 n (f ∷ fs)) one together
 agree_first (f ∷ fs) g count false together e is =
     let same : f ≡ g = some_is f g e in
     let at : held_at (f ∷ fs) (place_in_frame f) ≡ Some f = rw (same_place (place_in_frame f)) refl in
-    (place_in_frame f, f, at, λ one. absurd (cc (is ∙ ap (λ n. eqb n count) (ap count_of (sym same) ∙ one) ∙ same_place count)))
+    (place_in_frame f, f, at, λ one. absurd (cc (is ∙ ap (λ n. eqb n count) (ap count_in_frame (sym same) ∙ one) ∙ same_place count)))
 
 pub agree_none : (fs : List (List ℕ)) (count : ℕ) → slice_get fs 0 ≡ None → Agree fs count true
 agree_none [] count e = tt
@@ -258,27 +258,27 @@ agree_none (f ∷ fs) count e = absurd (none_is_not f (sym e))
 
 -- ---- where a frame belongs
 
-pub of_its_count : (f : List ℕ) → 9 ≤ length f → AreBytes f → place_in_frame f < count_of f → IsOfCount (count_of f) f
+pub of_its_count : (f : List ℕ) → 9 ≤ length f → AreBytes f → place_in_frame f < count_in_frame f → IsOfCount (count_in_frame f) f
 of_its_count f long are below = record { below = below; whole = frame_again f (omega arith) are; count_is = refl }
 
-pub spot_held : (held : List (List ℕ)) (f g : List ℕ) → 9 ≤ length f → length f ≤ 16384 → place_in_frame f < count_of f → AreRising 0 (count_of f) held
+pub spot_held : (held : List (List ℕ)) (f g : List ℕ) → 9 ≤ length f → length f ≤ 16384 → place_in_frame f < count_in_frame f → AreRising 0 (count_in_frame f) held
     → held_at held (place_in_frame f) ≡ Some g → g ≡ f → IsSpot held f Held
 spot_held held f g long short below rising at same =
     let is : held_at held (place_in_frame f) ≡ Some f = at ∙ ap (λ h. Some h) same in (
       record { long = long; short = short; below = below; rising = rising; same = λ h at2. some_is h f (sym at2 ∙ is) },
-      held_stays 0 (count_of f) held f rising is,
+      held_stays 0 (count_in_frame f) held f rising is,
     )
 
-pub spot_new : (held : List (List ℕ)) (f : List ℕ) (index : ℕ) → 9 ≤ length f → length f ≤ 16384 → AreBytes f → place_in_frame f < count_of f → AreRising 0 (count_of f) held
+pub spot_new : (held : List (List ℕ)) (f : List ℕ) (index : ℕ) → 9 ≤ length f → length f ≤ 16384 → AreBytes f → place_in_frame f < count_in_frame f → AreRising 0 (count_in_frame f) held
     → held_at held (place_in_frame f) ≡ None → index ≡ index_of held (place_in_frame f) → IsSpot held f (New index)
 spot_new held f index long short are below rising none at =
-    let joins = new_joins 0 (count_of f) held f rising none ∙ ap (λ i. insert held i f) (sym at) in
-    let rises = new_rises 0 (count_of f) held f rising (omega arith) (of_its_count f long are below) none in
+    let joins = new_joins 0 (count_in_frame f) held f rising none ∙ ap (λ i. insert held i f) (sym at) in
+    let rises = new_rises 0 (count_in_frame f) held f rising (omega arith) (of_its_count f long are below) none in
     let within : index ≤ length held = rw at (index_within held (place_in_frame f)) in (
       record { long = long; short = short; below = below; rising = rising; same = λ h at2. absurd (none_is_not h (sym none ∙ at2)) },
       within,
       joins,
-      subst (AreRising 0 (count_of f)) joins rises,
+      subst (AreRising 0 (count_in_frame f)) joins rises,
     )
 
 -- the index of the first frame at a place or behind it
@@ -299,41 +299,41 @@ index_past fs place e =
 -- ---- what taking in a frame answers
 
 not_refused : (held : List (List ℕ)) (f : List ℕ) → Joins held f
-    → (AreAllHeld (with_frame held f) (count_of f) → ((m : Message) → AreFrames m (with_frame held f) → ⊥) → ⊥)
+    → (AreAllHeld (with_frame held f) (count_in_frame f) → ((m : Message) → AreFrames m (with_frame held f) → ⊥) → ⊥)
     → IsRefusedFrame held f → ⊥
 not_refused held f joins whole (too_short lt) = absurd (omega (arith, joins.long))
 not_refused held f joins whole (too_long lt) = absurd (omega (arith, joins.short))
 not_refused held f joins whole (past_the_count le) = absurd (omega (arith, joins.below))
-not_refused held f joins whole (another_count place g at other) = other (held_count 0 (count_of f) held place g joins.rising at)
+not_refused held f joins whole (another_count place g at other) = other (held_count 0 (count_in_frame f) held place g joins.rising at)
 not_refused held f joins whole (another_frame g at other) = other (joins.same g at)
 not_refused held f joins whole (no_message all none) = whole all none
 
 pub fed : (held : List (List ℕ)) (f : List ℕ) (after : List (List ℕ)) (result : Result (Option Message) WireError)
-    → AreTogether held → Joins held f → AreRising 0 (count_of f) (with_frame held f) → IsAssembled (with_frame held f) (count_of f) result
+    → AreTogether held → Joins held f → AreRising 0 (count_in_frame f) (with_frame held f) → IsAssembled (with_frame held f) (count_in_frame f) result
     → OnOk result (after ≡ with_frame held f) → OnErr result (after ≡ held) → IsFed held f after result
 fed held f after (Ok None) together joins rising answer is unchanged =
-    let incomplete : AreAllHeld (with_frame held f) (count_of f) → ⊥ = λ all. answer (held_all (count_of f) (with_frame held f) rising all) in
+    let incomplete : AreAllHeld (with_frame held f) (count_in_frame f) → ⊥ = λ all. answer (held_all (count_in_frame f) (with_frame held f) rising all) in
     record {
-      together = subst AreTogether (sym is) (rising_together (count_of f) (with_frame held f) rising);
+      together = subst AreTogether (sym is) (rising_together (count_in_frame f) (with_frame held f) rising);
       refused = λ e. absurd (cc e);
       taken = not_refused held f joins (λ all none. incomplete all);
       is_held = is;
-      some = (λ e. absurd (false_true e), λ all. absurd (incomplete (subst (λ fs. AreAllHeld fs (count_of f)) is all)));
+      some = (λ e. absurd (false_true e), λ all. absurd (incomplete (subst (λ fs. AreAllHeld fs (count_in_frame f)) is all)));
       message = tt;
       unchanged = tt;
     }
 fed held f after (Ok (Some m)) together joins rising answer is unchanged = record {
-  together = subst AreTogether (sym is) (rising_together (count_of f) (with_frame held f) rising);
+  together = subst AreTogether (sym is) (rising_together (count_in_frame f) (with_frame held f) rising);
   refused = λ e. absurd (cc e);
   taken = not_refused held f joins (λ all none. none m answer.1);
   is_held = is;
-  some = (λ e. subst (λ fs. AreAllHeld fs (count_of f)) (sym is) (all_held (count_of f) (with_frame held f) rising answer.0), λ all. refl);
+  some = (λ e. subst (λ fs. AreAllHeld fs (count_in_frame f)) (sym is) (all_held (count_in_frame f) (with_frame held f) rising answer.0), λ all. refl);
   message = subst (AreFrames m) (sym is) answer.1;
   unchanged = tt;
 }
 fed held f after (Err Malformed) together joins rising answer is unchanged = record {
   together = subst AreTogether (sym unchanged) together;
-  refused = λ e. no_message (all_held (count_of f) (with_frame held f) rising answer.0) answer.1;
+  refused = λ e. no_message (all_held (count_in_frame f) (with_frame held f) rising answer.0) answer.1;
   taken = tt;
   is_held = tt;
   some = tt;
@@ -351,20 +351,20 @@ fed held f after (Err NoMemory) together joins rising answer is unchanged = reco
 }
 
 pub fed_held : (held : List (List ℕ)) (f : List ℕ) (result : Result (Option Message) WireError)
-    → AreTogether held → IsSpot held f Held → IsAssembled held (count_of f) result → IsFed held f held result
+    → AreTogether held → IsSpot held f Held → IsAssembled held (count_in_frame f) result → IsFed held f held result
 fed_held held f result together spot answer =
     fed held f held result together spot.0
-    (subst (AreRising 0 (count_of f)) (sym spot.1) spot.0.rising)
-    (subst (λ fs. IsAssembled fs (count_of f) result) (sym spot.1) answer)
+    (subst (AreRising 0 (count_in_frame f)) (sym spot.1) spot.0.rising)
+    (subst (λ fs. IsAssembled fs (count_in_frame f) result) (sym spot.1) answer)
     (on_ok result (sym spot.1)) (on_err result refl)
 
 pub fed_new : (held : List (List ℕ)) (f : List ℕ) (index : ℕ) (after : List (List ℕ)) (result : Result (Option Message) WireError)
-    → AreTogether held → IsSpot held f (New index) → IsAssembled (insert held index f) (count_of f) result
+    → AreTogether held → IsSpot held f (New index) → IsAssembled (insert held index f) (count_in_frame f) result
     → OnOk result (after ≡ insert held index f) → OnErr result (after ≡ held) → IsFed held f after result
 fed_new held f index after result together spot answer is unchanged =
     fed held f after result together spot.0
-    (subst (AreRising 0 (count_of f)) (sym spot.2) spot.3)
-    (subst (λ fs. IsAssembled fs (count_of f) result) (sym spot.2) answer)
+    (subst (AreRising 0 (count_in_frame f)) (sym spot.2) spot.3)
+    (subst (λ fs. IsAssembled fs (count_in_frame f) result) (sym spot.2) answer)
     (subst (λ fs. OnOk result (after ≡ fs)) (sym spot.2) is) unchanged
 
 -- a frame that is refused changes nothing

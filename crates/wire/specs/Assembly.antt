@@ -6,7 +6,7 @@ use Rattle.wire.specs.declared.assembler.Spot.{Spot}
 use Rattle.wire.specs.declared.assembler.Spot.TheVariants.{Refused, Held, New}
 use Rattle.wire.specs.declared.error.WireError.{WireError}
 use Rattle.wire.specs.declared.error.WireError.TheVariants.{Malformed, NoMemory}
-use Rattle.wire.specs.Frames.{AreFrames, place_in_frame, count_of, piece_of, frame}
+use Rattle.wire.specs.Frames.{AreFrames, place_in_frame, count_in_frame, piece_of, frame}
 
 -- the frame that is held at a place
 abbrev pub held_at : List (List ℕ) → ℕ → Option (List ℕ)
@@ -26,11 +26,11 @@ AreAllHeld held count = (place : ℕ) → place < count → IsSome (held_at held
 pub data IsRefusedFrame (held : List (List ℕ)) (f : List ℕ) : Type 0 where
   too_short : length f < 9 → IsRefusedFrame held f
   too_long : 16384 < length f → IsRefusedFrame held f
-  past_the_count : count_of f ≤ place_in_frame f → IsRefusedFrame held f
+  past_the_count : count_in_frame f ≤ place_in_frame f → IsRefusedFrame held f
   another_count : (place : ℕ) (g : List ℕ) → held_at held place ≡ Some g
-      → count_of g ≢ count_of f → IsRefusedFrame held f
+      → count_in_frame g ≢ count_in_frame f → IsRefusedFrame held f
   another_frame : (g : List ℕ) → held_at held (place_in_frame f) ≡ Some g → g ≢ f → IsRefusedFrame held f
-  no_message : AreAllHeld (with_frame held f) (count_of f)
+  no_message : AreAllHeld (with_frame held f) (count_in_frame f)
       → ((m : Message) → AreFrames m (with_frame held f) → ⊥) → IsRefusedFrame held f
 
 -- ---- what holds of the held frames
@@ -39,7 +39,7 @@ pub data IsRefusedFrame (held : List (List ℕ)) (f : List ℕ) : Type 0 where
 pub record IsOfCount (count : ℕ) (f : List ℕ) : Type 0 where
   pub below : place_in_frame f < count
   pub whole : f ≡ frame (place_in_frame f) count (piece_of f)
-  pub count_is : count_of f ≡ count
+  pub count_is : count_in_frame f ≡ count
 
 -- frames of one count, at rising places from this one on
 abbrev pub AreRising : ℕ → ℕ → List (List ℕ) → Type 0
@@ -50,7 +50,7 @@ AreRising from count (f ∷ fs) =
 -- the held frames are of one count, each of a place of its own
 abbrev pub AreTogether : List (List ℕ) → Type 0
 AreTogether [] = Unit {0}
-AreTogether (f ∷ fs) = AreRising 0 (count_of f) (f ∷ fs)
+AreTogether (f ∷ fs) = AreRising 0 (count_in_frame f) (f ∷ fs)
 
 -- ---- what an assembler answers
 
@@ -74,14 +74,14 @@ IsAssembled fs count (Err error) = AreNone fs count error
 abbrev pub Agree : List (List ℕ) → ℕ → Bool → Type 0
 Agree held count true = AreRising 0 count held
 Agree held count false =
-    (place : ℕ) × (g : List ℕ) × (held_at held place ≡ Some g) × (count_of g ≢ count)
+    (place : ℕ) × (g : List ℕ) × (held_at held place ≡ Some g) × (count_in_frame g ≢ count)
 
 -- a frame that can be held beside those that are
 pub record Joins (held : List (List ℕ)) (f : List ℕ) : Type 0 where
   pub long : 9 ≤ length f
   pub short : length f ≤ 16384
-  pub below : place_in_frame f < count_of f
-  pub rising : AreRising 0 (count_of f) held
+  pub below : place_in_frame f < count_in_frame f
+  pub rising : AreRising 0 (count_in_frame f) held
   pub same : (g : List ℕ) → held_at held (place_in_frame f) ≡ Some g → g ≡ f
 
 -- where a frame belongs among those that are held: nowhere, where it is already, or before the
@@ -91,7 +91,7 @@ IsSpot held f Refused = IsRefusedFrame held f
 IsSpot held f Held = Joins held f × (with_frame held f ≡ held)
 IsSpot held f (New index) =
     Joins held f × (index ≤ length held) × (with_frame held f ≡ insert held index f)
-    × AreRising 0 (count_of f) (insert held index f)
+    × AreRising 0 (count_in_frame f) (insert held index f)
 
 -- what taking in a frame answers, and leaves
 pub record IsFed (held : List (List ℕ)) (f : List ℕ) (after : List (List ℕ))
@@ -100,6 +100,6 @@ pub record IsFed (held : List (List ℕ)) (f : List ℕ) (after : List (List ℕ
   pub refused : IsErrOf result Malformed → IsRefusedFrame held f
   pub taken : OnOk result (IsRefusedFrame held f → ⊥)
   pub is_held : OnOk result (after ≡ with_frame held f)
-  pub some : IfOk result (λ answer. IsSome answer ↔ AreAllHeld after (count_of f))
+  pub some : IfOk result (λ answer. IsSome answer ↔ AreAllHeld after (count_in_frame f))
   pub message : IfOk result (λ answer. IfSome answer (λ m. AreFrames m after))
   pub unchanged : OnErr result (after ≡ held)

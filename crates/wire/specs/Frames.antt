@@ -68,8 +68,8 @@ frames_of_version version fs = slice_set fs 1 (begun_with version (slice_index_o
 unfoldable pub place_in_frame : List ℕ → ℕ
 place_in_frame bytes = from_be_bytes w32 (take 4 bytes)
 
-unfoldable pub count_of : List ℕ → ℕ
-count_of bytes = from_be_bytes w32 (take 4 (drop 4 bytes))
+unfoldable pub count_in_frame : List ℕ → ℕ
+count_in_frame bytes = from_be_bytes w32 (take 4 (drop 4 bytes))
 
 abbrev pub piece_of : List ℕ → List ℕ
 piece_of bytes = drop 8 bytes

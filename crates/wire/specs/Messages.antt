@@ -81,7 +81,7 @@ spelled_fields (Stamp boot version) = of_version.spell (boot, version)
 spelled_fields (Collect boot version) = of_version.spell (boot, version)
 spelled_fields (CacheRule version word rule action) =
     cache_rule_form.spell (version, (word, (rule, action)))
-spelled_fields (Advertise told) = advert.spell told
+spelled_fields (Advertise news) = advert.spell news
 spelled_fields (Hello switch boot) = hello.spell (switch, boot)
 spelled_fields (Installed switch boot version) = acknowledged.spell (switch, (boot, version))
 spelled_fields (Stamped switch boot version) = acknowledged.spell (switch, (boot, version))
@@ -93,7 +93,7 @@ fields_fit (Stamp boot version) = of_version.fits (boot, version)
 fields_fit (Collect boot version) = of_version.fits (boot, version)
 fields_fit (CacheRule version word rule action) =
     cache_rule_form.fits (version, (word, (rule, action)))
-fields_fit (Advertise told) = advert.fits told
+fields_fit (Advertise news) = advert.fits news
 fields_fit (Hello switch boot) = hello.fits (switch, boot)
 fields_fit (Installed switch boot version) = acknowledged.fits (switch, (boot, version))
 fields_fit (Stamped switch boot version) = acknowledged.fits (switch, (boot, version))
@@ -188,7 +188,7 @@ pub record AreShort (t : Tables) : Type 0 where
 
 abbrev pub FieldsSuit : Body → Type 0
 FieldsSuit (Install boot tables) = AreShort tables
-FieldsSuit (Advertise told) = told.origin < 64
+FieldsSuit (Advertise news) = news.origin < 64
 FieldsSuit (Hello switch boot) = switch < 64
 FieldsSuit (Installed switch boot version) = switch < 64
 FieldsSuit (Stamped switch boot version) = switch < 64

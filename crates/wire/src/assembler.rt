@@ -2,7 +2,7 @@ ghost use Rattle.std.specs.Prelude.{◌≡◌, ◌<◌, ◌≤◌, ◌↔◌, []
 ghost use Rattle.std.specs.Option.{option_copied};
 ghost use Rattle.std.specs.List.{insert, position, position_or_len};
 ghost use Rattle.wire.specs.declared.error.WireError.TheVariants.{Malformed};
-ghost use Rattle.wire.specs.Frames.{AreFrames, count_of, place_in_frame};
+ghost use Rattle.wire.specs.Frames.{AreFrames, count_in_frame, place_in_frame};
 ghost use Rattle.wire.specs.Assembly.{Agree, AreAllHeld, AreRising, AreTogether, IsAssembled, IsFed, IsRefusedFrame, IsSpot, held_at, with_frame};
 
 use crate::assembly::{are_same, message_of};
@@ -53,7 +53,7 @@ impl Assembler {
         ensures taken { OnOk result (IsRefusedFrame self.old frame.now → ⊥) }
         ensures held { OnOk result (self.new ≡ with_frame self.old frame.now) }
         ensures some { IfOk result (λ answer.
-            IsSome answer ↔ AreAllHeld self.new (count_of frame.now)) }
+            IsSome answer ↔ AreAllHeld self.new (count_in_frame frame.now)) }
         ensures message { IfOk result (λ answer. IfSome answer (λ m. AreFrames m self.new)) }
         ensures unchanged { OnErr result (self.new ≡ self.old) }
     {
@@ -81,9 +81,9 @@ fn hold(
 ) -> Result<Option<Message>, WireError>
     requires index { index ≤ length frames.old.items }
     requires long { 8 ≤ length frame.now }
-    requires rising { AreRising 0 (count_of frame.now) (insert frames.old.items index frame.now) }
+    requires rising { AreRising 0 (count_in_frame frame.now) (insert frames.old.items index frame.now) }
     ensures answer { let held = insert frames.old.items index frame.now in
-        IsAssembled held (count_of frame.now) result }
+        IsAssembled held (count_in_frame frame.now) result }
     ensures ok { OnOk result (frames.new.items ≡ insert frames.old.items index frame.now) }
     ensures unchanged { OnErr result (frames.new.items ≡ frames.old.items) }
 {
@@ -142,8 +142,8 @@ fn agree(frames: &[Frame], count: u32) -> bool
 fn spot_among(frames: &[Frame], frame: &[u8]) -> Spot
     requires long { 9 ≤ length frame.now }
     requires short { length frame.now ≤ 16384 }
-    requires below { place_in_frame frame.now < count_of frame.now }
-    requires rising { AreRising 0 (count_of frame.now) frames.now }
+    requires below { place_in_frame frame.now < count_in_frame frame.now }
+    requires rising { AreRising 0 (count_in_frame frame.now) frames.now }
     ensures { IsSpot frames.now frame.now result }
 {
     let place = place_of(frame);

@@ -1,5 +1,5 @@
 ghost use Rattle.std.specs.Prelude.{◌≡◌, ◌+◌, ◌<◌, ◌≤◌, ◌^◌, length, IfOk};
-ghost use Rattle.wire.specs.Frames.{frame, place_in_frame, count_of, piece_of};
+ghost use Rattle.wire.specs.Frames.{frame, place_in_frame, count_in_frame, piece_of};
 
 use crate::writer::put_n4;
 use std::alloc::{AllocError, Global};
@@ -72,7 +72,7 @@ impl Frame {
     }
 
     pub fn count(&self) -> u32
-        ensures { result ≡ count_of self.now }
+        ensures { result ≡ count_in_frame self.now }
     {
         count_of(self.bytes())
     }
@@ -103,10 +103,10 @@ pub(crate) fn place_of(frame: &[u8]) -> u32
 }
 
 /// How many frames there are, as this one says.
-#[tactic(auto, unfolding(crate::specs::Frames::count_of))]
+#[tactic(auto, unfolding(crate::specs::Frames::count_in_frame))]
 pub(crate) fn count_of(frame: &[u8]) -> u32
     requires { 8 ≤ length frame.now }
-    ensures { result ≡ count_of frame.now }
+    ensures { result ≡ count_in_frame frame.now }
 {
     u32::from_be_bytes([frame[4], frame[5], frame[6], frame[7]])
 }

@@ -7,7 +7,7 @@ use Rattle.journal.specs.declared.item.Item.{Item}
 use Rattle.update_machine.specs.Packets.{next_packet}
 use Rattle.update_machine.specs.Setting.{Setting}
 use Rattle.update_machine.specs.Travels.{next_travelling, travels}
-use Rattle.way_laws.specs.Words.{words_of}
+use Rattle.way_laws.specs.Facts.{what_is_known}
 use Rattle.world.specs.State.{IsTied, WorldValue, setting_at}
 use Rattle.world_ties.specs.Tied.{AreTied}
 use Rattle.log_ties.specs.Travellers.{traveller_in, traveller_of}
@@ -99,7 +99,7 @@ least_travels setting journal travelling next tie over least =
 
 pub least_travels_in : (world : WorldValue) (next : Option ℕ) → IsTied world
     → IsNextFrom world.travelling 1 next → next ≡ next_travelling world.journal
-unfolding AreTied words_of
+unfolding AreTied what_is_known
 least_travels_in world next tied least =
     least_travels (setting_at world) world.journal world.travelling next tied.packet
     (λ i new. ((reached_known (setting_at world) world.journal tied.sound

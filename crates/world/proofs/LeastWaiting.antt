@@ -46,7 +46,7 @@ waits_same journal posts of n =
     ∙ post_waits (message_of journal n) (was_delivered journal n) (is_forgotten journal n)
 
 least_waits : (journal : List Item) (posts : List bag.Post) → IsBagOf journal posts
-    → bag.next_waiting posts 1 ≡ next_waiting journal
+    → bag.next_waiting_post posts 1 ≡ next_waiting journal
 unfolding next_waiting next_message
 least_waits journal posts of =
     let all : List Status = bag.statuses_of posts in
@@ -57,6 +57,6 @@ least_waits journal posts of =
     (range_with_len 1 (count_of is_sending journal))
 
 pub least_waits_in : (world : WorldValue) → IsTied world
-    → bag.next_waiting world.bag 1 ≡ next_waiting world.journal
+    → bag.next_waiting_post world.bag 1 ≡ next_waiting world.journal
 unfolding AreTied
 least_waits_in world tied = least_waits world.journal world.bag tied.bag

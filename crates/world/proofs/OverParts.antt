@@ -6,7 +6,7 @@ use Rattle.five_tuple.specs.declared.header.Header.{Header}
 use Rattle.journal.specs.declared.item.Item.{Item}
 use Rattle.journal.specs.declared.item.Item.TheVariants as item
 use Rattle.steps.specs.declared.step.Step.TheVariants.{Hop, Packet as PacketStep}
-use Rattle.switch_core.specs.State.{SwitchValue, counted}
+use Rattle.switch_core.specs.State.{SwitchValue, call_counted}
 use Rattle.tunnel.specs.Moves.{here}
 use Rattle.update_machine.specs.Pieces.{piece}
 use Rattle.world_log.specs.Packets.{coming_in, entry, hop_written, hop_posts, hop_traveller, hopped_switch}
@@ -37,7 +37,7 @@ module _ (parts : Parts) (before : List Item) (row s : ℕ) (header : Header) (o
       ready.sound.owners its
 
   pub come_ties : {T E : Type 0} (r : Result T E) (changed : SwitchValue) (after : Travellers)
-      (bag : List Post) → changed ≡ counted own
+      (bag : List Post) → changed ≡ call_counted own
       → OnOk r (WithOne parts.log.travelling (parts.packets + 1) (entered_traveller
       (entry own (slice_index parts.near s) parts.ports (parts.packets + 1) header)) after)
       → OnOk r (bag ≡ parts.log.bag

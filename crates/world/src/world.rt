@@ -1,5 +1,5 @@
 ghost use Rattle.std.specs.Prelude.{◌≡◌, ◌+◌, ◌-◌, ◌^◌, ◌++◌, ◌<◌, ◌≤◌, ℕ, false, true, [], length, slice_index_or, All, OnOk, OnErr, IfOk, IfErr, IsErrOf, is_some};
-ghost use Rattle.bag.specs.Posts.{next_waiting as next_waiting_in};
+ghost use Rattle.bag.specs.Posts.{next_waiting_post};
 ghost use Rattle.controller.specs.Plan.{RefusesPlan};
 ghost use Rattle.net_file.specs.Net.{IsNet};
 ghost use Rattle.policy_rules.specs.Policy.{IsPolicy};
@@ -149,7 +149,7 @@ impl World {
     /// The least number at or above `from` of a message that was never delivered and isn't
     /// forgotten; `None` exactly where there is none.
     pub fn next_waiting(&self, from: u32) -> Option<u32>
-        ensures next { result ≡ next_waiting_in self.now.bag from }
+        ensures next { result ≡ next_waiting_post self.now.bag from }
         ensures first { self.now.is_spent ≡ false → from ≡ 1
             → result ≡ next_waiting self.now.journal }
     {

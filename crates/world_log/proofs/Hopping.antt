@@ -6,7 +6,7 @@ use Rattle.policy_rules.specs.declared.packet.Leg.{Leg}
 use Rattle.policy_rules.specs.declared.packet.Leg.TheVariants.{Seek, Exit}
 use Rattle.switch_core.specs.Answering.{IsAtAuthority}
 use Rattle.switch_core.specs.Moving.{link_found_down, hopped, hopped_to, moved, moved_along, rerouted_here}
-use Rattle.switch_core.specs.State.{SwitchValue, counted}
+use Rattle.switch_core.specs.State.{SwitchValue, call_counted}
 use Rattle.tunnel.specs.Moves.{marked_down, next, on_route, route_from_here}
 use Rattle.tunnel.specs.Tunnel.{TunnelValue}
 
@@ -56,6 +56,6 @@ none_found w near t none =
 
 -- one more call changes nothing at an authority switch
 pub authority_counted : (w : SwitchValue) (header : Header) (leg : Leg)
-    → IsAtAuthority w header leg → IsAtAuthority (counted w) header leg
+    → IsAtAuthority w header leg → IsAtAuthority (call_counted w) header leg
 authority_counted w header (Seek version partition) at = at
 authority_counted w header (Exit port) at = tt

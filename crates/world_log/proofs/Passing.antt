@@ -7,7 +7,7 @@ use Rattle.journal.specs.declared.item.Item.TheVariants as item
 use Rattle.net_file.specs.declared.ports.Ports.{Ports}
 use Rattle.switch_core.specs.Answering.{IsAtAuthority}
 use Rattle.switch_core.specs.Moving.{Moved, link_found_down, hopped, hopped_to, is_free, moved}
-use Rattle.switch_core.specs.State.{SwitchValue, counted}
+use Rattle.switch_core.specs.State.{SwitchValue, call_counted}
 use Rattle.switch_core.specs.declared.answers.HopEnd.TheVariants.{Arrive}
 use Rattle.tunnel.specs.Moves.{advanced, next}
 use Rattle.travelling.specs.Travelling.{WithOne, placed_at, traveller}
@@ -30,7 +30,7 @@ module _ (s : SwitchValue) (near : ℕ) (ports : Ports) (t : Traveller) where
   abbrev items_by : ℕ → Option ℕ → Moved → List Item
   items_by number found m =
       turned_items t.tunnel.packet s.number found m.end m.tunnel.route
-      ++ ended_items number (counted s) near ports (record t { tunnel = m.tunnel }) m.end
+      ++ ended_items number (call_counted s) near ports (record t { tunnel = m.tunnel }) m.end
 
   module _ (onward : Option ℕ) (none : link_found_down near (next t.tunnel) ≡ None)
       (onward_is : next t.tunnel ≡ onward) where
@@ -45,18 +45,18 @@ module _ (s : SwitchValue) (near : ℕ) (ports : Ports) (t : Traveller) where
         ap (λ found. items_by number found (hopped s near t.tunnel)) none
         ∙ ap (items_by number None) hopped_is
 
-    posts_are : hop_posts s near ports t ≡ ended_posts (counted s) near ports
+    posts_are : hop_posts s near ports t ≡ ended_posts (call_counted s) near ports
         (record t { tunnel = (moved t.tunnel onward).tunnel }) (moved t.tunnel onward).end
-    posts_are = ap (λ (m : Moved). ended_posts (counted s) near ports
+    posts_are = ap (λ (m : Moved). ended_posts (call_counted s) near ports
         (record t { tunnel = m.tunnel }) m.end) hopped_is
 
-    traveller_is : hop_traveller s near ports t ≡ ended_traveller (counted s) near ports
+    traveller_is : hop_traveller s near ports t ≡ ended_traveller (call_counted s) near ports
         (record t { tunnel = (moved t.tunnel onward).tunnel }) (moved t.tunnel onward).end
-    traveller_is = ap (λ (m : Moved). ended_traveller (counted s) near ports
+    traveller_is = ap (λ (m : Moved). ended_traveller (call_counted s) near ports
         (record t { tunnel = m.tunnel }) m.end) hopped_is
 
-    switch_is : hopped_switch s near t ≡ ended_switch (counted s) (moved t.tunnel onward).end
-    switch_is = ap (λ (m : Moved). ended_switch (counted s) m.end) hopped_is
+    switch_is : hopped_switch s near t ≡ ended_switch (call_counted s) (moved t.tunnel onward).end
+    switch_is = ap (λ (m : Moved). ended_switch (call_counted s) m.end) hopped_is
 
   -- over a usable link
   module _ (other : ℕ) (free : is_free near (next t.tunnel) ≡ true)
@@ -75,7 +75,7 @@ module _ (s : SwitchValue) (near : ℕ) (ports : Ports) (t : Traveller) where
         ≡ Some (record t { tunnel = advanced t.tunnel })
     move_traveller = traveller_is (Some other) none_met next_is
 
-    pub move_switch : hopped_switch s near t ≡ counted s
+    pub move_switch : hopped_switch s near t ≡ call_counted s
     move_switch = switch_is (Some other) none_met next_is
 
   -- at the end of its route
@@ -87,16 +87,16 @@ module _ (s : SwitchValue) (near : ℕ) (ports : Ports) (t : Traveller) where
     last_end = ap (λ (m : Moved). m.end) (hopped_is None none_last last_is)
 
     pub last_items : (number : ℕ)
-        → hop_written number s near ports t ≡ arrival_items number (counted s) near ports t
+        → hop_written number s near ports t ≡ arrival_items number (call_counted s) near ports t
     last_items = items_are None none_last last_is
 
-    pub last_posts : hop_posts s near ports t ≡ arrival_posts (counted s) near ports t
+    pub last_posts : hop_posts s near ports t ≡ arrival_posts (call_counted s) near ports t
     last_posts = posts_are None none_last last_is
 
-    pub last_traveller : hop_traveller s near ports t ≡ arrival (counted s) near ports t
+    pub last_traveller : hop_traveller s near ports t ≡ arrival (call_counted s) near ports t
     last_traveller = traveller_is None none_last last_is
 
-    pub last_switch : hopped_switch s near t ≡ counted (counted s)
+    pub last_switch : hopped_switch s near t ≡ call_counted (call_counted s)
     last_switch = switch_is None none_last last_is
 
 -- what holds of the packet that was looked up holds of any that is there
@@ -111,7 +111,7 @@ of_kept P there kept is holds t its =
 pub move_hops : {T E : Type 0} (r : Result T E) (s : SwitchValue) (near : ℕ) (ports : Ports)
     (t : Traveller) (old new : Log) (asked : SwitchValue) (packet other : ℕ)
     → Some t ≡ traveller old.travelling packet → t.tunnel.packet ≡ packet
-    → is_free near (next t.tunnel) ≡ true → next t.tunnel ≡ Some other → asked ≡ counted s
+    → is_free near (next t.tunnel) ≡ true → next t.tunnel ≡ Some other → asked ≡ call_counted s
     → OnOk r (new.journal ≡ old.journal ++ item.Hopped packet other ∷ [])
     → OnOk r (WithOne old.travelling packet (option_map (placed_at (t.tunnel.place + 1))
     (traveller old.travelling packet)) new.travelling)
@@ -140,7 +140,7 @@ move_hops r s near ports t old new asked packet other there number free is count
 -- it arrived
 pub last_hops : {T E : Type 0} (r : Result T E) (s mid : SwitchValue) (near : ℕ) (ports : Ports)
     (t : Traveller) (old new : Log) (asked : SwitchValue)
-    → next t.tunnel ≡ None → mid ≡ counted s → OnOk r (asked ≡ counted mid)
+    → next t.tunnel ≡ None → mid ≡ call_counted s → OnOk r (asked ≡ call_counted mid)
     → OnOk r (new.journal
     ≡ old.journal ++ arrival_items (length old.bag + 1) mid near ports t)
     → OnOk r (new.bag ≡ old.bag ++ arrival_posts mid near ports t)
@@ -162,13 +162,13 @@ last_hops r s mid near ports t old new asked is counts counts_on written posted 
           travels;
       part = on_err_weaker r (λ some. subst (λ js. IsPart old.journal js new.journal) items some)
           part;
-      counted = on_ok_weaker r (λ grown. grown ∙ ap counted counts
+      counted = on_ok_weaker r (λ grown. grown ∙ ap call_counted counts
           ∙ sym (last_switch s near ports t is)) counts_on;
     }
 
 -- what a switch needs that was asked once more
 pub authority_on : (s mid : SwitchValue) (near : ℕ) (ports : Ports) (t : Traveller)
-    → next t.tunnel ≡ None → mid ≡ counted s
+    → next t.tunnel ≡ None → mid ≡ call_counted s
     → ((hopped s near t.tunnel).end ≡ Arrive → IsAtAuthority s t.tunnel.header t.tunnel.leg)
     → IsAtAuthority mid t.tunnel.header t.tunnel.leg
 authority_on s mid near ports t is counts at =
@@ -177,5 +177,5 @@ authority_on s mid near ports t is counts at =
 
 -- the switch was counted exactly where it answered so
 pub counted_where : (s mid : SwitchValue) (b : Bool) → b ≡ true
-    → mid ≡ (if b then counted s else s) → mid ≡ counted s
-counted_where s mid b is after = after ∙ ap (λ t. if t then counted s else s) is
+    → mid ≡ (if b then call_counted s else s) → mid ≡ call_counted s
+counted_where s mid b is after = after ∙ ap (λ t. if t then call_counted s else s) is

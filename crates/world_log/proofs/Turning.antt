@@ -5,7 +5,7 @@ use Rattle.journal.specs.declared.item.Item.{Item}
 use Rattle.net_file.specs.declared.ports.Ports.{Ports}
 use Rattle.switch_core.specs.Answering.{IsAtAuthority}
 use Rattle.switch_core.specs.Moving.{Moved, link_found_down, hopped}
-use Rattle.switch_core.specs.State.{SwitchValue, counted}
+use Rattle.switch_core.specs.State.{SwitchValue, call_counted}
 use Rattle.switch_core.specs.declared.answers.HopEnd.{HopEnd}
 use Rattle.switch_core.specs.declared.answers.HopEnd.TheVariants as hop
 use Rattle.tunnel.specs.Moves.{next}
@@ -95,7 +95,7 @@ pub record HopAnswer : Type 0 where
   pub here : ℕ
   pub found : Option ℕ
   pub end : HopEnd
-  pub after : now_asked ≡ counted asked
+  pub after : now_asked ≡ call_counted asked
   pub moved_it : tunnel ≡ (hopped asked near t.tunnel).tunnel
   pub here_is : here ≡ asked.number
   pub found_is : found ≡ link_found_down near (next t.tunnel)
@@ -165,9 +165,9 @@ module _ (a : HopAnswer) where
       ∙ ap (λ items. turned_items packet a.asked.number (link_found_down a.near (next a.t.tunnel))
       m.end m.tunnel.route ++ items)
       (ap (λ u. ended_items number u a.near a.ports now a.end) a.after
-      ∙ ap (λ (u : TunnelValue). ended_items number (counted a.asked) a.near a.ports
+      ∙ ap (λ (u : TunnelValue). ended_items number (call_counted a.asked) a.near a.ports
       (record a.t { tunnel = u }) a.end) a.moved_it
-      ∙ ap (ended_items number (counted a.asked) a.near a.ports
+      ∙ ap (ended_items number (call_counted a.asked) a.near a.ports
       (hopped_traveller a.asked a.near a.t)) a.end_is)
 
   -- and where the packet is
@@ -176,7 +176,7 @@ module _ (a : HopAnswer) where
       ≡ hop_traveller a.asked a.near a.ports a.t
   hop_traveller_is =
       ap (λ u. ended_traveller u a.near a.ports now a.end) a.after
-      ∙ ap (λ (u : TunnelValue). ended_traveller (counted a.asked) a.near a.ports
+      ∙ ap (λ (u : TunnelValue). ended_traveller (call_counted a.asked) a.near a.ports
       (record a.t { tunnel = u }) a.end) a.moved_it
-      ∙ ap (ended_traveller (counted a.asked) a.near a.ports
+      ∙ ap (ended_traveller (call_counted a.asked) a.near a.ports
       (hopped_traveller a.asked a.near a.t)) a.end_is

@@ -9,7 +9,7 @@ use Rattle.net_file.specs.declared.ports.Ports.{Ports}
 use Rattle.switch_core.specs.Answering.{arrived, entered, incoming}
 use Rattle.switch_core.specs.Ends.{around}
 use Rattle.switch_core.specs.Moving.{link_found_down, hopped}
-use Rattle.switch_core.specs.State.{SwitchValue, counted}
+use Rattle.switch_core.specs.State.{SwitchValue, call_counted}
 use Rattle.switch_core.specs.declared.answers.Entered.{Entered}
 use Rattle.switch_core.specs.declared.answers.HopEnd.{HopEnd}
 use Rattle.switch_core.specs.declared.answers.HopEnd.TheVariants as hop
@@ -84,7 +84,7 @@ IsEnded s near ports t (hop.Stuck cause) before after = WithOne before t.tunnel.
 
 -- the switch is asked once more where it arrives
 abbrev pub ended_switch : SwitchValue → HopEnd → SwitchValue
-ended_switch s hop.Arrive = counted s
+ended_switch s hop.Arrive = call_counted s
 ended_switch s _ = s
 
 -- the packet behind the switch's move
@@ -97,11 +97,11 @@ hop_written number s near ports t =
     let moved = hopped s near t.tunnel in
     turned_items t.tunnel.packet s.number (link_found_down near (next t.tunnel)) moved.end
     moved.tunnel.route
-    ++ ended_items number (counted s) near ports (hopped_traveller s near t) moved.end
+    ++ ended_items number (call_counted s) near ports (hopped_traveller s near t) moved.end
 
 abbrev pub hop_posts : SwitchValue → ℕ → Ports → Traveller → List Post
 hop_posts s near ports t =
-    ended_posts (counted s) near ports (hopped_traveller s near t) (hopped s near t.tunnel).end
+    ended_posts (call_counted s) near ports (hopped_traveller s near t) (hopped s near t.tunnel).end
 
 abbrev pub ended_traveller : SwitchValue → ℕ → Ports → Traveller → HopEnd → Option Traveller
 ended_traveller s near ports t hop.Arrive = arrival s near ports t
@@ -110,10 +110,10 @@ ended_traveller s near ports t (hop.Stuck cause) = None
 
 abbrev pub hop_traveller : SwitchValue → ℕ → Ports → Traveller → Option Traveller
 hop_traveller s near ports t =
-    ended_traveller (counted s) near ports (hopped_traveller s near t) (hopped s near t.tunnel).end
+    ended_traveller (call_counted s) near ports (hopped_traveller s near t) (hopped s near t.tunnel).end
 
 abbrev pub hopped_switch : SwitchValue → ℕ → Traveller → SwitchValue
-hopped_switch s near t = ended_switch (counted s) (hopped s near t.tunnel).end
+hopped_switch s near t = ended_switch (call_counted s) (hopped s near t.tunnel).end
 
 -- what a hop leaves: all of its items and posts, the packet where it is then, and the switch that
 -- was asked; or a part of the items, where memory ran out

@@ -2,7 +2,7 @@ ghost use Rattle.std.specs.Prelude.{◌≡◌, ◌+◌, ◌-◌, ◌^◌, ◌<�
 ghost use Rattle.frame_laws.specs.Feeding.{HasShortSpelling};
 ghost use Rattle.switch_core.specs.Answering.{CanLookUp, IsAtAuthority};
 ghost use Rattle.switch_core.specs.Moving.{hopped};
-ghost use Rattle.switch_core.specs.State.{counted, serves};
+ghost use Rattle.switch_core.specs.State.{call_counted, serves};
 ghost use Rattle.switch_core.specs.declared.answers.HopEnd.TheVariants.{Arrive};
 ghost use Rattle.switch_core.specs.Verdicts.{answer_of, arrived_as, entered_as};
 ghost use Rattle.world_log.specs.Outcomes.{answer_as, packet_standing};
@@ -49,7 +49,7 @@ pub fn enter(
         (entered_items (length log.old.bag + 1)
         (coming_in packet header.now switch.old.number)
         (entry switch.old near ports.now packet header.now)) log.new.journal) }
-    ensures counted { switch.new ≡ counted switch.old }
+    ensures counted { switch.new ≡ call_counted switch.old }
 {
     let number = switch.number();
     let at = Standing {
@@ -369,7 +369,7 @@ fn arrive(
     ensures part { OnErr result (IsPart log.old.journal
         (arrival_items (length log.old.bag + 1) switch.old near ports.now kept.now)
         log.new.journal) }
-    ensures counted { OnOk result (switch.new ≡ counted switch.old) }
+    ensures counted { OnOk result (switch.new ≡ call_counted switch.old) }
 {
     let at = kept.standing(switch.number())?;
     let received = switch.receive(&at.header, at.ingress, kept.leg(), ports);

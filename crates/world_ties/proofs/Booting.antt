@@ -11,6 +11,7 @@ use Rattle.control_ties.proofs.CallerLemmas.{steps_leave}
 use Rattle.controller.specs.declared.sends.Act.TheVariants.{Post as PostAct}
 use Rattle.ctrl_msg.specs.declared.message.Message.{Message}
 use Rattle.ctrl_msg.specs.declared.message.Body.TheVariants.{Hello}
+use Rattle.ctrl_msg.specs.Kinds.{to_controller}
 use Rattle.journal.specs.declared.item.Item.{Item}
 use Rattle.journal.specs.declared.item.Item.TheVariants as item
 use Rattle.net_file.specs.Owners.{links_of}
@@ -28,7 +29,7 @@ use Rattle.switch_ties.proofs.Links.{kept_is, link_ties}
 use Rattle.update_machine.specs.Boots.{boot_of, is_up, tells_boot}
 use Rattle.boot_laws.specs.ItemCauses.{HasItemCause}
 use Rattle.update_machine.specs.Causes.{HaveCauses}
-use Rattle.update_machine.specs.Deliveries.{has_changed, to_controller}
+use Rattle.update_machine.specs.Deliveries.{has_changed}
 use Rattle.update_machine.specs.Full.{HasRoom}
 use Rattle.update_machine.specs.Links.{is_link_up, is_usable, serves, tells_serving}
 use Rattle.update_machine.specs.Messages.{next_message, sends, sent_from}

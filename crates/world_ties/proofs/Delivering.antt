@@ -2,7 +2,7 @@
 use Rattle.std.proofs.Common.{ℕ, ◌≡◌, Bool, true, false, if◌then◌else◌, Option, Some, None, List, [], ◌∷◌, ◌++◌, refl, ap, sym, subst, ◌∙◌, append_assoc, length}
 use Rattle.std.specs.Prelude.{IfSome, IsFalse, not, ◌&&◌, is_some, option_map}
 use Rattle.std.specs.Option.{option_and_then}
-use Rattle.bag.specs.Posts.{IsMessageOf, Post, framed, is_deliverable as is_deliverable_in, remembered, with_forgotten}
+use Rattle.bag.specs.Posts.{IsMessageOf, Post, framed, is_post_deliverable, remembered, with_forgotten}
 use Rattle.bag.proofs.Framed.{known_by_frames}
 use Rattle.ctrl_msg.specs.declared.message.Message.{Message}
 use Rattle.journal.specs.declared.item.Item.{Item}
@@ -31,7 +31,7 @@ flagged was gone o =
     option_map (λ (m : Message). (framed m, record { delivered = was; forgotten = gone })) o
 
 pub deliverable_as : (journal : List Item) (posts : List Post) (n : ℕ) → IsBagOf journal posts
-    → is_deliverable journal n ≡ is_deliverable_in posts n
+    → is_deliverable journal n ≡ is_post_deliverable posts n
 unfolding is_deliverable post_in
 deliverable_as journal posts n bag =
     sym (ap (λ o. is_some (option_and_then remembered o)) (bag.each n)
@@ -115,7 +115,7 @@ nothing_tied control setting journal switches before count row step tied may unc
 pub forgotten_tied : (control : Control) (setting : Setting) (journal : List Item)
     (switches : List SwitchValue) (before : Travellers) (count row n : ℕ)
     → AreTied setting journal switches before count control → IsStep setting.net (length setting.policies) (Forget n)
-    → is_deliverable_in control.posts n ≡ true
+    → is_post_deliverable control.posts n ≡ true
     → (piece setting journal row (Forget n)
     ≡ item.Row row (Forget n) ∷ item.Forgotten n ∷ [])
     × AreTied setting (grown journal row (Forget n) (item.Forgotten n)) switches before count
@@ -153,7 +153,7 @@ forgotten_tied control setting journal switches before count row n tied may ther
 pub unforgotten : (control : Control) (setting : Setting) (journal : List Item)
     (switches : List SwitchValue) (before : Travellers) (count row n : ℕ)
     → AreTied setting journal switches before count control → IsStep setting.net (length setting.policies) (Forget n)
-    → is_deliverable_in control.posts n ≡ false
+    → is_post_deliverable control.posts n ≡ false
     → (piece setting journal row (Forget n) ≡ item.Row row (Forget n) ∷ nothing)
     × AreTied setting (grown journal row (Forget n) item.Nothing) switches before count control
 unfolding AreTied

@@ -4,7 +4,7 @@ use Rattle.std.proofs.Common.{ℕ, ◌≡◌, ◌+◌, ◌<◌, true, false, Lis
 use Rattle.control_ties.specs.Written.{AreWritten}
 use Rattle.control_ties.proofs.CallerLemmas.{confirms}
 use Rattle.controller.specs.Controller.{ControllerValue, SettlesWith}
-use Rattle.controller.specs.Sends.{settling}
+use Rattle.controller.specs.Sends.{settling_acts}
 use Rattle.controller.specs.declared.sends.Act.{Act}
 use Rattle.journal.specs.declared.item.Item.{Item}
 use Rattle.journal.specs.declared.item.Item.TheVariants as item
@@ -90,7 +90,7 @@ module _ (control : Control) (setting : Setting) (journal : List Item)
       (settles : SettlesWith (at_switch s after_over control.controller.marks)
       control.controller.plans new) where
     abbrev acts : List Act
-    acts = settling (at_switch s after_over control.controller.marks) new.marks
+    acts = settling_acts (at_switch s after_over control.controller.marks) new.marks
 
     abbrev first : List Item
     first = item.Row row (Confirm s) ∷ item.OverNow s ∷ []

@@ -3,7 +3,7 @@ use Rattle.std.proofs.Common.{ℕ, ◌≡◌, ◌+◌, ◌<◌, ◌==◌, Bool, 
 use Rattle.std.specs.Prelude.{is_some, ◌||◌}
 use Rattle.std.specs.Option.{option_map_or}
 use Rattle.std.proofs.lemmas.List.{length-set}
-use Rattle.bag.specs.Posts.{IsMessageOf, Post, is_deliverable as is_deliverable_in, posted, with_delivered, with_status}
+use Rattle.bag.specs.Posts.{IsMessageOf, Post, is_post_deliverable, posted, with_delivered, with_status}
 use Rattle.bag.specs.Deliveries.{delivered}
 use Rattle.bag.proofs.Numbered.{length_changed}
 use Rattle.control_ties.specs.Written.{AreWritten}
@@ -13,18 +13,19 @@ use Rattle.controller.specs.Sends.{NamesThere, marks_after, hearing}
 use Rattle.controller.specs.declared.sends.Act.{Act}
 use Rattle.controller.specs.declared.sends.Act.TheVariants.{Post as PostAct}
 use Rattle.ctrl_msg.specs.declared.message.Message.{Message}
+use Rattle.ctrl_msg.specs.Kinds.{to_controller}
 use Rattle.ctrl_msg.specs.declared.message.Receiver.TheVariants as receiver
 use Rattle.journal.specs.declared.item.Item.{Item}
 use Rattle.journal.specs.declared.item.Item.TheVariants as item
 use Rattle.steps.specs.declared.step.Step.TheVariants.{Deliver}
-use Rattle.switch_core.specs.Hearing.{heard, opened, replies}
+use Rattle.switch_core.specs.Hearing.{with_message, opened, replies}
 use Rattle.switch_core.specs.State.{SwitchValue}
 use Rattle.switch_ties.specs.Hearing.{HearsShut}
 use Rattle.switch_ties.specs.SwitchOf.{switch_of}
 use Rattle.switch_ties.proofs.Delivered.{hear_ties}
 use Rattle.switch_ties.proofs.Links.{kept_is}
 use Rattle.update_machine.specs.Concerns.{is_message_to, is_message_to_controller}
-use Rattle.update_machine.specs.Deliveries.{delivery_items, to_controller}
+use Rattle.update_machine.specs.Deliveries.{delivery_items}
 use Rattle.update_machine.specs.LinkMasks.{near}
 use Rattle.update_machine.specs.Messages.{is_deliverable, is_to_controller, next_message, sent_from}
 use Rattle.update_machine.specs.Pieces.{deliver_items, nothing, piece}
@@ -78,7 +79,7 @@ none_piece setting journal row n may = ap (delivered_if setting journal row n) m
 pub undelivered : (control : Control) (setting : Setting) (journal : List Item)
     (switches : List SwitchValue) (before : Travellers) (count row n : ℕ)
     → AreTied setting journal switches before count control → IsStep setting.net (length setting.policies) (Deliver n)
-    → is_deliverable_in control.posts n ≡ false
+    → is_post_deliverable control.posts n ≡ false
     → (piece setting journal row (Deliver n) ≡ item.Row row (Deliver n) ∷ nothing)
     × AreTied setting (grown journal row (Deliver n) item.Nothing) switches before count control
 unfolding AreTied
@@ -245,7 +246,7 @@ module _ (control : Control) (setting : Setting) (journal : List Item)
     (may : IsStep setting.net (length setting.policies) (Deliver n)) (there : IsMessageOf control.posts n message)
     (to : message.to ≡ receiver.Switch s) (within : s < length switches)
     (own_at : own ≡ get_or switches s own) (near_is : mask ≡ near setting journal s)
-    (changed_is : changed ≡ heard own n message.body)
+    (changed_is : changed ≡ with_message own n message.body)
     (shut : opened own message.body ≡ None) where
   mine : IsThere setting journal control.posts row n message
   mine = is_there control setting journal switches before count row n message tied there
@@ -303,7 +304,7 @@ module _ (control : Control) (setting : Setting) (journal : List Item)
     each = λ q d below.
         one_changes setting journal (grown journal row (Deliver n) (item.Delivered n)) switches s q
         changed d (s == q) refl within
-        (changed_is ∙ ap (λ w. heard w n message.body) own_is ∙ sym (hears_shut.record_of row))
+        (changed_is ∙ ap (λ w. with_message w n message.body) own_is ∙ sym (hears_shut.record_of row))
         (λ other. not_to setting journal row n q message mine.sent
         (ap (is_to_switch q) to ∙ other)) (tied.each q d below);
     bag = mine.bag;

@@ -8,7 +8,7 @@ use Rattle.journal.specs.declared.item.Item.TheVariants as item
 use Rattle.net_file.specs.declared.ports.Ports.{Ports}
 use Rattle.steps.specs.declared.step.Step.TheVariants.{Hop}
 use Rattle.switch_core.specs.Moving.{hopped}
-use Rattle.switch_core.specs.State.{SwitchValue, counted}
+use Rattle.switch_core.specs.State.{SwitchValue, call_counted}
 use Rattle.switch_core.specs.declared.answers.HopEnd.{HopEnd}
 use Rattle.switch_ties.specs.SwitchOf.{switch_of}
 use Rattle.update_machine.specs.Messages.{next_message}
@@ -88,7 +88,7 @@ module _ (control : Control) (setting : Setting) (journal : List Item)
     each = λ k d within.
         one_changes setting journal (journal ++ all) switches s k (hopped_switch w near t) d
         (s == k) refl there
-        (ap (λ (u : SwitchValue). ended_switch (counted u) end) own
+        (ap (λ (u : SwitchValue). ended_switch (call_counted u) end) own
         ∙ sym (hop_called setting journal row i t s near w ports can s true (eq-eqb s s refl)))
         (hop_called setting journal row i t s near w ports can k false) (each k d within);
     travels = λ q. travels_then after with q (packets q);

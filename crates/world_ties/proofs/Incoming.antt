@@ -10,7 +10,7 @@ use Rattle.journal.specs.declared.item.Item.{Item}
 use Rattle.journal.specs.declared.item.Item.TheVariants as item
 use Rattle.steps.specs.declared.step.Step.{Step}
 use Rattle.steps.specs.declared.step.Step.TheVariants.{Packet as PacketStep}
-use Rattle.switch_core.specs.State.{SwitchValue, counted}
+use Rattle.switch_core.specs.State.{SwitchValue, call_counted}
 use Rattle.switch_core.specs.declared.answers.Entered.{Entered}
 use Rattle.switch_ties.specs.SwitchOf.{switch_of}
 use Rattle.update_machine.specs.Folds.{count_of}
@@ -21,7 +21,7 @@ use Rattle.steps.specs.Steps.{IsStep}
 use Rattle.update_machine.specs.Setting.{Setting}
 use Rattle.update_machine.specs.Ways.{targets_of}
 use Rattle.way_laws.specs.OnWay.{IsUnknown}
-use Rattle.way_laws.specs.Words.{words_of}
+use Rattle.way_laws.specs.Facts.{what_is_known}
 use Rattle.world_log.specs.Packets.{coming_in, entry}
 use Rattle.world_ties.specs.Tied.{AreTied, Control}
 use Rattle.travelling.specs.Travelling.{Travellers, WithOne, traveller}
@@ -94,7 +94,7 @@ module _ (control : Control) (setting : Setting) (journal : List Item)
   is_new : next_packet journal ≡ i
   is_new = counted_is control setting journal switches before count tied
 
-  unknown : IsUnknown (words_of journal i)
+  unknown : IsUnknown (what_is_known journal i)
   unknown = knows.kept.unknown i (omega (arith, is_new))
 
   comes : ComesTo setting journal i s header own near ports
@@ -128,17 +128,17 @@ module _ (control : Control) (setting : Setting) (journal : List Item)
   steps_of : (after : Travellers) → s < length switches
       → own ≡ switch_of setting journal s
       → WithOne before i (entered_traveller answer) after
-      → Steps setting journal row taken items switches (set switches s (counted own)) after
+      → Steps setting journal row taken items switches (set switches s (call_counted own)) after
   steps_of after there own_is with = record {
     may = may;
     piece_is = piece_is;
     not_told = refl;
     sends = sends;
-    as_many = length-set switches s (counted own);
+    as_many = length-set switches s (call_counted own);
     each = λ q d below.
-        one_changes setting journal (journal ++ first ∷ items) switches s q (counted own) d
+        one_changes setting journal (journal ++ first ∷ items) switches s q (call_counted own) d
         (s == q) refl there
-        (ap counted own_is ∙ sym (come_called setting journal row number s (coming_in i header s) answer
+        (ap call_counted own_is ∙ sym (come_called setting journal row number s (coming_in i header s) answer
         true sends (eq-eqb s s refl)))
         (come_called setting journal row number q (coming_in i header s) answer false sends)
         (switches_are control setting journal switches before count tied q d below);
@@ -168,7 +168,7 @@ module _ (control : Control) (setting : Setting) (journal : List Item)
       (numbered control setting journal switches before count tied)
 
   pub come_tied : (after : Travellers) (changed : SwitchValue) → s < length switches
-      → own ≡ switch_of setting journal s → changed ≡ counted own
+      → own ≡ switch_of setting journal s → changed ≡ call_counted own
       → WithOne before (count + 1) (entered_traveller
       (entry own (slice_index control.near s) ports (count + 1) header)) after
       → AreTied setting (journal ++ item.Row row (PacketStep s header)
@@ -180,9 +180,9 @@ module _ (control : Control) (setting : Setting) (journal : List Item)
       })
   come_tied after changed there own_is changed_is with =
       let sum = sum_by-cons (λ x. cond (is_packet x) 1 0) first items in
-      let kept : AreTied setting (journal ++ first ∷ items) (set switches s (counted own)) after i
+      let kept : AreTied setting (journal ++ first ∷ items) (set switches s (call_counted own)) after i
       (record control { posts = control.posts ++ posts_in items }) =
-      tied_more control setting journal switches (set switches s (counted own)) before after
+      tied_more control setting journal switches (set switches s (call_counted own)) before after
       count i row taken items tied (steps_of after there own_is with)
       (omega (arith, sum, once_in)) in
       subst (λ n. AreTied setting (journal ++ first ∷ entered_items n at answer)
@@ -201,6 +201,6 @@ module _ (control : Control) (setting : Setting) (journal : List Item)
         posts = control.posts
             ++ entered_posts (coming_in i header s) answer;
       })) (sym changed_is)
-      (subst (λ more. AreTied setting (journal ++ first ∷ items) (set switches s (counted own))
+      (subst (λ more. AreTied setting (journal ++ first ∷ items) (set switches s (call_counted own))
       after i (record control { posts = control.posts ++ more }))
       (entered_sends number (coming_in i header s) answer).1 kept)))

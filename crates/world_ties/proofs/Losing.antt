@@ -11,7 +11,7 @@ use Rattle.update_machine.specs.Travels.{travels}
 use Rattle.update_machine.specs.Pieces.{lose_items, nothing, piece}
 use Rattle.steps.specs.Steps.{IsStep}
 use Rattle.update_machine.specs.Setting.{Setting}
-use Rattle.way_laws.specs.Words.{words_of}
+use Rattle.way_laws.specs.Facts.{what_is_known}
 use Rattle.way_laws.proofs.Words.{words_grow}
 use Rattle.world_ties.specs.Tied.{AreTied, Control}
 use Rattle.log_ties.specs.Travellers.{traveller_in}
@@ -23,7 +23,7 @@ use Rattle.log_ties.proofs.Words.{traveller_along}
 -- a row tells nothing of a packet
 pub travels_on : (journal : List Item) (row i : ℕ) (step : Step)
     → travels (journal ++ item.Row row step ∷ []) i ≡ travels journal i
-unfolding words_of
+unfolding what_is_known
 travels_on journal row i step = ap (λ words. words.travels)
     (words_grow i journal (item.Row row step))
 

@@ -9,7 +9,7 @@ use Rattle.update_machine.specs.Concerns.{NoneConcern}
 use Rattle.update_machine.specs.Folds.{count_of}
 use Rattle.update_machine.specs.Marks.{retired_mark}
 use Rattle.update_machine.specs.Packets.{is_packet}
-use Rattle.way_laws.specs.Words.{PacketWords, words_after}
+use Rattle.way_laws.specs.Facts.{PacketFacts, facts_after}
 use Rattle.log_ties.proofs.Others.{NoneName, unnamed}
 use Rattle.world_ties.proofs.Standing.{among}
 use Rattle.log_ties.proofs.Words.{Targets, traveller_by, words_along}
@@ -37,57 +37,57 @@ losts_bring_none (k ∷ packets) =
 -- ---- the packets on their way
 
 -- a packet that travels no more
-abbrev ended : PacketWords → PacketWords
-ended words = record words { travels = false }
+abbrev ended : PacketFacts → PacketFacts
+ended facts = record facts { travels = false }
 
 -- those among them travel no more, and the rest is said of no packet
 words_lost : (i : ℕ) (before : List Item) (packets : List ℕ) (more : List Item)
-    (words : PacketWords) → NoneName i more
-    → words_along i before (map item.Lost packets ++ more) words
-    ≡ (if among i packets then ended words else words)
-words_lost i before [] more words none = unnamed i before more words none
-words_lost i before (k ∷ packets) more words none =
+    (facts : PacketFacts) → NoneName i more
+    → words_along i before (map item.Lost packets ++ more) facts
+    ≡ (if among i packets then ended facts else facts)
+words_lost i before [] more facts none = unnamed i before more facts none
+words_lost i before (k ∷ packets) more facts none =
     by_same (k == i) refl (λ now. words_lost i (before ++ item.Lost k ∷ []) packets more now none)
   where
     after : List Item
     after = before ++ item.Lost k ∷ []
 
-    still : (b : Bool) → (if b then ended (ended words) else ended words) ≡ ended words
+    still : (b : Bool) → (if b then ended (ended facts) else ended facts) ≡ ended facts
     still true = refl
     still false = refl
 
     by_same : (b : Bool) → (k == i) ≡ b
-        → ((now : PacketWords) → words_along i after (map item.Lost packets ++ more) now
+        → ((now : PacketFacts) → words_along i after (map item.Lost packets ++ more) now
         ≡ (if among i packets then ended now else now))
-        → words_along i before (item.Lost k ∷ map item.Lost packets ++ more) words
-        ≡ (if among i (k ∷ packets) then ended words else words)
+        → words_along i before (item.Lost k ∷ map item.Lost packets ++ more) facts
+        ≡ (if among i (k ∷ packets) then ended facts else facts)
     by_same true e rest =
         ap (λ b. words_along i after (map item.Lost packets ++ more)
-        (if b then words_after (retired_mark before) (item.Lost k) words else words)) e
-        ∙ rest (ended words)
+        (if b then facts_after (retired_mark before) (item.Lost k) facts else facts)) e
+        ∙ rest (ended facts)
         ∙ still (among i packets)
         ∙ sym (rw e refl)
     by_same false e rest =
         ap (λ b. words_along i after (map item.Lost packets ++ more)
-        (if b then words_after (retired_mark before) (item.Lost k) words else words)) e
-        ∙ rest words
+        (if b then facts_after (retired_mark before) (item.Lost k) facts else facts)) e
+        ∙ rest facts
         ∙ sym (rw e refl)
 
 -- a packet is gone where it is among them, behind items that don't name it
 pub traveller_lost : (targets : Targets) (i : ℕ) (before first : List Item) (packets : List ℕ)
-    (more : List Item) (words : PacketWords) → NoneName i first → NoneName i more
-    → traveller_by targets i (words_along i before (first ++ map item.Lost packets ++ more) words)
-    ≡ (if among i packets then None else traveller_by targets i words)
-traveller_lost targets i before [] packets more words none last =
-    ap (traveller_by targets i) (words_lost i before packets more words last)
+    (more : List Item) (facts : PacketFacts) → NoneName i first → NoneName i more
+    → traveller_by targets i (words_along i before (first ++ map item.Lost packets ++ more) facts)
+    ≡ (if among i packets then None else traveller_by targets i facts)
+traveller_lost targets i before [] packets more facts none last =
+    ap (traveller_by targets i) (words_lost i before packets more facts last)
     ∙ by_among (among i packets)
   where
-    by_among : (b : Bool) → traveller_by targets i (if b then ended words else words)
-        ≡ (if b then None else traveller_by targets i words)
+    by_among : (b : Bool) → traveller_by targets i (if b then ended facts else facts)
+        ≡ (if b then None else traveller_by targets i facts)
     by_among true = refl
     by_among false = refl
-traveller_lost targets i before (one ∷ first) packets more words none last =
+traveller_lost targets i before (one ∷ first) packets more facts none last =
     ap (λ b. traveller_by targets i (words_along i (before ++ one ∷ [])
     (first ++ map item.Lost packets ++ more)
-    (if b then words_after (retired_mark before) one words else words))) none.0
-    ∙ traveller_lost targets i (before ++ one ∷ []) first packets more words none.1 last
+    (if b then facts_after (retired_mark before) one facts else facts))) none.0
+    ∙ traveller_lost targets i (before ++ one ∷ []) first packets more facts none.1 last

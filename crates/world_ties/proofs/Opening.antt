@@ -12,7 +12,7 @@ use Rattle.journal.specs.declared.item.Item.TheVariants as item
 use Rattle.net_file.specs.Owners.{links_of}
 use Rattle.net_file.specs.declared.net.LinkRow.{LinkRow}
 use Rattle.steps.specs.declared.step.Step.TheVariants.{Deliver}
-use Rattle.switch_core.specs.Hearing.{heard, opened}
+use Rattle.switch_core.specs.Hearing.{with_message, opened}
 use Rattle.switch_core.specs.Life.{next_advert}
 use Rattle.switch_core.specs.State.{SwitchValue}
 use Rattle.switch_ties.specs.Hearing.{HearsOpening}
@@ -54,7 +54,7 @@ module _ (control : Control) (setting : Setting) (journal : List Item)
     (may : IsStep setting.net (length setting.policies) (Deliver n))
     (there : IsMessageOf control.posts n message)
     (to : message.to ≡ receiver.Switch s) (within : s < length switches)
-    (own_at : own ≡ get_or switches s own) (changed_is : changed ≡ heard own n message.body)
+    (own_at : own ≡ get_or switches s own) (changed_is : changed ≡ with_message own n message.body)
     (opens : opened own message.body ≡ Some stamp) where
   its : IsThere setting journal control.posts row n message
   its = is_there control setting journal switches before count row n message tied there
@@ -63,8 +63,8 @@ module _ (control : Control) (setting : Setting) (journal : List Item)
   unfolding AreTied
   own_is = own_at ∙ tied.each s own within
 
-  changed_so : changed ≡ heard (switch_of setting journal s) n message.body
-  changed_so = changed_is ∙ ap (λ w. heard w n message.body) own_is
+  changed_so : changed ≡ with_message (switch_of setting journal s) n message.body
+  changed_so = changed_is ∙ ap (λ w. with_message w n message.body) own_is
 
   abbrev told : List Item
   told = item.Delivered n ∷ item.Opened s stamp ∷ []

@@ -9,6 +9,7 @@ use Rattle.controller.specs.declared.sends.Act.{Act}
 use Rattle.controller.specs.declared.sends.Act.TheVariants as act
 use Rattle.ctrl_msg.specs.declared.message.Body.TheVariants.{Hello}
 use Rattle.ctrl_msg.specs.declared.message.Message.{Message}
+use Rattle.ctrl_msg.specs.Kinds.{to_controller}
 use Rattle.frame_laws.specs.Feeding.{HasShortSpelling}
 use Rattle.frame_laws.proofs.Lengths.{alone_short}
 use Rattle.journal.specs.declared.item.Item.{Item}
@@ -19,7 +20,6 @@ use Rattle.steps.specs.Steps.{IsStep}
 use Rattle.steps.specs.declared.step.Step.{Step}
 use Rattle.switch_core.specs.State.{SwitchValue}
 use Rattle.travelling.specs.Travelling.{Travellers}
-use Rattle.update_machine.specs.Deliveries.{to_controller}
 use Rattle.update_machine.specs.Folds.{last_told}
 use Rattle.update_machine.specs.Links.{message_of, tells_message}
 use Rattle.update_machine.specs.Pieces.{piece}

@@ -12,6 +12,7 @@ use Rattle.controller.specs.declared.sends.Act.{Act}
 use Rattle.controller.specs.declared.sends.Act.TheVariants.{Post}
 use Rattle.ctrl_msg.specs.declared.message.Body.TheVariants.{Hello}
 use Rattle.ctrl_msg.specs.declared.message.Message.{Message}
+use Rattle.ctrl_msg.specs.Kinds.{to_controller}
 use Rattle.failover.specs.declared.advert.Advert.{Advert}
 use Rattle.journal.specs.declared.item.Item.{Item}
 use Rattle.journal.specs.declared.item.Item.TheVariants as item
@@ -21,7 +22,7 @@ use Rattle.switch_ties.specs.SwitchOf.{switch_of}
 use Rattle.switch_ties.proofs.Links.{kept_is, link_ties}
 use Rattle.update_machine.specs.Adverts.{held_adverts}
 use Rattle.update_machine.specs.Boots.{boot_of, is_up}
-use Rattle.update_machine.specs.Deliveries.{advert_to, to_controller, switches_in}
+use Rattle.update_machine.specs.Deliveries.{advert_to, switches_in}
 use Rattle.update_machine.specs.LinkMasks.{near}
 use Rattle.update_machine.specs.Pieces.{nothing, piece, resent_by_switch}
 use Rattle.update_machine.specs.Setting.{Setting}

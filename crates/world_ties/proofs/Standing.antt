@@ -11,7 +11,7 @@ use Rattle.update_machine.specs.Packets.{is_packet, next_packet}
 use Rattle.update_machine.specs.Packets.{standing as place_of}
 use Rattle.update_machine.specs.Setting.{Setting}
 use Rattle.update_machine.specs.Travels.{is_at, packets_at, travels, travels_at}
-use Rattle.way_laws.specs.Words.{words_of}
+use Rattle.way_laws.specs.Facts.{what_is_known}
 use Rattle.way_laws.proofs.Rests.{numbered, ways_of_all}
 use Rattle.world_ties.specs.Tied.{AreTied, Control}
 use Rattle.log_ties.specs.Travellers.{traveller_in, traveller_of}
@@ -74,7 +74,7 @@ module _ (control : Control) (setting : Setting) (journal : List Item)
     (tied : AreTied setting journal switches before count control) where
   -- where a packet stands by its route, it stands by the journal
   same_place : (i : ℕ) → stands_at s (traveller before i) ≡ travels_at journal s i
-  unfolding AreTied traveller_in words_of
+  unfolding AreTied traveller_in what_is_known
   same_place i = by_travels (travels journal i) refl
     where
       by_travels : (b : Bool) → travels journal i ≡ b
@@ -91,7 +91,7 @@ module _ (control : Control) (setting : Setting) (journal : List Item)
           standing_of control setting journal switches before count i t tied some in
           let here : get_or t.tunnel.route t.tunnel.place 0 ≡ is.place =
           ap (λ (u : Traveller). get_or u.tunnel.route u.tunnel.place 0) is.is
-          ∙ got (words_of journal i).route (words_of journal i).hops is.place is.stands.here in
+          ∙ got (what_is_known journal i).route (what_is_known journal i).hops is.place is.stands.here in
           ap (stands_at s) some ∙ ap (λ k. k == s) here
           ∙ sym (ap (λ b. b && is_at s (place_of journal i)) on
           ∙ ap (is_at s) is.stands.stands)

@@ -9,13 +9,13 @@ use Rattle.five_tuple.specs.Header.{number_of}
 use Rattle.policy_rules.specs.Rules.{is_held}
 use Rattle.ternary.specs.Word.{WordValue, IsWord, holds}
 use Rattle.ternary.specs.Meets.{exact_word, free_of, is_fixed_of}
-use Rattle.cache_maker.specs.Differing.{is_told}
+use Rattle.cache_maker.specs.Differing.{differs_alone}
 use Rattle.cache_maker.specs.Independent.{IsIndependent, widen, widened}
 use Rattle.cache_maker.proofs.Independence.{exact_independent}
 use Rattle.cache_maker.proofs.Turns.{IsGiven, IsLeft, fewer, independent_at, left_at_first, left_next, lowest_is, word_at_last, word_is_sound}
 use Rattle.cache_maker.proofs.Widening.{widened_holds, widest}
 use Rattle.cache_maker.proofs.cache_word.widen.Goals as goal
-use Rattle.cache_maker.proofs.cache_word.widen.Goals.{then-not-is_told, else-not-is_told}
+use Rattle.cache_maker.proofs.cache_word.widen.Goals.{then-not-differs_alone, else-not-differs_alone}
 
 pub loop-untested-init : goal.loop-untested-init
 loop-untested-init c =
@@ -54,25 +54,25 @@ loop-untested-preserved c =
     let invariant = c.loop-untested.invariant in
     let lowest = lowest_is untested n (bit_at-trailing_zeros w128 untested (omega arith)
     (Fits-lt-pow c.loop-untested.auto.untested-fits)) in
-    let is = c.is_told.ensures ∙ ap (λ b. is_told c.number-number.result fixed b
+    let is = c.differs_alone.ensures ∙ ap (λ b. differs_alone c.number-number.result fixed b
     (take c.args.index c.args.rules.now)) alone in
     let freed = bit_xor fixed (2 ^ n) in
-    let made : c.if-not-is_told.fixed ≡ cond c.is_told.result fixed freed =
-    elim c.if-not-is_told.branch [
-      | then-not-is_told w ↦
-          let untold = w.if-not-is_told.true in
+    let made : c.if-not-differs_alone.fixed ≡ cond c.differs_alone.result fixed freed =
+    elim c.if-not-differs_alone.branch [
+      | then-not-differs_alone w ↦
+          let untold = w.if-not-differs_alone.true in
           w.fixed-is ∙ ap (λ b. bit_xor c.loop-untested.fixed b) alone
-          ∙ sym (cond-false c.is_told.result fixed freed
+          ∙ sym (cond-false c.differs_alone.result fixed freed
           (first_of (assumption untold, search (rules, not-true))))
-      | else-not-is_told w ↦
-          let told = w.if-not-is_told.false in
-          w.fixed-is ∙ sym (cond-true c.is_told.result fixed freed
+      | else-not-differs_alone w ↦
+          let told = w.if-not-differs_alone.false in
+          w.fixed-is ∙ sym (cond-true c.differs_alone.result fixed freed
           (first_of (assumption told, search (rules, not-false))))
     ] in
     record {
       given = invariant.given;
-      left = rw alone (left_next invariant.given invariant.left n lowest c.is_told.result
-          c.if-not-is_told.fixed is made);
+      left = rw alone (left_next invariant.given invariant.left n lowest c.differs_alone.result
+          c.if-not-differs_alone.fixed is made);
     }
 
 pub loop-untested-smaller : goal.loop-untested-smaller

@@ -17,10 +17,10 @@ pub loop-rest-preserved : goal.loop-rest-preserved
 unfolding least_in
 loop-rest-preserved c =
     row_goes_on c.args.neighbours.now c.args.down.now c.args.one c.args.within
-    c.loop-rest.row c.loop-rest.rest (least_in c.loop-rest.rest) _ _ c.loop-rest.invariant
+    c.loop-rest.mask c.loop-rest.rest (least_in c.loop-rest.rest) _ _ c.loop-rest.invariant
     (first_left c.loop-rest.rest c.loop-rest.invariant.rest_fits c.loop-rest-test.true)
     (least_lt c.loop-rest.rest (omega arith) c.loop-rest.invariant.rest_fits)
-    (c.only_if-row.ensures ∙ ap (λ b. only_if b (least_in c.loop-rest.rest)) c.is_link_to.ensures)
+    (c.only_if-mask.ensures ∙ ap (λ b. only_if b (least_in c.loop-rest.rest)) c.is_link_to.ensures)
     c.only_if-rest.ensures
 
 pub loop-rest-smaller : goal.loop-rest-smaller
@@ -30,4 +30,4 @@ loop-rest-smaller c =
 
 pub returns : goal.returns
 returns c = row_ends c.args.neighbours.now c.args.down.now c.args.one c.args.within
-    c.loop-rest.row c.loop-rest.rest (omega arith) c.loop-rest.invariant c.loop-rest-test.false
+    c.loop-rest.mask c.loop-rest.rest (omega arith) c.loop-rest.invariant c.loop-rest-test.false

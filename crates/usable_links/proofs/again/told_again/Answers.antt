@@ -1,7 +1,8 @@
 use Rattle.std.proofs.Common.{◌≡◌, ◌∷◌, ◌++◌, [], map, ap, sym, ◌∙◌, arith}
 use Rattle.ctrl_msg.specs.declared.message.Body.TheVariants.{Hello}
+use Rattle.ctrl_msg.specs.Kinds.{to_controller}
 use Rattle.switch_ties.specs.Links.{all_held}
-use Rattle.update_machine.specs.Deliveries.{advert_to, to_controller}
+use Rattle.update_machine.specs.Deliveries.{advert_to}
 use Rattle.usable_links.specs.Linking.{told_all_near}
 use Rattle.usable_links.proofs.Relinking.{again_all, again_below, again_none, near_none, near_step}
 use Rattle.usable_links.proofs.again.told_again.Goals as goal

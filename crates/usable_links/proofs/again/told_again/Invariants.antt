@@ -1,6 +1,6 @@
 use Rattle.std.proofs.Common.{◌≡◌, ◌∷◌}
 use Rattle.ctrl_msg.specs.declared.message.Body.TheVariants.{Hello}
-use Rattle.update_machine.specs.Deliveries.{to_controller}
+use Rattle.ctrl_msg.specs.Kinds.{to_controller}
 use Rattle.usable_links.proofs.Relinking.{again_below}
 use Rattle.usable_links.proofs.again.told_again.Given as goal
 

@@ -1,6 +1,6 @@
 use Rattle.std.proofs.Common.{sym, subst, ◌∙◌}
 use Rattle.wire.specs.declared.assembler.Spot.TheVariants.{Held, New}
-use Rattle.wire.specs.Frames.{count_of}
+use Rattle.wire.specs.Frames.{count_in_frame}
 use Rattle.wire.specs.Assembly.{IsAssembled, IsSpot}
 use Rattle.wire.proofs.Holding.{fed_held, fed_new}
 use Rattle.wire.proofs.assembler.feed.Goals as goal
@@ -11,7 +11,7 @@ returns-in-Held c =
     let f = c.args.frame.now in
     let r = c.message_of.result in
     let spot : IsSpot held f Held = subst (λ fs. IsSpot fs f Held) c.deref.ensures.value c.in-Held.ensures in
-    let answer : IsAssembled held (count_of f) r =
+    let answer : IsAssembled held (count_in_frame f) r =
     subst (λ n. IsAssembled held n r) c.count_of.ensures
     (subst (λ fs. IsAssembled fs c.count_of.result r) c.deref-in-Held.ensures.value c.message_of.ensures) in
     fed_held held f r c.requires spot answer

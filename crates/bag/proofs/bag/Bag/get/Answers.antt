@@ -2,7 +2,7 @@ use Rattle.std.proofs.Common.{◌≡◌, true, Option, List, sym, subst, ◌∙�
 use Rattle.std.specs.Prelude.{IfOk, IfSome, is_some}
 use Rattle.ctrl_msg.specs.declared.message.Message.{Message}
 use Rattle.bag.specs.Deliveries as statuses
-use Rattle.bag.specs.Posts.{IsMessageOf, Post, is_deliverable}
+use Rattle.bag.specs.Posts.{IsMessageOf, Post, is_post_deliverable}
 use Rattle.bag.proofs.Taken.{found_known, found_there}
 use Rattle.bag.proofs.Zipped.{deliverable_as}
 use Rattle.bag.proofs.bag.Bag.get.Goals as goal
@@ -17,7 +17,7 @@ is_there c =
 pub returns-then-may_be_delivered-clause-found : goal.returns-then-may_be_delivered-clause-found
 returns-then-may_be_delivered-clause-found c =
     subst (λ (posts : List Post). IfOk c.take.result (λ answer. is_some answer
-    ≡ is_deliverable posts c.args.number)) c.self.view_is
+    ≡ is_post_deliverable posts c.args.number)) c.self.view_is
     (found_known c.self.inside.frames c.self.inside.deliveries c.args.number c.self.invariant
     (is_there c) c.take.result c.take.ensures.none)
 

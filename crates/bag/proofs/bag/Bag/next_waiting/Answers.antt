@@ -1,6 +1,6 @@
 use Rattle.std.proofs.Common.{ap, sym, ◌∙◌}
 use Rattle.bag.specs.Deliveries as statuses
-use Rattle.bag.specs.Posts.{next_waiting}
+use Rattle.bag.specs.Posts.{next_waiting_post}
 use Rattle.bag.proofs.Zipped.{statuses_of_zip}
 use Rattle.bag.proofs.bag.Bag.next_waiting.Goals as goal
 
@@ -9,4 +9,4 @@ returns c =
     c.next_waiting.ensures
     ∙ ap (λ all. statuses.next_waiting all c.args.from)
     (sym (statuses_of_zip c.self.inside.frames c.self.inside.deliveries c.self.invariant))
-    ∙ ap (λ posts. next_waiting posts c.args.from) c.self.view_is
+    ∙ ap (λ posts. next_waiting_post posts c.args.from) c.self.view_is

@@ -3,7 +3,7 @@ use Rattle.std.specs.Prelude.{not}
 use Rattle.version_update.specs.Marks.{with_version}
 use Rattle.version_update.specs.Record.{is_over}
 use Rattle.controller.specs.Controller.{KeptPlan, ControllerValue, StaysController}
-use Rattle.controller.specs.Sends.{boot_recorded, install_act, those, settling, submitting}
+use Rattle.controller.specs.Sends.{boot_recorded, install_act, those, settling_acts, submitting}
 use Rattle.controller.proofs.Versions.{IsWhole, pushed_next, whole_more, stays_more}
 use Rattle.controller.proofs.controller.Controller.add.Goals as goal
 use Rattle.controller.proofs.controller.Controller.add.Goals.{After-settle}
@@ -46,7 +46,7 @@ returns-clause-sends c =
     let next : c.in_ok-version.version ≡ Next old.count = c.in_ok-version.ensures
     ∙ ap Next c.count.ensures.count in
     c.new-2.ensures ∙ c.in_ok-settle.ensures.acts _ c.add_version-settled.ensures.settled
-    ∙ ap (λ l. l ++ settling (with_version old) new)
+    ∙ ap (λ l. l ++ settling_acts (with_version old) new)
     (c.in_ok-acts.ensures ∙ ap
     (λ (version : KeptPlan). map (λ s. install_act s (boot_recorded old s) version)
     (those (λ known. not (is_over known.phase)) old.switches)) next)

@@ -3,7 +3,7 @@ use Rattle.ctrl_msg.specs.declared.message.Body.TheVariants.{Hello}
 use Rattle.version_update.specs.Marks.{at_switch, record_of}
 use Rattle.version_update.specs.Record.{hello_recorded, takes_hello}
 use Rattle.controller.specs.Controller.{ControllerValue, plans_from}
-use Rattle.controller.specs.Sends.{install_act, settling, hearing}
+use Rattle.controller.specs.Sends.{install_act, settling_acts, hearing}
 use Rattle.controller.proofs.Telling.{added, not_added}
 use Rattle.controller.proofs.Versions.{plans_twice, whole_at, settles_at, stays_at}
 use Rattle.controller.proofs.controller.Controller.hello.Goals as goal
@@ -53,7 +53,7 @@ returns c =
     let kept = c.settle.new.versions.items in
     let asked = takes_hello c.args.boot (record_of inside.marks s) in
     let all = map (install_act s c.args.boot) (plans_from marks.current kept) in
-    let told = settling (at_switch s change inside.marks) marks in
+    let told = settling_acts (at_switch s change inside.marks) marks in
     let base : c.settle.new.acts.items ≡ told = c.in_ok-settle.ensures.acts _
     c.hello-settled.ensures.settled ∙ ap (λ l. l ++ told) c.new-acts.ensures.items in
     let once : plans_from marks.current kept ≡ kept = ap (plans_from marks.current)

@@ -3,7 +3,7 @@ use Rattle.std.proofs.lemmas.Result.{IfOk-weaker}
 use Rattle.version_update.specs.Marks.{at_switch}
 use Rattle.version_update.specs.Record.{after_over}
 use Rattle.controller.specs.Controller.{ControllerValue}
-use Rattle.controller.specs.Sends.{settling}
+use Rattle.controller.specs.Sends.{settling_acts}
 use Rattle.controller.proofs.Versions.{whole_at, settles_at, stays_at}
 use Rattle.controller.proofs.controller.Controller.over.Goals as goal
 
@@ -22,7 +22,7 @@ returns c =
           c.over-settled.ensures.settled c.settled_sends.ensures.versions;
       sends = IfOk-weaker c.settled_sends.result _ _
           (λ sends is. is _ c.over-settled.ensures.settled
-          ∙ ap (λ (old : ControllerValue). settling (at_switch c.args.s change old.marks)
+          ∙ ap (λ (old : ControllerValue). settling_acts (at_switch c.args.s change old.marks)
           c.over-settled.new.self) c.self.view_is) c.settled_sends.ensures.sends;
       rule = stays_at c.args.s change marks kept _ _ _ _ c.self.view_is c.self.invariant
           c.over-settled.ensures.rule c.over-settled.ensures.settled

@@ -1,7 +1,7 @@
 use Rattle.std.proofs.Common.{true, sym, ap, ◌∙◌, subst, arith}
 use Rattle.version_update.specs.Laws.{nothing_rose}
 use Rattle.controller.specs.Controller.{ControllerValue, IsController, SettlesWith}
-use Rattle.controller.specs.Sends.{settling}
+use Rattle.controller.specs.Sends.{settling_acts}
 use Rattle.controller.proofs.Unheard.{nothing_sent, all_kept}
 use Rattle.controller.proofs.controller.Controller.unheard.Goals as goal
 
@@ -12,7 +12,7 @@ returns c =
     let Stay : ControllerValue → Type 0 = λ value. SettlesWith value.marks value.plans value in
     record {
       none = c.new-2.ensures ∙ c.new.ensures.items;
-      idle = ap (λ (value : ControllerValue). settling value.marks value.marks) (sym c.self.view_is)
+      idle = ap (λ (value : ControllerValue). settling_acts value.marks value.marks) (sym c.self.view_is)
           ∙ nothing_sent marks is.marks;
       after = subst Stay c.self.view_is (record {
         marks = (nothing_rose true, c.settling_laws.ensures.idle marks true is.marks);

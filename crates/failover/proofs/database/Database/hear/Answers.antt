@@ -8,7 +8,7 @@ pub invariant_of-self : goal.invariant_of-self
 invariant_of-self c = record {
   by_origin = by_origin-set c.self.inside.adverts c.args.advert.now c.self.invariant.by_origin
       c.if-not-is_news.ensures.switch;
-  neighbours = ap (λ told. set told c.args.advert.now.origin c.args.advert.now.up)
+  neighbours = ap (λ named. set named c.args.advert.now.origin c.args.advert.now.up)
       c.self.invariant.neighbours
       ∙ sym (map-set neighbours_named c.self.inside.adverts c.args.advert.now.origin
       (Some c.args.advert.now));

@@ -3,7 +3,7 @@ use Rattle.failover.specs.Links.{known_links}
 use Rattle.failover.specs.Paths.{IsRoute}
 use Rattle.failover.specs.Routes.{route_of, first_route}
 use Rattle.failover.specs.Isolated.{links_of_each}
-use Rattle.failover.proofs.Rows.{told_links_held}
+use Rattle.failover.proofs.Rows.{named_links_held}
 use Rattle.failover.proofs.Searching.{known_route_is_route, route_is_list}
 use Rattle.failover.proofs.database.Database.route.Goals as goal
 
@@ -15,7 +15,7 @@ returns-clause-value c =
     c.args.from targets) c.items.ensures.list
     ∙ ap (λ neighbours. first_route (links_of_each neighbours c.args.down.now) c.args.from
     c.args.targets.now) (rw (← c.self.view_is)
-    (told_links_held c.self.inside.adverts c.self.inside.told c.args.from c.args.near
+    (named_links_held c.self.inside.adverts c.self.inside.named c.args.from c.args.near
     _ c.self.invariant c.set_own.ensures))
 
 pub returns-clause-route : goal.returns-clause-route

@@ -7,17 +7,17 @@ pub returns-then-one-ge-SWITCHES-clause-link : goal.returns-then-one-ge-SWITCHES
 returns-then-one-ge-SWITCHES-clause-link c = rw (← c.self.view_is)
     (elim c.then-one-ge-SWITCHES.branch [
       | then-one-ge-SWITCHES-via-then-one-ge-SWITCHES w ↦
-          has_link-above c.self.inside.rows c.args.one c.args.two c.self.invariant (omega arith)
+          has_link-above c.self.inside.masks c.args.one c.args.two c.self.invariant (omega arith)
       | then-one-ge-SWITCHES-via-else-one-ge-SWITCHES+then-two-ge-SWITCHES w ↦
-          has_link-above c.self.inside.rows c.args.one c.args.two c.self.invariant (omega arith)
+          has_link-above c.self.inside.masks c.args.one c.args.two c.self.invariant (omega arith)
     ])
 
 pub returns-then-has-clause-link : goal.returns-then-has-clause-link
 returns-then-has-clause-link c = rw (← c.self.view_is) (c.if-has.true
-    ∙ has_link-first c.self.inside.rows c.args.one c.args.two c.self.invariant
+    ∙ has_link-first c.self.inside.masks c.args.one c.args.two c.self.invariant
     (sym c.has.ensures.has ∙ c.if-has.true))
 
 pub returns-else-has-clause-link : goal.returns-else-has-clause-link
 returns-else-has-clause-link c = rw (← c.self.view_is) (c.has-else-has.ensures.has
-    ∙ has_link-second c.self.inside.rows c.args.one c.args.two c.self.invariant
+    ∙ has_link-second c.self.inside.masks c.args.one c.args.two c.self.invariant
     (sym c.has.ensures.has ∙ c.if-has.false))

@@ -1,6 +1,6 @@
 use Rattle.std.proofs.Common.{◌≡◌, ◌≤◌, ap, ◌∙◌, arith}
 use Rattle.std.specs.Prelude.{unwrap_or}
-use Rattle.version_update.specs.Marks.{MarksValue, stamps, least_of}
+use Rattle.version_update.specs.Marks.{MarksValue, acked_stamps, least_of}
 use Rattle.version_update.proofs.Stamps.{least_stamp-version}
 use Rattle.version_update.proofs.ledger.Ledger.allowed.Goals as goal
 use Rattle.version_update.proofs.ledger.Ledger.allowed.Goals.{After-unwrap_or}
@@ -14,7 +14,7 @@ is_version c =
     let least = least_stamp-version now.count now.current now.switches bounds.first bounds.last
     bounds.records in
     let current = ap (λ (v : MarksValue). v.current) c.self.view_is in
-    let same : c.unwrap_or.result ≡ unwrap_or (least_of (stamps now.switches)) now.current =
+    let same : c.unwrap_or.result ≡ unwrap_or (least_of (acked_stamps now.switches)) now.current =
     c.unwrap_or.ensures ∙ cc (c.least_stamp.ensures, c.switches.ensures.switches, current) in
     (omega (arith, least.0, same), omega (arith, least.1, same))
 

@@ -1,7 +1,7 @@
 use Rattle.std.proofs.Common.{List, length, refl, sym, subst, ◌∙◌, arith}
 use Rattle.std.proofs.lemmas.Result.{on_ok_weaker}
 use Rattle.controller.specs.Controller.{ControllerValue}
-use Rattle.controller.specs.Sends.{settling}
+use Rattle.controller.specs.Sends.{settling_acts}
 use Rattle.controller.specs.declared.sends.Act.{Act}
 use Rattle.journal.specs.declared.item.Item.TheVariants as item
 use Rattle.steps.specs.declared.step.Step.TheVariants.{Confirm}
@@ -76,7 +76,7 @@ returns c = λ before row begins.
     let ready = begins.ready in
     let new : ControllerValue = c.over.new.self in
     let acts : List Act =
-    settling (at_switch s after_over self.controller.marks) new.marks in
+    settling_acts (at_switch s after_over self.controller.marks) new.marks in
     let down = sym c.is_up.ensures ∙ c.if-is_up.false in
     let begun = c.push-2.new.self in
     let noted : AreNoted c.note_acts.result begun (length self.log.bag) self.log.bag

@@ -12,7 +12,7 @@ use Rattle.update_machine.specs.Packets.{Decision, decision_of, header_in, stand
 use Rattle.update_machine.specs.Travels.{ingress_of, leg_of, port_in, travels}
 use Rattle.update_machine.specs.Ways.{found_down, route_in, route_place}
 
--- ---- one more word of a packet
+-- ---- the mark of a packet
 
 abbrev pub changes_mark : ℕ → List Item → ℕ → Item → ℕ
 changes_mark i before mark (item.Entered packet switch header) =
@@ -23,12 +23,12 @@ changes_mark i before mark _ = mark
 unfoldable pub entry_mark : List Item → ℕ → ℕ
 entry_mark journal i = folded (changes_mark i) 0 journal
 
--- ---- all its words
+-- ---- all that is known of it
 
-pub record PacketWords : Type 0 where
+pub record PacketFacts : Type 0 where
   pub header : Option Header
   pub ingress : Option ℕ
-  pub place : Option ℕ
+  pub stands : Option ℕ
   pub travels : Bool
   pub decision : Option Decision
   pub leg : Option Leg
@@ -37,11 +37,11 @@ pub record PacketWords : Type 0 where
   pub found : List ℕ
   pub mark : ℕ
 
-unfoldable pub words_of : List Item → ℕ → PacketWords
-words_of journal i = record {
+unfoldable pub what_is_known : List Item → ℕ → PacketFacts
+what_is_known journal i = record {
   header = header_in journal i;
   ingress = ingress_of journal i;
-  place = standing journal i;
+  stands = standing journal i;
   travels = travels journal i;
   decision = decision_of journal i;
   leg = leg_of journal i;
@@ -55,51 +55,52 @@ words_of journal i = record {
 abbrev pub port_decided : Option Decision → ℕ
 port_decided decision = unwrap_or (option_and_then (λ d. port_in d.action) decision) 0
 
--- what an item of the packet makes of its words, where versions up to this mark are retired
-abbrev pub words_after : ℕ → Item → PacketWords → PacketWords
-words_after mark (item.Entered packet switch header) words = record words {
+-- what an item of the packet makes of what is known of it, where versions up to this mark
+-- are retired
+abbrev pub facts_after : ℕ → Item → PacketFacts → PacketFacts
+facts_after mark (item.Entered packet switch header) facts = record facts {
   header = Some header;
   ingress = Some switch;
-  place = Some switch;
+  stands = Some switch;
   travels = true;
   mark = mark;
 }
-words_after mark (item.Seeking packet version partition route) words = record words {
+facts_after mark (item.Seeking packet version partition route) facts = record facts {
   leg = Some (Seek version partition);
   route = route;
   hops = 0;
 }
-words_after mark (item.Exiting packet route) words = record words {
-  leg = Some (Exit (port_decided words.decision));
+facts_after mark (item.Exiting packet route) facts = record facts {
+  leg = Some (Exit (port_decided facts.decision));
   route = route;
   hops = 0;
 }
-words_after mark (item.Rerouted packet route) words =
-    record words { route = route; hops = 0 }
-words_after mark (item.Hopped packet switch) words =
-    record words { place = Some switch; hops = words.hops + 1 }
-words_after mark (item.FoundDown packet one two) words =
-    record words { found = with_link words.found one two }
-words_after mark (item.Decided packet version rule action how) words = record words {
+facts_after mark (item.Rerouted packet route) facts =
+    record facts { route = route; hops = 0 }
+facts_after mark (item.Hopped packet switch) facts =
+    record facts { stands = Some switch; hops = facts.hops + 1 }
+facts_after mark (item.FoundDown packet one two) facts =
+    record facts { found = with_link facts.found one two }
+facts_after mark (item.Decided packet version rule action how) facts = record facts {
   decision = Some (record { version = version; rule = rule; action = action });
 }
-words_after mark (item.Left packet port leaving) words = record words { travels = false }
-words_after mark (item.Dropped packet) words = record words { travels = false }
-words_after mark (item.Lost packet) words = record words { travels = false }
-words_after mark (item.Stuck packet switch cause leg down) words = record words { travels = false }
-words_after mark _ words = words
+facts_after mark (item.Left packet port leaving) facts = record facts { travels = false }
+facts_after mark (item.Dropped packet) facts = record facts { travels = false }
+facts_after mark (item.Lost packet) facts = record facts { travels = false }
+facts_after mark (item.Stuck packet switch cause leg down) facts = record facts { travels = false }
+facts_after mark _ facts = facts
 
 -- the item names the packet
-abbrev pub names : ℕ → Item → Bool
-names i (item.Entered packet switch header) = packet == i
-names i (item.Seeking packet version partition route) = packet == i
-names i (item.Exiting packet route) = packet == i
-names i (item.Rerouted packet route) = packet == i
-names i (item.Hopped packet switch) = packet == i
-names i (item.FoundDown packet one two) = packet == i
-names i (item.Decided packet version rule action how) = packet == i
-names i (item.Left packet port leaving) = packet == i
-names i (item.Dropped packet) = packet == i
-names i (item.Lost packet) = packet == i
-names i (item.Stuck packet switch cause leg down) = packet == i
-names i _ = false
+abbrev pub is_of_packet : ℕ → Item → Bool
+is_of_packet i (item.Entered packet switch header) = packet == i
+is_of_packet i (item.Seeking packet version partition route) = packet == i
+is_of_packet i (item.Exiting packet route) = packet == i
+is_of_packet i (item.Rerouted packet route) = packet == i
+is_of_packet i (item.Hopped packet switch) = packet == i
+is_of_packet i (item.FoundDown packet one two) = packet == i
+is_of_packet i (item.Decided packet version rule action how) = packet == i
+is_of_packet i (item.Left packet port leaving) = packet == i
+is_of_packet i (item.Dropped packet) = packet == i
+is_of_packet i (item.Lost packet) = packet == i
+is_of_packet i (item.Stuck packet switch cause leg down) = packet == i
+is_of_packet i _ = false
