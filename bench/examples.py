@@ -1,7 +1,8 @@
 #!/usr/bin/env python3
-"""Compares the plans and tables of examples/ with `bench/plan_model.py`, and the README's picture with `examples/draw`.
+"""Compares the texts of examples/ with the models, and the README's picture with `examples/draw`.
 
-The gate compares the plans and tables with the program (crates/examples).
+Plans and tables are those of `bench/plan_model.py`, and what replays print is that of `bench/slow_replay.py`. The gate compares the
+same texts with the program (crates/examples).
 """
 import subprocess
 import sys
@@ -9,14 +10,15 @@ from pathlib import Path
 
 HOME = Path(__file__).resolve().parent.parent
 FOLDER = HOME / "examples"
+MODELS = {"compile": "plan_model.py", "show": "plan_model.py", "replay": "slow_replay.py"}
 
 
 def main():
     wrong = []
     for line in (FOLDER / "index.txt").read_text().splitlines():
         name, command, *words = line.replace("--net=", "--net ").split(" ")
-        if command in ("compile", "show") and name != "-":
-            done = subprocess.run([sys.executable, str(HOME / "bench/plan_model.py"), *words], cwd=FOLDER, capture_output=True)
+        if name != "-":
+            done = subprocess.run([sys.executable, str(HOME / "bench" / MODELS[command]), *words], cwd=FOLDER, capture_output=True)
             if done.returncode != 0 or done.stdout != (FOLDER / name).read_bytes():
                 wrong.append(f"{name} is another text than the model's")
     drawn = subprocess.run([str(FOLDER / "draw"), "campus", "1"], capture_output=True)

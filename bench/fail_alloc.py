@@ -2,7 +2,7 @@
 """Lets each allocation of a command fail in turn: `bench/fail_alloc.py BIN [WORD..]`.
 
 Without words the commands are a load case, and a replay, a compile and a show of the day of the
-campus, whose files stand in crates/worked_rows/src/campus.rt. The N-th call for memory fails, alone
+campus, whose files stand in crates/fault_rows/src/tests/campus.rt. The N-th call for memory fails, alone
 and then with all after it, for N from 1 to the calls of a run in which none fails. Each run must
 end with status 0 and the whole output, or with status 7 and a part of it from the front, not all;
 and its line of errors must be that of the status, or a part of it. Else this ends with 1. It needs
@@ -31,7 +31,7 @@ MODES = (("one alone", {}), ("it and all after it", {"FAIL_REST": "1"}))
 
 def write_campus(folder):
     """Writes the files of the day, as the tests have them."""
-    source = (HOME / "crates/worked_rows/src/campus.rt").read_text()
+    source = (HOME / "crates/fault_rows/src/tests/campus.rt").read_text()
     texts = dict(re.findall(r'pub const (\w+): &str = "(.*?)(?<!\\)";', source, re.S))
     for name, constant in FILES.items():
         text = re.sub(r"\\\n\s*", "", texts[constant])

@@ -37,10 +37,11 @@ def crates():
 
 
 def test_files(folder):
-    """The files of the modules that stand under #[cfg(test)]."""
+    """The files of the modules that stand under #[cfg(test)], and of those below them."""
     for path in folder.glob("src/*.rt"):
         for name in re.findall(r"#\[cfg\(test\)\]\s*mod (\w+);", path.read_text()):
             yield folder / f"src/{name}.rt"
+            yield from folder.glob(f"src/{name}/**/*.rt")
 
 
 def sizes(name):
@@ -106,7 +107,7 @@ def look(top, tasks, ticks):
 def measured():
     """The processor seconds of one whole run, by crate and kind, and of the run."""
     tasks, ticks = {}, {}
-    with subprocess.Popen(["rt", "ci", "--anew"], cwd=HOME) as run:
+    with subprocess.Popen(["rt", "ci"], cwd=HOME) as run:
         while run.poll() is None:
             look(run.pid, tasks, ticks)
             time.sleep(0.2)

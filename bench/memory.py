@@ -42,7 +42,7 @@ fn tell(alloc: Global, controller: &mut Controller, s: u32, version: u32, stampe
     } else {
         controller.hear(alloc, &Body::Installed { switch: s, boot: 1, version })?
     };
-    Ok(sends.acts().len())
+    Ok(sends.items().len())
 }
 
 fn update(alloc: Global, controller: &mut Controller, version: u32) -> anyhow::Result<usize> {
@@ -64,7 +64,7 @@ fn main(rt: HostRuntime) -> anyhow::Result<()> {
     let mut kept = plan.placed().len();
     for word in env::args(&rt)?.skip(1) {
         if word.as_str() == "tables" {
-            kept = hold_tables(alloc, &plan, net.switches.rows().len() as u32)?;
+            kept = hold_tables(alloc, &plan, net.switches.items().len() as u32)?;
         } else if word.as_str() == "updates" {
             let mut controller = Controller::begin(alloc, &net, plan.clone()?)?;
             for version in 2..65u32 {

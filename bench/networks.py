@@ -23,7 +23,7 @@ fn main(rt: HostRuntime) -> anyhow::Result<()> {
     for name in env::args(&rt)?.skip(1) {
         let bytes = fs::read(&rt, &name)?;
         match read_net(rt.alloc(), &bytes) {
-            Ok(net) => println!(rt; "{} switches", net.switches.rows().len())?,
+            Ok(net) => println!(rt; "{} switches", net.switches.items().len())?,
             Err(NetError::Refused { refusal, row }) => {
                 println!(rt; "code {} row {row}", refusal.code())?;
             }

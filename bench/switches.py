@@ -80,7 +80,7 @@ fn main(rt: HostRuntime) -> anyhow::Result<()> {
     let tables = SharedTables::new(alloc, tables_of(alloc, &plan, 1, 0)?)?;
     let mut near = [0u64; 64];
     for s in 0..64usize {
-        if s < net.switches.rows().len() {
+        if s < net.switches.items().len() {
             near[s] = net.links_of(s as u32);
         }
     }

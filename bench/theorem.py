@@ -42,7 +42,7 @@ STOPS = {
     "most_reads": "reads",
     "IsAfterReads": "reads",
 }
-CORE = ("IsRun", "EndsHaveCauses", "AreEntered")
+CORE = ("IsRun", "HasCause", "AreEntered")
 DEFINES = re.compile(r"(?:abbrev pub|unfoldable pub|pub record|pub data|pub) ([^\s:]+)")
 WORD = re.compile(r"[A-Za-z_][\w-]*(?:\.[A-Za-z_][\w-]*)*")
 # names of fields, which are no definitions

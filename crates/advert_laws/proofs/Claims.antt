@@ -4,7 +4,7 @@ use Rattle.std.proofs.Common.{ℕ, ◌≡◌, ◌≢◌, ◌<◌, ◌≤◌, ◌
 use Rattle.std.specs.Prelude.{⊤, IsTrue, filter_map, nat_lt, option_and_then, slice_index}
 use Rattle.std.specs.Option.{option_map_or}
 use Rattle.std.specs.Int.{bit_at}
-use Rattle.std.proofs.lemmas.Bool.{cases_eq, eq-eqb, lt-ltb, ne_eqb}
+use Rattle.std.proofs.lemmas.Bool.{and_right, cases_eq, eq-eqb, lt-ltb, ne_eqb}
 use Rattle.std.proofs.lemmas.Bool.Decides.{nat_tests}
 use Rattle.std.proofs.lemmas.List.Elements.{filter_map-append}
 use Rattle.std.proofs.lemmas.List.FromFn.{get_or-map-range_with_len}
@@ -233,10 +233,6 @@ unchanged setting before now s one first bodies claim same =
     (ap (λ b. held_by setting s one b (heard before s)) (sym first)
     ∙ ap (held_by setting s one (is_in_first_boot now s)) (sym bodies)) same)
 
-and_false : (b : Bool) → (b && false) ≡ false
-and_false true = refl
-and_false false = refl
-
 same_on : (setting : Setting) (one : ℕ) (before : List Item) (next : Item) → one < 64
     → HasItemCause setting before next → AreHeld setting one before
     → (s : ℕ) → one ≢ s → IsTrue (is_up (before ++ next ∷ []) s)
@@ -272,7 +268,7 @@ same_on setting one before (item.Booted t boot) small cause kept s apart up =
         let later : (boot_of now s == 1) ≡ false =
         rw (boot_more before (item.Booted t boot) s, e) (grind (arith, nat_tests)) in
         let first : is_in_first_boot now s ≡ false =
-        ap (λ b. is_up now s && b) later ∙ and_false (is_up now s) in
+        ap (λ b. is_up now s && b) later ∙ and_right (is_up now s) false refl in
         let none : heard now s ≡ [] = rw (heard_more before (item.Booted t boot) s, e) refl in
         let claim : claim_of setting now s one ≡ None =
         rw (claim_more setting before (item.Booted t boot) s one, e) refl in

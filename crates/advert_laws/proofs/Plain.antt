@@ -105,7 +105,7 @@ command_plain : (body : Body) → IsCommand body → IsFalse (is_advert body)
 command_plain (Advertise advert) is = absurd is
 command_plain _ is = refl
 
-control_is_plain : (before : List Item) (next : Item) → IsControl before next → IsPlain before next
+pub control_is_plain : (before : List Item) (next : Item) → IsControl before next → IsPlain before next
 control_is_plain before (item.Sent number message) is = command_plain message.body is
 control_is_plain before (item.Down s) is = is
 control_is_plain before (item.Booted s boot) is = is

@@ -22,14 +22,14 @@ use Rattle.update_machine.specs.Steps.{changes_steps, steps_in}
 use Rattle.update_machine.specs.Versions.{stamp_of}
 use Rattle.update_machine.specs.Links.{serves}
 use Rattle.update_machine.proofs.CallerLemmas.{PiecesHave, folded_append, have_append, have_first, have_put}
-use Rattle.boot_laws.proofs.Commands.{confirm_control, controller_control, update_control}
+use Rattle.boot_laws.proofs.Commands.{confirm_control, controller_control, update_has}
 use Rattle.boot_laws.proofs.Crashes.{losts_have}
 use Rattle.boot_laws.proofs.Delivered.{deliver_has, delivery_has}
 use Rattle.boot_laws.proofs.Facts.{have_weaker}
 use Rattle.boot_laws.proofs.SwitchBlocks.{said_row}
 use Rattle.boot_laws.proofs.Grown.{heard_more}
 use Rattle.advert_laws.proofs.LinkCauses.{ChangedNoLinks, HasLinkCause, HaveLinkCauses, IsToldIn}
-use Rattle.advert_laws.proofs.Plain.{ArePlain, IsPlain, control_plain, expire_plain, forget_plain, hop_plain, lose_plain, packet_plain}
+use Rattle.advert_laws.proofs.Plain.{ArePlain, IsPlain, control_is_plain, control_plain, expire_plain, forget_plain, hop_plain, lose_plain, packet_plain}
 use Rattle.advert_laws.proofs.Resent.{resend_caused}
 use Rattle.advert_laws.proofs.Telling.{changes_told, last_heard, passed_told, sends_told}
 
@@ -197,7 +197,7 @@ step_caused setting before row (Forget message) =
 step_caused setting before row (Expire s place) =
     are_caused setting _ _ (expire_plain setting s place _)
 step_caused setting before row (Update file) =
-    are_caused setting _ _ (control_plain _ _ (update_control setting file _))
+    are_caused setting _ _ (update_has IsPlain control_is_plain setting file _ (λ version. tt))
 step_caused setting before row (LinkDown one two) =
     link_caused setting before one two false _ (row_first before row (LinkDown one two))
 step_caused setting before row (LinkUp one two) =

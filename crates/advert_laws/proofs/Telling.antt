@@ -16,11 +16,11 @@ use Rattle.update_machine.specs.Boots.{heard}
 use Rattle.update_machine.specs.Deliveries.{advert_to, has_changed, link_changes, passed_on, messages_of, messages_over, switches_in}
 use Rattle.update_machine.specs.Laws.{KnownKeeps, LinksKeep, SwitchKeeps}
 use Rattle.update_machine.specs.LinkMasks.{near, other_advert}
-use Rattle.update_machine.specs.Messages.{next_message, sends, sent_from}
+use Rattle.update_machine.specs.Messages.{sends}
 use Rattle.update_machine.specs.Setting.{Setting, switches_of}
 use Rattle.update_machine.proofs.CallerLemmas.{known_keeps, links_keep, switch_keeps}
-use Rattle.boot_laws.proofs.Sends.{each_append, each_filter, each_flat_map, each_map}
-use Rattle.advert_laws.proofs.LinkCauses.{HaveLinkCauses, IsHeard, IsHeld, IsTold, IsToldIn}
+use Rattle.boot_laws.proofs.Sends.{each_append, each_filter, each_flat_map, each_map, sends_kept}
+use Rattle.advert_laws.proofs.LinkCauses.{HasLinkCause, HaveLinkCauses, IsHeard, IsHeld, IsTold, IsToldIn}
 
 -- ---- what is told stays so while other messages are sent
 
@@ -78,31 +78,12 @@ told_in_sent setting before n message _ is = tt
 abbrev pub Tells : Setting → List Item → Message → Type 0
 Tells setting before message = IsToldIn setting before message.body
 
-rest_told : (setting : Setting) (before : List Item) (n : ℕ) (message : Message)
-    (messages : List Message) → AllByRecursion (Tells setting before) messages
-    → AllByRecursion (Tells setting (before ++ item.Sent n message ∷ [])) messages
-rest_told setting before n message [] told = tt
-rest_told setting before n message (next ∷ messages) told = (
-  told_in_sent setting before n message next.body told.0,
-  rest_told setting before n message messages told.1,
-)
-
-sent_told : (setting : Setting) (messages : List Message) (journal : List Item) (n : ℕ)
-    → AllByRecursion (Tells setting journal) messages
-    → HaveLinkCauses setting journal (sent_from n messages)
-unfolding sent_from
-sent_told setting [] journal n told = tt
-sent_told setting (message ∷ messages) journal n told = (
-  told.0,
-  sent_told setting messages (journal ++ item.Sent n message ∷ []) (n + 1)
-      (rest_told setting journal n message messages told.1),
-)
-
 pub sends_told : (setting : Setting) (journal : List Item) (messages : List Message)
     → AllByRecursion (Tells setting journal) messages
     → HaveLinkCauses setting journal (sends journal messages)
-sends_told setting journal messages told =
-    sent_told setting messages journal (next_message journal) told
+sends_told setting =
+    sends_kept (HasLinkCause setting) (Tells setting) (λ before n message told. told)
+    (λ before n message other new told. told_in_sent setting before n message other.body told)
 
 -- ---- what a switch holds
 

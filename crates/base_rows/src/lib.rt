@@ -3,12 +3,4 @@
 #![tactic(auto)]
 
 #[cfg(test)]
-mod headers;
-#[cfg(test)]
-mod partitions;
-#[cfg(test)]
-mod placements;
-#[cfg(test)]
-mod rule_lists;
-#[cfg(test)]
-mod words;
+mod tests;

@@ -104,16 +104,20 @@ by_number before (item.Sent number sent) n message is = by_test (number == n) re
     by_test false e = inr (rw (message_more before (item.Sent number sent) n, e) at is)
 by_number before next n message is = inr (rw (message_more before next n) at is)
 
-sent_on : (setting : Setting) (before : List Item) (item : Item) (n : ℕ) (message : Message)
-    → HasItemCause setting before item → BootsAreKnown before
-    → message_of (before ++ item ∷ []) n ≡ Some message
-    → HasPastBoot (before ++ item ∷ []) message.to message.body
-sent_on setting before item n message cause boots is = elim (by_number before item n message is) [
-  | inl new ↦ past_on setting before item message.to message.body cause
-      (sent_past setting before message.to message.body
-      (subst (HasItemCause setting before) new cause))
-  | inr old ↦ past_on setting before item message.to message.body cause (boots.sent n message old)
-]
+-- what is said of the one, and of those that were sent before, is said of each
+pub new_or_old : (cause : List Item → Item → Type 0) (Says : Receiver → Body → Type 0)
+    (before : List Item) (next : Item) → cause before next
+    → ((n : ℕ) (message : Message) → cause before (item.Sent n message)
+    → Says message.to message.body)
+    → ((n : ℕ) (message : Message) → message_of before n ≡ Some message
+    → Says message.to message.body)
+    → (n : ℕ) (message : Message) → message_of (before ++ next ∷ []) n ≡ Some message
+    → Says message.to message.body
+new_or_old cause Says before next has new old n message is =
+    elim (by_number before next n message is) [
+      | inl sent ↦ new n message (subst (cause before) sent has)
+      | inr there ↦ old n message there
+    ]
 
 -- a hello that is told is of a past boot
 pub told_past : (before : List Item) (s number boot : ℕ) → BootsAreKnown before
@@ -143,7 +147,9 @@ pub boots_on : (setting : Setting) (before : List Item) (item : Item)
     → BootsAreKnown (before ++ item ∷ [])
 boots_on setting before item cause boots = record {
   known = λ s. known_on setting before item s cause boots;
-  sent = λ n message is. sent_on setting before item n message cause boots is;
+  sent = λ n message is. past_on setting before item message.to message.body cause
+      (new_or_old (HasItemCause setting) (HasPastBoot before) before item cause
+      (λ k sent. sent_past setting before sent.to sent.body) boots.sent n message is);
 }
 
 pub boots_at_first : BootsAreKnown []

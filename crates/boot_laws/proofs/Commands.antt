@@ -1,5 +1,5 @@
 -- What the controller writes: versions, marks, and commands to switches.
-use Rattle.std.proofs.Common.{ℕ, List, [], ◌∷◌, map, arith}
+use Rattle.std.proofs.Common.{ℕ, ◌+◌, Option, Some, None, List, [], ◌∷◌, map, arith}
 use Rattle.std.specs.Prelude.{⊤}
 use Rattle.std.specs.List.{AllByRecursion}
 use Rattle.ctrl_msg.specs.declared.message.Body.{Body}
@@ -10,9 +10,11 @@ use Rattle.journal.specs.declared.item.Item.TheVariants as item
 use Rattle.update_machine.specs.Causes.{HaveCauses}
 use Rattle.update_machine.specs.Deliveries.{after_hello, controller_items}
 use Rattle.update_machine.specs.Messages.{sends}
-use Rattle.update_machine.specs.Pieces.{confirm_items, update_items}
+use Rattle.update_machine.specs.Moves.{put}
+use Rattle.update_machine.specs.Pieces.{confirm_items, update_code, update_items}
 use Rattle.update_machine.specs.Setting.{Setting}
 use Rattle.update_machine.specs.Settling.{current_items, install_for, installs_to, installs_to_all, open_items, retired_items, settling, submitted_items}
+use Rattle.update_machine.specs.Versions.{version_count}
 use Rattle.update_machine.proofs.CallerLemmas.{have_first, have_in_turn}
 use Rattle.boot_laws.proofs.Facts.{have_weaker}
 use Rattle.boot_laws.proofs.Sends.{each, each_map}
@@ -73,10 +75,9 @@ settling_settles setting journal =
     (current_items setting ∷ open_items setting ∷ retired_items setting ∷ [])
     (current_settles setting, (open_settles setting, (retired_settles setting, tt))) journal
 
--- ---- all that the controller writes
+-- ---- all that the controller writes, but for a version that is submitted
 
 abbrev pub IsControl : List Item → Item → Type 0
-IsControl before (item.Submitted file version) = ⊤
 IsControl before (item.Refused file code) = ⊤
 IsControl before (item.OverNow s) = ⊤
 IsControl before item.Nothing = ⊤
@@ -120,10 +121,25 @@ submitted_control setting journal =
     have_in_turn IsControl (installs_to_all setting ∷ settling setting ∷ [])
     (all_installs_control setting, (settling_control setting, tt)) journal
 
-pub update_control : (setting : Setting) (file : ℕ) (journal : List Item)
-    → Control journal (update_items setting file journal)
+-- an update has causes that what the controller writes has, and the version that is submitted
+pub update_has : (cause : List Item → Item → Type 0)
+    → ((before : List Item) (next : Item) → IsControl before next → cause before next)
+    → (setting : Setting) (file : ℕ) (journal : List Item)
+    → ((version : ℕ) → cause journal (item.Submitted file version))
+    → HaveCauses cause journal (update_items setting file journal)
 unfolding update_items
-update_control setting file journal = grind (arith, have_first, submitted_control)
+update_has cause weaker setting file journal submits = by_code (update_code setting journal file)
+  where
+    by_code : (o : Option ℕ) → HaveCauses cause journal (elim o [
+      | Some code ↦ item.Refused file code ∷ []
+      | None ↦ put (item.Submitted file (version_count journal + 1) ∷ []) (submitted_items setting)
+          journal
+    ])
+    by_code (Some code) = (weaker journal (item.Refused file code) tt, tt)
+    by_code None =
+        have_first cause (item.Submitted file (version_count journal + 1)) (submitted_items setting)
+        journal (submits (version_count journal + 1))
+        (have_weaker IsControl cause weaker _ _ (submitted_control setting _))
 
 pub confirm_control : (setting : Setting) (s : ℕ) (journal : List Item)
     → Control journal (confirm_items setting s journal)

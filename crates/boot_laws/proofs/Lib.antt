@@ -9,6 +9,7 @@ pub mod Traffic
 pub mod ControllerBlocks
 pub mod Delivered
 pub mod SwitchBlocks
+pub mod HeardTables
 pub mod Resent
 pub mod Resends
 pub mod Pieces

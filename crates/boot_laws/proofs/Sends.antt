@@ -29,6 +29,11 @@ pub each_map : {X Y : Type 0} (P : Y → Type 0) (f : X → Y) (xs : List X)
 each_map P f [] all = tt
 each_map P f (x ∷ xs) all = (all.0, each_map P f xs all.1)
 
+pub each_weaker : {X : Type 0} (P Q : X → Type 0) → ((x : X) → P x → Q x) → (xs : List X)
+    → AllByRecursion P xs → AllByRecursion Q xs
+each_weaker P Q f [] all = tt
+each_weaker P Q f (x ∷ xs) all = (f x all.0, each_weaker P Q f xs all.1)
+
 pub each_append : {X : Type 0} (P : X → Type 0) (xs ys : List X) → AllByRecursion P xs
     → AllByRecursion P ys → AllByRecursion P (xs ++ ys)
 each_append P [] ys all others = others
@@ -74,6 +79,34 @@ each_range P low (suc n) all = (
   all low (omega arith) (omega arith),
   each_range P (low + 1) n (λ x above below. all x (omega (arith, above)) (omega (arith, below))),
 )
+
+-- ---- messages that are told as the first of them is sent, each of which stays so behind others
+
+pub sent_kept : (cause : List Item → Item → Type 0) (Tells : List Item → Message → Type 0)
+    → ((before : List Item) (n : ℕ) (message : Message) → Tells before message
+    → cause before (item.Sent n message))
+    → ((before : List Item) (n : ℕ) (message other : Message) → Tells before message
+    → Tells before other → Tells (before ++ item.Sent n message ∷ []) other)
+    → (messages : List Message) (journal : List Item) (n : ℕ)
+    → AllByRecursion (Tells journal) messages → HaveCauses cause journal (sent_from n messages)
+unfolding sent_from
+sent_kept cause Tells causes stays [] journal n all = tt
+sent_kept cause Tells causes stays (message ∷ messages) journal n all = (
+  causes journal n message all.0,
+  sent_kept cause Tells causes stays messages (journal ++ item.Sent n message ∷ []) (n + 1)
+      (each_weaker (Tells journal) (Tells (journal ++ item.Sent n message ∷ []))
+      (λ other. stays journal n message other all.0) messages all.1),
+)
+
+pub sends_kept : (cause : List Item → Item → Type 0) (Tells : List Item → Message → Type 0)
+    → ((before : List Item) (n : ℕ) (message : Message) → Tells before message
+    → cause before (item.Sent n message))
+    → ((before : List Item) (n : ℕ) (message other : Message) → Tells before message
+    → Tells before other → Tells (before ++ item.Sent n message ∷ []) other)
+    → (journal : List Item) (messages : List Message) → AllByRecursion (Tells journal) messages
+    → HaveCauses cause journal (sends journal messages)
+sends_kept cause Tells causes stays journal messages all =
+    sent_kept cause Tells causes stays messages journal (next_message journal) all
 
 -- ---- what a message that is sent leaves as it was
 
@@ -223,30 +256,11 @@ right_sent setting before n message (receiver.Switch s) body new right =
 right_sent setting before n message receiver.Controller body new right =
     from_sent setting before n message body right
 
-rest_right : (setting : Setting) (before : List Item) (n : ℕ) (message : Message)
-    (messages : List Message) → IsRight setting before message
-    → AllByRecursion (IsRight setting before) messages
-    → AllByRecursion (IsRight setting (before ++ item.Sent n message ∷ [])) messages
-rest_right setting before n message [] new right = tt
-rest_right setting before n message (next ∷ messages) new right = (
-  right_sent setting before n message next.to next.body new right.0,
-  rest_right setting before n message messages new right.1,
-)
-
-sent_have : (setting : Setting) (messages : List Message) (journal : List Item) (n : ℕ)
-    → AllByRecursion (IsRight setting journal) messages
-    → HaveCauses (HasItemCause setting) journal (sent_from n messages)
-unfolding sent_from
-sent_have setting [] journal n right = tt
-sent_have setting (message ∷ messages) journal n right = (
-  right.0,
-  sent_have setting messages (journal ++ item.Sent n message ∷ []) (n + 1)
-      (rest_right setting journal n message messages right.0 right.1),
-)
-
 -- messages that are right as the first of them is sent
 pub sends_have : (setting : Setting) (journal : List Item) (messages : List Message)
     → AllByRecursion (IsRight setting journal) messages
     → HaveCauses (HasItemCause setting) journal (sends journal messages)
-sends_have setting journal messages right =
-    sent_have setting messages journal (next_message journal) right
+sends_have setting =
+    sends_kept (HasItemCause setting) (IsRight setting) (λ before n message right. right)
+    (λ before n message other new right.
+    right_sent setting before n message other.to other.body new right)

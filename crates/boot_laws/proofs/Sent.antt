@@ -1,5 +1,5 @@
 -- Messages that are sent one after another.
-use Rattle.std.proofs.Common.{ℕ, ◌≡◌, ◌+◌, Bool, true, false, List, [], ◌∷◌, ◌++◌, map, refl}
+use Rattle.std.proofs.Common.{ℕ, ◌≡◌, Bool, true, false, List, [], ◌∷◌, map, refl}
 use Rattle.std.specs.Prelude.{⊤}
 use Rattle.std.specs.List.{AllByRecursion, flat_map}
 use Rattle.ctrl_msg.specs.declared.message.Message.{Message}
@@ -10,31 +10,19 @@ use Rattle.update_machine.specs.Boots.{is_up}
 use Rattle.update_machine.specs.Causes.{HaveCauses}
 use Rattle.update_machine.specs.Deliveries.{advert_to, switches_in}
 use Rattle.update_machine.specs.LinkMasks.{near}
-use Rattle.update_machine.specs.Messages.{next_message, sends, sent_from}
+use Rattle.update_machine.specs.Messages.{sends}
 use Rattle.update_machine.specs.Pieces.{hello_of, resend_items, resent_by_switch, sends_or_nothing}
 use Rattle.update_machine.specs.Setting.{Setting}
-use Rattle.boot_laws.proofs.Sends.{each}
+use Rattle.boot_laws.proofs.Sends.{each, sends_kept}
 
 -- each has the cause that follows from a property of messages
-pub sent_each : (cause : List Item → Item → Type 0) (P : Message → Type 0) →
-    ((before : List Item) (n : ℕ) (message : Message) → P message
-    → cause before (item.Sent n message)) →
-    (messages : List Message) (journal : List Item) (n : ℕ) → AllByRecursion P messages
-    → HaveCauses cause journal (sent_from n messages)
-unfolding sent_from
-sent_each cause P has [] journal n all = tt
-sent_each cause P has (message ∷ messages) journal n all = (
-  has journal n message all.0,
-  sent_each cause P has messages (journal ++ item.Sent n message ∷ []) (n + 1) all.1,
-)
-
 pub sends_each : (cause : List Item → Item → Type 0) (P : Message → Type 0) →
     ((before : List Item) (n : ℕ) (message : Message) → P message
     → cause before (item.Sent n message)) →
     (journal : List Item) (messages : List Message) → AllByRecursion P messages
     → HaveCauses cause journal (sends journal messages)
-sends_each cause P has journal messages all =
-    sent_each cause P has messages journal (next_message journal) all
+sends_each cause P has =
+    sends_kept cause (λ before. P) has (λ before n message other new is. is)
 
 -- where any message has it
 pub sends_any : (cause : List Item → Item → Type 0) →

@@ -1,9 +1,9 @@
 -- What a delivery causes has its causes.
-use Rattle.std.proofs.Common.{ℕ, ◌≡◌, ◌≤◌, ◌==◌, Bool, true, false, if◌then◌else◌, Some, List, [], ◌∷◌, ◌++◌, ◌||◌, refl, ap, sym, subst, ◌∙◌, arith}
+use Rattle.std.proofs.Common.{ℕ, ◌≡◌, ◌≤◌, ◌==◌, true, false, if◌then◌else◌, Some, List, [], ◌∷◌, ◌++◌, ◌||◌, refl, ap, sym, subst, ◌∙◌, arith}
 use Rattle.std.specs.Prelude.{⊤, IsTrue, IsFalse, nat_lt, option_and_then}
 use Rattle.std.specs.List.{list_any}
 use Rattle.std.specs.Option.{option_map_or}
-use Rattle.std.proofs.lemmas.Bool.{eq-eqb, eqb-true}
+use Rattle.std.proofs.lemmas.Bool.{eq-eqb, eqb-true, or_right}
 use Rattle.std.proofs.lemmas.Bool.Decides.{nat_tests}
 use Rattle.std.proofs.lemmas.List.Folds.{list_any-append}
 use Rattle.ctrl_msg.specs.declared.message.Body.{Body}
@@ -97,10 +97,6 @@ opens_rightly now s number boot version is = record {
   own = refl;
 }
 
-or_true : (b : Bool) → (b || true) ≡ true
-or_true true = refl
-or_true false = refl
-
 switch_have : (setting : Setting) (before now : List Item) (s number : ℕ) (body : Body)
     → IsHeard now s number body → Has setting now (switch_items setting before s body now)
 unfolding switch_items
@@ -120,7 +116,7 @@ switch_have setting before now s number (Install boot tables) is =
         ap (list_any (installs tables.version)) is.heard
         ∙ list_any-append (installs tables.version) is.earlier (Install boot tables ∷ [])
         ∙ ap (λ b. list_any (installs tables.version) is.earlier || (b || false)) own
-        ∙ or_true (list_any (installs tables.version) is.earlier)
+        ∙ or_right (list_any (installs tables.version) is.earlier) true refl
 switch_have setting before now s number (Stamp boot version) is =
     sends_have setting now (to_controller (Stamped s boot version) ∷ []) (
       record {

@@ -120,9 +120,8 @@ traffic_right setting before _ is = tt
 
 pub traffic_has : (setting : Setting) (journal items : List Item) → Traffic setting journal items
     → Has setting journal items
-traffic_has setting journal items traffic =
-    have_weaker (IsTraffic setting) (HasItemCause setting) (traffic_right setting) journal items
-    traffic
+traffic_has setting =
+    have_weaker (IsTraffic setting) (HasItemCause setting) (traffic_right setting)
 
 -- work is traffic
 rule_between : (setting : Setting) (before : List Item) (to : Receiver) (body : Body)
@@ -139,8 +138,8 @@ work_is_traffic setting before next is = is
 
 traffic_of : (setting : Setting) (journal items : List Item) → Work setting journal items
     → Traffic setting journal items
-traffic_of setting journal items work =
-    have_weaker (IsWork setting) (IsTraffic setting) (work_is_traffic setting) journal items work
+traffic_of setting =
+    have_weaker (IsWork setting) (IsTraffic setting) (work_is_traffic setting)
 
 -- ---- packets
 

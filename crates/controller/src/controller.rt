@@ -64,7 +64,7 @@ impl Controller {
             controller ≡ first_controller (length net.now.switches) plan) }
         ensures rule { IfOk result IsController }
     {
-        let switches = net.switches.rows().len() as u32;
+        let switches = net.switches.items().len() as u32;
         // The plan is sound.
         let _ = plan.placed();
         let mut versions = Vec::new(alloc);

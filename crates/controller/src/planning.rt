@@ -53,6 +53,6 @@ fn sizes_of(alloc: Global, parts: &[Partition]) -> Result<Vec<u32>, AllocError>
 fn rooms_of(alloc: Global, net: &Net) -> Result<Vec<u32>, AllocError>
     ensures { IfOk result (λ rooms. rooms.items ≡ rooms_of net.now) }
 {
-    let rows = net.switches.rows();
+    let rows = net.switches.items();
     rows.iter().map(|row| row.room).collect(alloc)
 }

@@ -2,7 +2,7 @@ ghost use Rattle.std.specs.Prelude.{◌≡◌};
 ghost use Rattle.controller.specs.Sends.{post};
 
 use ctrl_msg::{Body, Message, Receiver};
-use std::marker::Model;
+use lists::Listing;
 
 /// What a controller does at a call.
 #[derive(Debug, Drop)]
@@ -26,39 +26,5 @@ impl Act {
     }
 }
 
-/// What a controller does at a call, in order. Contracts see the list.
-#[derive(Debug, Drop)]
-pub struct Sends {
-    acts: Vec<Act>,
-}
-
-impl Model for Sends {
-    ghost use Rattle.std.specs.Prelude.{List};
-    ghost use Rattle.controller.specs.declared.sends.Act.{Act};
-
-    ghost Value = { List Act };
-
-    ghost view = { λ s. s.acts.items };
-}
-
-impl Sends {
-    pub(crate) fn new(acts: Vec<Act>) -> Sends
-        ensures { result ≡ acts.items }
-    {
-        Sends { acts }
-    }
-
-    /// The acts, in order.
-    pub fn acts(&self) -> &[Act]
-        ensures { result.now ≡ self.now }
-    {
-        &self.acts
-    }
-
-    /// The acts, in order, to be taken apart.
-    pub fn into_acts(self) -> Vec<Act>
-        ensures { result.items ≡ self }
-    {
-        self.acts
-    }
-}
+/// What a controller does at a call, in order.
+pub type Sends = Listing<Act>;

@@ -4,12 +4,4 @@
 #![tactic(auto)]
 
 #[cfg(test)]
-mod lines;
-#[cfg(test)]
-mod marks;
-#[cfg(test)]
-mod messages;
-#[cfg(test)]
-mod routes;
-#[cfg(test)]
-mod sends;
+mod tests;

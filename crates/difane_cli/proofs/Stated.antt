@@ -5,21 +5,21 @@ use Rattle.std.specs.Option.{ForSome}
 use Rattle.std.proofs.Common.{ℕ, ◌≡◌, ◌∙◌, Bool, true, false, Option, Some, None, Result, Ok, Err, List, [], ◌∷◌, ap, length, refl, subst}
 use Rattle.net_file.specs.Owners.{port_mask}
 use Rattle.net_file.specs.Reading.{net_of}
-use Rattle.net_file.specs.Refusals as net_text
+use Rattle.net_file.specs.Refusals.{net_code}
 use Rattle.net_file.specs.declared.net.Net.{Net}
 use Rattle.policy_file.specs.Ports.{first_without_port}
-use Rattle.policy_file.specs.Reading.{policy_of}
-use Rattle.policy_file.specs.Reading as policy_text
+use Rattle.policy_file.specs.Reading.{policy_code, policy_of}
 use Rattle.policy_file.specs.declared.ports.NoPort.{NoPort}
 use Rattle.policy_rules.specs.declared.policy.Row.{Row}
+use Rattle.read_error.specs.Refusals.{RefusedRow}
 use Rattle.schedule.specs.Reading.{schedule_of}
-use Rattle.schedule.specs.Refusals as schedule_text
+use Rattle.schedule.specs.Refusals.{schedule_code}
 use Rattle.shelf.specs.Shelf.{Files, file_named}
 use Rattle.steps.specs.declared.step.Event.{Event}
 use Rattle.words.specs.Commands.{Command, ReplayCommand}
 use Rattle.words.specs.Commands as words
 use Rattle.difane_cli.specs.Codes.{most_bytes, too_long}
-use Rattle.difane_cli.specs.Inputs.{and_then, content_from, content_of, first_plan, inputs_of, known_task, net_from, net_stated, play_task, policy_from, policy_stated, read_net, read_policies, read_policy, read_schedule, refused_whole, schedule_from, schedule_in, task_of, with_ports}
+use Rattle.difane_cli.specs.Inputs.{and_then, content_from, content_of, first_plan, inputs_of, known_task, net_stated, play_task, policy_stated, read_from, read_net, read_policies, read_policy, read_schedule, refused_whole, schedule_in, task_of, with_ports}
 use Rattle.difane_cli.specs.Run.{AreStatedBy, AreStated, States}
 use Rattle.difane_cli.specs.Tasks.{Inputs, Play}
 use Rattle.difane_cli.specs.declared.status.Refusal.{Refusal}
@@ -57,32 +57,22 @@ states files name read stated value own is =
 
 -- ---- networks, schedules and policies
 
-net_is : (name : List ℕ) (read : Result Net net_text.RefusedNet) (net : Net)
-    → net_from name read ≡ Ok net → read ≡ Ok net
-net_is name (Ok net) own is = cc is
-net_is name (Err refusal) own is = absurd (cc is)
+read_is : {X R : Type 0} (code : R → ℕ) (name : List ℕ) (read : Result X (RefusedRow R)) (value : X)
+    → read_from code name read ≡ Ok value → read ≡ Ok value
+read_is code name (Ok value) own is = cc is
+read_is code name (Err refused) own is = absurd (cc is)
 
 net_states : (files : Files) (name : List ℕ) (net : Net) → read_net files (Some name) ≡ Ok net
     → States files net_of name net
 net_states files name net is =
-    states files name net_of (net_stated name) net (λ bytes. net_is name (net_of bytes) net) is
-
-events_are : (name : List ℕ) (read : Result (List Event) schedule_text.RefusedSchedule)
-    (events : List Event) → schedule_from name read ≡ Ok events → read ≡ Ok events
-events_are name (Ok events) own is = cc is
-events_are name (Err refusal) own is = absurd (cc is)
+    states files name net_of (net_stated name) net (λ bytes. read_is net_code name (net_of bytes) net) is
 
 schedule_states : (net : Net) (count : ℕ) (files : Files) (name : List ℕ) (events : List Event)
     → read_schedule net count files name ≡ Ok events
     → States files (schedule_of net count) name events
 schedule_states net count files name events is =
     states files name (schedule_of net count) (schedule_in net count name) events
-    (λ bytes. events_are name (schedule_of net count bytes) events) is
-
-rows_are : (name : List ℕ) (read : Result (List Row) policy_text.RefusedPolicy) (rows : List Row)
-    → policy_from name read ≡ Ok rows → read ≡ Ok rows
-rows_are name (Ok rows) own is = cc is
-rows_are name (Err refusal) own is = absurd (cc is)
+    (λ bytes. read_is schedule_code name (schedule_of net count bytes) events) is
 
 with_ports_is : (name : List ℕ) (rows own : List Row) (lack : Option NoPort)
     → with_ports name rows lack ≡ Ok own → rows ≡ own
@@ -92,9 +82,9 @@ with_ports_is name rows own (Some lack) is = absurd (cc is)
 policy_is : (ports : ℕ) (name bytes : List ℕ) (rows : List Row)
     → policy_stated ports name bytes ≡ Ok rows → policy_of bytes ≡ Ok rows
 policy_is ports name bytes rows is =
-    let on = went_on (policy_from name (policy_of bytes))
+    let on = went_on (read_from policy_code name (policy_of bytes))
     (λ read. with_ports name read (first_without_port ports read)) rows is in
-    rows_are name (policy_of bytes) rows
+    read_is policy_code name (policy_of bytes) rows
     (on.1 ∙ ap Ok (with_ports_is name on.0 rows (first_without_port ports on.0) on.2))
 
 policy_states : (ports : ℕ) (files : Files) (name : List ℕ) (rows : List Row)

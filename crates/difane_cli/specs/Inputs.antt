@@ -5,7 +5,7 @@ use Rattle.std.specs.Option.{option_map_or}
 use Rattle.load_case.specs.Case.{LoadCase, load_case}
 use Rattle.net_file.specs.Net.{solo_net}
 use Rattle.net_file.specs.Reading.{net_of}
-use Rattle.net_file.specs.Refusals as net_text
+use Rattle.net_file.specs.Refusals.{net_code}
 use Rattle.net_file.specs.declared.net.Net.{Net}
 use Rattle.net_file.specs.Owners.{port_mask, switch_number}
 use Rattle.partition.specs.Plan.{Placed, plan_of}
@@ -13,10 +13,11 @@ use Rattle.policy_rules.specs.Placed as no_plan
 use Rattle.policy_rules.specs.declared.policy.Row.{Row}
 use Rattle.policy_rules.specs.Placed.{NoPlan}
 use Rattle.policy_file.specs.Ports.{first_without_port}
-use Rattle.policy_file.specs.Reading as policy_text
+use Rattle.policy_file.specs.Reading.{policy_code, policy_of}
 use Rattle.policy_file.specs.declared.ports.NoPort.{NoPort}
-use Rattle.schedule.specs.Reading as schedule_text
-use Rattle.schedule.specs.Refusals as refused_by
+use Rattle.read_error.specs.Refusals.{RefusedRow}
+use Rattle.schedule.specs.Reading.{schedule_of}
+use Rattle.schedule.specs.Refusals.{schedule_code}
 use Rattle.steps.specs.declared.step.Event.{Event}
 use Rattle.shelf.specs.Shelf.{Files, file_named}
 use Rattle.update_machine.specs.Setting.{setting_of}
@@ -51,21 +52,17 @@ content_from name (Some bytes) =
 abbrev pub content_of : Files → List ℕ → Result (List ℕ) Refusal
 content_of files name = content_from name (file_named files name)
 
-abbrev pub schedule_from : List ℕ → Result (List Event) refused_by.RefusedSchedule
-    → Result (List Event) Refusal
-schedule_from name (Ok events) = Ok events
-schedule_from name (Err refusal) =
-    Err (record { file = name; code = refused_by.schedule_code refusal.refusal; row = refusal.row })
+-- what the file was read to; a row that is refused is told by the refusal's code
+abbrev pub read_from : {X R : Type 0} → (R → ℕ) → List ℕ → Result X (RefusedRow R)
+    → Result X Refusal
+read_from code name (Ok value) = Ok value
+read_from code name (Err refused) =
+    Err (record { file = name; code = code refused.refusal; row = refused.row })
 
 -- the events that the bytes of this file state for the network and so many policy files
 abbrev pub schedule_in : Net → ℕ → List ℕ → List ℕ → Result (List Event) Refusal
 schedule_in net policies name bytes =
-    schedule_from name (schedule_text.schedule_of net policies bytes)
-
-abbrev pub policy_from : List ℕ → Result (List Row) policy_text.RefusedPolicy → Result (List Row) Refusal
-policy_from name (Ok rows) = Ok rows
-policy_from name (Err refusal) =
-    Err (record { file = name; code = policy_text.policy_code refusal.refusal; row = refusal.row })
+    read_from schedule_code name (schedule_of net policies bytes)
 
 abbrev pub with_ports : List ℕ → List Row → Option NoPort → Result (List Row) Refusal
 with_ports name rows None = Ok rows
@@ -74,7 +71,7 @@ with_ports name rows (Some lack) = Err (record { file = name; code = no_port; ro
 -- the rows that the bytes of this file state, unless one names a port outside this mask
 abbrev pub policy_stated : ℕ → List ℕ → List ℕ → Result (List Row) Refusal
 policy_stated ports name bytes =
-    and_then (policy_from name (policy_text.policy_of bytes)) (λ rows.
+    and_then (read_from policy_code name (policy_of bytes)) (λ rows.
     with_ports name rows (first_without_port ports rows))
 
 abbrev pub read_schedule : Net → ℕ → Files → List ℕ → Result (List Event) Refusal
@@ -92,14 +89,9 @@ read_policies ports files (name ∷ names) =
     and_then (read_policies ports files names) (λ policies.
     Ok (rows ∷ policies)))
 
-abbrev pub net_from : List ℕ → Result Net net_text.RefusedNet → Result Net Refusal
-net_from name (Ok net) = Ok net
-net_from name (Err refusal) =
-    Err (record { file = name; code = net_text.net_code refusal.refusal; row = refusal.row })
-
 -- the network that the bytes of this file state
 abbrev pub net_stated : List ℕ → List ℕ → Result Net Refusal
-net_stated name bytes = net_from name (net_of bytes)
+net_stated name bytes = read_from net_code name (net_of bytes)
 
 -- the network of this file, or that of one switch
 abbrev pub read_net : Files → Option (List ℕ) → Result Net Refusal
@@ -168,8 +160,8 @@ switch_on net (Some name) =
     option_map_or (λ s. Ok (Some s)) (switch_number net.switches name) (Err (refused_whole name no_such_switch))
 
 -- the network, and the switch on it
-abbrev pub place_asked : Files → PrintCommand → Result (Net × Option ℕ) Refusal
-place_asked files command =
+abbrev pub net_asked : Files → PrintCommand → Result (Net × Option ℕ) Refusal
+net_asked files command =
     and_then (read_net files command.net) (λ net.
     and_then (switch_on net command.switch) (λ switch.
     Ok (net, switch)))
@@ -178,10 +170,10 @@ place_asked files command =
 -- checked, and then it is planned
 abbrev pub printing_of : Files → PrintCommand → Result Printing Refusal
 printing_of files command =
-    and_then (place_asked files command) (λ place.
-    and_then (read_policy (port_mask place.0.switches) files command.policy) (λ rows.
-    and_then (plan_on command.policy place.0 rows) (λ placed.
-    Ok (record { policy = rows; net = place.0; placed = placed; switch = place.1 }))))
+    and_then (net_asked files command) (λ asked.
+    and_then (read_policy (port_mask asked.0.switches) files command.policy) (λ rows.
+    and_then (plan_on command.policy asked.0 rows) (λ placed.
+    Ok (record { policy = rows; net = asked.0; placed = placed; switch = asked.1 }))))
 
 -- ---- all commands
 
@@ -245,7 +237,7 @@ most_reads None (Some (asked.Load n)) = 0
 most_reads (Some files) (Some (asked.Replay words)) =
     net_reads words.net + replay_reads files words (read_net files words.net)
 most_reads (Some files) (Some (asked.Print words)) =
-    net_reads words.net + (if is_ok (place_asked files words) then 1 else 0)
+    net_reads words.net + (if is_ok (net_asked files words) then 1 else 0)
 most_reads (Some files) (Some (asked.Load n)) = 0
 
 -- what a stop says of what was to be read: a refusal is the one that stands there

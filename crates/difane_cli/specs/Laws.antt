@@ -9,7 +9,7 @@ use Rattle.quiet_laws.specs.Converged.{HasConverged}
 use Rattle.quiet_laws.specs.Stuck.{GetStuckApart}
 use Rattle.quiet_laws.specs.Updated.{IsUpdated}
 use Rattle.steps.specs.declared.step.Event.{Event}
-use Rattle.update_machine.specs.Causes.{EndsHaveCauses, HaveCauses}
+use Rattle.update_machine.specs.Causes.{HasCause, HaveCauses}
 use Rattle.update_machine.specs.Full.{IsPlay}
 use Rattle.update_machine.specs.Machine.{IsRun}
 use Rattle.update_machine.specs.Quiet.{IsQuiet}
@@ -29,7 +29,7 @@ pub record QuietLaws : Type 0 where
 pub record AnswerLaws : Type 0 where
   pub run : HoldsReached (λ setting journal. IsSetting setting → IsRun setting journal)
   pub causes : HoldsReached (λ setting journal.
-      IsSetting setting → EndsHaveCauses setting journal)
+      IsSetting setting → HaveCauses (HasCause setting) [] journal)
   pub strong : HoldsReached (λ setting journal.
       IsSetting setting → HaveCauses (StrongCause setting) [] journal)
   pub entered : (setting : Setting) (events : List Event) (journal : List Item) (full : Option ℕ)

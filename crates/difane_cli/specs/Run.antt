@@ -9,7 +9,7 @@ use Rattle.shelf.specs.Shelf.{Files, file_named}
 use Rattle.shelf.specs.Sink.{GainedPart, SinkState}
 use Rattle.journal.specs.declared.item.Item.{Item}
 use Rattle.meters.specs.Seen.{Seen}
-use Rattle.update_machine.specs.Causes.{EndsHaveCauses, HaveCauses}
+use Rattle.update_machine.specs.Causes.{HasCause, HaveCauses}
 use Rattle.update_machine.specs.Full.{IsPlay}
 use Rattle.update_machine.specs.Machine.{IsRun}
 use Rattle.update_machine.specs.Setting.{IsSetting}
@@ -82,7 +82,7 @@ pub record IsAnswer (command : Command) (files : Option Files) (inputs : Inputs)
   pub sound : MayBePlayed inputs
   pub play : IsPlay inputs.setting inputs.events journal full
   pub run : IsRun inputs.setting journal
-  pub causes : EndsHaveCauses inputs.setting journal
+  pub causes : HaveCauses (HasCause inputs.setting) [] journal
   pub strong : HaveCauses (StrongCause inputs.setting) [] journal
   pub entered : AreEntered (rows_played full inputs.events) journal
 

@@ -77,7 +77,7 @@ pub fn play<M: Meter, K: Sink>(
     let Ok(played) = replay::play(alloc, world, &events, meters, net.port_mask()) else {
         return Ended {
             status: Status::NoMemory,
-            journal: Journal::new(alloc),
+            journal: Journal::empty(alloc),
             meters: Vec::new(alloc),
         };
     };

@@ -1,11 +1,11 @@
 //! Policies as a command takes them: read from bytes, and checked against the network.
 ghost use Rattle.std.specs.Prelude.{◌≡◌, ◌≤◌, All, List, IfOk, IfErr, IsOk, IsTrue, Ok, OnOk, length};
-ghost use Rattle.policy_file.specs.Reading.{policy_of};
+ghost use Rattle.policy_file.specs.Reading.{policy_code, policy_of};
 ghost use Rattle.policy_file.specs.Ports.{names_port_of};
 ghost use Rattle.policy_rules.specs.Policy.{IsPolicy};
 ghost use Rattle.policy_rules.specs.declared.policy.Row.{Row};
 ghost use Rattle.controller.specs.Plan.{RefusesPlan};
-ghost use Rattle.difane_cli.specs.Inputs.{StopsContent, first_plan, plan_on, policy_from, policy_stated};
+ghost use Rattle.difane_cli.specs.Inputs.{StopsContent, first_plan, plan_on, policy_stated, read_from};
 ghost use Rattle.net_file.specs.Net.{IsNet};
 ghost use Rattle.net_file.specs.declared.net.Net.{Net};
 ghost use Rattle.net_file.specs.Owners.{port_mask};
@@ -41,7 +41,8 @@ pub const NO_SWITCH: u32 = 21;
 /// The policy that the bytes of this file state.
 fn state_policy(alloc: Global, name: &str, bytes: &[u8]) -> Result<Policy, Stop>
     ensures value { IfOk result (λ policy. policy_of bytes.now ≡ Ok policy) }
-    ensures stopped { IfErr result (StopsContent (policy_from name.now (policy_of bytes.now))) }
+    ensures stopped { IfErr result
+        (StopsContent (read_from policy_code name.now (policy_of bytes.now))) }
     ensures sound { IfOk result IsPolicy }
 {
     match read_policy(alloc, bytes) {

@@ -94,12 +94,12 @@ pub fn run<F: Shelf, K: Sink, E: Sink>(
     ensures faults { (K.state out.old).faults ≤ (K.state out.new).faults }
 {
     match read_words(alloc, words) {
-        Err(AllocError) => end(Status::NoMemory, Journal::new(alloc), meters, errs),
-        Ok(None) => end(Status::Words, Journal::new(alloc), meters, errs),
+        Err(AllocError) => end(Status::NoMemory, Journal::empty(alloc), meters, errs),
+        Ok(None) => end(Status::Words, Journal::empty(alloc), meters, errs),
         Ok(Some(command)) => match read_task(alloc, shelf, &command) {
             Err(stop) => {
                 let meters = unplayed(alloc, &command, meters);
-                end(Status::from(stop), Journal::new(alloc), meters, errs)
+                end(Status::from(stop), Journal::empty(alloc), meters, errs)
             }
             Ok(task) => {
                 let ended = work(alloc, task, meters, out);

@@ -2,8 +2,7 @@
 ghost use Rattle.std.specs.Prelude.{List, Option, ℕ};
 ghost use Rattle.journal.specs.declared.item.Item.{Item};
 ghost use Rattle.steps.specs.declared.step.Event.{Event};
-ghost use Rattle.update_machine.specs.Full.{IsPlay};
-ghost use Rattle.update_machine.specs.Setting.{Setting};
+ghost use Rattle.update_machine.specs.Journals.{IsPlay, Setting};
 ghost use Rattle.entry_laws.specs.Entries.{AreEntered, rows_played};
 
 /// The rows of a play's journal are those of its events that were played, in order, but for hops and

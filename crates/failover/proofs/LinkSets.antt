@@ -18,7 +18,7 @@ no_link k x h = apart_tests (has 0 x) (ap (λ row. has row x) (sym (no_row k)) �
 
 pub none_is_link_set : IsLinkSet no_links
 none_is_link_set = record {
-  rows = length-replicate {A = ℕ} 64 0;
+  masks = length-replicate {A = ℕ} 64 0;
   above = λ k x h. no_link k x h;
   switches = λ k x h. no_link k x h;
 }
@@ -43,14 +43,14 @@ pub with_link_is_link_set : (links : List ℕ) (one other : ℕ) → IsLinkSet l
     one < 64 → other < 64 → IsLinkSet (with_link links one other)
 unfolding with_link
 with_link_is_link_set links one other set differ one_fits other_fits = record {
-  rows = length-set links (min one other) _ ∙ set.rows;
+  masks = length-set links (min one other) _ ∙ set.masks;
   above = λ k x h. elim (gained links (min one other) (max one other) k x h
-      (omega (arith, set.rows))) [
+      (omega (arith, set.masks))) [
         | inl old ↦ set.above k x old
         | inr new ↦ omega (arith, new.0, new.1)
       ];
   switches = λ k x h. elim (gained links (min one other) (max one other) k x h
-      (omega (arith, set.rows))) [
+      (omega (arith, set.masks))) [
         | inl old ↦ set.switches k x old
         | inr new ↦ omega (arith, new.1)
       ];
@@ -150,7 +150,7 @@ pub has_link-with_link : (links : List ℕ) (one other x y : ℕ) → IsLinkSet 
     (has_link links x y || is_link_of one other x y)
 unfolding has_link with_link
 has_link-with_link links one other x y set one_fits other_fits =
-    let there : min one other < length links = omega (arith, set.rows) in
+    let there : min one other < length links = omega (arith, set.masks) in
     elim (cases_eq (min x y) (min one other)) [
       | inl same ↦ rw (same, get_or-set_same _ _ _ _ there)
           (row_gains (get_or links (min one other) 0) (max one other) (max x y)
@@ -180,6 +180,6 @@ same_rows a b one other same k = same_sets _ _ (λ x. elim (cases_lt k x) [
 pub same_link_sets : (a b : List ℕ) → IsLinkSet a → IsLinkSet b →
     ((x y : ℕ) → has_link a x y ≡ has_link b x y) → a ≡ b
 same_link_sets a b one other same =
-    same_lists a b (one.rows ∙ sym other.rows)
+    same_lists a b (one.masks ∙ sym other.masks)
     (λ k d below. get_or_default a k d 0 below ∙ same_rows a b one other same k
-    ∙ sym (get_or_default b k d 0 (omega (arith, one.rows, other.rows))))
+    ∙ sym (get_or_default b k d 0 (omega (arith, one.masks, other.masks))))

@@ -3,9 +3,9 @@
 use Rattle.std.specs.Prelude.{ℕ, ◌≡◌, ◌<◌, Bool, ◌&&◌, ◌||◌, ◌==◌, List, length, slice_index, IsTrue}
 use Rattle.masks.specs.Masks.{has}
 
--- no row has a switch but greater ones, so equal sets are equal lists
+-- no mask has a switch but greater ones, so equal sets are equal lists
 pub record IsLinkSet (links : List ℕ) : Type 0 where
-  pub rows : length links ≡ 64
+  pub masks : length links ≡ 64
   pub above : (k x : ℕ) → IsTrue (has (slice_index links k) x) → k < x
   pub switches : (k x : ℕ) → IsTrue (has (slice_index links k) x) → x < 64
 

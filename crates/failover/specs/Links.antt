@@ -40,7 +40,7 @@ unfoldable pub known_links : List (Option Advert) → ℕ → ℕ → List ℕ �
 known_links adverts at near down = let neighbours =
     named_links adverts at near in map (links_at neighbours down) switches
 
--- row `one` of the links has the other switch
+-- mask `one` of the links has the other switch
 abbrev pub AreJoined : List ℕ → ℕ → ℕ → Type 0
 AreJoined links one other = IsTrue (has (slice_index links one) other)
 

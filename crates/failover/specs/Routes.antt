@@ -8,7 +8,7 @@ use Rattle.failover.specs.Links.{known_links}
 
 -- a set of switches, and those that have a link into it
 unfoldable pub wider : List ℕ → ℕ → ℕ
-wider links ball = bit_or ball (mask_where (λ row. not (bit_and row ball == 0)) 0 links)
+wider links ball = bit_or ball (mask_where (λ mask. not (bit_and mask ball == 0)) 0 links)
 
 -- the switches that are at most k links away from the target
 unfoldable pub ball : List ℕ → ℕ → ℕ → ℕ

@@ -65,7 +65,7 @@ fn distance(
             return Some(k);
         }
         balls[k] = ball;
-        // One row tells this, where the next ball, mostly the widest step, takes one of each edge.
+        // One mask tells this, where the next ball, mostly the widest step, takes one of each edge.
         if links_within(neighbours, down, from, ball) != 0 {
             return Some(k + 1);
         }

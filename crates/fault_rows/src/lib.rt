@@ -3,6 +3,4 @@
 #![tactic(auto)]
 
 #[cfg(test)]
-mod days;
-#[cfg(test)]
-mod full;
+mod tests;

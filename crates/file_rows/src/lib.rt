@@ -3,12 +3,4 @@
 #![tactic(auto)]
 
 #[cfg(test)]
-mod networks;
-#[cfg(test)]
-mod policies;
-#[cfg(test)]
-mod records;
-#[cfg(test)]
-mod schedules;
-#[cfg(test)]
-mod shelves;
+mod tests;

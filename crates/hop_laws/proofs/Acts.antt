@@ -200,10 +200,10 @@ hop_names setting i journal is have rests travelling =
     let switches : HaveCauses (HasItemCause setting) [] journal =
     switches_of_all setting [] journal have in
     let s : ℕ = unwrap_or (standing journal i) 0 in
-    let place : served.place ≡ s = sym (ap (λ o. unwrap_or o 0) served.stands) in
+    let place : served.switch ≡ s = sym (ap (λ o. unwrap_or o 0) served.stands) in
     let at : IsAt journal i s = record {
       travelling = travelling;
-      place = refl;
+      stands = refl;
       serving = subst (λ k. IsTrue (serves journal k)) place served.serving;
     } in
     let here : IsHere setting journal i s =

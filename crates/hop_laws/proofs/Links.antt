@@ -2,7 +2,7 @@
 use Rattle.std.proofs.Common.{ℕ, ◌≡◌, ◌≢◌, ◌+◌, ◌<◌, ◌≤◌, ◌==◌, ◌&&◌, ◌||◌, not, Bool, true, false, List, [], ◌∷◌, length, refl, ap, sym, subst, ◌∙◌, arith, cond}
 use Rattle.std.specs.Prelude.{Any, IsFalse, IsTrue, count_by}
 use Rattle.std.specs.List.{list_any}
-use Rattle.std.proofs.lemmas.Bool.{eqb-true}
+use Rattle.std.proofs.lemmas.Bool.{and_parts, eqb-true}
 use Rattle.std.proofs.lemmas.Bool.Decides.{nat_tests}
 use Rattle.std.proofs.lemmas.List.Folds.{Any-from_list_any}
 use Rattle.std.proofs.lemmas.List.Sums.{count_by-le-length, sum_by-cons}
@@ -114,11 +114,6 @@ same_ends : (found : List ℕ) (one two x y : ℕ) → has_link found one two �
 same_ends found one two x y none is =
     by_order ((x == one) && (y == two)) refl
   where
-    both : (b c : Bool) → (b && c) ≡ true → (b ≡ true) × (c ≡ true)
-    both true true e = (refl, refl)
-    both true false e = cc e
-    both false c e = cc e
-
     straight : (x == one) ≡ true → (y == two) ≡ true → has_link found x y ≡ false
     straight p q = rw (eqb-true x one p, eqb-true y two q) none
 
@@ -128,11 +123,11 @@ same_ends found one two x y none is =
 
     by_order : (b : Bool) → ((x == one) && (y == two)) ≡ b → has_link found x y ≡ false
     by_order true e =
-        let parts = both (x == one) (y == two) e in straight parts.0 parts.1
+        let parts = and_parts (x == one) (y == two) e in straight parts.0 parts.1
     by_order false e =
         let other : ((x == two) && (y == one)) ≡ true =
         ap (λ b. b || ((x == two) && (y == one))) (sym e) ∙ is in
-        let parts = both (x == two) (y == one) other in turned parts.0 parts.1
+        let parts = and_parts (x == two) (y == one) other in turned parts.0 parts.1
 
 -- what one more link of the network leaves of a set
 pub record FindsOne (net : Net) (found : List ℕ) (one two : ℕ) : Type 0 where

@@ -7,7 +7,7 @@ use Rattle.steps.specs.Steps.{IsEvent}
 use Rattle.steps.specs.declared.step.Event.{Event}
 use Rattle.steps.specs.declared.step.Event.TheVariants.{One, Flush, Drain}
 use Rattle.steps.specs.declared.step.Step.{Step}
-use Rattle.update_machine.specs.Answers.{AreAll, AreFirstSteps, AreFirstStepsOf, AreSteps, AreStepsOf, StepOfRow, after_steps, next_delivery, next_hop}
+use Rattle.update_machine.specs.Answers.{AreAll, AreFirstSteps, AreFirstStepsOf, AreSome, AreSteps, AreStepsOf, StepOfRow, after_steps, next_delivery, next_hop}
 use Rattle.update_machine.specs.Full.{HasPlay, HaveRoom, IsFull, full_at}
 use Rattle.update_machine.specs.Messages.{next_message}
 use Rattle.update_machine.specs.Pieces.{piece}
@@ -63,6 +63,26 @@ record EventGoes (setting : Setting) (row : ℕ) (event : Event) (before : List 
   room : HaveRoom setting before steps
   how : AreStepsOf setting row event before steps ⊎ EventStops setting row event before steps
 
+-- as a flush or a drain goes whose steps such a loop's are
+goes_as : (setting : Setting) (next : List Item → Option Step) (row : ℕ) (event : Event)
+    (before : List Item) → ((steps : List StepOfRow) → AreAll setting next row before steps
+    → AreStepsOf setting row event before steps)
+    → ((steps : List StepOfRow) → AreSome setting next row before steps
+    → AreFirstStepsOf setting row event before steps)
+    → GoesOrStops setting next row before → EventGoes setting row event before
+goes_as setting next row event before all_of some_of goes = record {
+  steps = goes.steps;
+  room = goes.room;
+  how = elim goes.how [
+    | inl all ↦ inl (all_of goes.steps all)
+    | inr stop ↦ inr (record {
+      more = stop.more;
+      allowed = some_of (goes.steps ++ stop.more ∷ []) stop.allowed;
+      full = stop.full;
+    })
+  ];
+}
+
 event_goes : (setting : Setting) (row : ℕ) (event : Event) (before : List Item)
     → IsSetting setting → IsReady setting before → EventGoes setting row event before
 event_goes setting row (One step) before is ready =
@@ -83,36 +103,13 @@ event_goes setting row (One step) before is ready =
       }
     ]
 event_goes setting row Flush before is ready =
-    let flush : GoesOrStops setting next_delivery row before = flush_goes setting before row in
-    record {
-      steps = flush.steps;
-      room = flush.room;
-      how = elim flush.how [
-        | inl all ↦ inl all
-        | inr stop ↦ inr (record {
-          more = stop.more;
-          allowed = stop.allowed;
-          full = stop.full;
-        })
-      ];
-    }
+    goes_as setting next_delivery row Flush before (λ steps all. all) (λ steps some. some)
+    (flush_goes setting before row)
 event_goes setting row Drain before is ready =
     let hops : (steps : List StepOfRow) × AreAll setting next_hop row before steps =
     drain_ends setting before row is ready in
-    let drain : GoesOrStops setting next_hop row before =
-    goes setting next_hop row before hops.0 hops.1 in
-    record {
-      steps = drain.steps;
-      room = drain.room;
-      how = elim drain.how [
-        | inl all ↦ inl all
-        | inr stop ↦ inr (record {
-          more = stop.more;
-          allowed = stop.allowed;
-          full = stop.full;
-        })
-      ];
-    }
+    goes_as setting next_hop row Drain before (λ steps all. all) (λ steps some. some)
+    (goes setting next_hop row before hops.0 hops.1)
 
 -- ---- events
 

@@ -119,8 +119,8 @@ finds setting before i one two known few meets strong =
     meets.at in
     let way : IsOnWay setting before held =
     knows_it.kept.on_way here.travelling (inl meets.moving) in
-    let place : way.under_way.place ≡ one =
-    some_same held.stands way.under_way.place here.under.place way.under_way.stands
+    let place : way.under_way.switch ≡ one =
+    some_same held.stands way.under_way.switch here.under.switch way.under_way.stands
     here.under.stands ∙ sym here.at in
     finds_one setting.net held.found one two known.is.net few.set strong.linked
     (knows_it.kept.avoids here.travelling meets.moving held.hops one two

@@ -2,8 +2,7 @@
 use Rattle.std.proofs.Common.{ℕ, zero, suc, ◌≡◌, ◌+◌, ◌<◌, ◌≤◌, ◌==◌, Bool, true, false, if◌then◌else◌, Some, List, [], ◌∷◌, ◌++◌, refl, ap, sym, subst, ◌∙◌, append_assoc, arith, inl, inr}
 use Rattle.std.specs.Prelude.{◌&&◌, find, nat_lt, not}
 use Rattle.std.specs.List.{range_with_len}
-use Rattle.std.proofs.lemmas.Bool.{cases_eq, cases_lt, eq-eqb, eqb-true}
-use Rattle.std.proofs.lemmas.Bool.Decides.{nat_tests}
+use Rattle.std.proofs.lemmas.Bool.{and_parts, and_right, cases_eq, cases_lt, eq-eqb, eqb-true, lt-ltb}
 use Rattle.journal.specs.declared.item.Item.{Item}
 use Rattle.journal.specs.declared.item.Item.TheVariants as item
 use Rattle.steps.specs.declared.step.Step.TheVariants.{Deliver}
@@ -85,26 +84,20 @@ record AreOver (bound : ℕ) (journal : List Item) : Type 0 where
   sent : bound ≤ next_message journal
   over : (k : ℕ) → 1 ≤ k → k < bound → is_waiting journal k ≡ false
 
-some_counted : (c : ℕ) → nat_lt 0 (c + 1) ≡ true
-some_counted c = grind (arith, nat_tests)
+counted_now : (test : Item → Bool) (before : List Item) (next : Item) → test next ≡ true
+    → nat_lt 0 (count_of test (before ++ next ∷ [])) ≡ true
+counted_now test before next is =
+    rw (count_more test before next, is) (lt-ltb 0 (count_of test before + 1) (omega arith))
 
 forgotten_now : (before : List Item) (number k : ℕ) → (number == k) ≡ true
     → is_forgotten (before ++ item.Forgotten number ∷ []) k ≡ true
 unfolding is_forgotten
-forgotten_now before number k e =
-    rw (count_more (is_forgetting k) before (item.Forgotten number), e)
-    (some_counted (count_of (is_forgetting k) before))
+forgotten_now before number k e = counted_now (is_forgetting k) before (item.Forgotten number) e
 
 delivered_now : (before : List Item) (number k : ℕ) → (number == k) ≡ true
     → was_delivered (before ++ item.Delivered number ∷ []) k ≡ true
 unfolding was_delivered
-delivered_now before number k e =
-    rw (count_more (is_delivery k) before (item.Delivered number), e)
-    (some_counted (count_of (is_delivery k) before))
-
-last_not : (b : Bool) → (b && not true) ≡ false
-last_not true = refl
-last_not false = refl
+delivered_now before number k e = counted_now (is_delivery k) before (item.Delivered number) e
 
 inner_not : (b c : Bool) → ((b && not true) && c) ≡ false
 inner_not true c = refl
@@ -120,7 +113,7 @@ over_by bound k before (item.Sent number message) takes are below e =
 over_by bound k before (item.Forgotten number) takes are below e =
     rw (forgotten_now before number k e) (inner_not _ _)
 over_by bound k before (item.Delivered number) takes are below e =
-    rw (delivered_now before number k e) (last_not _)
+    rw (delivered_now before number k e) (and_right _ false refl)
 over_by bound k before next takes are below e = absurd cc
 
 more_sent : (before : List Item) (next : Item)
@@ -143,10 +136,6 @@ over_kept bound before next takes are = record {
         rw (keeps.deliverable, keeps.delivered) (are.over k first below)
 
 -- ---- a delivery
-
-both_true : (b c : Bool) → (b && c) ≡ true → b ≡ true
-both_true true c e = refl
-both_true false c e = cc e
 
 -- what a delivery writes behind its row and itself
 abbrev rest_of : Setting → List Item → ℕ → ℕ → List Item
@@ -190,7 +179,7 @@ over_now setting journal row n next =
       );
       over = λ k first below. elim (cases_eq k n) [
         | inl own ↦ subst (λ j. is_waiting (at ++ item.Delivered n ∷ []) j ≡ false) (sym own)
-            (rw (delivered_now at n n (eq-eqb n n refl)) (last_not _))
+            (rw (delivered_now at n n (eq-eqb n n refl)) (and_right _ false refl))
         | inr apart ↦ before.over k first (omega (arith, below, apart))
       ];
     }
@@ -201,7 +190,7 @@ over_behind setting journal row n next =
     let row_item : Item = item.Row row (Deliver n) in
     let rest : List Item = rest_of setting journal row n in
     let is : piece setting journal row (Deliver n) ≡ row_item ∷ item.Delivered n ∷ rest =
-    delivery_is setting journal row n (both_true _ _ next.waits) in
+    delivery_is setting journal row n (and_parts _ _ next.waits).0 in
     let takes : HaveCauses TakesNext journal (row_item ∷ item.Delivered n ∷ rest) =
     subst (HaveCauses TakesNext journal) is (piece_next setting journal row (Deliver n)) in
     let whole : ((journal ++ row_item ∷ []) ++ item.Delivered n ∷ []) ++ rest

@@ -1,8 +1,8 @@
 -- Each item leaves the hops of each packet within its routes: one induction by items.
-use Rattle.std.proofs.Common.{ℕ, ◌≡◌, ◌+◌, ◌-◌, ◌*◌, ◌<◌, ◌≤◌, ◌==◌, ◌&&◌, Bool, true, false, if◌then◌else◌, Option, Some, List, [], ◌∷◌, ◌++◌, length, refl, sym, subst, arith, inl}
+use Rattle.std.proofs.Common.{ℕ, ◌≡◌, ◌+◌, ◌-◌, ◌*◌, ◌<◌, ◌≤◌, ◌==◌, ◌&&◌, Bool, true, false, if◌then◌else◌, Option, Some, List, [], ◌∷◌, ◌++◌, length, refl, subst, ◌∙◌, arith, inl}
 use Rattle.std.specs.Prelude.{⊤, IsTrue}
 use Rattle.std.specs.Option.{option_or}
-use Rattle.std.proofs.lemmas.Bool.{eqb-true}
+use Rattle.std.proofs.lemmas.Bool.{and_parts, eqb-true}
 use Rattle.std.proofs.lemmas.Option.{slice_get_within}
 use Rattle.policy_rules.specs.declared.packet.Leg.{Leg}
 use Rattle.policy_rules.specs.declared.packet.Leg.TheVariants.{Seek, Exit}
@@ -19,7 +19,7 @@ use Rattle.way_laws.specs.OnWay.{IsOnLeg, IsOnWay}
 use Rattle.way_laws.specs.Facts.{PacketFacts, is_of_packet, facts_after, what_is_known}
 use Rattle.way_laws.proofs.Words.{words_grow}
 use Rattle.hop_laws.specs.Hops.{changes_taken, hops_taken, most_hops, most_switches, routes_taken}
-use Rattle.way_laws.specs.Kept.{AllKept}
+use Rattle.way_laws.specs.Kept.{AllKept, IsKept}
 use Rattle.way_laws.specs.Rest.{AreResting}
 use Rattle.way_laws.specs.Stages.{OnWay, Stage, stage_of, tells_stage}
 use Rattle.way_laws.specs.WayCauses.{WayCause}
@@ -79,6 +79,15 @@ route_few setting before held way = by_leg way.leg way.on_leg
     by_leg (Seek version partition) on = on.leads.list.few
     by_leg (Exit port) on = on.leads.list.few
 
+-- as one is that the packet begins
+begun_few : (setting : Setting) (before : List Item) (packet i : ℕ) (held : PacketFacts)
+    → (packet == i) ≡ true → IsKept setting before held (Some OnWay)
+    → held.travels ≡ (what_is_known before packet).travels
+    → IsTrue (what_is_known before i).travels → length held.route ≤ 64
+begun_few setting before packet i held e kept same tr =
+    route_few setting before held
+    (kept.on_way (same ∙ rw (eqb-true packet i e) tr) (inl refl))
+
 -- ---- items
 
 -- what stands before the item
@@ -119,14 +128,14 @@ row_within : (setting : Setting) (before : List Item) (packet i : ℕ) → Befor
     (if b then hops_on_route before i + 1 else hops_on_route before i)
 row_within setting before packet i known rested within false e = within
 row_within setting before packet i known rested within true e =
-    let on : IsTrue (travels before i) = second (packet == i) (travels before i) e in
+    let on : IsTrue (travels before i) = (and_parts (packet == i) (travels before i) e).1 in
     let held : PacketFacts = what_is_known before i in
     let travelling : IsTrue held.travels = travels_in before i on in
     let moving : stage_of before i ≡ Some OnWay = rested.rests.moving i on in
     let way : IsOnWay setting before held =
     (known.kept.packets i).on_way travelling (inl moving) in
     let inside : held.hops < length held.route =
-    slice_get_within held.route held.hops way.under_way.place way.stands in
+    slice_get_within held.route held.hops way.under_way.switch way.stands in
     let off = none_told (is_told before i) (rested.off i) in
     let left = within.left travelling moving in
     let place = within.place travelling moving in
@@ -136,10 +145,6 @@ row_within setting before packet i known rested within true e =
       place = λ tr is. omega (arith, place, off);
       left = λ tr is. omega (arith, left, off, inside);
     }
-  where
-    second : (c d : Bool) → (c && d) ≡ true → d ≡ true
-    second true d both = both
-    second false d both = cc both
 
 within_by : (setting : Setting) (before : List Item) (next : Item) (i : ℕ)
     → Facts setting before next → (b : Bool) → is_of_packet i next ≡ b → IsWithinOf before i
@@ -156,27 +161,17 @@ within_by setting before (item.Row row (Hop packet)) i facts false e within =
 within_by setting before (item.Entered packet s header) i facts true e within =
     rw e (rests within.all within.each (λ tr is. cc))
 within_by setting before (item.Seeking packet version partition route) i facts true e within =
-    let few : IsTrue (what_is_known before packet).travels → length route ≤ 64 = λ tr.
-    route_few setting before
-    (facts_after 0 (item.Seeking packet version partition route) (what_is_known before packet))
-    ((seeking_after setting before packet 0 version partition route
-    (knows setting before packet facts.known) facts.way).on_way tr (inl refl)) in
-    rw e (begins_route (omega (arith, within.all)) (λ tr.
-    few (subst (λ k. IsTrue (what_is_known before k).travels) (sym (eqb-true packet i e)) tr)))
+    rw e (begins_route (omega (arith, within.all)) (begun_few setting before packet i _ e
+    (seeking_after setting before packet 0 version partition route
+    (knows setting before packet facts.known) facts.way) refl))
 within_by setting before (item.Exiting packet route) i facts true e within =
-    let few : IsTrue (what_is_known before packet).travels → length route ≤ 64 = λ tr.
-    route_few setting before (facts_after 0 (item.Exiting packet route) (what_is_known before packet))
-    ((exiting_after setting before packet 0 route (knows setting before packet facts.known)
-    facts.way).on_way tr (inl refl)) in
-    rw e (begins_route (omega (arith, within.all)) (λ tr.
-    few (subst (λ k. IsTrue (what_is_known before k).travels) (sym (eqb-true packet i e)) tr)))
+    rw e (begins_route (omega (arith, within.all)) (begun_few setting before packet i _ e
+    (exiting_after setting before packet 0 route (knows setting before packet facts.known)
+    facts.way) refl))
 within_by setting before (item.Rerouted packet route) i facts true e within =
-    let few : IsTrue (what_is_known before packet).travels → length route ≤ 64 = λ tr.
-    route_few setting before (facts_after 0 (item.Rerouted packet route) (what_is_known before packet))
-    ((rerouted_after setting before packet 0 route (knows setting before packet facts.known)
-    facts.way).on_way tr (inl refl)) in
-    rw e (begins_route (omega (arith, within.all)) (λ tr.
-    few (subst (λ k. IsTrue (what_is_known before k).travels) (sym (eqb-true packet i e)) tr)))
+    rw e (begins_route (omega (arith, within.all)) (begun_few setting before packet i _ e
+    (rerouted_after setting before packet 0 route (knows setting before packet facts.known)
+    facts.way) refl))
 within_by setting before (item.Hopped packet s) i facts true e within =
     let same : packet ≡ i = eqb-true packet i e in
     let moving : stage_of before i ≡ Some OnWay =
@@ -185,7 +180,7 @@ within_by setting before (item.Hopped packet s) i facts true e within =
     let inside : IsTrue held.travels → held.hops < length held.route = λ tr.
     let way : IsOnWay setting before held =
     (facts.known.kept.packets i).on_way tr (inl moving) in
-    slice_get_within held.route held.hops way.under_way.place way.stands in
+    slice_get_within held.route held.hops way.under_way.switch way.stands in
     rw e (record {
       all = within.all;
       each = within.each;

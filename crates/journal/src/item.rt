@@ -1,5 +1,6 @@
 use crate::shared::{SharedLinks, SharedMessage, SharedRoute};
 use five_tuple::Header;
+use lists::Listing;
 use policy_rules::{Action, Cause, How, Leaving, Leg};
 use steps::Step;
 
@@ -149,6 +150,9 @@ pub enum Item {
     /// The step did nothing.
     Nothing,
 }
+
+/// What happened in a play, item by item in order.
+pub type Journal = Listing<Item>;
 
 /// The most bytes of an item.
 pub const ITEM_SIZE: usize = 48;

@@ -5,14 +5,12 @@
 #![tactic(auto)]
 
 mod item;
-mod log;
 mod shared;
 
 pub use ctrl_msg::{Body, Message, Receiver, SharedTables};
 pub use failover::{Advert, DownSet, Route};
 pub use five_tuple::Header;
-pub use item::Item;
-pub use log::Journal;
+pub use item::{Item, Journal};
 pub use policy_rules::{Action, Cause, How, Leaving, Leg};
 pub use shared::{SharedLinks, SharedMessage, SharedRoute};
 pub use steps::{Event, Step};

@@ -92,7 +92,7 @@ fn push_switches(line: &mut Line, net: &Net, route: &SharedRoute)
     ensures text { line.new ≡ pushed line.old (names_text net.now route.now) }
     ensures of_type { IsShortRoute route.now }
 {
-    push_names(line, net, route.route().items());
+    push_names(line, net, route.get().items());
 }
 
 #[tactic(auto, using(text_line::proofs::CallerLemmas::pushed_append))]
@@ -213,7 +213,7 @@ fn push_sent(line: &mut Line, net: &Net, number: u32, message: &SharedMessage)
     ensures text { line.new ≡ pushed line.old (item_line net.now (item.Sent number message.now)) }
     ensures of_type { IsBodyOfType message.now.body }
 {
-    let message = message.message();
+    let message = message.get();
     push_numbered(line, "  sent", number);
     line.push(" ");
     push_receiver(line, net, message.to);

@@ -9,7 +9,7 @@ use text_line::Line;
 pub fn push_name(line: &mut Line, net: &Net, s: u32)
     ensures { line.new ≡ pushed line.old (name_of net.now s) }
 {
-    let name = match net.switches.rows().get(s as usize) {
+    let name = match net.switches.items().get(s as usize) {
         Some(row) => row.name.bytes(),
         None => b"",
     };

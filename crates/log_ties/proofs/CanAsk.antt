@@ -45,10 +45,10 @@ looks_up_as setting journal s w knows there own =
 -- ---- a packet on its way
 
 pub stands_at : (setting : Setting) (journal : List Item) (i : ℕ) (t : Traveller)
-    (standing : IsStanding setting journal i t) → here t.tunnel ≡ standing.place
+    (standing : IsStanding setting journal i t) → here t.tunnel ≡ standing.switch
 stands_at setting journal i t standing =
     ap (λ (u : Traveller). here u.tunnel) standing.is
-    ∙ got (what_is_known journal i).route (what_is_known journal i).hops standing.place standing.stands.here
+    ∙ got (what_is_known journal i).route (what_is_known journal i).hops standing.switch standing.stands.here
 
 -- at the end of its route, the switch is where its leg leads
 ends_at : (setting : Setting) (journal : List Item) (s : ℕ) (header : Header) (leg : Leg)
@@ -67,8 +67,8 @@ ends_at setting journal s header (Exit port) end = end
 pub record CanAsk (setting : Setting) (journal : List Item) (i : ℕ) (t : Traveller) (s near : ℕ)
     (w : SwitchValue) (ports : Ports) : Type 0 where
   pub standing : IsStanding setting journal i t
-  pub at : s ≡ standing.place
-  pub hops : Hops setting journal i standing.place standing.header standing.ingress standing.leg w
+  pub at : s ≡ standing.switch
+  pub hops : Hops setting journal i standing.switch standing.header standing.ingress standing.leg w
       near ports
   pub serving : IsTrue (serves w)
   pub stamped : CanLookUp w
@@ -81,17 +81,17 @@ pub can_be_asked : (setting : Setting) (journal : List Item) (i : ℕ) (t : Trav
     → s ≡ here t.tunnel → w ≡ switch_of setting journal s → mask ≡ near setting journal s
     → CanAsk setting journal i t s mask w ports
 can_be_asked setting journal i t s mask w ports knows owners standing at own usable =
-    let here_it : s ≡ standing.place = at ∙ stands_at setting journal i t standing in
+    let here_it : s ≡ standing.switch = at ∙ stands_at setting journal i t standing in
     let there : s < length setting.net.switches = omega (arith, here_it, standing.stands.there) in
     let sees_it : Sees setting journal s w mask =
     sees_as setting journal s mask w knows there own usable in
-    let hops : Hops setting journal i standing.place standing.header standing.ingress standing.leg w
+    let hops : Hops setting journal i standing.switch standing.header standing.ingress standing.leg w
     mask ports = record {
       stands = standing.stands;
       sees = subst (λ k. Sees setting journal k w mask) here_it sees_it;
       owners = owners;
     } in
-    let is_switch : w ≡ switch_of setting journal standing.place =
+    let is_switch : w ≡ switch_of setting journal standing.switch =
     own ∙ ap (switch_of setting journal) here_it in
     record {
       standing = standing;
@@ -103,10 +103,10 @@ can_be_asked setting journal i t s mask w ports knows owners standing at own usa
           subst (λ (u : Traveller). IsAtAuthority w u.tunnel.header u.tunnel.leg)
           (sym standing.is)
           (subst (λ w. IsAtAuthority w standing.header standing.leg) (sym is_switch)
-          (asked_ties.arrive setting journal standing.place standing.header standing.leg
+          (asked_ties.arrive setting journal standing.switch standing.header standing.leg
           knows.tables knows.serving knows.holds standing.stands.there standing.stands.serving
-          (ends_at setting journal standing.place standing.header standing.leg
-          (arrives_at_end setting journal 0 i standing.place standing.header standing.ingress
+          (ends_at setting journal standing.switch standing.header standing.leg
+          (arrives_at_end setting journal 0 i standing.switch standing.header standing.ingress
           standing.leg w mask ports hops
           (ap (λ (u : Traveller). (hopped w mask u.tunnel).end)
           (sym standing.is) ∙ arrive)))).authority);

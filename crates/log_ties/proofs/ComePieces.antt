@@ -28,7 +28,7 @@ use Rattle.log_ties.proofs.Goings.{GoesIn, entered_goes}
 use Rattle.log_ties.proofs.Known.{Known, traveller_stays}
 use Rattle.log_ties.proofs.Later.{answer_later, later_packets}
 use Rattle.log_ties.proofs.Others.{entered_other}
-use Rattle.log_ties.proofs.Posting.{SendFrom, apart_known}
+use Rattle.log_ties.proofs.Posting.{SendFrom, are_apart}
 use Rattle.log_ties.proofs.Words.{Targets, by_targets, traveller_along, words_along}
 
 -- ---- one packet comes in, and then none
@@ -71,8 +71,8 @@ come_called setting journal row number q at what b sends is =
     by_answer (entered.Answered what) sends =
         call_ties.entered setting journal row at.packet at.switch q at.header
         (answer_items number at what) (answer_later number at what)
-        (apart_known q number journal (item.Row row (PacketStep at.switch at.header)
-        ∷ item.Entered at.packet at.switch at.header ∷ answer_items number at what) sends)
+        ((are_apart number journal (item.Row row (PacketStep at.switch at.header)
+        ∷ item.Entered at.packet at.switch at.header ∷ answer_items number at what) sends).known q)
 
 -- ---- the packets
 

@@ -41,7 +41,7 @@ use Rattle.log_ties.proofs.Later.{arrived_later, hop_sends, later_packets}
 use Rattle.log_ties.proofs.Moving.{hop_goes, hop_law, hop_stays, stays_by}
 use Rattle.log_ties.proofs.OnWay.{IsStanding, on_leg}
 use Rattle.log_ties.proofs.Others.{NoneName, arrived_other, none_more}
-use Rattle.log_ties.proofs.Posting.{apart_known, apart_policies}
+use Rattle.log_ties.proofs.Posting.{are_apart}
 use Rattle.log_ties.proofs.Words.{traveller_along}
 
 -- ---- what it writes
@@ -69,7 +69,7 @@ hop_piece setting journal row i t s near w ports can =
     ∙ ap (λ o. item.Row row (Hop i) ∷ move_items setting i (unwrap_or o 0) new)
     (ap (λ (facts : PacketFacts). facts.stands) same ∙ standing.stands.stands)
     ∙ ap (λ items. item.Row row (Hop i) ∷ items)
-    (hop_law setting journal row i standing.place standing.header standing.ingress standing.leg w
+    (hop_law setting journal row i standing.switch standing.header standing.ingress standing.leg w
     near ports can.hops
     ∙ ap (hop_written (next_message journal) w near ports) (sym standing.is))
 
@@ -191,18 +191,18 @@ module _ (setting : Setting) (journal : List Item) (row i : ℕ) (t : Traveller)
       let standing : IsStanding setting journal i t = can.standing in
       subst (λ (u : Traveller). hop_traveller w near ports u ≡ traveller_in setting
       (journal ++ item.Row row (Hop i) ∷ hop_written number w near ports u) i) (sym standing.is)
-      (hop_goes setting journal row i standing.place standing.header standing.ingress standing.leg
+      (hop_goes setting journal row i standing.switch standing.header standing.ingress standing.leg
       w near ports can.hops
       ∙ sym (traveller_along setting journal
       (item.Row row (Hop i) ∷ hop_written number w near ports
       (on_leg (targets_of setting journal) i (what_is_known journal i) standing.header
       standing.ingress standing.leg)) i (
         refl,
-        apart_policies number (begun journal row i)
+        (are_apart number (begun journal row i)
             (hop_written number w near ports (on_leg (targets_of setting journal) i
             (what_is_known journal i) standing.header standing.ingress standing.leg))
             (hop_sends number w near ports (on_leg (targets_of setting journal) i
-            (what_is_known journal i) standing.header standing.ingress standing.leg)).0,
+            (what_is_known journal i) standing.header standing.ingress standing.leg)).0).policies,
       )))
 
   stays : stays_on_way items ≡ stays_by end
@@ -210,7 +210,7 @@ module _ (setting : Setting) (journal : List Item) (row i : ℕ) (t : Traveller)
       let standing : IsStanding setting journal i t = can.standing in
       subst (λ (u : Traveller). stays_on_way (hop_written number w near ports u)
       ≡ stays_by (hopped w near u.tunnel).end) (sym standing.is)
-      (hop_stays setting journal row i standing.place standing.header standing.ingress standing.leg
+      (hop_stays setting journal row i standing.switch standing.header standing.ingress standing.leg
       w near ports can.hops)
 
   pub hop_is_packet : t.tunnel.packet ≡ i
@@ -222,8 +222,11 @@ module _ (setting : Setting) (journal : List Item) (row i : ℕ) (t : Traveller)
       else switch_of setting journal k)
   unfolding what_is_known
   hop_called k b is =
-      calls_of_hop setting journal items row i s k end b (hop_later number w near ports t) stays
-      (refl, apart_known k number (begun journal row i) items (hop_sends number w near ports t).0)
+      calls_of_hop setting journal items row i s k end b (hop_later number w near ports t) stays (
+        refl,
+        (are_apart number (begun journal row i) items
+            (hop_sends number w near ports t).0).known k,
+      )
       can.standing.stands.on (can.standing.stands.stands ∙ ap Some (sym can.at)) is
 
   pub hop_others : Known setting journal → (q : ℕ) → (i == q) ≡ false

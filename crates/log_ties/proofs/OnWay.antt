@@ -82,19 +82,19 @@ pub record Stands (setting : Setting) (journal : List Item) (i place : ℕ) (hea
 -- a packet of the table, as the journal tells of it
 pub record IsStanding (setting : Setting) (journal : List Item) (i : ℕ) (t : Traveller) : Type 0
   where
-    pub place : ℕ
+    pub switch : ℕ
     pub header : Header
     pub ingress : ℕ
     pub leg : Leg
-    pub stands : Stands setting journal i place header ingress leg
+    pub stands : Stands setting journal i switch header ingress leg
     pub is : t ≡ on_leg (targets_of setting journal) i (what_is_known journal i) header ingress leg
 
 serves_here : (setting : Setting) (journal : List Item) (i place : ℕ) → IsServed journal i
     → (what_is_known journal i).stands ≡ Some place → IsTrue (serves journal place)
 unfolding what_is_known
 serves_here setting journal i place served stands =
-    let same : served.place ≡ place =
-    some_same (what_is_known journal i).stands served.place place served.stands stands in
+    let same : served.switch ≡ place =
+    some_same (what_is_known journal i).stands served.switch place served.stands stands in
     rw (sym same) served.serving
 
 pub standing_by : (setting : Setting) (journal : List Item) (i : ℕ) (t : Traveller)
@@ -108,7 +108,7 @@ standing_by setting journal i t knows by =
     let travelling : Travels setting journal i = travels_known setting journal i knows on in
     let way : IsOnWay setting journal facts = travelling.way in
     record {
-      place = way.under_way.place;
+      switch = way.under_way.switch;
       header = way.under_way.header;
       ingress = way.under_way.ingress;
       leg = way.leg;
@@ -121,7 +121,7 @@ standing_by setting journal i t knows by =
         takes = way.takes;
         at_first = way.under_way.at_first;
         there = way.under_way.now;
-        serving = serves_here setting journal i way.under_way.place travelling.served
+        serving = serves_here setting journal i way.under_way.switch travelling.served
             way.under_way.stands;
         sound = way.under_way.sound;
         on_leg = way.on_leg;

@@ -272,8 +272,8 @@ bag_forgotten before posts k posted_it bag =
 
 -- ---- items of packets
 
--- the items concern no switch, no link and no policy, and the messages that they send are numbered from this
--- number
+-- the items concern no switch, no link and no policy, and the messages that they send are numbered
+-- from this number
 abbrev pub SendFrom : ℕ → List Item → Type 0
 SendFrom number [] = ⊤
 SendFrom number (item.Sent n message ∷ items) = (n ≡ number) × SendFrom (number + 1) items
@@ -293,54 +293,40 @@ posts_in [] = []
 posts_in (item.Sent n message ∷ items) = posted message ∷ posts_in items
 posts_in (_ ∷ items) = posts_in items
 
-pub apart_known : (s number : ℕ) (before items : List Item) → SendFrom number items
-    → NoneConcern (concerns_known s) before items
-apart_known s number before [] of = tt
-apart_known s number before (item.Sent n message ∷ items) of =
-    (refl, apart_known s (number + 1) (before ++ item.Sent n message ∷ []) items of.1)
-apart_known s number before (item.Delivered n ∷ items) of = absurd of
-apart_known s number before (item.Forgotten n ∷ items) of = absurd of
-apart_known s number before (item.Expired switch place message ∷ items) of = absurd of
-apart_known s number before (item.Down switch ∷ items) of = absurd of
-apart_known s number before (item.Booted switch boot ∷ items) of = absurd of
-apart_known s number before (item.Opened switch version ∷ items) of = absurd of
-apart_known s number before (item.LinkIs one two up ∷ items) of = absurd of
-apart_known s number before (item.Submitted file version ∷ items) of = absurd of
-apart_known s number before (x ∷ items) of =
-    (refl, apart_known s number (before ++ x ∷ []) items of)
+-- they concern no switch, no link and no policy
+pub record AreApart (before items : List Item) : Type 0 where
+  pub known : (s : ℕ) → NoneConcern (concerns_known s) before items
+  pub links : NoneConcern concerns_links before items
+  pub policies : NoneConcern concerns_policies before items
 
--- nor whether links can be used, nor a policy
-pub apart_links : (number : ℕ) (before items : List Item) → SendFrom number items
-    → NoneConcern concerns_links before items
-apart_links number before [] of = tt
-apart_links number before (item.Sent n message ∷ items) of =
-    (refl, apart_links (number + 1) (before ++ item.Sent n message ∷ []) items of.1)
-apart_links number before (item.Delivered n ∷ items) of = absurd of
-apart_links number before (item.Forgotten n ∷ items) of = absurd of
-apart_links number before (item.Expired switch place message ∷ items) of = absurd of
-apart_links number before (item.Down switch ∷ items) of = absurd of
-apart_links number before (item.Booted switch boot ∷ items) of = absurd of
-apart_links number before (item.Opened switch version ∷ items) of = absurd of
-apart_links number before (item.LinkIs one two up ∷ items) of = absurd of
-apart_links number before (item.Submitted file version ∷ items) of = absurd of
-apart_links number before (x ∷ items) of =
-    (refl, apart_links number (before ++ x ∷ []) items of)
+-- with one more such item in front
+apart_next : (before items : List Item) (item : Item)
+    → ((s : ℕ) → IsFalse (concerns_known s before item)) → IsFalse (concerns_links before item)
+    → IsFalse (concerns_policies before item) → AreApart (before ++ item ∷ []) items
+    → AreApart before (item ∷ items)
+apart_next before items item known links policies rest = record {
+  known = λ s. (known s, rest.known s);
+  links = (links, rest.links);
+  policies = (policies, rest.policies);
+}
 
-pub apart_policies : (number : ℕ) (before items : List Item) → SendFrom number items
-    → NoneConcern concerns_policies before items
-apart_policies number before [] of = tt
-apart_policies number before (item.Sent n message ∷ items) of =
-    (refl, apart_policies (number + 1) (before ++ item.Sent n message ∷ []) items of.1)
-apart_policies number before (item.Delivered n ∷ items) of = absurd of
-apart_policies number before (item.Forgotten n ∷ items) of = absurd of
-apart_policies number before (item.Expired switch place message ∷ items) of = absurd of
-apart_policies number before (item.Down switch ∷ items) of = absurd of
-apart_policies number before (item.Booted switch boot ∷ items) of = absurd of
-apart_policies number before (item.Opened switch version ∷ items) of = absurd of
-apart_policies number before (item.LinkIs one two up ∷ items) of = absurd of
-apart_policies number before (item.Submitted file version ∷ items) of = absurd of
-apart_policies number before (x ∷ items) of =
-    (refl, apart_policies number (before ++ x ∷ []) items of)
+pub are_apart : (number : ℕ) (before items : List Item) → SendFrom number items
+    → AreApart before items
+are_apart number before [] of = record { known = λ s. tt; links = tt; policies = tt }
+are_apart number before (item.Sent n message ∷ items) of =
+    apart_next before items (item.Sent n message) (λ s. refl) refl refl
+    (are_apart (number + 1) (before ++ item.Sent n message ∷ []) items of.1)
+are_apart number before (item.Delivered n ∷ items) of = absurd of
+are_apart number before (item.Forgotten n ∷ items) of = absurd of
+are_apart number before (item.Expired switch place message ∷ items) of = absurd of
+are_apart number before (item.Down switch ∷ items) of = absurd of
+are_apart number before (item.Booted switch boot ∷ items) of = absurd of
+are_apart number before (item.Opened switch version ∷ items) of = absurd of
+are_apart number before (item.LinkIs one two up ∷ items) of = absurd of
+are_apart number before (item.Submitted file version ∷ items) of = absurd of
+are_apart number before (x ∷ items) of =
+    apart_next before items x (λ s. refl) refl refl
+    (are_apart number (before ++ x ∷ []) items of)
 
 -- behind an item that concerns no message
 bag_next : (before items : List Item) (item : Item) (posts more : List Post)

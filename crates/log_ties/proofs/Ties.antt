@@ -30,7 +30,7 @@ use Rattle.log_ties.proofs.HopPieces.{hop_others, hop_own, hop_piece}
 use Rattle.log_ties.proofs.Known.{Known, reached_known}
 use Rattle.log_ties.proofs.Later.{entered_sends}
 use Rattle.log_ties.proofs.OnWay.{IsStanding, standing_by}
-use Rattle.log_ties.proofs.Posting.{apart_policies, bag_begun, bag_delivered, bag_forgotten, bag_on, bag_sent}
+use Rattle.log_ties.proofs.Posting.{are_apart, bag_begun, bag_delivered, bag_forgotten, bag_on, bag_sent}
 use Rattle.log_ties.proofs.Seeing.{sees}
 use Rattle.log_ties.proofs.Words.{same_targets, traveller_now}
 
@@ -90,8 +90,8 @@ module _ (setting : Setting) (journal : List Item) (row s : ℕ) (header : Heade
       (λ leg. same_targets setting (journal ++ first ∷ []) (item.Entered i s header ∷ [])
       (refl, tt) leg ∙ same_targets setting journal (first ∷ []) (refl, tt) leg) (
         refl,
-        apart_policies (next_message journal) (journal ++ first ∷ []) items
-            (entered_sends (next_message journal) (coming_in i header s) answer).0,
+        (are_apart (next_message journal) (journal ++ first ∷ []) items
+            (entered_sends (next_message journal) (coming_in i header s) answer).0).policies,
       ) refl
 
   come : Comes setting journal row s header ports

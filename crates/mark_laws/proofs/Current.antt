@@ -20,7 +20,7 @@ use Rattle.update_machine.specs.Versions.{stamp_in, stamp_of}
 use Rattle.update_machine.specs.Links.{message_of}
 use Rattle.update_machine.proofs.CallerLemmas.{start_laws}
 use Rattle.boot_laws.specs.ItemCauses.{HasItemCause, IsRightMessage, IsRightOpening}
-use Rattle.boot_laws.proofs.Boots.{by_number, known_rises}
+use Rattle.boot_laws.proofs.Boots.{known_rises, new_or_old}
 use Rattle.boot_laws.proofs.Facts.{AreKept}
 use Rattle.boot_laws.proofs.Grown.{opens_by, current_more, retired_more, opened_in, opened_is, opened_more, raised, stamp_told}
 use Rattle.boot_laws.proofs.Sends.{each, each_append, each_map}
@@ -114,18 +114,6 @@ current_on setting before next (receiver.Switch s) _ cause is = tt
 current_on setting before next receiver.Controller (Stamped s boot version) cause is =
     omega (arith, is, current_rises setting before next cause)
 current_on setting before next receiver.Controller _ cause is = tt
-
-sent_on : (setting : Setting) (before : List Item) (next : Item) (n : ℕ) (message : Message)
-    → HasItemCause setting before next → StampsAreCurrent before
-    → message_of (before ++ next ∷ []) n ≡ Some message
-    → IsOfCurrent (before ++ next ∷ []) message.to message.body
-sent_on setting before next n message cause are is = elim (by_number before next n message is) [
-  | inl new ↦ current_on setting before next message.to message.body cause
-      (sent_current setting before message.to message.body are
-      (subst (HasItemCause setting before) new cause))
-  | inr old ↦ current_on setting before next message.to message.body cause
-      (are.sent n message old)
-]
 
 -- ---- stamps
 
@@ -240,7 +228,9 @@ retired_on setting before next cause are =
 pub current_kept : (setting : Setting) → AreKept (HasItemCause setting) StampsAreCurrent
 current_kept setting before next cause are = record {
   marks = there_kept setting before next cause are.marks;
-  sent = λ n message is. sent_on setting before next n message cause are is;
+  sent = λ n message is. current_on setting before next message.to message.body cause
+      (new_or_old (HasItemCause setting) (IsOfCurrent before) before next cause
+      (λ k sent. sent_current setting before sent.to sent.body are) are.sent n message is);
   opened = λ s boot version is. opened_on setting before next s boot version cause are is;
   stamps = λ s. stamps_on setting before next s cause are;
   told = λ s boot. told_on setting before next s boot cause are;

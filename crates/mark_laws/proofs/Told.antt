@@ -12,6 +12,7 @@ use Rattle.update_machine.specs.Marks.{controller_heard, said_to_controller}
 use Rattle.update_machine.specs.Links.{message_of}
 use Rattle.boot_laws.proofs.Boots.{said_sent}
 use Rattle.boot_laws.proofs.Grown.{told_more}
+pub use Rattle.boot_laws.proofs.Sends.{each_weaker}
 
 -- what bodies of this kind told the controller
 abbrev pub told_by : {X : Type 0} → (Body → Option X) → List Item → List X
@@ -59,11 +60,6 @@ told_sent reads writes is before number x told = by_said (said_to_controller bef
         ∙ ap (λ b. Some (to_controller b)) (is body x (rw e at told))
 
 -- ---- facts of each element
-
-pub each_weaker : {X : Type 0} (P Q : X → Type 0) → ((x : X) → P x → Q x) → (xs : List X)
-    → AllByRecursion P xs → AllByRecursion Q xs
-each_weaker P Q f [] all = tt
-each_weaker P Q f (x ∷ xs) all = (f x all.0, each_weaker P Q f xs all.1)
 
 pub each_if : {X : Type 0} (P : X → Type 0) (o : Option X) → ((x : X) → o ≡ Some x → P x)
     → AllByRecursion P (option_to_list o)

@@ -21,7 +21,7 @@ use Rattle.update_machine.specs.Causes.{HaveCauses}
 use Rattle.update_machine.specs.Deliveries.{advert_to, after_hello, controller_items, is_new_boot, link_changes, passed_on, switch_items, switches_in}
 use Rattle.update_machine.specs.LinkMasks.{near}
 use Rattle.update_machine.specs.Marks.{current_mark, has_acked, hello_boot, is_joining, is_member, is_over, known_boot, members, retired_mark, said_to_controller}
-use Rattle.update_machine.specs.Messages.{next_message, sends, sent_from}
+use Rattle.update_machine.specs.Messages.{sends, sent_from}
 use Rattle.update_machine.specs.Moves.{put}
 use Rattle.update_machine.specs.Packets.{next_packet}
 use Rattle.update_machine.specs.Pieces.{confirm_items, deliver_items, hello_of, piece, resend_items, resent_by_switch, restart_items, step_items, update_items}
@@ -37,7 +37,7 @@ use Rattle.boot_laws.proofs.Facts.{AreKept, fact_on, have_weaker}
 use Rattle.boot_laws.proofs.Grown.{known_more, message_more, raised}
 use Rattle.boot_laws.proofs.Reached.{NamesOwn, OwnPiecesHave}
 use Rattle.boot_laws.proofs.Resent.{each_by_controller, each_to_member, later_versions, resent_has}
-use Rattle.boot_laws.proofs.Sends.{each_kept, each_map}
+use Rattle.boot_laws.proofs.Sends.{each_kept, each_map, sends_kept}
 use Rattle.boot_laws.proofs.SwitchBlocks.{hello_said, said_parts}
 use Rattle.boot_laws.proofs.Traffic.{IsAdvert, IsAdvertTo, IsBetween, IsIngress, IsTraffic, Traffic, adverts_to, each_told, expire_traffic, forget_traffic, hop_traffic, links_traffic, lose_traffic, masked_there, packet_has, passed_traffic, switches_there}
 use Rattle.mark_laws.proofs.Greatest.{known_first}
@@ -106,9 +106,8 @@ traffic_names setting before next is = tt
 
 traffic_name : (setting : Setting) (journal items : List Item) → Traffic setting journal items
     → Name setting journal items
-traffic_name setting journal items traffic =
-    have_weaker (IsTraffic setting) (NamesRightly setting) (traffic_names setting) journal items
-    traffic
+traffic_name setting =
+    have_weaker (IsTraffic setting) (NamesRightly setting) (traffic_names setting)
 
 links_name : (setting : Setting) (before journal : List Item)
     → Name setting journal (link_changes setting before journal)
@@ -148,15 +147,6 @@ own_sent setting before n message (receiver.Switch s) (Advertise advert) own = o
 own_sent setting before n message receiver.Controller (Hello s boot) own = own
 own_sent setting before n message to body own = absurd own
 
-rest_own : (setting : Setting) (before : List Item) (n : ℕ) (message : Message)
-    (messages : List Message) → AllByRecursion (IsOwn setting before) messages
-    → AllByRecursion (IsOwn setting (before ++ item.Sent n message ∷ [])) messages
-rest_own setting before n message [] all = tt
-rest_own setting before n message (next ∷ messages) all = (
-  own_sent setting before n message next.to next.body all.0,
-  rest_own setting before n message messages all.1,
-)
-
 own_names : (setting : Setting) (before : List Item) (to : Receiver) (body : Body)
     → SaysOwn setting before to body → SaysThere setting before to body
 own_names setting before (receiver.Switch s) (CacheRule version word rule action) own = absurd own
@@ -164,22 +154,13 @@ own_names setting before receiver.Controller (Installed s boot version) own = ab
 own_names setting before receiver.Controller (Stamped s boot version) own = absurd own
 own_names setting before to body own = own
 
-sent_name : (setting : Setting) (messages : List Message) (journal : List Item) (n : ℕ)
-    → AllByRecursion (IsOwn setting journal) messages
-    → Name setting journal (sent_from n messages)
-unfolding sent_from
-sent_name setting [] journal n all = tt
-sent_name setting (message ∷ messages) journal n all = (
-  own_names setting journal message.to message.body all.0,
-  sent_name setting messages (journal ++ item.Sent n message ∷ []) (n + 1)
-      (rest_own setting journal n message messages all.1),
-)
-
 sends_name : (setting : Setting) (journal : List Item) (messages : List Message)
     → AllByRecursion (IsOwn setting journal) messages
     → Name setting journal (sends journal messages)
-sends_name setting journal messages all =
-    sent_name setting messages journal (next_message journal) all
+sends_name setting =
+    sends_kept (NamesRightly setting) (IsOwn setting)
+    (λ before n message own. own_names setting before message.to message.body own)
+    (λ before n message other new own. own_sent setting before n message other.to other.body own)
 
 -- ---- messages to switches of the network
 

@@ -1,9 +1,8 @@
 ghost use Rattle.std.specs.Prelude.{◌≡◌};
 ghost use Rattle.net_file.specs.Refusals.{net_code};
-ghost use Rattle.net_file.specs.declared.error.NetError.TheVariants.{NoMemory, Refused};
+ghost use Rattle.read_error.specs.declared.error.ReadError.TheVariants.{Refused};
 
-use std::alloc::{AllocError, AllocFailed};
-use thiserror::Error;
+use read_error::ReadError;
 
 /// What is wrong with a network's text.
 #[derive(Clone, Copy, Debug, PartialEq, Eq)]
@@ -40,15 +39,10 @@ impl NetRefusal {
 }
 
 /// Why a text is read as no network.
-#[derive(Clone, Copy, Debug, PartialEq, Eq, Error)]
-pub enum NetError {
-    /// The first refusal of the text, and its row: 0 for the keys of the document, k for the k-th
-    /// switch and 100 + k for the k-th link, both counted from 1.
-    #[error("row {row}: {refusal:?}")]
-    Refused { refusal: NetRefusal, row: u32 },
-    #[error("no memory")]
-    NoMemory,
-}
+///
+/// The row of a refusal is 0 for the keys of the document, k for the k-th switch and 100 + k for
+/// the k-th link, both counted from 1.
+pub type NetError = ReadError<NetRefusal>;
 
 /// A refusal of the document, or of one of its own keys, is in row 0.
 impl From<NetRefusal> for NetError {
@@ -56,21 +50,5 @@ impl From<NetRefusal> for NetError {
 
     fn from(refusal: NetRefusal) -> Self {
         NetError::Refused { refusal, row: 0 }
-    }
-}
-
-impl From<AllocError> for NetError {
-    ghost from_gives = { λ _ e. e ≡ NoMemory };
-
-    fn from(_: AllocError) -> Self {
-        NetError::NoMemory
-    }
-}
-
-impl<T: Drop> From<AllocFailed<T>> for NetError {
-    ghost from_gives = { λ _ e. e ≡ NoMemory };
-
-    fn from(_: AllocFailed<T>) -> Self {
-        NetError::NoMemory
     }
 }

@@ -2,7 +2,7 @@ ghost use Rattle.std.specs.Prelude.{◌≡◌, ◌≤◌, ◌<◌, ◌^◌, Ok, 
 ghost use Rattle.toml.specs.View.{table_view, view};
 ghost use Rattle.net_file.specs.Joins.{are_linked, joins};
 ghost use Rattle.net_file.specs.Reading.{end_read, ends_in, link_array, link_of, link_with, links_in};
-ghost use Rattle.net_file.specs.Refusals.{IsNetRefusal};
+ghost use Rattle.read_error.specs.Refusals.{IsRefusal};
 
 use crate::error::{NetError, NetRefusal};
 use crate::keys::{array_in, table_in, value_at};
@@ -111,7 +111,7 @@ pub fn read_links(
     requires few_links { length values.now ≤ 256 }
     ensures links { IfOk result (λ rows.
         links_in switches.now (map view values.now) ≡ Ok rows.items) }
-    ensures refused { IfErr result (IsNetRefusal (links_in switches.now (map view values.now))) }
+    ensures refused { IfErr result (IsRefusal (links_in switches.now (map view values.now))) }
 {
     let mut rows = Vec::new(alloc);
     let mut row = LINK_ROWS;

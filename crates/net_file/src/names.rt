@@ -13,7 +13,7 @@ impl Net {
         requires { IsNet self.now }
         ensures { result.now ≡ name_of self.now s }
     {
-        match self.switches.rows().get(s as usize) {
+        match self.switches.items().get(s as usize) {
             Some(row) => text_of(row.name.bytes()),
             None => "",
         }

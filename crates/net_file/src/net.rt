@@ -4,6 +4,7 @@ ghost use Rattle.net_file.specs.Owners.{AreOwners, port_mask, switch_number, lin
 ghost use Rattle.net_file.specs.Joins.{joins, owner_of};
 
 use crate::ports::{Ports, owners};
+use lists::Listing;
 use masks::{has, with};
 use std::alloc::{AllocError, AllocFailed, Global};
 use std::marker::Model;
@@ -40,35 +41,10 @@ pub struct LinkRow {
 }
 
 /// The switches of a network in the order of its text: a switch's number is its place, from 0.
-/// Contracts see the list.
-#[derive(Drop)]
-pub struct Switches {
-    rows: Vec<SwitchRow>,
-}
+pub type Switches = Listing<SwitchRow>;
 
-impl Model for Switches {
-    ghost use Rattle.std.specs.Prelude.{List};
-    ghost use Rattle.net_file.specs.declared.net.SwitchRow.{SwitchRow};
-
-    ghost Value = { List SwitchRow };
-
-    ghost view = { λ s. s.rows.items };
-}
-
-/// The links of a network in the order of its text. Contracts see the list.
-#[derive(Drop)]
-pub struct Links {
-    rows: Vec<LinkRow>,
-}
-
-impl Model for Links {
-    ghost use Rattle.std.specs.Prelude.{List};
-    ghost use Rattle.net_file.specs.declared.net.LinkRow.{LinkRow};
-
-    ghost Value = { List LinkRow };
-
-    ghost view = { λ l. l.rows.items };
-}
+/// The links of a network in the order of its text.
+pub type Links = Listing<LinkRow>;
 
 /// A network, with the settings of the trees that are cut for it.
 #[derive(Drop)]
@@ -105,38 +81,6 @@ impl LinkRow {
         } else {
             None
         }
-    }
-}
-
-impl Switches {
-    /// These switches, numbered from 0.
-    pub fn new(rows: Vec<SwitchRow>) -> Switches
-        ensures { result ≡ rows.items }
-    {
-        Switches { rows }
-    }
-
-    /// The switches in the order of their numbers.
-    pub fn rows(&self) -> &[SwitchRow]
-        ensures { result.now ≡ self.now }
-    {
-        &self.rows
-    }
-}
-
-impl Links {
-    /// These links.
-    pub fn new(rows: Vec<LinkRow>) -> Links
-        ensures { result ≡ rows.items }
-    {
-        Links { rows }
-    }
-
-    /// The links in the order of the text.
-    pub fn rows(&self) -> &[LinkRow]
-        ensures { result.now ≡ self.now }
-    {
-        &self.rows
     }
 }
 
@@ -216,10 +160,8 @@ pub fn solo(alloc: Global) -> Result<Net, AllocError>
         room: 8192,
     })?;
     Ok(Net {
-        switches: Switches { rows },
-        links: Links {
-            rows: Vec::new(alloc),
-        },
+        switches: Switches::new(rows),
+        links: Links::empty(alloc),
         leaf_rules: 8192,
         backups: 0,
         cache: 256,
@@ -232,7 +174,7 @@ impl Net {
         requires { IsNet self.now }
         ensures { result ≡ switch_number self.now.switches name.now }
     {
-        number_in(self.switches.rows(), name)
+        number_in(self.switches.items(), name)
     }
 
     /// The switches that a link joins to this one, as a mask of their numbers.
@@ -241,7 +183,7 @@ impl Net {
         ensures { result ≡ links_of self.now.links switch }
     {
         let mut mask = 0;
-        for link in self.links.rows() {
+        for link in self.links.items() {
             if let Some(other) = link.other_end(switch) {
                 mask = with(mask, other);
             }
@@ -255,7 +197,7 @@ impl Net {
         ensures { result ≡ port_mask self.now.switches }
     {
         let mut mask = 0;
-        for row in self.switches.rows() {
+        for row in self.switches.items() {
             mask |= row.ports;
         }
         mask
@@ -266,7 +208,7 @@ impl Net {
         requires { IsNet self.now }
         ensures { AreOwners self.now.switches result }
     {
-        owners(self.switches.rows())
+        owners(self.switches.items())
     }
 }
 
@@ -287,25 +229,6 @@ impl Clone for SwitchRow {
             ports: self.ports,
             room: self.room,
         })
-    }
-}
-
-impl Clone for Switches {
-    ghost is_clone = { λ switches copy. copy ≡ switches };
-
-    fn clone(&self) -> Result<Self, AllocError> {
-        Ok(Switches {
-            rows: self.rows.clone()?,
-        })
-    }
-}
-
-impl Clone for Links {
-    ghost is_clone = { λ links copy. copy ≡ links };
-
-    fn clone(&self) -> Result<Self, AllocError> {
-        let rows = Vec::from_slice(*self.rows.allocator(), &self.rows)?;
-        Ok(Links { rows })
     }
 }
 

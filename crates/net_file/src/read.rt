@@ -2,7 +2,7 @@ ghost use Rattle.std.specs.Prelude.{◌≡◌, Ok, Some, IfOk, IfErr, ok_or};
 ghost use Rattle.toml.specs.View.{table_view};
 ghost use Rattle.net_file.specs.Net.{IsNet};
 ghost use Rattle.net_file.specs.Reading.{document_of, net_read, net_of};
-ghost use Rattle.net_file.specs.Refusals.{IsNetRefusal, in_row};
+ghost use Rattle.read_error.specs.Refusals.{IsRefusal, in_row};
 ghost use Rattle.net_file.specs.declared.error.NetRefusal.TheVariants.{Toml};
 
 use crate::error::{NetError, NetRefusal};
@@ -16,7 +16,7 @@ use toml::Table;
 // The network that a document states.
 fn read_table(alloc: Global, table: &Table) -> Result<Net, NetError>
     ensures net { IfOk result (λ net. net_read (table_view table.now) ≡ Ok net) }
-    ensures refused { IfErr result (IsNetRefusal (net_read (table_view table.now))) }
+    ensures refused { IfErr result (IsRefusal (net_read (table_view table.now))) }
 {
     let leaf_rules = setting_of(table, "leaf_rules", 1, 8192, 64)?;
     let backups = setting_of(table, "backups", 0, 3, 0)?;
@@ -35,7 +35,7 @@ fn read_table(alloc: Global, table: &Table) -> Result<Net, NetError>
 // The document of the bytes.
 fn read_document(alloc: Global, bytes: &[u8]) -> Result<Table, NetError>
     ensures document { IfOk result (λ table. document_of bytes.now ≡ Some (table_view table)) }
-    ensures refused { IfErr result (IsNetRefusal (in_row 0 (ok_or (document_of bytes.now) Toml))) }
+    ensures refused { IfErr result (IsRefusal (in_row 0 (ok_or (document_of bytes.now) Toml))) }
 {
     match toml::table_from_slice(alloc, bytes) {
         Ok(table) => Ok(table),
@@ -51,7 +51,7 @@ fn read_document(alloc: Global, bytes: &[u8]) -> Result<Table, NetError>
 #[tactic(auto, unfolding(crate::specs::Reading::net_of))]
 pub fn read_net(alloc: Global, bytes: &[u8]) -> Result<Net, NetError>
     ensures net { IfOk result (λ net. net_of bytes.now ≡ Ok net) }
-    ensures refused { IfErr result (IsNetRefusal (net_of bytes.now)) }
+    ensures refused { IfErr result (IsRefusal (net_of bytes.now)) }
     ensures sound { IfOk result IsNet }
 {
     read_table(alloc, &read_document(alloc, bytes)?)

@@ -4,7 +4,7 @@ ghost use Rattle.toml.specs.Data.{as_integer};
 ghost use Rattle.toml.specs.View.{table_view, view};
 ghost use Rattle.net_file.specs.Net.{are_name_bytes, is_label, is_name, is_name_byte};
 ghost use Rattle.net_file.specs.Reading.{are_new, name_at, port_bits, port_read, ports_at, ports_of, switch_array, switch_read, switch_with, switches_read};
-ghost use Rattle.net_file.specs.Refusals.{IsNetRefusal, in_row};
+ghost use Rattle.read_error.specs.Refusals.{IsRefusal, in_row};
 ghost use Rattle.net_file.specs.Stated.{row_stated};
 ghost use Rattle.net_file.specs.Owners.{have_name, have_port};
 ghost use Rattle.net_file.specs.Laws.{IsMask};
@@ -201,7 +201,7 @@ fn read_switch(
 ) -> Result<SwitchRow, NetError>
     requires { IsMask taken (have_port earlier.now) }
     ensures switch { IfOk result (λ switch. switch_read earlier.now (view value.now) ≡ Ok switch) }
-    ensures refused { IfErr result (IsNetRefusal (in_row row (switch_read earlier.now
+    ensures refused { IfErr result (IsRefusal (in_row row (switch_read earlier.now
         (view value.now)))) }
 {
     let keys = match table_in(value) {
@@ -224,7 +224,7 @@ pub fn read_switches(alloc: Global, values: &[Value]) -> Result<Vec<SwitchRow>, 
     requires { length values.now ≤ 64 }
     ensures few { IfOk result (λ rows. vec_len rows ≤ 64) }
     ensures switches { IfOk result (λ rows. switches_read (map view values.now) ≡ Ok rows.items) }
-    ensures refused { IfErr result (IsNetRefusal (switches_read (map view values.now))) }
+    ensures refused { IfErr result (IsRefusal (switches_read (map view values.now))) }
 {
     let mut rows = Vec::new(alloc);
     let mut taken = 0;

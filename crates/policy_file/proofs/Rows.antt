@@ -13,7 +13,8 @@ use Rattle.policy_rules.specs.declared.policy.Row.{Row}
 use Rattle.policy_rules.specs.Repeats.{IsFirstRepeat, has_priority}
 use Rattle.policy_file.specs.declared.error.PolicyRefusal.{PolicyRefusal}
 use Rattle.policy_file.specs.declared.error.PolicyRefusal.TheVariants as why
-use Rattle.policy_file.specs.Reading.{IsReadUpTo, RefusedPolicy, State, first_some, policy_heading, refusal_after, refusal_at, row_read, rows_of, rows_under_heading, states_priority}
+use Rattle.read_error.specs.Refusals.{RefusedRow}
+use Rattle.policy_file.specs.Reading.{IsReadUpTo, State, first_some, policy_heading, refusal_after, refusal_at, row_read, rows_of, rows_under_heading, states_priority}
 
 -- ---- the first number that has something
 
@@ -149,7 +150,7 @@ clean records (row ∷ rows) p stated few most distinct k less =
     ∙ ap (λ b. cond b (Some why.SamePriority) None)
     (fresh (row ∷ rows) p k row distinct less (omega arith))
 
-abbrev at_row : ℕ → PolicyRefusal → RefusedPolicy
+abbrev at_row : ℕ → PolicyRefusal → RefusedRow PolicyRefusal
 at_row place refusal = record { refusal = refusal; row = place + 1 }
 
 -- the first refused record decides
@@ -237,7 +238,7 @@ next_of records n fields after left true is at takes =
     ]
 
 -- no record is left after the first n
-pub ends_at : (records : Records) (n : ℕ) (fields : List (List ℕ)) (after left : Records)
+ends_at : (records : Records) (n : ℕ) (fields : List (List ℕ)) (after left : Records)
     (found : Bool) → found ≡ false → left ≡ drop n records → TakesRecord left found fields after
     → n ≤ length records → length records ≡ n
 ends_at records n fields after left true is at takes most = cc is
@@ -249,6 +250,18 @@ ends_at records n fields after left false is at takes most =
           absurd (cc)
       | inr past ↦ omega arith
     ]
+
+-- no record is left behind those that state these rows
+pub ended : (records : Records) (rows : List Row) (fields : List (List ℕ)) (after left : Records)
+    (found : Bool) → State (take (length rows) records) rows → length rows ≤ 2000
+    → length rows ≤ length records → found ≡ false → left ≡ drop (length rows) records
+    → TakesRecord left found fields after → IsReadUpTo records rows None
+ended records rows fields after left found stated few within none at takes = record {
+  stated = stated;
+  few = few;
+  within = within;
+  ends = ends_at records (length rows) fields after left found none at takes within;
+}
 
 -- the next record states no row
 pub refused_row : (records : Records) (n : ℕ) (fields : List (List ℕ)) (after : Records)

@@ -1,5 +1,5 @@
 -- The policy that a text states, as CSV records: a heading, and a record for each row.
-use Rattle.std.specs.Prelude.{⊤, ℕ, zero, suc, ◌≡◌, ◌+◌, ◌<◌, ◌≤◌, ◌==◌, Bool, false, if◌then◌else◌, MatchOption, Option, Some, None, option_map, Result, Ok, Err, List, [], ◌∷◌, length, map, take, filter_map, slice_index_or, codes}
+use Rattle.std.specs.Prelude.{ℕ, zero, suc, ◌≡◌, ◌+◌, ◌<◌, ◌≤◌, ◌==◌, Bool, false, if◌then◌else◌, MatchOption, Option, Some, None, option_map, Result, Ok, Err, List, [], ◌∷◌, length, map, take, filter_map, slice_index_or, codes}
 use Rattle.std.specs.List.{list_any}
 use Rattle.std.specs.Option.{option_map_or, option_or}
 use Rattle.std.specs.Result.{result_ok}
@@ -7,10 +7,9 @@ use Rattle.csv_records.specs.Texts.{is_heading, records_of}
 use Rattle.five_tuple.specs.Texts.{number_up_to, prefix_of, range_of, proto_of}
 use Rattle.policy_rules.specs.Read.{action_of}
 use Rattle.policy_rules.specs.declared.policy.Row.{Row}
+use Rattle.read_error.specs.Refusals.{RefusedRow}
 use Rattle.policy_file.specs.declared.error.PolicyRefusal.{PolicyRefusal}
 use Rattle.policy_file.specs.declared.error.PolicyRefusal.TheVariants as why
-use Rattle.policy_file.specs.declared.error.PolicyError.{PolicyError}
-use Rattle.policy_file.specs.declared.error.PolicyError.TheVariants as error
 
 -- the numbers by which refusals are known outside
 abbrev pub policy_code : PolicyRefusal → ℕ
@@ -25,11 +24,6 @@ policy_code why.Proto = 8
 policy_code why.Action = 9
 policy_code why.SamePriority = 10
 policy_code why.TooManyRows = 11
-
--- why a text is refused, and in which row, counted from 1; the heading is row 0
-pub record RefusedPolicy : Type 0 where
-  pub refusal : PolicyRefusal
-  pub row : ℕ
 
 abbrev pub policy_heading : List (List ℕ)
 policy_heading =
@@ -87,38 +81,32 @@ first_some at zero = None
 first_some at (suc n) = option_or (first_some at n) (at n)
 
 -- the same, with the row, counted from 1
-abbrev pub refused_at : List (List (List ℕ)) → ℕ → Option RefusedPolicy
+abbrev pub refused_at : List (List (List ℕ)) → ℕ → Option (RefusedRow PolicyRefusal)
 refused_at records place =
     option_map (λ refusal. record { refusal = refusal; row = place + 1 }) (refusal_at records place)
 
 -- the first refusal among the records
-abbrev pub first_refusal : List (List (List ℕ)) → Option RefusedPolicy
+abbrev pub first_refusal : List (List (List ℕ)) → Option (RefusedRow PolicyRefusal)
 first_refusal records = first_some (refused_at records) (length records)
 
 -- the rows that the records state, one each, or the first refusal among them
-abbrev pub rows_of : List (List (List ℕ)) → Result (List Row) RefusedPolicy
+abbrev pub rows_of : List (List (List ℕ)) → Result (List Row) (RefusedRow PolicyRefusal)
 rows_of records =
     option_map_or Err (first_refusal records)
     (Ok (filter_map (λ fields. result_ok (row_read fields)) records))
 
-abbrev pub no_policy_heading : Result (List Row) RefusedPolicy
+abbrev pub no_policy_heading : Result (List Row) (RefusedRow PolicyRefusal)
 no_policy_heading = Err (record { refusal = why.Heading; row = 0 })
 
 -- the rows under the heading
-abbrev pub rows_under_heading : List (List (List ℕ)) → Result (List Row) RefusedPolicy
+abbrev pub rows_under_heading : List (List (List ℕ)) → Result (List Row) (RefusedRow PolicyRefusal)
 rows_under_heading [] = no_policy_heading
 rows_under_heading (first ∷ records) =
     if is_heading policy_heading first then rows_of records else no_policy_heading
 
 -- the policy that a text states
-unfoldable pub policy_of : List ℕ → Result (List Row) RefusedPolicy
+unfoldable pub policy_of : List ℕ → Result (List Row) (RefusedRow PolicyRefusal)
 policy_of bytes = rows_under_heading (records_of bytes)
-
--- a refusal, or want of memory
-abbrev pub IsPolicyRefusal : Result (List Row) RefusedPolicy → PolicyError → Type 0
-IsPolicyRefusal policy (error.Refused refusal row) =
-    policy ≡ Err (record { refusal = refusal; row = row })
-IsPolicyRefusal policy error.NoMemory = ⊤
 
 -- ---- rows that were read of records
 

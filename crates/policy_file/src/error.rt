@@ -1,9 +1,7 @@
 ghost use Rattle.std.specs.Prelude.{◌≡◌};
 ghost use Rattle.policy_file.specs.Reading.{policy_code};
-ghost use Rattle.policy_file.specs.declared.error.PolicyError.TheVariants.{NoMemory};
 
-use std::alloc::{AllocError, AllocFailed};
-use thiserror::Error;
+use read_error::ReadError;
 
 /// Why a policy's text is refused.
 #[derive(Clone, Copy, Debug, PartialEq, Eq)]
@@ -41,28 +39,5 @@ impl PolicyRefusal {
     }
 }
 
-/// Why a text is read as no policy.
-#[derive(Clone, Copy, Debug, PartialEq, Eq, Error)]
-pub enum PolicyError {
-    /// The first refusal in the text, and its row, counted from 1; the row of the heading is 0.
-    #[error("row {row}: {refusal:?}")]
-    Refused { refusal: PolicyRefusal, row: u32 },
-    #[error("no memory")]
-    NoMemory,
-}
-
-impl From<AllocError> for PolicyError {
-    ghost from_gives = { λ _ e. e ≡ NoMemory };
-
-    fn from(_: AllocError) -> Self {
-        PolicyError::NoMemory
-    }
-}
-
-impl<T: Drop> From<AllocFailed<T>> for PolicyError {
-    ghost from_gives = { λ _ e. e ≡ NoMemory };
-
-    fn from(_: AllocFailed<T>) -> Self {
-        PolicyError::NoMemory
-    }
-}
+/// Why a text is read as no policy. Rows are counted from 1; the row of the heading is 0.
+pub type PolicyError = ReadError<PolicyRefusal>;

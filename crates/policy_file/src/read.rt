@@ -1,7 +1,8 @@
 ghost use Rattle.std.specs.Prelude.{◌≡◌, ◌≤◌, Ok, IfOk, IfErr, All, length};
 ghost use Rattle.policy_rules.specs.Policy.{IsPolicy};
 ghost use Rattle.policy_rules.specs.Read.{HasSmallPort};
-ghost use Rattle.policy_file.specs.Reading.{IsReadUpTo, IsPolicyRefusal, policy_of};
+ghost use Rattle.policy_file.specs.Reading.{IsReadUpTo, policy_of};
+ghost use Rattle.read_error.specs.Refusals.{IsRefusal};
 
 use crate::error::{PolicyError, PolicyRefusal};
 use crate::row::{is_heading, read_row};
@@ -27,7 +28,7 @@ pub fn read_policy(alloc: Global, bytes: &[u8]) -> Result<Policy, PolicyError>
     ensures sound { IfOk result IsPolicy }
     ensures few { IfOk result (λ policy. length policy ≤ 2000) }
     ensures small_ports { IfOk result (All (λ row. HasSmallPort row.action)) }
-    ensures refused { IfErr result (IsPolicyRefusal (policy_of bytes.now)) }
+    ensures refused { IfErr result (IsRefusal (policy_of bytes.now)) }
 {
     let mut records = Records::new(alloc, bytes);
     let mut fields = ByteRecord::new(alloc);

@@ -3,7 +3,7 @@ use Rattle.std.proofs.Common.{ℕ, ◌≡◌, ◌+◌, ◌<◌, ◌&&◌, ◌||�
 use Rattle.std.specs.Prelude.{option_map}
 use Rattle.std.specs.List.{AllByRecursion}
 use Rattle.std.specs.Option.{option_map_or}
-use Rattle.std.proofs.lemmas.Bool.{cases_lt, eqb-true}
+use Rattle.std.proofs.lemmas.Bool.{and_parts, cases_lt, eqb-true}
 use Rattle.std.proofs.lemmas.List.{get_or_append_left, get_or_push}
 use Rattle.ctrl_msg.specs.declared.message.Body.{Body}
 use Rattle.ctrl_msg.specs.declared.message.Body.TheVariants.{Install, OpenAt, Stamp, Collect, Advertise, Hello, Installed, Stamped}
@@ -20,7 +20,6 @@ use Rattle.quiet_journals.specs.Judging.{boot_after, concerned, has_mark, is_of_
 use Rattle.quiet_journals.specs.Lanes.{AreLanes}
 use Rattle.quiet_journals.specs.Pending.{ArePending, IsAfter, IsPending}
 use Rattle.quiet_journals.proofs.Lives.{boot_at_first, boot_of_item, none_at_first, waiting_of_item}
-use Rattle.quiet_journals.proofs.Replacing.{both}
 
 -- ---- what says as much is of the same switch
 
@@ -31,17 +30,17 @@ says_speaks (OpenAt boot version) (OpenAt of earlier) says = refl
 says_speaks (Stamp boot version) (Stamp of earlier) says = refl
 says_speaks (Collect boot version) (Collect of earlier) says = refl
 says_speaks (Advertise advert) (Advertise earlier) says = refl
-says_speaks (Hello s boot) (Hello t of) says = ap Some (eqb-true s t (both _ _ says).0)
+says_speaks (Hello s boot) (Hello t of) says = ap Some (eqb-true s t (and_parts _ _ says).0)
 says_speaks (Installed s boot version) (Installed t of earlier) says =
-    ap Some (eqb-true s t (both _ _ (both _ _ says).0).0)
+    ap Some (eqb-true s t (and_parts _ _ (and_parts _ _ says).0).0)
 says_speaks (Stamped s boot version) (Stamped t of earlier) says =
-    ap Some (eqb-true s t (both _ _ (both _ _ says).0).0)
+    ap Some (eqb-true s t (and_parts _ _ (and_parts _ _ says).0).0)
 says_speaks later earlier says = absurd cc
 
 says_party : (later earlier : Message) → says_again later earlier ≡ true
     → party later ≡ party earlier
 says_party later earlier says =
-    let parts = both _ _ says in
+    let parts = and_parts _ _ says in
     by_receiver later.to earlier.to parts.0 later.body earlier.body parts.1
   where
     by_receiver : (to from : Receiver) → is_same_receiver to from ≡ true → (later earlier : Body)
@@ -82,17 +81,17 @@ matters_of life boot message matter = by_receiver message.to message.body matter
         && not (is_old body life.current)) ≡ true
         → is_named life.switch (option_map (λ (of : ℕ × ℕ). of.0) o) ≡ true
     by_speaker body None e matter =
-        let clash : false ≡ true = (both life.is_up false (both _ _ matter).0).1 in
+        let clash : false ≡ true = (and_parts life.is_up false (and_parts _ _ matter).0).1 in
         absurd cc
     by_speaker body (Some (t, own)) e matter =
-        (both _ _ (both _ _ (both _ _ matter).0).1).0
+        (and_parts _ _ (and_parts _ _ (and_parts _ _ matter).0).1).0
 
     by_receiver : (to : Receiver) (body : Body)
         → matters_to life boot (record { to = to; body = body }) ≡ true
         → is_named life.switch (party (record { to = to; body = body })) ≡ true
     by_receiver (receiver.Switch s) body matter =
-        let for = both _ _ (both _ _ matter).0 in
-        (both _ _ (both _ _ for.0).0).1
+        let for = and_parts _ _ (and_parts _ _ matter).0 in
+        (and_parts _ _ (and_parts _ _ for.0).0).1
     by_receiver receiver.Controller body matter = by_speaker body (speaker body) refl matter
 
 matters_not : (life : Life) (boot : ℕ) (message : Message)

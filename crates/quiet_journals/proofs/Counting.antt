@@ -1,6 +1,7 @@
 -- What is left of the messages that wait: none exactly where each that matters was delivered, or one
 -- that is sent later and replaces it.
 use Rattle.std.proofs.Common.{◌≡◌, ◌&&◌, ◌||◌, ◌==◌, Bool, true, false, not, if◌then◌else◌, List, [], ◌∷◌, ◌++◌, length, refl, ap, sym, ◌∙◌, append-nil, arith, ne_eqb}
+use Rattle.std.proofs.lemmas.Bool.{and_right, or_right}
 use Rattle.ctrl_msg.specs.declared.message.Message.{Message}
 use Rattle.update_machine.specs.Quiet.{Sending}
 use Rattle.quiet_journals.specs.declared.life.Life.{Life}
@@ -84,14 +85,10 @@ got_through marks next message (one ∷ later) says got =
     by_tests (says_again one.message next) (has_mark marks one.number) refl refl got
     (got_through marks next message later says)
   where
-    or_true : (b : Bool) → (b || true) ≡ true
-    or_true true = refl
-    or_true false = refl
-
     by_rest : is_got marks message later ≡ true
         → ((says_again one.message message && has_mark marks one.number)
         || is_got marks message later) ≡ true
-    by_rest rest = rw rest (or_true (says_again one.message message && has_mark marks one.number))
+    by_rest rest = rw rest (or_right (says_again one.message message && has_mark marks one.number) true refl)
 
     by_tests : (a b : Bool) → says_again one.message next ≡ a → has_mark marks one.number ≡ b
         → ((a && b) || is_got marks next later) ≡ true
@@ -176,11 +173,7 @@ one_more life marks next later waiting true false rest e =
     by_tests true false d f =
         let none : each_got marks left later ≡ false =
         said_waits marks next.message later left f d in
-        rw (append-nil left, none) (sym (no_rest (each_got marks waiting (next ∷ later))))
-      where
-        no_rest : (b : Bool) → (b && false) ≡ false
-        no_rest true = refl
-        no_rest false = refl
+        rw (append-nil left, none) (sym (and_right (each_got marks waiting (next ∷ later)) false refl))
     by_tests false true d f =
         let here : each_got marks (let_go next.message waiting) later
         ≡ each_got marks waiting (next ∷ later) =

@@ -2,7 +2,7 @@
 use Rattle.std.proofs.Common.{ℕ, suc, ◌≡◌, ◌<◌, ◌⊎◌, ◌&&◌, ◌||◌, ◌==◌, Bool, true, false, not, Option, Some, None, List, [], ◌∷◌, ◌++◌, length, refl, ap, sym, subst, ◌∙◌, arith, inl, inr, append_assoc, get_or}
 use Rattle.std.specs.Prelude.{All, Any, IsTrue, IsFalse}
 use Rattle.std.specs.Option.{option_map_or}
-use Rattle.std.proofs.lemmas.Bool.{eq-eqb, eqb-true}
+use Rattle.std.proofs.lemmas.Bool.{and_parts, eq-eqb, eqb-true, or_right}
 use Rattle.std.proofs.lemmas.List.Elements.{All-from_recursion}
 use Rattle.ctrl_msg.specs.declared.message.Body.{Body}
 use Rattle.ctrl_msg.specs.declared.message.Body.TheVariants.{Install, CacheRule, Installed}
@@ -29,7 +29,7 @@ use Rattle.quiet_journals.specs.Pending.{ArePending, IsPending}
 use Rattle.quiet_journals.specs.Plain.{AreInOrder, IsPlain, WasSentTo}
 use Rattle.quiet_journals.proofs.Counting.{all_got, is_got, none_waits}
 use Rattle.quiet_journals.proofs.Lanes.{none_in_lanes}
-use Rattle.quiet_journals.proofs.Replacing.{is_cache_rule, means_says, says_means, both}
+use Rattle.quiet_journals.proofs.Replacing.{is_cache_rule, means_says, says_means}
 
 -- ---- lists
 
@@ -85,9 +85,9 @@ concerns_to journal number boot s body matter =
     let old : is_old body (current_mark journal) ≡ is_of_old_tables journal body =
     same_old journal body in
     let same : (s == s) ≡ true = eq-eqb s s refl in
-    let fresh = both _ _ matter in
-    let for = both _ _ fresh.0 in
-    let in_boot = both _ _ for.0 in
+    let fresh = and_parts _ _ matter in
+    let for = and_parts _ _ fresh.0 in
+    let in_boot = and_parts _ _ for.0 in
     let here : is_up journal s ≡ true = in_boot.0 in
     record {
       up = in_boot.0;
@@ -106,8 +106,8 @@ concerns_of journal number boot s own body speaks matter =
     let old : is_old body (current_mark journal) ≡ is_of_old_tables journal body =
     same_old journal body in
     let same : (s == s) ≡ true = eq-eqb s s refl in
-    let fresh = both _ _ (rw speaks at matter) in
-    let present = both _ _ fresh.0 in
+    let fresh = and_parts _ _ (rw speaks at matter) in
+    let present = and_parts _ _ fresh.0 in
     let its : (own == boot_of journal s) ≡ true =
     flipped (boot_of journal s) own present.1 in
     let here : is_up journal s ≡ true = present.0 in
@@ -160,13 +160,13 @@ matters_so journal s x matter = by_receiver x.message.to x.message.body x.number
           boot = boot;
         }))
     by_speaker body number boot None e matter =
-        false_true (both _ _ (both _ _ matter).0).1
+        false_true (and_parts _ _ (and_parts _ _ matter).0).1
     by_speaker body number boot (Some (t, own)) e matter =
         let old : is_of_old_tables journal body ≡ is_old body (current_mark journal) =
         sym (same_old journal body) in
-        let fresh = both _ _ matter in
-        let present = both _ _ fresh.0 in
-        let of = both _ _ present.1 in
+        let fresh = and_parts _ _ matter in
+        let present = and_parts _ _ fresh.0 in
+        let of = and_parts _ _ present.1 in
         let who : t ≡ s = eqb-true t s of.0 in
         let here : is_up journal t ≡ true = ap (is_up journal) who ∙ present.0 in
         let own_boot : own ≡ boot_of journal s = eqb-true own (boot_of journal s) of.1 in
@@ -181,10 +181,10 @@ matters_so journal s x matter = by_receiver x.message.to x.message.body x.number
     by_receiver (receiver.Switch t) body number boot matter =
         let old : is_of_old_tables journal body ≡ is_old body (current_mark journal) =
         sym (same_old journal body) in
-        let fresh = both _ _ matter in
-        let for = both _ _ fresh.0 in
-        let in_boot = both _ _ for.0 in
-        let of = both _ _ in_boot.0 in
+        let fresh = and_parts _ _ matter in
+        let for = and_parts _ _ fresh.0 in
+        let in_boot = and_parts _ _ for.0 in
+        let of = and_parts _ _ in_boot.0 in
         let who : t ≡ s = eqb-true t s of.1 in
         let here : is_up journal t ≡ true = ap (is_up journal) who ∙ of.0 in
         let same : boot_of journal t ≡ boot_of journal s = ap (boot_of journal) who in
@@ -253,7 +253,7 @@ got_by marks message (next ∷ later) got =
         → (is_got marks message later ≡ true → IsGotBy marks message later)
         → IsGotBy marks message (next ∷ later)
     by_test true e got rest =
-        let parts = both _ _ e in
+        let parts = and_parts _ _ e in
         record { by = next; is = inl refl; says = parts.0; mark = parts.1 }
     by_test false e got rest =
         let its = rest got in
@@ -273,12 +273,8 @@ got_of marks message (next ∷ later) y is says mark = elim is [
   | inr behind ↦
       let rest : is_got marks message later ≡ true =
       got_of marks message later y behind says mark in
-      rw rest (or_true (says_again next.message message && has_mark marks next.number))
+      rw rest (or_right (says_again next.message message && has_mark marks next.number) true refl)
 ]
-  where
-    or_true : (b : Bool) → (b || true) ≡ true
-    or_true true = refl
-    or_true false = refl
 
 -- ---- all that matters was received
 
@@ -301,9 +297,9 @@ marked_of life marks [] x order all is matter = absurd is
 marked_of life marks (next ∷ later) x order all is matter = elim is [
   | inl here ↦ subst (λ one. IsMarked marks one (next ∷ later)) here
       (by_tests (matters_to life next.boot next.message) (has_mark marks next.number) refl refl
-      (both _ _ all).0 (subst (Matters life) (sym here) matter))
+      (and_parts _ _ all).0 (subst (Matters life) (sym here) matter))
   | inr behind ↦
-      let rest = marked_of life marks later x order.1 (both _ _ all).1 behind matter in
+      let rest = marked_of life marks later x order.1 (and_parts _ _ all).1 behind matter in
       record {
         by = elim rest.by [
           | inl mark ↦ inl mark
@@ -345,7 +341,7 @@ settled_got : (journal : List Item) (s : ℕ) (marks : List Bool)
     → is_settled journal s marks ≡ true
     → all_got (life_in journal s) marks (sendings journal) ≡ true
 settled_got journal s marks settled =
-    sym (none_waits (life_in journal s) marks (sendings journal)) ∙ (both _ _ settled).1
+    sym (none_waits (life_in journal s) marks (sendings journal)) ∙ (and_parts _ _ settled).1
 
 not_missed : (up waited : Bool) → not (not up && waited) ≡ true → IsTrue (up || not waited)
 not_missed true waited e = refl
@@ -376,7 +372,7 @@ settled_quiet setting journal marks plain right settled = record {
         → IsTrue (is_up journal s || not (is_waited_for journal s))
     each_switch s is =
         not_missed (is_up journal s) (is_waited_for journal s)
-        (both _ _ (settled s
+        (and_parts _ _ (settled s
         (omega (arith, (of_range s 0 (length setting.net.switches) is).1)))).0
 
     each_message : (x : Sending) → IsIn x (sendings journal) → IsTrue (matters journal x)
@@ -400,9 +396,9 @@ no_cache_rule life x matter = by_body x.message.to x.message.body x.boot matter
         → matters_to life boot (record { to = to; body = body }) ≡ true
         → IsFalse (is_cache_rule body)
     by_body (receiver.Switch s) (CacheRule version word rule action) boot matter =
-        false_true (both _ _ (both _ _ matter).0).1
+        false_true (and_parts _ _ (and_parts _ _ matter).0).1
     by_body receiver.Controller (CacheRule version word rule action) boot matter =
-        false_true (both _ _ (both _ _ matter).0).1
+        false_true (and_parts _ _ (and_parts _ _ matter).0).1
     by_body to body boot matter = refl
 
 got_if : (setting : Setting) (journal : List Item) (marks : List Bool) (s : ℕ)

@@ -1,7 +1,7 @@
 -- What the lanes of a switch hold.
 use Rattle.std.proofs.Common.{ℕ, suc, ◌≡◌, ◌≢◌, ◌+◌, ◌<◌, ◌&&◌, ◌||◌, ◌==◌, Bool, true, false, not, if◌then◌else◌, List, [], ◌∷◌, ◌++◌, length, get_or, set, refl, ap, sym, ◌∙◌, append-nil, arith, inl, inr, ne_eqb}
 use Rattle.std.specs.Prelude.{filter, nat_lt}
-use Rattle.std.proofs.lemmas.Bool.{cases_lt, eq-eqb, eqb-true}
+use Rattle.std.proofs.lemmas.Bool.{and_parts, cases_lt, eq-eqb, eqb-true}
 use Rattle.std.proofs.lemmas.Bool.Decides.{nat_tests}
 use Rattle.std.proofs.lemmas.List.{get_or-set_other, get_or-set_same, get_or_append_left, get_or_push, length-set}
 use Rattle.std.proofs.lemmas.List.Elements.{filter-append}
@@ -13,24 +13,24 @@ use Rattle.failover.specs.declared.advert.Advert.{Advert}
 use Rattle.quiet_journals.specs.declared.lane.Lane.{Lane}
 use Rattle.quiet_journals.specs.Judging.{is_said, is_same, let_go, noted, says_again, says_as_much}
 use Rattle.quiet_journals.specs.Lanes.{AreLanes, are_empty, in_lane, lane_of, subject}
-use Rattle.quiet_journals.proofs.Replacing.{advert_means, both}
+use Rattle.quiet_journals.proofs.Replacing.{advert_means}
 
 -- ---- what says as much is in the same lane
 
 says_subject : (later earlier : Body) → says_as_much later earlier ≡ true
     → subject later ≡ subject earlier
-says_subject (Install boot tables) (Install of earlier) says = eqb-true _ _ (both _ _ says).1
-says_subject (OpenAt boot version) (OpenAt of earlier) says = eqb-true _ _ (both _ _ says).1
+says_subject (Install boot tables) (Install of earlier) says = eqb-true _ _ (and_parts _ _ says).1
+says_subject (OpenAt boot version) (OpenAt of earlier) says = eqb-true _ _ (and_parts _ _ says).1
 says_subject (Stamp boot version) (Stamp of earlier) says = refl
 says_subject (Collect boot version) (Collect of earlier) says = refl
 says_subject (Advertise one) (Advertise other) says =
     elim (advert_means one other (is_same one other) refl says) [
       | inl same ↦ ap (λ (advert : Advert). advert.origin) same
-      | inr newer ↦ eqb-true one.origin other.origin (both _ _ newer).0
+      | inr newer ↦ eqb-true one.origin other.origin (and_parts _ _ newer).0
     ]
 says_subject (Hello s boot) (Hello t of) says = refl
 says_subject (Installed s boot version) (Installed t of earlier) says =
-    eqb-true _ _ (both _ _ says).1
+    eqb-true _ _ (and_parts _ _ says).1
 says_subject (Stamped s boot version) (Stamped t of earlier) says = refl
 says_subject later earlier says = absurd cc
 
@@ -38,7 +38,7 @@ says_lane : (later earlier : Message) → says_again later earlier ≡ true
     → lane_of later.body ≡ lane_of earlier.body
 says_lane later earlier says =
     ap (λ n. if nat_lt n 64 then n else 0)
-    (says_subject later.body earlier.body (both _ _ says).1)
+    (says_subject later.body earlier.body (and_parts _ _ says).1)
 
 lane_below : (body : Body) → lane_of body < 64
 lane_below body = by_test (nat_lt (subject body) 64) refl

@@ -1,6 +1,6 @@
 -- What one more item makes of a switch's life, and of the messages that wait.
-use Rattle.std.proofs.Common.{ℕ, ◌≡◌, ◌+◌, ◌<◌, take, length, get_or, ◌&&◌, ◌||◌, ◌==◌, Bool, true, false, List, [], ◌∷◌, ◌++◌, refl, ap, sym, ◌∙◌, append-nil}
-use Rattle.std.proofs.lemmas.Bool.{eqb-true}
+use Rattle.std.proofs.Common.{ℕ, ◌≡◌, ◌+◌, ◌<◌, take, length, get_or, ◌||◌, ◌==◌, Bool, true, false, List, [], ◌∷◌, ◌++◌, refl, ap, sym, ◌∙◌, append-nil}
+use Rattle.std.proofs.lemmas.Bool.{and_right, eqb-true}
 use Rattle.std.proofs.lemmas.List.{take_more}
 use Rattle.ctrl_msg.specs.declared.message.Body.{Body}
 use Rattle.ctrl_msg.specs.declared.message.Message.{Message}
@@ -37,10 +37,6 @@ life_told told (item.OverNow switch) s = life_more told (item.OverNow switch) s
 life_told told (item.Current version) s = life_more told (item.Current version) s
 life_told told item s = ap (λ js. life_in js s) (append-nil told)
 
-and_false : (b : Bool) → (b && false) ≡ false
-and_false true = refl
-and_false false = refl
-
 -- in which boot another switch is doesn't matter to this one
 same_boot : (life : Life) (before : List Item) (message : Message)
     → matters_to life (boot_at before message.to) message
@@ -62,7 +58,7 @@ same_boot life before message = by_receiver message.to message.body
             let same : s ≡ life.switch = eqb-true s life.switch e in
             ap (λ t. matters_to life (boot_of before t)
             (record { to = receiver.Switch s; body = body })) same
-        by_switch false e = rw (e, and_false life.is_up) refl
+        by_switch false e = rw (e, and_right life.is_up false refl) refl
 
 pub waiting_more : (life : Life) (marks : List Bool) (before : List Item) (item : Item)
     → waiting_of life marks [] (sendings (before ++ item ∷ []))

@@ -1,7 +1,7 @@
 -- What says as much as another message.
 use Rattle.std.proofs.Common.{ℕ, ◌≡◌, ◌⊎◌, ◌&&◌, ◌||◌, ◌==◌, Bool, true, false, refl, ap, sym, subst, ◌∙◌, arith, inl, inr}
 use Rattle.std.specs.Prelude.{IsTrue, IsFalse, nat_lt, nat_le}
-use Rattle.std.proofs.lemmas.Bool.{eq-eqb, eqb-true}
+use Rattle.std.proofs.lemmas.Bool.{and_parts, eq-eqb, eqb-true, or_right}
 use Rattle.std.proofs.lemmas.Bool.Decides.{nat_tests}
 use Rattle.ctrl_msg.specs.declared.message.Body.{Body}
 use Rattle.ctrl_msg.specs.declared.message.Body.TheVariants.{Install, OpenAt, Stamp, Collect, CacheRule, Advertise, Hello, Installed, Stamped}
@@ -14,11 +14,6 @@ use Rattle.switch_table.specs.declared.tables.Tables.{Tables}
 use Rattle.update_machine.specs.Quiet.{is_later_body}
 use Rattle.quiet_journals.specs.Judging.{is_same, is_same_receiver, says_again, says_as_much}
 
-pub both : (a b : Bool) → (a && b) ≡ true → (a ≡ true) × (b ≡ true)
-both true true e = (refl, refl)
-both true false e = absurd cc
-both false b e = absurd cc
-
 -- ---- of three messages
 
 pub advert_means : (one other : Advert) (b : Bool) → is_same one other ≡ b
@@ -28,9 +23,9 @@ advert_means one other true e says = inl (same_advert one other e)
   where
     same_advert : (one other : Advert) → is_same one other ≡ true → one ≡ other
     same_advert one other e =
-        let parts = both _ _ e in
-        let first = both _ _ parts.0 in
-        let second = both _ _ first.0 in
+        let parts = and_parts _ _ e in
+        let first = and_parts _ _ parts.0 in
+        let second = and_parts _ _ first.0 in
         let origin : one.origin ≡ other.origin = eqb-true _ _ second.0 in
         let boot : one.boot ≡ other.boot = eqb-true _ _ second.1 in
         let seq : one.seq ≡ other.seq = eqb-true _ _ first.1 in
@@ -44,10 +39,6 @@ advert_means one other false e says = inr says
 newer_through : (one two three : Advert) → is_newer one two ≡ true → is_newer two three ≡ true
     → is_newer one three ≡ true
 newer_through one two three first second = grind (arith, nat_tests)
-
-or_true : (b : Bool) → (b || true) ≡ true
-or_true true = refl
-or_true false = refl
 
 adverts_through : (one two three : Advert)
     → (is_same one two || (one.origin == two.origin && is_newer one two)) ≡ true
@@ -67,15 +58,15 @@ adverts_through one two three first second =
         subst (λ a. (is_same one a || (one.origin == a.origin && is_newer one a)) ≡ true)
         same first
     by_means (inr newer) (inr new) =
-        let mine = both _ _ newer in
-        let its = both _ _ new in
+        let mine = and_parts _ _ newer in
+        let its = and_parts _ _ new in
         let origin : (one.origin == three.origin) ≡ true =
         eq-eqb one.origin three.origin
         (eqb-true one.origin two.origin mine.0 ∙ eqb-true two.origin three.origin its.0) in
         let newest : is_newer one three ≡ true = newer_through one two three mine.1 its.1 in
         let new_of : (one.origin == three.origin && is_newer one three) ≡ true =
         rw (origin, newest) refl in
-        ap (λ b. is_same one three || b) new_of ∙ or_true (is_same one three)
+        ap (λ b. is_same one three || b) new_of ∙ or_right (is_same one three) true refl
 
 body_through : (one two three : Body) → says_as_much one two ≡ true → says_as_much two three ≡ true
     → says_as_much one three ≡ true
@@ -106,8 +97,8 @@ receiver_through one two three first second = absurd cc
 pub says_through : (one two three : Message) → says_again one two ≡ true
     → says_again two three ≡ true → says_again one three ≡ true
 says_through one two three first second =
-    let a = both _ _ first in
-    let b = both _ _ second in
+    let a = and_parts _ _ first in
+    let b = and_parts _ _ second in
     let to : is_same_receiver one.to three.to ≡ true =
     receiver_through one.to two.to three.to a.0 b.0 in
     let body : says_as_much one.body three.body ≡ true =
@@ -131,24 +122,24 @@ Agree later earlier = (boot of : ℕ) (one other : Tables) → later ≡ Install
 body_means : (later earlier : Body) → Agree later earlier → says_as_much later earlier ≡ true
     → (later ≡ earlier) ⊎ IsTrue (is_later_body later earlier)
 body_means (Install boot tables) (Install of other) agree says =
-    let parts = both _ _ says in
+    let parts = and_parts _ _ says in
     let same : boot ≡ of = eqb-true boot of parts.0 in
     let its : tables ≡ other = agree boot of tables other refl refl (eqb-true _ _ parts.1) in
     inl cc
 body_means (OpenAt boot version) (OpenAt of other) agree says =
-    let parts = both _ _ says in
+    let parts = and_parts _ _ says in
     let same : boot ≡ of = eqb-true boot of parts.0 in
     let its : version ≡ other = eqb-true version other parts.1 in
     inl cc
 body_means (Stamp boot version) (Stamp of other) agree says =
-    let parts = both _ _ says in
+    let parts = and_parts _ _ says in
     let same : boot ≡ of = eqb-true boot of parts.0 in
     elim (up_to other version parts.1) [
       | inl its ↦ inl cc
       | inr less ↦ inr (rw (parts.0, less) refl)
     ]
 body_means (Collect boot version) (Collect of other) agree says =
-    let parts = both _ _ says in
+    let parts = and_parts _ _ says in
     let same : boot ≡ of = eqb-true boot of parts.0 in
     elim (up_to other version parts.1) [
       | inl its ↦ inl cc
@@ -160,20 +151,20 @@ body_means (Advertise one) (Advertise other) agree says =
       | inr newer ↦ inr newer
     ]
 body_means (Hello s boot) (Hello t of) agree says =
-    let parts = both _ _ says in
+    let parts = and_parts _ _ says in
     let who : s ≡ t = eqb-true s t parts.0 in
     let same : boot ≡ of = eqb-true boot of parts.1 in
     inl cc
 body_means (Installed s boot version) (Installed t of other) agree says =
-    let parts = both _ _ says in
-    let first = both _ _ parts.0 in
+    let parts = and_parts _ _ says in
+    let first = and_parts _ _ parts.0 in
     let who : s ≡ t = eqb-true s t first.0 in
     let same : boot ≡ of = eqb-true boot of first.1 in
     let its : version ≡ other = eqb-true version other parts.1 in
     inl cc
 body_means (Stamped s boot version) (Stamped t of other) agree says =
-    let parts = both _ _ says in
-    let first = both _ _ parts.0 in
+    let parts = and_parts _ _ says in
+    let first = and_parts _ _ parts.0 in
     let who : s ≡ t = eqb-true s t first.0 in
     let same : boot ≡ of = eqb-true boot of first.1 in
     elim (up_to other version parts.1) [
@@ -195,7 +186,7 @@ pub says_means : (later earlier : Message)
     → (later.to ≡ earlier.to)
     × ((later.body ≡ earlier.body) ⊎ IsTrue (is_later_body later.body earlier.body))
 says_means later earlier agree says =
-    let parts = both _ _ says in
+    let parts = and_parts _ _ says in
     let to : later.to ≡ earlier.to = receiver_means later.to earlier.to parts.0 in (
       to,
       body_means later.body earlier.body
@@ -234,7 +225,7 @@ later_says (Stamp boot version) (Stamp of other) later = grind (arith, nat_tests
 later_says (Collect boot version) (Collect of other) later = grind (arith, nat_tests)
 later_says (Stamped s boot version) (Stamped t of other) later = grind (arith, nat_tests)
 later_says (Advertise one) (Advertise other) later =
-    rw later (or_true (is_same one other))
+    rw later (or_right (is_same one other) true refl)
 later_says later earlier is = absurd cc
 
 receiver_itself : (to : Receiver) → is_same_receiver to to ≡ true

@@ -26,7 +26,7 @@ pub fn quiet(alloc: Global, journal: &Journal, net: &Net) -> Result<bool, AllocE
 {
     let items = journal.items();
     let delivered = deliveries(alloc, items)?;
-    let count = net.switches.rows().len() as u32;
+    let count = net.switches.items().len() as u32;
     let rows = gather(alloc, items, count, &delivered)?;
     for switch in 0..count {
         let row = &rows[switch as usize];

@@ -97,7 +97,7 @@ fn concerned(item: &Item) -> Option<u32>
 {
     match item {
         Item::Booted { switch, .. } => Some(*switch),
-        Item::Sent { message, .. } => party(message.message()),
+        Item::Sent { message, .. } => party(message.get()),
         _ => None,
     }
 }

@@ -43,7 +43,7 @@ pub fn take_item(
         }
         Item::Sent { number, message } => {
             let is_delivered = is_marked(delivered, *number);
-            let matters = matters(message.message(), life, *boot);
+            let matters = matters(message.get(), life, *boot);
             note_in_lane(lanes, message, matters, is_delivered)
         }
         _ => Ok(()),
@@ -60,7 +60,7 @@ fn note_in_lane(
     ensures { OnOk result ((waiting : List Message) → AreLanes waiting lanes.old.items
         → AreLanes (noted matters is_delivered next.now waiting) lanes.new.items) }
 {
-    let lane = lane_of(&next.message().body) as usize;
+    let lane = lane_of(&next.get().body) as usize;
     if lane >= lanes.len() {
         return Ok(());
     }
@@ -80,8 +80,8 @@ fn note(
     if !matters && !is_delivered {
         return Ok(());
     }
-    let_go(messages, next.message());
-    if !is_delivered && !is_said(messages, next.message()) {
+    let_go(messages, next.get());
+    if !is_delivered && !is_said(messages, next.get()) {
         messages.push(next.clone()?)?;
     }
     Ok(())
@@ -94,14 +94,14 @@ fn is_said(messages: &[SharedMessage], next: &Message) -> bool
 {
     messages
         .iter()
-        .any(|earlier| says_again(earlier.message(), next))
+        .any(|earlier| says_again(earlier.get(), next))
 }
 
 // Lets the messages go that this one replaces.
 fn let_go(messages: &mut Vec<SharedMessage>, next: &Message)
     ensures { messages.new.items ≡ let_go next.now messages.old.items }
 {
-    messages.retain(|earlier| !says_again(next, earlier.message()));
+    messages.retain(|earlier| !says_again(next, earlier.get()));
 }
 
 // Whether the message is one to the switch or of it that matters, where it was sent in this boot: the

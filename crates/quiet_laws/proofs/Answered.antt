@@ -68,32 +68,28 @@ record WasIn (before : List Item) (next : Item) (s : ℕ) (body : Body) : Type 0
   is : IsIn body (heard before s)
   serving : IsTrue (serves before s) → IsTrue (serves (before ++ next ∷ []) s)
 
+-- an item behind which one switch has heard nothing, and the others are as they were
+was_apart : (before : List Item) (next : Item) (t s : ℕ) (body : Body)
+    → heard (before ++ next ∷ []) s ≡ (if t == s then [] else heard before s)
+    → ((t == s) ≡ false → serves (before ++ next ∷ []) s ≡ serves before s)
+    → IsIn body (heard (before ++ next ∷ []) s) → WasIn before next s body
+was_apart before next t s body forgets same is = by_test (t == s) refl
+  where
+    by_test : (b : Bool) → (t == s) ≡ b → WasIn before next s body
+    by_test true e = let none : IsIn body [] = rw (forgets, e) at is in absurd none
+    by_test false e = record {
+      is = rw (forgets, e) at is;
+      serving = λ serving. same e ∙ serving;
+    }
+
 was_in : (before : List Item) (next : Item) (s : ℕ) (body : Body) → IsFalse (is_delivered next)
     → IsIn body (heard (before ++ next ∷ []) s) → WasIn before next s body
-was_in before (item.Down t) s body plain is = by_test (t == s) refl
-  where
-    next : Item
-    next = item.Down t
-
-    by_test : (b : Bool) → (t == s) ≡ b → WasIn before next s body
-    by_test true e =
-        let none : IsIn body [] = rw (heard_more before next s, e) at is in absurd none
-    by_test false e = record {
-      is = rw (heard_more before next s, e) at is;
-      serving = λ serving. rw (serving_more before next s, e) serving;
-    }
-was_in before (item.Booted t boot) s body plain is = by_test (t == s) refl
-  where
-    next : Item
-    next = item.Booted t boot
-
-    by_test : (b : Bool) → (t == s) ≡ b → WasIn before next s body
-    by_test true e =
-        let none : IsIn body [] = rw (heard_more before next s, e) at is in absurd none
-    by_test false e = record {
-      is = rw (heard_more before next s, e) at is;
-      serving = λ serving. rw (serving_more before next s, e) serving;
-    }
+was_in before (item.Down t) s body plain is =
+    was_apart before (item.Down t) t s body (heard_more before (item.Down t) s)
+    (λ e. rw (serving_more before (item.Down t) s, e) refl) is
+was_in before (item.Booted t boot) s body plain is =
+    was_apart before (item.Booted t boot) t s body (heard_more before (item.Booted t boot) s)
+    (λ e. rw (serving_more before (item.Booted t boot) s, e) refl) is
 was_in before (item.Opened t version) s body plain is = record {
   is = rw (heard_more before (item.Opened t version) s) at is;
   serving = λ serving.
@@ -315,11 +311,8 @@ deliver_spoken setting before row number spoken =
     here : List Item
     here = before ++ item.Row row (Deliver number) ∷ []
 
-    next : Item
-    next = item.Delivered number
-
     now : List Item
-    now = here ++ next ∷ []
+    now = here ++ item.Delivered number ∷ []
 
     items : List Item
     items = delivery_items setting before number now
@@ -332,7 +325,7 @@ deliver_spoken setting before row number spoken =
           (delivered_owed here number spoken.answers)).each s body is) [
             | inl owed ↦ inr (delivery_answers setting before number now s body
                 (sym (said_row before row s number (Deliver number)) ∙ owed)
-                (serving_more here next s
+                (serving_more here (item.Delivered number) s
                 ∙ serving_more before (item.Row row (Deliver number)) s))
             | inr answered ↦ inr answered
           ];
@@ -340,7 +333,7 @@ deliver_spoken setting before row number spoken =
 
     hellos : AreGreeted (λ s. ⊥) (now ++ items)
     hellos = hellos_stay (λ s. ⊥) now items (delivery_plain setting before number now)
-        (hellos_on (λ s. ⊥) here next refl spoken.hellos)
+        (hellos_on (λ s. ⊥) here (item.Delivered number) refl spoken.hellos)
 
 -- ---- a restart
 

@@ -1,7 +1,7 @@
 -- In a quiet journal the adverts have spread, so each switch knows the links that can be used.
-use Rattle.std.proofs.Common.{ℕ, ◌≡◌, ◌≢◌, ◌<◌, ◌≤◌, ◌⊎◌, ◌==◌, ◌&&◌, Bool, true, false, if◌then◌else◌, Some, None, List, [], ◌∷◌, ◌++◌, refl, ap, sym, subst, ◌∙◌, arith, inl, inr}
+use Rattle.std.proofs.Common.{ℕ, ◌≡◌, ◌≢◌, ◌<◌, ◌≤◌, ◌⊎◌, ◌==◌, true, false, if◌then◌else◌, Some, None, List, [], ◌∷◌, ◌++◌, refl, ap, sym, subst, ◌∙◌, arith, inl, inr}
 use Rattle.std.specs.Prelude.{IsTrue}
-use Rattle.std.proofs.lemmas.Bool.{cases_eq, eq-eqb, eqb-true}
+use Rattle.std.proofs.lemmas.Bool.{and_parts, cases_eq, eq-eqb, eqb-true}
 use Rattle.std.proofs.lemmas.Bool.Decides.{nat_tests}
 use Rattle.ctrl_msg.specs.declared.message.Body.{Body}
 use Rattle.ctrl_msg.specs.declared.message.Body.TheVariants.{Advertise}
@@ -122,7 +122,7 @@ later_advert : (body : Body) (b : Advert)
     → (c : Advert) × (body ≡ Advertise c) × IsAsNew c b
 later_advert body b (inl same) = (b, same, as_new_itself b)
 later_advert (Advertise c) b (inr more) =
-    let parts = both_true (c.origin == b.origin) (is_newer c b) more in (
+    let parts = and_parts (c.origin == b.origin) (is_newer c b) more in (
       c,
       refl,
       record {
@@ -131,10 +131,6 @@ later_advert (Advertise c) b (inr more) =
       },
     )
   where
-    both_true : (x y : Bool) → (x && y) ≡ true → (x ≡ true) × (y ≡ true)
-    both_true true y is = (refl, is)
-    both_true false y is = absurd cc
-
     older : (x z : Advert) → is_newer z x ≡ true → is_newer x z ≡ false
     older x z newer = grind (arith, nat_tests)
 later_advert body b (inr more) = absurd cc

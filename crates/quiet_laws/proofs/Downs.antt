@@ -3,16 +3,15 @@
 use Rattle.std.proofs.Common.{ℕ, ◌≡◌, ◌≤◌, ◌⊎◌, ◌==◌, ◌||◌, Bool, true, false, if◌then◌else◌, Option, Some, None, List, [], ◌∷◌, ◌++◌, refl, ap, sym, subst, ◌∙◌, arith, inl, inr}
 use Rattle.std.specs.Prelude.{IsTrue, IsFalse, filter_map, nat_eq, option_to_list, unwrap_or}
 use Rattle.std.specs.List.{cons_option, list_any}
-use Rattle.std.specs.Option.{option_map_or, option_or}
+use Rattle.std.specs.Option.{option_or}
 use Rattle.std.proofs.lemmas.Bool.{eqb-true}
-use Rattle.std.proofs.lemmas.List.Folds.{list_any-append}
 use Rattle.ctrl_msg.specs.declared.message.Body.{Body}
-use Rattle.ctrl_msg.specs.declared.message.Body.TheVariants.{Install, OpenAt, Installed}
+use Rattle.ctrl_msg.specs.declared.message.Body.TheVariants.{OpenAt, Installed}
 use Rattle.ctrl_msg.specs.declared.message.Message.{Message}
 use Rattle.ctrl_msg.specs.Kinds.{to_controller}
 use Rattle.journal.specs.declared.item.Item.{Item}
 use Rattle.journal.specs.declared.item.Item.TheVariants as item
-use Rattle.update_machine.specs.Boots.{boot_of, heard, is_up, said_to}
+use Rattle.update_machine.specs.Boots.{boot_of, heard, is_up}
 use Rattle.update_machine.specs.Causes.{HaveCauses}
 use Rattle.update_machine.specs.Folds.{all_given}
 use Rattle.update_machine.specs.Marks.{controller_heard, first_number, has_acked, installed_in, is_over, known_boot, open_sent, opened_at, raises_known, said_to_controller}
@@ -25,9 +24,9 @@ use Rattle.update_machine.proofs.CallerLemmas.{start_laws}
 use Rattle.boot_laws.specs.ItemCauses.{HasItemCause, IsRightInstalled, IsRightOpening}
 use Rattle.boot_laws.proofs.Boots.{by_number, known_rises, said_sent}
 use Rattle.boot_laws.proofs.Facts.{AreKept, fact_on}
-use Rattle.boot_laws.proofs.Grown.{boot_more, heard_more, known_more, last_more, opened_at_more, opened_in, opened_more, opens_by, over_more, serving_more, told_more, up_more}
+use Rattle.boot_laws.proofs.Grown.{boot_more, known_more, last_more, opened_at_more, opened_in, opened_more, opens_by, over_more, serving_more, told_more, up_more}
 use Rattle.boot_laws.proofs.Serving.{IsKnown, known_at_first, known_kept}
-use Rattle.boot_laws.proofs.SwitchBlocks.{said_parts}
+use Rattle.boot_laws.proofs.HeardTables.{heard_known}
 use Rattle.mark_laws.proofs.Acks.{installed_is}
 use Rattle.mark_laws.proofs.Current.{StampsAreCurrent, current_at_first, current_kept}
 use Rattle.mark_laws.proofs.Members.{opened_same, raised_above, raised_none, unraised_same}
@@ -151,91 +150,6 @@ openings_on before next are s boot version opened =
         let new = opens_by next s boot version is in
         inr (subst (λ x. IsSent (before ++ x ∷ []) (to_switch s (OpenAt boot version)))
         (sym new.1) (sent_now before new.0 _))
-
--- ---- tables
-
--- tables that are heard now were sent to the switch in its boot
-said_known : (before : List Item) (s number version : ℕ) (body : Body) → IsKnown before
-    → said_to before s number ≡ Some body → IsTrue (installs version body)
-    → boot_of before s ≤ known_boot before s
-said_known before s number version (Install boot tables) known said is =
-    let parts = said_parts before s number (Install boot tables) said in
-    let own : boot ≡ boot_of before s = eqb-true boot (boot_of before s) parts.own in
-    let past : boot ≤ known_boot before s =
-    known.boots.sent number (to_switch s (Install boot tables)) parts.sent in
-    omega (arith, own, past)
-said_known before s number version body known said is = absurd cc
-
-any_either : (test : Body → Bool) (xs : List Body) (x : Body)
-    → IsTrue (list_any test (xs ++ x ∷ [])) → IsTrue (list_any test xs) ⊎ IsTrue (test x)
-any_either test xs x any =
-    by_tests (list_any test xs) (test x) (sym (list_any-append test xs (x ∷ [])) ∙ any)
-  where
-    by_tests : (b c : Bool) → (b || (c || false)) ≡ true → IsTrue b ⊎ IsTrue c
-    by_tests true c e = inl refl
-    by_tests false true e = inr refl
-    by_tests false false e = cc
-
-heard_on : (before : List Item) (next : Item) → AreRecorded before → (s version : ℕ)
-    → IsTrue (list_any (installs version) (heard (before ++ next ∷ []) s))
-    → boot_of (before ++ next ∷ []) s ≤ known_boot (before ++ next ∷ []) s
-heard_on before (item.Delivered number) are s version any =
-    omega (
-      arith,
-      boot_more before next s,
-      known_rises before next s,
-      by_said (said_to before s number) refl (rw (heard_more before next s) at any),
-    )
-  where
-    next : Item
-    next = item.Delivered number
-
-    by_said : (o : Option Body) → said_to before s number ≡ o
-        → IsTrue (list_any (installs version)
-        (option_map_or (λ b. heard before s ++ b ∷ []) o (heard before s)))
-        → boot_of before s ≤ known_boot before s
-    by_said None e any = are.heard s version any
-    by_said (Some body) e any = elim (any_either (installs version) (heard before s) body any) [
-      | inl earlier ↦ are.heard s version earlier
-      | inr now ↦ said_known before s number version body are.known e now
-    ]
-heard_on before (item.Down t) are s version any = by_test (t == s) refl
-  where
-    next : Item
-    next = item.Down t
-
-    by_test : (b : Bool) → (t == s) ≡ b
-        → boot_of (before ++ next ∷ []) s ≤ known_boot (before ++ next ∷ []) s
-    by_test true e =
-        let none : false ≡ true = rw (heard_more before next s, e) at any in absurd cc
-    by_test false e =
-        let was : IsTrue (list_any (installs version) (heard before s)) =
-        rw (heard_more before next s, e) at any in
-        omega (
-          arith,
-          boot_more before next s,
-          known_more before next s,
-          are.heard s version was,
-        )
-heard_on before (item.Booted t boot) are s version any = by_test (t == s) refl
-  where
-    next : Item
-    next = item.Booted t boot
-
-    by_test : (b : Bool) → (t == s) ≡ b
-        → boot_of (before ++ next ∷ []) s ≤ known_boot (before ++ next ∷ []) s
-    by_test true e =
-        let none : false ≡ true = rw (heard_more before next s, e) at any in absurd cc
-    by_test false e =
-        let was : IsTrue (list_any (installs version) (heard before s)) =
-        rw (heard_more before next s, e) at any in
-        let same : boot_of (before ++ next ∷ []) s ≡ boot_of before s =
-        rw (boot_more before next s, e) refl in
-        omega (arith, same, known_more before next s, are.heard s version was)
-heard_on before next are s version any =
-    let was : IsTrue (list_any (installs version) (heard before s)) =
-    rw (heard_more before next s) at any in
-    omega (arith, boot_more before next s, known_more before next s, are.heard s version was)
 
 acks_on : (setting : Setting) (before : List Item) (next : Item)
     → HasItemCause setting before next → AreRecorded before → (s boot version : ℕ)
@@ -536,7 +450,7 @@ recorded_kept setting before next cause are = record {
   messages = λ n message is. messages_on setting before next are n message is;
   told = λ body is. told_on setting before next are body is;
   openings = λ s boot version is. openings_on before next are s boot version is;
-  heard = λ s version any. heard_on before next are s version any;
+  heard = heard_known before next are.known.boots are.heard;
   acks = λ s boot version sent. acks_on setting before next cause are s boot version sent;
   first = λ s up boot. first_on setting before next cause are s up boot;
   boots = λ s. boots_on setting before next cause are s;

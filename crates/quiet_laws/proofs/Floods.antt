@@ -37,7 +37,7 @@ use Rattle.update_machine.specs.Settling.{to_switch}
 use Rattle.update_machine.specs.Versions.{stamp_of}
 use Rattle.update_machine.specs.Links.{serves, message_of}
 use Rattle.update_machine.proofs.CallerLemmas.{have_append, links_keep, near_stays, start_laws}
-use Rattle.boot_laws.proofs.Commands.{confirm_control, controller_control, update_control}
+use Rattle.boot_laws.proofs.Commands.{confirm_control, controller_control, update_has}
 use Rattle.boot_laws.proofs.Facts.{Has}
 use Rattle.boot_laws.proofs.Grown.{boot_more, heard_more, up_more}
 use Rattle.boot_laws.proofs.Sent.{resends_any}
@@ -55,7 +55,7 @@ use Rattle.quiet_laws.proofs.Installs.{delivery_told}
 use Rattle.quiet_laws.proofs.Givens.{HasNews, HaveNews, IsDelivered, IsGiven, IsHad, IsStill, as_new_itself, as_new_through, delivered_news, given_grows, news_on, sends_tell, stills_news}
 use Rattle.quiet_laws.proofs.Lists.{IsIn, in_either, in_filter, in_map, in_range, in_right}
 use Rattle.quiet_laws.proofs.Sendings.{IsInOrder, caused_traced, delivered_grows, pieces_in_order}
-use Rattle.quiet_laws.proofs.News.{Spread, Still, control_still, crash_spread, link_spread, owed_as, restart_spread, row_near, still_spread, work_is_still, work_still}
+use Rattle.quiet_laws.proofs.News.{Spread, Still, control_is_still, control_still, crash_spread, link_spread, owed_as, restart_spread, row_near, still_spread, work_is_still, work_still}
 
 -- ---- what a switch knows it was given
 
@@ -345,14 +345,8 @@ deliver_spread setting before row number step net known spread =
     here : List Item
     here = before ++ item.Row row step ∷ []
 
-    next : Item
-    next = item.Delivered number
-
     now : List Item
-    now = here ++ next ∷ []
-
-    known_now : IsKnown now
-    known_now = known_kept setting here next tt known
+    now = here ++ item.Delivered number ∷ []
 
     have : HaveNews setting (λ s neighbour a. IsDelivered here number s a) now
     have = delivered_news setting here number spread
@@ -419,7 +413,7 @@ deliver_spread setting before row number step net known spread =
             (said_spread setting before row number step t told net f
             (to_switch_alone t told f)
             (subst (λ xs. Has setting now xs) items (delivery_have setting before row number step))
-            known_now spread have)
+            (known_kept setting here (item.Delivered number) tt known) spread have)
 
     by_message : (o : Option Message) → message_of before number ≡ o
         → Spread setting (now ++ delivery_items setting before number now)
@@ -449,7 +443,8 @@ step_spread setting before row (Forget message) net = λ known have.
 step_spread setting before row (Expire s at) net = λ known have.
     still_spread setting _ _ (work_still setting _ _ (expire_work setting s at _)) have
 step_spread setting before row (Update file) net = λ known have.
-    still_spread setting _ _ (control_still _ _ (update_control setting file _)) have
+    still_spread setting _ _
+    (update_has IsStill control_is_still setting file _ (λ version. tt)) have
 step_spread setting before row (LinkDown one two) net =
     link_spread setting before row (LinkDown one two) one two false net
 step_spread setting before row (LinkUp one two) net =

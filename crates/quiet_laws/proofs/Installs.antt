@@ -365,17 +365,14 @@ deliver_installs setting before row number is have =
     here : List Item
     here = before ++ item.Row row (Deliver number) ∷ []
 
-    next : Item
-    next = item.Delivered number
-
     now : List Item
-    now = here ++ next ∷ []
+    now = here ++ item.Delivered number ∷ []
 
     last : ℕ
     last = version_count before
 
     same : last ≡ version_count now
-    same = sym (count_more here next ∙ count_more before (item.Row row (Deliver number)))
+    same = sym (count_more here (item.Delivered number) ∙ count_more before (item.Row row (Deliver number)))
 
     told : (body : Body) × (message_of before number ≡ Some (to_controller body))
     told = told_is before number is

@@ -21,7 +21,7 @@ use Rattle.update_machine.specs.Travels.{packets_at}
 use Rattle.update_machine.specs.Pieces.{crash_items, hello_of, link_items, nothing, restart_items}
 use Rattle.update_machine.specs.Setting.{Setting}
 use Rattle.update_machine.specs.LinkMasks.{near}
-use Rattle.update_machine.proofs.CallerLemmas.{last_told_append, links_keep, near_stays}
+use Rattle.update_machine.proofs.CallerLemmas.{last_told_append, links_keep, near_same, near_stays}
 use Rattle.boot_laws.proofs.Commands.{Control, IsControl}
 use Rattle.boot_laws.proofs.Crashes.{losts_have, losts_keep}
 use Rattle.boot_laws.proofs.Facts.{have_weaker}
@@ -33,7 +33,6 @@ use Rattle.advert_laws.proofs.Stepping.{row_first}
 use Rattle.quiet_laws.proofs.Changed.{IsOwed, link_news, pay_links, sends_still}
 use Rattle.quiet_laws.proofs.Givens.{HaveNews, IsHad, IsStill, given_grows, stills_news}
 use Rattle.quiet_laws.proofs.Lists.{IsIn}
-use Rattle.quiet_laws.proofs.Near.{near_same}
 
 abbrev pub Still : List Item → List Item → Type 0
 Still journal items = HaveCauses IsStill journal items
@@ -63,7 +62,7 @@ pub work_still : (setting : Setting) (journal items : List Item) → Work settin
 work_still setting journal items work =
     have_weaker (IsWork setting) IsStill (work_is_still setting) journal items work
 
-control_is_still : (before : List Item) (next : Item) → IsControl before next → IsStill before next
+pub control_is_still : (before : List Item) (next : Item) → IsControl before next → IsStill before next
 control_is_still before (item.Delivered number) is = absurd is
 control_is_still before (item.Down s) is = absurd is
 control_is_still before (item.Booted s boot) is = absurd is

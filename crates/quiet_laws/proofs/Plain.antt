@@ -19,7 +19,7 @@ use Rattle.update_machine.specs.Pieces.{deliver_items, expire_items, forget_item
 use Rattle.update_machine.specs.Setting.{Setting}
 use Rattle.update_machine.specs.Settling.{settling}
 use Rattle.update_machine.proofs.CallerLemmas.{PiecesHave, have_first, message_keeps}
-use Rattle.boot_laws.proofs.Commands.{Control, IsControl, confirm_control, controller_control, settling_control, update_control}
+use Rattle.boot_laws.proofs.Commands.{Control, IsControl, confirm_control, controller_control, settling_control, update_has}
 use Rattle.boot_laws.proofs.Crashes.{crash_changes, link_change}
 use Rattle.boot_laws.proofs.Delivered.{delivery_has}
 use Rattle.boot_laws.proofs.Facts.{have_weaker}
@@ -147,7 +147,7 @@ step_aside setting before (Lose packet) here is = lose_aside packet _
 step_aside setting before (Forget message) here is = forget_aside message _
 step_aside setting before (Expire s at) here is = expire_aside setting s at _
 step_aside setting before (Update file) here is =
-    control_aside _ _ (update_control setting file _)
+    update_has IsAside control_is setting file _ (λ version. tt)
 step_aside setting before (LinkDown one two) here is =
     change_aside setting _ _ (link_change setting before one two false _)
 step_aside setting before (LinkUp one two) here is =

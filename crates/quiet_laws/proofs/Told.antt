@@ -231,16 +231,19 @@ ends_quiet setting steps net quiet =
       newest = newest_stepped setting steps;
     }
 
+quiet_at_ends : (Holds : Setting → List Item → Type 0)
+    → ((setting : Setting) (journal : List Item) → AreQuiet setting journal → Holds setting journal)
+    → HoldsAtEnds (λ setting journal.
+    IsNet setting.net → IsQuiet setting journal → Holds setting journal)
+quiet_at_ends Holds holds = at_ends (λ setting journal.
+    IsNet setting.net → IsQuiet setting journal → Holds setting journal)
+    (λ setting steps net quiet.
+    holds setting (after_steps setting [] steps) (ends_quiet setting steps net quiet))
+
 pub converged_at_ends : HoldsAtEnds (λ setting journal.
     IsNet setting.net → IsQuiet setting journal → HasConverged setting journal)
-converged_at_ends = at_ends (λ setting journal.
-    IsNet setting.net → IsQuiet setting journal → HasConverged setting journal)
-    (λ setting steps net quiet.
-    quiet_converged setting (after_steps setting [] steps) (ends_quiet setting steps net quiet))
+converged_at_ends = quiet_at_ends HasConverged quiet_converged
 
 pub apart_at_ends : HoldsAtEnds (λ setting journal.
     IsNet setting.net → IsQuiet setting journal → GetStuckApart setting journal)
-apart_at_ends = at_ends (λ setting journal.
-    IsNet setting.net → IsQuiet setting journal → GetStuckApart setting journal)
-    (λ setting steps net quiet.
-    stuck_reaches_none setting (after_steps setting [] steps) (ends_quiet setting steps net quiet))
+apart_at_ends = quiet_at_ends GetStuckApart stuck_reaches_none

@@ -74,7 +74,7 @@ fn is_quiet(alloc: Global, journal: &Journal, net: &Net) -> Result<bool, Fail>
 fn crashes_are_confirmed(rt: HostRuntime) -> Result<(), Fail> {
     let alloc = rt.alloc();
     let net = two_switches(alloc)?;
-    let mut journal = Journal::new(alloc);
+    let mut journal = Journal::empty(alloc);
     assert!(rt; is_quiet(alloc, &journal, &net)?);
     push(&mut journal, Item::Down { switch: 1 })?;
     assert!(rt; !is_quiet(alloc, &journal, &net)?);
@@ -95,7 +95,7 @@ fn push_update(alloc: Global, journal: &mut Journal) -> Result<(), Fail> {
 fn updates_are_answered(rt: HostRuntime) -> Result<(), Fail> {
     let alloc = rt.alloc();
     let net = one_switch(alloc)?;
-    let mut journal = Journal::new(alloc);
+    let mut journal = Journal::empty(alloc);
     push_update(alloc, &mut journal)?;
     assert!(rt; !is_quiet(alloc, &journal, &net)?);
     push(&mut journal, Item::Delivered { number: 2 })?;
@@ -137,7 +137,7 @@ fn is_quiet_with(
 ) -> Result<bool, Fail>
     requires { IsNet net.now }
 {
-    let mut journal = Journal::new(alloc);
+    let mut journal = Journal::empty(alloc);
     advertise(alloc, &mut journal, 1, first)?;
     advertise(alloc, &mut journal, 2, second)?;
     let forgotten = if delivered == 1 { 2 } else { 1 };

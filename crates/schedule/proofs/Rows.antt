@@ -4,14 +4,15 @@ use Rattle.std.specs.Prelude.{slice_get}
 use Rattle.std.specs.Option.{option_map_or}
 use Rattle.net_file.specs.declared.net.Net.{Net}
 use Rattle.steps.specs.declared.step.Event.{Event}
+use Rattle.read_error.specs.Refusals.{RefusedRow}
 use Rattle.schedule.specs.Reading.{events_in, refusals_from}
-use Rattle.schedule.specs.Refusals.{RefusedSchedule}
+use Rattle.schedule.specs.declared.error.ScheduleRefusal.{ScheduleRefusal}
 
 abbrev pub Records : Type 0
 Records = List (List (List ℕ))
 
 -- what is read in the end, once these events were read and these records are left
-abbrev pub goes_on : Net → ℕ → List Event → Records → Result (List Event) RefusedSchedule
+abbrev pub goes_on : Net → ℕ → List Event → Records → Result (List Event) (RefusedRow ScheduleRefusal)
 goes_on net files events left =
     option_map_or Err (slice_get (refusals_from net files (length events + 1) left) 0)
     (Ok (events ++ events_in net files left))

@@ -14,8 +14,3 @@ schedule_code why.Address = 6
 schedule_code why.File = 7
 schedule_code why.TooManyRows = 8
 schedule_code why.NoLink = 9
-
--- why a text is refused, and in which row, counted from 1; the heading is row 0
-pub record RefusedSchedule : Type 0 where
-  pub refusal : ScheduleRefusal
-  pub row : ℕ

@@ -1,9 +1,7 @@
 ghost use Rattle.std.specs.Prelude.{◌≡◌, ◌≤◌};
 ghost use Rattle.schedule.specs.Refusals.{schedule_code};
-ghost use Rattle.schedule.specs.declared.error.ScheduleError.TheVariants.{NoMemory};
 
-use std::alloc::{AllocError, AllocFailed};
-use thiserror::Error;
+use read_error::ReadError;
 
 /// Why a schedule's text is refused.
 #[derive(Clone, Copy, Debug, PartialEq, Eq)]
@@ -39,28 +37,5 @@ impl ScheduleRefusal {
     }
 }
 
-/// Why a text is read as no schedule.
-#[derive(Clone, Copy, Debug, PartialEq, Eq, Error)]
-pub enum ScheduleError {
-    /// The first refusal in the text, and its row, counted from 1; the row of the heading is 0.
-    #[error("row {row}: {refusal:?}")]
-    Refused { refusal: ScheduleRefusal, row: u32 },
-    #[error("no memory")]
-    NoMemory,
-}
-
-impl From<AllocError> for ScheduleError {
-    ghost from_gives = { λ _ e. e ≡ NoMemory };
-
-    fn from(_: AllocError) -> Self {
-        ScheduleError::NoMemory
-    }
-}
-
-impl<T: Drop> From<AllocFailed<T>> for ScheduleError {
-    ghost from_gives = { λ _ e. e ≡ NoMemory };
-
-    fn from(_: AllocFailed<T>) -> Self {
-        ScheduleError::NoMemory
-    }
-}
+/// Why a text is read as no schedule. Rows are counted from 1; the row of the heading is 0.
+pub type ScheduleError = ReadError<ScheduleRefusal>;

@@ -1,7 +1,8 @@
 ghost use Rattle.std.specs.Prelude.{◌≡◌, ◌≤◌, Ok, IfOk, IfErr, All, vec_len};
 ghost use Rattle.net_file.specs.Net.{IsNet};
 ghost use Rattle.steps.specs.Steps.{IsEvent, max_events};
-ghost use Rattle.schedule.specs.Reading.{IsScheduleRefusal, schedule_of};
+ghost use Rattle.schedule.specs.Reading.{schedule_of};
+ghost use Rattle.read_error.specs.Refusals.{IsRefusal};
 
 use crate::error::{ScheduleError, ScheduleRefusal};
 use crate::laws::schedule_laws;
@@ -32,7 +33,7 @@ pub fn read_schedule(
         schedule_of net.now files bytes.now ≡ Ok events.items) }
     ensures steps { IfOk result (λ events. All (IsEvent net.now files) events.items) }
     ensures few { IfOk result (λ events. vec_len events ≤ max_events) }
-    ensures refused { IfErr result (IsScheduleRefusal (schedule_of net.now files bytes.now)) }
+    ensures refused { IfErr result (IsRefusal (schedule_of net.now files bytes.now)) }
 {
     schedule_laws();
     let mut records = Records::new(alloc, bytes);

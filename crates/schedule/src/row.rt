@@ -56,7 +56,7 @@ fn read_file(files: u32, text: &[u8]) -> Result<u32, ScheduleRefusal>
 fn are_linked(net: &Net, one: u32, two: u32) -> bool
     ensures { result ≡ are_linked net.now.links one two }
 {
-    net.links.rows().iter().any(|link| link.joins(one, two))
+    net.links.items().iter().any(|link| link.joins(one, two))
 }
 
 // The link between the switches that the texts name.

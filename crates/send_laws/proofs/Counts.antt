@@ -28,8 +28,7 @@ use Rattle.update_machine.specs.Folds.{count_of}
 use Rattle.update_machine.specs.LinkMasks.{near}
 use Rattle.update_machine.specs.Marks.{acked_stamp, current_mark, has_acked, is_member, is_over, members, next_current, next_retired, retired_mark}
 use Rattle.update_machine.specs.Messages.{is_sending, next_message, sends, sent_from}
-use Rattle.update_machine.specs.Moves.{AuthorityRule, arrive_by, arrive_items, authority_items, cache_items, end_items, found_items, go_on, header_at, in_turn, leg_items, lookup_items, move_items, put, reroute_by, reroute_items}
-use Rattle.update_machine.specs.Travels.{leg_of}
+use Rattle.update_machine.specs.Moves.{AuthorityRule, arrive_items, authority_items, cache_items, end_items, found_items, header_at, in_turn, leg_items, lookup_items, move_items, put, reroute_items}
 use Rattle.update_machine.specs.Pieces.{confirm_items, expire_items, forget_items, hello_of, hop_items, lose_items, nothing, packet_items, resend_items, resent_by_switch, sends_or_nothing, update_code, update_items}
 use Rattle.update_machine.specs.Setting.{Setting, switches_of}
 use Rattle.update_machine.specs.Settling.{collect_for, current_items, install_for, installs_to, installs_to_all, open_items, resent_by_controller, resent_to_member, retired_items, settling, stamp_for, submitted_items, unacked, versions_from_current}
@@ -103,27 +102,15 @@ unfolding lookup_items
 lookup_few setting i s journal =
     found_few setting i s (lookup_at setting journal s (header_at journal i)) journal
 
-arrive_by_few : (setting : Setting) (i s : ℕ) (leg : Option Leg) (journal : List Item)
-    → sent (arrive_by setting i s leg journal) ≤ 1
-arrive_by_few setting i s leg journal = grind (arith, lookup_few, authority_few)
-
 arrive_few : (setting : Setting) (i s : ℕ) (journal : List Item)
     → sent (arrive_items setting i s journal) ≤ 1
 unfolding arrive_items
-arrive_few setting i s journal = arrive_by_few setting i s (leg_of journal i) journal
-
-go_on_few : (setting : Setting) (i s : ℕ) (journal : List Item)
-    → sent (go_on setting i s journal) ≤ 1
-go_on_few setting i s journal = grind (arith, arrive_few)
-
-reroute_by_few : (setting : Setting) (i s : ℕ) (leg : Option Leg) (journal : List Item)
-    → sent (reroute_by setting i s leg journal) ≤ 1
-reroute_by_few setting i s leg journal = grind (arith, sent_more, go_on_few)
+arrive_few setting i s journal = grind (arith, lookup_few, authority_few)
 
 reroute_few : (setting : Setting) (i s : ℕ) (journal : List Item)
     → sent (reroute_items setting i s journal) ≤ 1
 unfolding reroute_items
-reroute_few setting i s journal = reroute_by_few setting i s (leg_of journal i) journal
+reroute_few setting i s journal = grind (arith, sent_more, arrive_few)
 
 move_few : (setting : Setting) (i s : ℕ) (journal : List Item)
     → sent (move_items setting i s journal) ≤ 1

@@ -24,12 +24,12 @@ use Rattle.update_machine.specs.Pieces.{crash_items, deliver_items, hello_of, li
 use Rattle.update_machine.specs.Setting.{Setting}
 use Rattle.update_machine.specs.Versions.{stamp_of, version_count}
 use Rattle.update_machine.specs.Travels.{packets_at}
-use Rattle.boot_laws.proofs.Commands.{confirm_control, controller_control, update_control}
+use Rattle.boot_laws.proofs.Commands.{confirm_control, controller_control, update_has}
 use Rattle.boot_laws.proofs.Crashes.{losts_have}
 use Rattle.boot_laws.proofs.Grown.{count_more}
 use Rattle.boot_laws.proofs.Sent.{resends_any}
 use Rattle.advert_laws.proofs.LinkCauses.{ChangedNoLinks}
-use Rattle.advert_laws.proofs.Plain.{control_plain, expire_plain, forget_plain, hop_plain, lose_plain, packet_plain, plain_keeps_links, sends_silent}
+use Rattle.advert_laws.proofs.Plain.{IsPlain, control_is_plain, control_plain, expire_plain, forget_plain, hop_plain, lose_plain, packet_plain, plain_keeps_links, sends_silent}
 use Rattle.advert_laws.proofs.Stepping.{delivered_first, row_first}
 use Rattle.send_laws.proofs.Counts.{confirm_few, controller_few, expire_few, forget_few, hop_few, lose_few, packet_few, passed_few, put_few, resend_few, sends_count, sent, sent_more, update_few}
 use Rattle.send_laws.proofs.LinkSends.{all_told, changes_few}
@@ -359,7 +359,8 @@ step_kind setting before row (Expire s place) = behind_row setting before row _ 
           (before ++ item.Row row (Expire s place) ∷ []),
     ))
 step_kind setting before row (Update file) = behind_row setting before row _ _
-    (plain_keeps_links _ _ (control_plain _ _ (update_control setting file _)))
+    (plain_keeps_links _ _
+    (update_has IsPlain control_is_plain setting file _ (λ version. tt)))
     (λ net versions. omega (
       arith,
       update_few setting net file

@@ -1,9 +1,7 @@
 //! The laws.
 ghost use Rattle.std.specs.Prelude.{List, []};
 ghost use Rattle.net_file.specs.Net.{IsNet};
-ghost use Rattle.update_machine.specs.Answers.{StepOfRow, after_steps};
-ghost use Rattle.update_machine.specs.Full.{HasRoom, HaveRoom};
-ghost use Rattle.update_machine.specs.Setting.{Setting};
+ghost use Rattle.update_machine.specs.Journals.{HasRoom, HaveRoom, Setting, StepOfRow, after_steps};
 ghost use Rattle.boot_laws.specs.Always.{HoldsAlways, HoldsAtEnds};
 ghost use Rattle.send_laws.specs.Sends.{NumbersAreFew, NumbersFit, StepsSendFew};
 

@@ -20,8 +20,7 @@ use Rattle.update_machine.specs.Versions.{version_count}
 use Rattle.boot_laws.proofs.Commands.{IsCommand, IsOfSettling, current_settles, each_command, open_settles, retired_settles}
 use Rattle.boot_laws.proofs.Facts.{AreKept, fact_on}
 use Rattle.boot_laws.proofs.Grown.{count_more, current_more, known_more, opened_at_more, over_more, retired_more, told_more}
-use Rattle.boot_laws.proofs.Sends.{acked_same, each_range}
-use Rattle.boot_laws.proofs.Sent.{sent_each}
+use Rattle.boot_laws.proofs.Sends.{acked_same, each_range, sent_kept}
 use Rattle.boot_laws.proofs.Serving.{member_of, member_on, own_opening, still_opened}
 pub use Rattle.boot_laws.proofs.StepCases.{in_two}
 use Rattle.mark_laws.proofs.Members.{opened_same}
@@ -282,8 +281,9 @@ all_opened (t ∷ switches) base journal n version same =
     (λ now. AllByRecursion (λ s. IsTrue (is_some (opened_at now s))) (t ∷ switches))
     (append_assoc journal (next ∷ []) rest) (
       opened_stays (journal ++ next ∷ []) rest t
-          (sent_each IsOfSettling (λ message. IsCommand message.body) (λ before m message is. is)
-          messages (journal ++ next ∷ []) (n + 1)
+          (sent_kept IsOfSettling (λ before message. IsCommand message.body)
+          (λ before m message is. is) (λ before m message other new is. is) messages
+          (journal ++ next ∷ []) (n + 1)
           (each_command (open_for base version) (λ s. tt) switches))
           (opens_now base journal t n version (same t)),
       all_opened switches base (journal ++ next ∷ []) (n + 1) version

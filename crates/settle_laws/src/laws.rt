@@ -2,11 +2,8 @@
 ghost use Rattle.std.specs.Prelude.{◌++◌, ◌≤◌, ℕ, List, [], IsFalse};
 ghost use Rattle.journal.specs.declared.item.Item.{Item};
 ghost use Rattle.steps.specs.declared.step.Step.{Step};
-ghost use Rattle.update_machine.specs.Causes.{HaveCauses};
+ghost use Rattle.update_machine.specs.Journals.{AreSettled, HaveCauses, Setting, next_retired, piece, retired_mark};
 ghost use Rattle.update_machine.specs.Laws.{ControllerKeeps};
-ghost use Rattle.update_machine.specs.Marks.{AreSettled, next_retired, retired_mark};
-ghost use Rattle.update_machine.specs.Pieces.{piece};
-ghost use Rattle.update_machine.specs.Setting.{Setting};
 ghost use Rattle.boot_laws.specs.Always.{HoldsAlways, HoldsAtEnds};
 ghost use Rattle.settle_laws.specs.Rises.{RisesRightly};
 ghost use Rattle.settle_laws.specs.Steps.{asks_controller};

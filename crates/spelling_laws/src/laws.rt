@@ -1,8 +1,7 @@
 //! The law.
 ghost use Rattle.std.specs.Prelude.{List};
 ghost use Rattle.journal.specs.declared.item.Item.{Item};
-ghost use Rattle.update_machine.specs.Answers.{IsReached};
-ghost use Rattle.update_machine.specs.Setting.{Setting, IsSetting};
+ghost use Rattle.update_machine.specs.Journals.{IsReached, IsSetting, Setting};
 ghost use Rattle.spelling_laws.specs.Spelled.{AreSpelled};
 
 /// Each message that was sent in a network names switches below 64 and carries short lists, and its

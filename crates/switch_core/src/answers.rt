@@ -1,9 +1,6 @@
-ghost use Rattle.std.specs.Prelude.{◌≡◌, [], ◌∷◌, IfOk};
-
 use ctrl_msg::{Body, Message};
+use lists::Listing;
 use policy_rules::{Action, Cause, How, Leg};
-use std::alloc::{AllocError, Global};
-use std::marker::Model;
 use tunnel::Tunnel;
 
 /// By which rule a switch decides a packet.
@@ -89,55 +86,5 @@ pub struct Heard {
     pub opened: Option<u32>,
 }
 
-/// Messages in the order in which they are to be sent. Contracts see the list.
-#[derive(Drop)]
-pub struct Replies {
-    messages: Vec<Message>,
-}
-
-impl Model for Replies {
-    ghost use Rattle.std.specs.Prelude.{List};
-    ghost use Rattle.ctrl_msg.specs.declared.message.Message.{Message};
-
-    ghost Value = { List Message };
-
-    ghost view = { λ r. r.messages.items };
-}
-
-impl Replies {
-    pub(crate) fn none(alloc: Global) -> Replies
-        ensures { result ≡ [] }
-    {
-        Replies {
-            messages: Vec::new(alloc),
-        }
-    }
-
-    pub(crate) fn one(alloc: Global, message: Message) -> Result<Replies, AllocError>
-        ensures { IfOk result (λ replies. replies ≡ message ∷ []) }
-    {
-        let mut messages = Vec::new(alloc);
-        messages.push(message)?;
-        Ok(Replies { messages })
-    }
-
-    pub(crate) fn of(messages: Vec<Message>) -> Replies
-        ensures { result ≡ messages.items }
-    {
-        Replies { messages }
-    }
-
-    /// The messages.
-    pub fn items(&self) -> &[Message]
-        ensures { result.now ≡ self.now }
-    {
-        &self.messages
-    }
-
-    /// The messages, to be sent on.
-    pub fn into_messages(self) -> Vec<Message>
-        ensures { result.items ≡ self }
-    {
-        self.messages
-    }
-}
+/// Messages in the order in which they are to be sent.
+pub type Replies = Listing<Message>;

@@ -1,4 +1,4 @@
-ghost use Rattle.std.specs.Prelude.{◌≡◌, ◌<◌, OnErr, OnOk, IfOk, IsTrue};
+ghost use Rattle.std.specs.Prelude.{◌≡◌, ◌<◌, [], ◌∷◌, OnErr, OnOk, IfOk, IsTrue};
 ghost use Rattle.switch_table.specs.Tables.{AreSoundTables};
 ghost use Rattle.ctrl_msg.specs.declared.message.Body.TheVariants.{Advertise};
 ghost use Rattle.ctrl_msg.specs.Kinds.{to_controller};
@@ -37,7 +37,7 @@ impl Switch {
     {
         if !self.obeys(body) {
             return Ok(Heard {
-                replies: Replies::none(alloc),
+                replies: Replies::empty(alloc),
                 opened: None,
             });
         }
@@ -84,7 +84,7 @@ impl Switch {
         ensures { IfOk result (λ list. list ≡ replies_to self.now near body.now) }
     {
         match body {
-            Body::Install { tables, .. } => Replies::one(
+            Body::Install { tables, .. } => one_reply(
                 alloc,
                 to_controller(Body::Installed {
                     switch: self.number,
@@ -92,7 +92,7 @@ impl Switch {
                     version: tables.tables().version,
                 }),
             ),
-            Body::Stamp { version, .. } => Replies::one(
+            Body::Stamp { version, .. } => one_reply(
                 alloc,
                 to_controller(Body::Stamped {
                     switch: self.number,
@@ -101,7 +101,7 @@ impl Switch {
                 }),
             ),
             Body::Advertise { advert } if self.is_news(advert) => flood(alloc, near, advert),
-            _ => Ok(Replies::none(alloc)),
+            _ => Ok(Replies::empty(alloc)),
         }
     }
 
@@ -201,6 +201,15 @@ fn to_controller(body: Body) -> Message
     }
 }
 
+// This message alone.
+fn one_reply(alloc: Global, message: Message) -> Result<Replies, AllocError>
+    ensures { IfOk result (λ replies. replies ≡ message ∷ []) }
+{
+    let mut replies = Replies::empty(alloc);
+    replies.push(message)?;
+    Ok(replies)
+}
+
 // The advert for each neighbour, ascending.
 #[tactic(auto, using(crate::proofs::Flooding::told_none, crate::proofs::Flooding::told_near, crate::proofs::Flooding::told_far))]
 fn flood(alloc: Global, near: u64, advert: &Advert) -> Result<Replies, AllocError>
@@ -215,5 +224,5 @@ fn flood(alloc: Global, near: u64, advert: &Advert) -> Result<Replies, AllocErro
             })?;
         }
     }
-    Ok(Replies::of(messages))
+    Ok(Replies::new(messages))
 }

@@ -3,8 +3,4 @@
 #![tactic(auto)]
 
 #[cfg(test)]
-mod cache_words;
-#[cfg(test)]
-mod caches;
-#[cfg(test)]
-mod switches;
+mod tests;

@@ -3,7 +3,7 @@ use Rattle.std.proofs.Common.{ℕ, zero, suc, ◌≡◌, ◌-◌, ◌^◌, ◌<�
 use Rattle.std.specs.Prelude.{IsFalse, IsTrue, filter, find, slice_get}
 use Rattle.std.specs.List.{AllByRecursion, list_any}
 use Rattle.std.specs.Option.{IfSome, IsSomeAnd}
-use Rattle.std.proofs.lemmas.Bool.{eq-eqb, eqb-true}
+use Rattle.std.proofs.lemmas.Bool.{and_parts, eq-eqb, eqb-true, or_right}
 use Rattle.std.proofs.lemmas.List.{get_or-map, length-map}
 use Rattle.std.proofs.lemmas.List.Elements.{recursion_from_All}
 use Rattle.std.proofs.lemmas.Option.{slice_get-get_or}
@@ -74,15 +74,11 @@ pub open_shown : (setting : Setting) (journal : List Item) (s : ℕ)
 unfolding switch_of
 open_shown setting journal s = refl
 
-both : (a b : Bool) → (a && b) ≡ true → b ≡ true
-both true b is = is
-both false b is = absurd cc
-
 pub looks_up : (setting : Setting) (journal : List Item) (s : ℕ) → ServingHold setting journal
     → s < length setting.net.switches → CanLookUp (switch_of setting journal s)
 looks_up setting journal s hold there serving =
-    let opened : IsTrue (serves_in journal s) = both (is_up journal s) (serves_in journal s)
-    (sym (open_shown setting journal s) ∙ serving) in
+    let opened : IsTrue (serves_in journal s) =
+    (and_parts _ _ (sym (open_shown setting journal s) ∙ serving)).1 in
     subst (λ stamp. IsTrue (holds_version (switch_of setting journal s) stamp))
     (sym (stamp_shown setting journal s))
     (held_shown setting journal s (stamp_of journal s) ∙ (hold s there opened).stamp)
@@ -97,11 +93,7 @@ any_at test (y ∷ ys) zero x there passes =
     let here : test y ≡ true = ap test same ∙ passes in
     rw here refl
 any_at test (y ∷ ys) (suc k) x there passes =
-    ap (λ b. test y || b) (any_at test ys k x there passes) ∙ true_last (test y)
-  where
-    true_last : (b : Bool) → (b || true) ≡ true
-    true_last true = refl
-    true_last false = refl
+    ap (λ b. test y || b) (any_at test ys k x there passes) ∙ or_right (test y) true refl
 
 -- what holds of each partition of the number holds of the switch's own one
 own_found : (P : Partition → Type 0) (s partition : ℕ) (plan : List Placed)

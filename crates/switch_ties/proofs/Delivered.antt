@@ -3,7 +3,7 @@ use Rattle.std.proofs.Common.{ℕ, zero, suc, ◌≡◌, ◌+◌, ◌-◌, ◌<�
 use Rattle.std.specs.Prelude.{IsTrue, filter}
 use Rattle.std.specs.List.{AllByRecursion, range_with_len}
 use Rattle.std.proofs.Math.Bool.{or-false}
-use Rattle.std.proofs.lemmas.Bool.{eqb-true}
+use Rattle.std.proofs.lemmas.Bool.{and_parts, eqb-true}
 use Rattle.std.proofs.lemmas.List.Elements.{recursion_from_All}
 use Rattle.ctrl_msg.specs.declared.message.Body.{Body}
 use Rattle.ctrl_msg.specs.declared.message.Body.TheVariants.{Install, OpenAt, Stamp, Advertise, Installed, Stamped}
@@ -248,22 +248,14 @@ linked_small count s k (link ∷ links) all is =
     by_first (link.one == s && link.two == k) refl (link.one == k && link.two == s) refl
     (linked_small count s k links all.1) is
   where
-    second : (a b : Bool) → (a && b) ≡ true → b ≡ true
-    second true b is = is
-    second false b is = absurd cc
-
-    first : (a b : Bool) → (a && b) ≡ true → a ≡ true
-    first true b is = refl
-    first false b is = absurd cc
-
     by_first : (b : Bool) → (link.one == s && link.two == k) ≡ b → (c : Bool)
         → (link.one == k && link.two == s) ≡ c
         → (are_linked links s k ≡ true → k < count)
         → ((b || c) || are_linked links s k) ≡ true → k < count
     by_first true e c f rest is =
-        subst (λ j. j < count) (eqb-true link.two k (second _ _ e)) all.0.two
+        subst (λ j. j < count) (eqb-true link.two k (and_parts _ _ e).1) all.0.two
     by_first false e true f rest is =
-        subst (λ j. j < count) (eqb-true link.one k (first _ _ f)) all.0.one
+        subst (λ j. j < count) (eqb-true link.one k (and_parts _ _ f).0) all.0.one
     by_first false e false f rest is = rest is
 
 near_small : (setting : Setting) (journal : List Item) (s k : ℕ) → IsNet setting.net

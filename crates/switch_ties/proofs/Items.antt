@@ -1,35 +1,26 @@
 -- What one item makes of the words of a switch.
-use Rattle.std.proofs.Common.{ℕ, ◌≡◌, ◌==◌, Bool, true, false, ◌&&◌, if◌then◌else◌, Option, Some, None, unwrap_or, List, [], ◌∷◌, ◌++◌, refl, ap, ◌∙◌}
-use Rattle.std.specs.Prelude.{IsFalse, ◌||◌}
+use Rattle.std.proofs.Common.{ℕ, ◌≡◌, ◌==◌, Bool, true, ◌&&◌, Option, Some, None, unwrap_or, List, [], ◌∷◌, ◌++◌, refl, ap, ◌∙◌}
 use Rattle.std.specs.Option.{option_map_or}
-use Rattle.std.proofs.lemmas.Bool.{eq-eqb}
+use Rattle.std.proofs.lemmas.Bool.{eq-eqb, or_parts}
 use Rattle.ctrl_msg.specs.declared.message.Body.{Body}
 use Rattle.journal.specs.declared.item.Item.{Item}
 use Rattle.journal.specs.declared.item.Item.TheVariants as item
 use Rattle.switch_table.specs.Cache.{expired}
 use Rattle.update_machine.specs.Adverts.{own_seq}
-use Rattle.update_machine.specs.Boots.{boot_of, heard, is_up, said_to}
+use Rattle.update_machine.specs.Boots.{boot_of, changes_heard, heard, is_up, said_to, tells_boot, tells_up}
 use Rattle.update_machine.specs.Caches.{cache_after, cache_of, changes_cache}
 use Rattle.update_machine.specs.Concerns.{NoneConcern, concerns_known, concerns_links, concerns_switch}
 use Rattle.update_machine.specs.Handled.{handled_count}
 use Rattle.update_machine.specs.LinkMasks.{near}
 use Rattle.update_machine.specs.Setting.{Setting}
 use Rattle.update_machine.specs.Versions.{stamp_of}
-use Rattle.update_machine.specs.Links.{serves}
+use Rattle.update_machine.specs.Links.{serves, tells_serving}
 use Rattle.update_machine.proofs.CallerLemmas.{calls_stay, fewer, folded_append, links_keep, switch_keeps}
 use Rattle.boot_laws.proofs.Grown.{boot_more, heard_more, serving_more, up_more}
 use Rattle.switch_ties.proofs.Hearing.{heard_words}
 use Rattle.switch_ties.proofs.Words.{Words, stamp_by, words_of}
 
 -- ---- items that concern neither the switch nor the links
-
-left : (a b : Bool) → IsFalse (a || b) → IsFalse a
-left true b none = none
-left false b none = refl
-
-right : (a b : Bool) → IsFalse (a || b) → IsFalse b
-right true b none = absurd cc
-right false b none = none
 
 -- they leave its words as they are, but for its calls
 pub words_kept : (setting : Setting) (s : ℕ) (before items : List Item)
@@ -39,10 +30,12 @@ pub words_kept : (setting : Setting) (s : ℕ) (before items : List Item)
 words_kept setting s before items none =
     let own = switch_keeps setting s before items
     (fewer (concerns_switch s) (concerns_known s)
-    (λ js item. left (concerns_switch s js item) (concerns_links js item)) before items none) in
+    (λ js item none. (or_parts (concerns_switch s js item) (concerns_links js item) none).0)
+    before items none) in
     let links = links_keep setting before items
     (fewer concerns_links (concerns_known s)
-    (λ js item. right (concerns_switch s js item) (concerns_links js item)) before items none) in
+    (λ js item none. (or_parts (concerns_switch s js item) (concerns_links js item) none).1)
+    before items none) in
     let boot = own.boot in
     let up = own.up in
     let serving = own.serving in
@@ -61,6 +54,29 @@ unfolding cache_of
 cache_more setting before next s =
     folded_append (changes_cache s) (record { entries = []; capacity = setting.net.cache }) before
     (next ∷ [])
+
+-- the words behind one more item, each by its own fold
+words_more : (setting : Setting) (before : List Item) (next : Item) (s : ℕ)
+    → let now = before ++ next ∷ [] in
+    words_of setting now s
+    ≡ record {
+      boot = unwrap_or (tells_boot s next) (boot_of before s);
+      up = unwrap_or (tells_up s next) (is_up before s);
+      serving = unwrap_or (tells_serving s next) (serves before s);
+      bodies = changes_heard s before (heard before s) next;
+      cache = changes_cache s before (cache_of setting before s) next;
+      seq = own_seq setting now s;
+      links = near setting now s;
+      handled = handled_count now s;
+    }
+words_more setting before next s =
+    rw (
+      boot_more before next s,
+      up_more before next s,
+      serving_more before next s,
+      heard_more before next s,
+      cache_more setting before next s,
+    ) refl
 
 -- ---- a delivery
 
@@ -133,18 +149,8 @@ pub words_opened : (setting : Setting) (before : List Item) (s v : ℕ)
     }
 words_opened setting before s v =
     let next : Item = item.Opened s v in
-    let now : List Item = before ++ next ∷ [] in
-    let boot : boot_of now s ≡ boot_of before s = boot_more before next s in
-    let up : is_up now s ≡ is_up before s = up_more before next s in
-    let serving : serves now s ≡ true =
-    serving_more before next s
-    ∙ ap (λ b. unwrap_or (if b then Some true else None) (serves before s)) (eq-eqb s s refl) in
-    let bodies : heard now s ≡ heard before s = heard_more before next s in
-    let cache : cache_of setting now s ≡ cache_of setting before s =
-    cache_more setting before next s in
-    let handled : handled_count now s ≡ handled_count before s =
-    calls_stay s before (next ∷ []) (refl, tt) in
-    rw (boot, up, serving, bodies, cache, handled) refl
+    words_more setting before next s
+    ∙ rw (eq-eqb s s refl, calls_stay s before (next ∷ []) (refl, tt)) refl
 
 -- ---- a timeout
 
@@ -155,18 +161,6 @@ pub words_expired : (setting : Setting) (before : List Item) (s place message : 
     }
 words_expired setting before s place message =
     let next : Item = item.Expired s place message in
-    let now : List Item = before ++ next ∷ [] in
-    let boot : boot_of now s ≡ boot_of before s = boot_more before next s in
-    let up : is_up now s ≡ is_up before s = up_more before next s in
-    let serving : serves now s ≡ serves before s = serving_more before next s in
-    let bodies : heard now s ≡ heard before s = heard_more before next s in
     let keep = links_keep setting before (next ∷ []) (refl, tt) in
-    let seq : own_seq setting now s ≡ own_seq setting before s = keep.seq s in
-    let near : near setting now s ≡ near setting before s = keep.near s in
-    let handled : handled_count now s ≡ handled_count before s =
-    calls_stay s before (next ∷ []) (refl, tt) in
-    let cache : cache_of setting now s ≡ expired place (cache_of setting before s) =
-    cache_more setting before next s
-    ∙ ap (λ b. if b then expired place (cache_of setting before s) else cache_of setting before s)
-    (eq-eqb s s refl) in
-    rw (boot, up, serving, bodies, seq, near, handled, cache) refl
+    words_more setting before next s
+    ∙ rw (eq-eqb s s refl, keep.seq s, keep.near s, calls_stay s before (next ∷ []) (refl, tt)) refl

@@ -2,7 +2,7 @@
 use Rattle.std.proofs.Common.{ℕ, ◌≡◌, ◌≤◌, ◌==◌, Bool, true, false, ◌&&◌, ◌||◌, not, max, if◌then◌else◌, List, [], ◌∷◌, ◌++◌, refl, ap, sym, subst, ◌∙◌, arith}
 use Rattle.std.specs.Prelude.{⊤, filter, filter_map, find, fold, is_some, nat_le, nat_lt}
 use Rattle.std.specs.List.{AllByRecursion, list_any}
-use Rattle.std.proofs.lemmas.Bool.{eq-eqb, eqb-true}
+use Rattle.std.proofs.lemmas.Bool.{eq-eqb, eqb-true, or_left, or_right}
 use Rattle.std.proofs.lemmas.Bool.Decides.{nat_tests}
 use Rattle.std.proofs.Math.Bool.{or-false, or_assoc}
 use Rattle.ctrl_msg.specs.declared.message.Body.{Body}
@@ -66,13 +66,6 @@ with_each P all (tables ∷ more) have brought = with_each P (with_tables all ta
     by_test true = have
     by_test false = each_append P all (tables ∷ []) have (brought.0, tt)
 
-or_true : (a b : Bool) → a ≡ true → (a || b) ≡ true
-or_true a b is = rw is refl
-
-true_or : (a b : Bool) → b ≡ true → (a || b) ≡ true
-true_or true b is = refl
-true_or false b is = is
-
 -- of these bodies, all of which came
 brought_each : (first : Bool) (all bodies : List Body)
     → ((v : ℕ) → list_any (installs v) bodies ≡ true → list_any (installs v) all ≡ true)
@@ -81,12 +74,12 @@ brought_each first all [] among versioned = tt
 brought_each first all (Install boot tables ∷ bodies) among versioned =
     let v : ℕ = tables.version in (
       (
-        or_true (list_any (installs v) all) (v == 1 && first)
-            (among v (or_true (v == v) (list_any (installs v) bodies) (eq-eqb v v refl))),
+        or_left (list_any (installs v) all) (v == 1 && first)
+            (among v (or_left (v == v) (list_any (installs v) bodies) (eq-eqb v v refl))),
         versioned.0,
       ),
       brought_each first all bodies
-          (λ w there. among w (true_or (v == w) (list_any (installs w) bodies) there)) versioned.1,
+          (λ w there. among w (or_right (v == w) (list_any (installs w) bodies) there)) versioned.1,
     )
 brought_each first all (_ ∷ bodies) among versioned =
     brought_each first all bodies among versioned.1
@@ -102,7 +95,7 @@ all_came tables first bodies one versioned =
         → AllByRecursion (HasCome first bodies) (if b then tables ∷ [] else [])
     begun true is = (
       (
-        true_or (list_any (installs tables.version) bodies) (tables.version == 1 && first)
+        or_right (list_any (installs tables.version) bodies) (tables.version == 1 && first)
             (rw (one, is) refl),
         omega (arith, one),
       ),

@@ -189,43 +189,35 @@ module _ (a b : WordValue) (agree : AgreesOnBoth a b) where
             (sym (joined_right k q).1) (of_b k q)
       ]
 
-  joined_holds : (h : ℕ) → holds (joined a b) h ≡ (holds a h && holds b h)
-  joined_holds h =
+  -- a test of a word's fixed bits is true of the joined word where it is of both
+  joined_test : (P : ℕ → ℕ → Type 0) (test : WordValue → Bool)
+      → ((w : WordValue)
+      → Decides (test w) ((k : ℕ) → bit_at w.mask k ≡ 1 → P k (bit_at w.value k)))
+      → test (joined a b) ≡ (test a && test b)
+  joined_test P test decides =
       same_from_decides _ _
       (Decides-like _
       (λ bits. (
-        λ k p. let l = joined_left k p in bits k l.0 ∙ l.1,
-        λ k q. let r =
-            joined_right k q in bits k r.0 ∙ r.1,
+        λ k p. let l = joined_left k p in subst (P k) l.1 (bits k l.0),
+        λ k q. let r = joined_right k q in subst (P k) r.1 (bits k r.0),
       ))
-      (λ both. joined_bits (λ k d. bit_at h k ≡ d) both.0 both.1)
-      (holds_decides (joined a b) h))
-      (Decides-and _ _ (holds_decides a h) (holds_decides b h))
+      (λ both. joined_bits P both.0 both.1)
+      (decides (joined a b)))
+      (Decides-and _ _ (decides a) (decides b))
+
+  joined_holds : (h : ℕ) → holds (joined a b) h ≡ (holds a h && holds b h)
+  joined_holds h =
+      joined_test (λ k d. bit_at h k ≡ d) (λ w. holds w h) (λ w. holds_decides w h)
 
   joined_meets : (c : WordValue) → meets (joined a b) c ≡ (meets a c && meets b c)
   joined_meets c =
-      same_from_decides _ _
-      (Decides-like _
-      (λ bits. (
-        λ k p s. let l = joined_left k p in sym l.1 ∙ bits k l.0 s,
-        λ k q s. let r =
-            joined_right k q in sym r.1 ∙ bits k r.0 s,
-      ))
-      (λ both. joined_bits (λ k d. bit_at c.mask k ≡ 1 → d ≡ bit_at c.value k) both.0 both.1)
-      (meets_decides (joined a b) c))
-      (Decides-and _ _ (meets_decides a c) (meets_decides b c))
+      joined_test (λ k d. bit_at c.mask k ≡ 1 → d ≡ bit_at c.value k) (λ w. meets w c)
+      (λ w. meets_decides w c)
 
   joined_covers : (c : WordValue) → covers_of (joined a b) c ≡ (covers_of a c && covers_of b c)
   joined_covers c =
-      same_from_decides _ _
-      (Decides-like _
-      (λ bits. (
-        λ k p. let l = joined_left k p in let s = bits k l.0 in (s.0, s.1 ∙ l.1),
-        λ k q. let r = joined_right k q in let s = bits k r.0 in (s.0, s.1 ∙ r.1),
-      ))
-      (λ both. joined_bits (λ k d. (bit_at c.mask k ≡ 1) × (bit_at c.value k ≡ d)) both.0 both.1)
-      (covers_decides (joined a b) c))
-      (Decides-and _ _ (covers_decides a c) (covers_decides b c))
+      joined_test (λ k d. (bit_at c.mask k ≡ 1) × (bit_at c.value k ≡ d)) (λ w. covers_of w c)
+      (λ w. covers_decides w c)
 
 -- the joined value has no bit outside the joined mask
 joined_within : (a b : WordValue) → fixed_value (joined a b) ≡ (joined a b).value

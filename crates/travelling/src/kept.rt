@@ -93,7 +93,7 @@ impl Kept {
         ensures { IfOk result (λ kept.
             kept ≡ travels_by (begun_at at.now leg targets route) version rule) }
     {
-        let _items = route.route().items();
+        let _items = route.get().items();
         let down = clone_links(&at.down)?;
         Ok(Kept {
             packet: at.packet,
@@ -153,7 +153,7 @@ impl Kept {
     {
         let down = match &self.down {
             None => DownSet::empty(),
-            Some(links) => *links.links(),
+            Some(links) => *links.get(),
         };
         Traveller {
             tunnel: Tunnel {
@@ -162,7 +162,7 @@ impl Kept {
                 ingress: self.ingress,
                 leg: self.leg,
                 targets: self.targets,
-                route: *self.route.route(),
+                route: *self.route.get(),
                 place: self.place,
                 down,
             },
@@ -176,7 +176,7 @@ impl Kept {
         ensures here { result ≡ here self.now.tunnel }
         ensures switch { result < 64 }
     {
-        self.route.route().items()[self.place as usize]
+        self.route.get().items()[self.place as usize]
     }
 
     /// The switch after that one on its route; `None` exactly at the route's end.
@@ -186,7 +186,7 @@ impl Kept {
             (self.now.tunnel.place + 1 < length self.now.tunnel.route) × (other < 64)) }
     {
         self.route
-            .route()
+            .get()
             .items()
             .get(self.place as usize + 1)
             .copied()

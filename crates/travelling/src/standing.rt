@@ -53,7 +53,7 @@ impl Standing {
     {
         match &self.down {
             None => None,
-            Some(links) => Some(links.links()),
+            Some(links) => Some(links.get()),
         }
     }
 

@@ -3,8 +3,4 @@
 #![tactic(auto)]
 
 #[cfg(test)]
-mod finders;
-#[cfg(test)]
-mod rule_trees;
-#[cfg(test)]
-mod words;
+mod tests;

@@ -90,7 +90,7 @@ answers_rows = record {
 }
 
 -- a took the packet in and moved it on; b received it
-pub handled_at_a : handled_count journal 0 ≡ 2
+pub handled_counts : (handled_count journal 0 ≡ 2) × (handled_count journal 1 ≡ 2)
 unfolding own_seq own_advert adverts_known held_adverts route_from is_cut_off boot_of is_up
     serves heard cache_of lookup_at link_changes switch_items controller_items delivery_items
     handled_count is_link_up near controller_heard known_boot is_over opened_at is_member
@@ -106,22 +106,4 @@ unfolding own_seq own_advert adverts_known held_adverts route_from is_cut_off bo
     names named_links is_link known_links is_isolated wider ball nearer onward links_away route_to
     first_route route_of has_link with_link holds meets meet_of covers_of is_fixed_of free_of
     is_apart is_independent widen widened same_key lib.Count.count_trailing_zeros
-handled_at_a = refl
-
-pub handled_at_b : handled_count journal 1 ≡ 2
-unfolding own_seq own_advert adverts_known held_adverts route_from is_cut_off boot_of is_up
-    serves heard cache_of lookup_at link_changes switch_items controller_items delivery_items
-    handled_count is_link_up near controller_heard known_boot is_over opened_at is_member
-    has_acked acked_stamp current_mark retired_mark next_current next_retired next_message
-    message_of is_forgotten was_delivered is_deliverable next_waiting sent_from leg_items
-    end_items cache_items authority_items lookup_items arrive_items reroute_items move_items
-    next_packet header_in ingress_of standing travels next_travelling decision_of leg_of route_in
-    route_place next_switch found_down packet_items hop_items lose_items deliver_items
-    forget_items expire_items update_items link_items crash_items restart_items confirm_items
-    resend_items piece sendings current_items open_items retired_items settling installs_to
-    installs_to_all resent_by_controller steps_in present_step version_count file_of plan_at
-    stamp_of holds_version has mask_where mask_of switches least_in is_news after_hearing first_adverts
-    names named_links is_link known_links is_isolated wider ball nearer onward links_away route_to
-    first_route route_of has_link with_link holds meets meet_of covers_of is_fixed_of free_of
-    is_apart is_independent widen widened same_key lib.Count.count_trailing_zeros
-handled_at_b = refl
+handled_counts = (refl, refl)

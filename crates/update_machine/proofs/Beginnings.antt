@@ -7,7 +7,7 @@ use Rattle.steps.specs.declared.step.Step.{Step}
 use Rattle.update_machine.specs.Answers.{AnswersSoFar, AreAll, AreFirstSteps, AreFirstStepsOf, AreSome, AreSteps, AreStepsOf, StepOfRow, after_steps, next_delivery, next_hop}
 use Rattle.update_machine.specs.Pieces.{piece}
 use Rattle.update_machine.specs.Setting.{Setting}
-use Rattle.update_machine.proofs.OneAnswer.{event_same, same_next}
+use Rattle.update_machine.proofs.OneAnswer.{event_same, same_next, same_onward}
 
 -- the second list is the first, and then these
 pub record Begins (xs ys : List StepOfRow) : Type 0 where
@@ -56,12 +56,9 @@ some_of_all setting next row before (x ∷ one) [] first second =
     let clash : None ≡ Some x.step = sym second ∙ first.1 in cc
 some_of_all setting next row before (x ∷ one) (y ∷ all) first second =
     let same : x ≡ y = same_next (next before) row x y first.0 second.0 first.1 second.1 in
-    let onward : AreAll setting next row (before ++ piece setting before x.row x.step) all =
-    subst (λ z. AreAll setting next row (before ++ piece setting before z.row z.step) all)
-    (sym same) second.2 in
     begins_cons x y one all same
     (some_of_all setting next row (before ++ piece setting before x.row x.step) one all first.2
-    onward)
+    (same_onward setting before (λ js. AreAll setting next row js all) x y same second.2))
 
 -- of two lists of its first steps, one begins the other
 either_cons : (x y : StepOfRow) (xs ys : List StepOfRow) → x ≡ y → Begins xs ys ⊎ Begins ys xs
@@ -77,12 +74,10 @@ some_either setting next row before [] other first second = inl (begins_nil othe
 some_either setting next row before (x ∷ one) [] first second = inr (begins_nil (x ∷ one))
 some_either setting next row before (x ∷ one) (y ∷ other) first second =
     let same : x ≡ y = same_next (next before) row x y first.0 second.0 first.1 second.1 in
-    let onward : AreSome setting next row (before ++ piece setting before x.row x.step) other =
-    subst (λ z. AreSome setting next row (before ++ piece setting before z.row z.step) other)
-    (sym same) second.2 in
     either_cons x y one other same
     (some_either setting next row (before ++ piece setting before x.row x.step) one other
-    first.2 onward)
+    first.2 (same_onward setting before (λ js. AreSome setting next row js other) x y same
+    second.2))
 
 one_step : (step : StepOfRow) (one all : List StepOfRow) → (one ≡ []) ⊎ (one ≡ step ∷ [])
     → all ≡ step ∷ [] → Begins one all

@@ -1,7 +1,7 @@
 -- What proofs above cite.
 pub use Rattle.update_machine.proofs.FoldLemmas.{all_given_append, count_of_append, first_told_append, folded_append, folded_from_append, last_told_append}
 pub use Rattle.update_machine.proofs.Silent.{count_stays, fewer, folded_stays, given_stays, last_stays, stays}
-pub use Rattle.update_machine.proofs.SilentSwitches.{near_stays, switch_keeps}
+pub use Rattle.update_machine.proofs.SilentSwitches.{near_same, near_stays, switch_keeps}
 pub use Rattle.update_machine.proofs.SilentSteps.{calls_stay}
 pub use Rattle.update_machine.proofs.SilentLinks.{known_keeps, links_keep, lookup_stays, policies_keep, waited_stays}
 pub use Rattle.update_machine.proofs.SilentMessages.{message_keeps, messages_keep, packets_keep, step_stays}

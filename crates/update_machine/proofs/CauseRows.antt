@@ -1,4 +1,4 @@
--- The causes of packets' ends, computed.
+-- The causes of packets' ends and of what fails, computed.
 use Rattle.std.proofs.Common.{ℕ, ◌≡◌, Bool, false, true, nat_le, inl, inr, Some, List, [], ◌∷◌, refl, subst, arith}
 use Rattle.std.specs.Prelude.{⊤, IsTrue, take}
 use Rattle.std.proofs.lemmas.Bool.{cases_eq, leb-true}
@@ -10,7 +10,7 @@ use Rattle.policy_rules.specs.declared.packet.Leg.TheVariants as leg
 use Rattle.steps.specs.declared.step.Step.TheVariants as step
 use Rattle.journal.specs.declared.item.Item.{Item}
 use Rattle.journal.specs.declared.item.Item.TheVariants as item
-use Rattle.update_machine.specs.Causes.{AreTargets, EndsHaveCauses, Leads, is_open, present_step}
+use Rattle.update_machine.specs.Causes.{AreTargets, HasCause, HaveCauses, Leads, is_open, present_step}
 use Rattle.update_machine.proofs.Enclosed.{ends_within}
 use Rattle.update_machine.proofs.Examples.{all_dropped, any_word, leaving, on, one, open_net, ring, shielded}
 use Rattle.update_machine.proofs.LinkRows.{round}
@@ -24,7 +24,7 @@ free behind = (tt, behind)
 
 -- a packet leaves by the port of the switch where it is decided
 pub left_has_cause :
-    EndsHaveCauses shielded
+    HaveCauses (HasCause shielded) []
     (item.Entered 1 0 one ∷ item.Hopped 1 1
     ∷ item.Decided 1 1 (Some 100) (Out 2) (how.Authority 1 0)
     ∷ item.Left 1 2 (leaving 1 one 1 (Some 100)) ∷ [])
@@ -90,34 +90,40 @@ own_leg_there = (
   refl,
 )
 
-pub stuck_has_cause : EndsHaveCauses ring round
-unfolding standing serves is_link_up
+pub stuck_has_cause : HaveCauses (HasCause ring) [] round
+unfolding standing serves is_link_up present_step
 stuck_has_cause =
-    free (free (free (free (free (free (free (free (free (free (
-      record { stands = refl; linked = refl; unusable = refl },
-      free (free (free (free (free (free (free (
+    free (free (free (free (
+      inl refl,
+      free (free (free (free (free (
         record { stands = refl; linked = refl; unusable = refl },
-        (
-          record {
-            stands = refl;
-            serving = refl;
-            targets = 3 ∷ [];
-            own_leg = own_leg_there;
-            no_path = All-from_recursion no_way_to (3 ∷ []) (no_path_left, tt);
-          },
-          tt,
-        ),
-      ))))))),
-    ))))))))))
+        free (free (free (
+          inr refl,
+          free (free (free (
+            record { stands = refl; linked = refl; unusable = refl },
+            (
+              record {
+                stands = refl;
+                serving = refl;
+                targets = 3 ∷ [];
+                own_leg = own_leg_there;
+                no_path = All-from_recursion no_way_to (3 ∷ []) (no_path_left, tt);
+              },
+              tt,
+            ),
+          ))),
+        ))),
+      ))))),
+    ))))
 
 -- one packet is lost by its row, and another one with its switch
 pub lost_has_cause :
-    EndsHaveCauses open_net
+    HaveCauses (HasCause open_net) []
     (item.Entered 1 0 one ∷ item.Entered 2 0 one ∷ item.Row 3 (step.Lose 1) ∷ item.Lost 1
     ∷ item.Row 4 (step.Crash 0) ∷ item.Down 0 ∷ item.Lost 2 ∷ [])
 unfolding standing present_step
 lost_has_cause =
     free (free (free (
       inl refl,
-      free (free (inr (record { switch = 0; crashes = refl; stands = refl }), tt)),
+      free (refl, (inr (record { switch = 0; crashes = refl; stands = refl }), tt)),
     )))

@@ -19,6 +19,13 @@ same_next next row x y mine yours first second =
     ∙ ap (λ step. record { row = y.row; step = step })
     (some_injective x.step y.step (sym first ∙ second))
 
+-- and what holds behind the one holds behind the other
+pub same_onward : (setting : Setting) (before : List Item) (Onward : List Item → Type 0)
+    (x y : StepOfRow) → x ≡ y → Onward (before ++ piece setting before y.row y.step)
+    → Onward (before ++ piece setting before x.row x.step)
+same_onward setting before Onward x y same =
+    subst (λ z. Onward (before ++ piece setting before z.row z.step)) (sym same)
+
 -- a flush, or a drain, has one list of steps
 all_same : (setting : Setting) (next : List Item → Option Step) (row : ℕ) (before : List Item)
     (one other : List StepOfRow) →
@@ -30,12 +37,9 @@ all_same setting next row before (x ∷ one) [] first second =
     let clash : None ≡ Some x.step = sym second ∙ first.1 in cc
 all_same setting next row before (x ∷ one) (y ∷ other) first second =
     let same : x ≡ y = same_next (next before) row x y first.0 second.0 first.1 second.1 in
-    let onward : AreAll setting next row (before ++ piece setting before x.row x.step) other =
-    subst (λ z. AreAll setting next row (before ++ piece setting before z.row z.step) other)
-    (sym same) second.2 in
     ap (λ z. z ∷ one) same ∙ ap (λ zs. y ∷ zs)
     (all_same setting next row (before ++ piece setting before x.row x.step) one other first.2
-    onward)
+    (same_onward setting before (λ js. AreAll setting next row js other) x y same second.2))
 
 pub event_same : (setting : Setting) (row : ℕ) (event : Event) (before : List Item)
     (one other : List StepOfRow) →

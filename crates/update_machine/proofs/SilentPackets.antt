@@ -107,7 +107,7 @@ pub packet_keeps : (i : ℕ) (before items : List Item) → NoneConcern (concern
 packet_keeps i before items none = record {
   header = header_stays i before items none;
   ingress = ingress_stays i before items none;
-  place = place_stays i before items none;
+  stands = place_stays i before items none;
   travels = travels_stays i before items none;
   decision = decision_stays i before items none;
   leg = leg_stays i before items none;

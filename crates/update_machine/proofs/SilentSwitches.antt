@@ -1,6 +1,7 @@
 -- Items that don't concern a switch, or the links, leave its words as they are.
-use Rattle.std.proofs.Common.{ℕ, ◌≡◌, Bool, true, None, List, [], ◌∷◌, ◌++◌, refl, ap, arith}
-use Rattle.std.specs.Prelude.{IsFalse, filter, unwrap_or}
+use Rattle.std.proofs.Common.{ℕ, ◌≡◌, true, None, List, [], ◌++◌, refl, ap, arith}
+use Rattle.std.specs.Prelude.{IsFalse, unwrap_or}
+use Rattle.std.proofs.lemmas.List.Elements.{filter_agree}
 use Rattle.net_file.specs.Owners.{links_of}
 use Rattle.net_file.specs.declared.net.LinkRow.{LinkRow}
 use Rattle.journal.specs.declared.item.Item.{Item}
@@ -124,28 +125,27 @@ unfolding is_link_up
 link_stays before items none one other = ap (λ o. unwrap_or o true)
     (last_stays _ concerns_links (link_silent _ _) before items none)
 
-usable_same : (after before : List Item) → ((s : ℕ) → serves after s ≡ serves before s)
-    → ((one other : ℕ) → is_link_up after one other ≡ is_link_up before one other) →
-    (link : LinkRow) → is_usable after link ≡ is_usable before link
-usable_same after before serving up link =
+usable_same : (before after : List Item) → ((s : ℕ) → serves after s ≡ serves before s)
+    → ((one other : ℕ) → is_link_up after one other ≡ is_link_up before one other)
+    → (link : LinkRow) → is_usable after link ≡ is_usable before link
+usable_same before after serving up link =
     let a : serves after link.one ≡ serves before link.one = serving link.one in
     let b : serves after link.two ≡ serves before link.two = serving link.two in
     let c : is_link_up after link.one link.two ≡ is_link_up before link.one link.two =
     up link.one link.two in
     rw (a, b, c) refl
 
-filter_same : {X : Type 0} (p q : X → Bool) → ((x : X) → p x ≡ q x) → (xs : List X)
-    → filter p xs ≡ filter q xs
-filter_same p q same [] = refl
-filter_same p q same (x ∷ xs) =
-    let here : p x ≡ q x = same x in
-    let rest : filter p xs ≡ filter q xs = filter_same p q same xs in
-    rw (here, rest) refl
+pub near_same : (setting : Setting) (before after : List Item)
+    → ((s : ℕ) → serves after s ≡ serves before s)
+    → ((one other : ℕ) → is_link_up after one other ≡ is_link_up before one other)
+    → (s : ℕ) → near setting after s ≡ near setting before s
+unfolding near
+near_same setting before after serving up s =
+    ap (λ links. links_of links s)
+    (filter_agree (is_usable after) (is_usable before) (usable_same before after serving up)
+    setting.net.links)
 
 pub near_stays : (setting : Setting) (s : ℕ) → Stays concerns_links (λ js. near setting js s)
-unfolding near
 near_stays setting s before items none =
-    ap (λ links. links_of links s)
-    (filter_same (is_usable (before ++ items)) (is_usable before)
-    (usable_same (before ++ items) before (served_stays before items none)
-    (link_stays before items none)) setting.net.links)
+    near_same setting before (before ++ items) (served_stays before items none)
+    (link_stays before items none) s

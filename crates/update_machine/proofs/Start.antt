@@ -68,7 +68,7 @@ unfolding header_in ingress_of standing travels decision_of leg_of route_in rout
 packet_starts i = record {
   header = refl;
   ingress = refl;
-  place = refl;
+  stands = refl;
   travels = refl;
   decision = refl;
   leg = refl;

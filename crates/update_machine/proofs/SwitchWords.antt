@@ -70,44 +70,19 @@ collected =
     told 1 (Install 1 (tables_of plan_p 2 0)) ++ told 2 (Install 1 (tables_of plan_p 3 0))
     ++ told 3 (Collect 1 2)
 
-pub holds_2 : holds_version (told 1 (Install 1 (tables_of plan_p 2 0))) 0 2 ≡ true
+pub holds : (holds_version (told 1 (Install 1 (tables_of plan_p 2 0))) 0 2 ≡ true)
+    × (holds_version collected 0 1 ≡ false) × (holds_version collected 0 2 ≡ false)
+    × (holds_version collected 0 3 ≡ true) × (holds_version restarted 0 1 ≡ false)
 unfolding holds_version heard is_up boot_of message_of
-holds_2 = refl
-
-pub holds_1_no_more : holds_version collected 0 1 ≡ false
-unfolding holds_version heard is_up boot_of message_of
-holds_1_no_more = refl
-
-pub holds_2_no_more : holds_version collected 0 2 ≡ false
-unfolding holds_version heard is_up boot_of message_of
-holds_2_no_more = refl
-
-pub holds_3 : holds_version collected 0 3 ≡ true
-unfolding holds_version heard is_up boot_of message_of
-holds_3 = refl
-
-pub holds_none_in_boot_2 : holds_version restarted 0 1 ≡ false
-unfolding holds_version heard is_up boot_of message_of
-holds_none_in_boot_2 = refl
+holds = (refl, refl, refl, refl, refl)
 
 -- ---- links
 
--- in the ring a has links to b and c
-pub near_at_first : near ring [] 0 ≡ 6
+-- in the ring a has links to b and c: at first, without b, without itself, without the link to c
+pub nears : (near ring [] 0 ≡ 6) × (near ring (item.Down 1 ∷ []) 0 ≡ 4)
+    × (near ring (item.Down 0 ∷ []) 0 ≡ 0) × (near ring (item.LinkIs 0 2 false ∷ []) 0 ≡ 2)
 unfolding near is_link_up serves mask_of mask_where switches
-near_at_first = refl
-
-pub near_without_b : near ring (item.Down 1 ∷ []) 0 ≡ 4
-unfolding near is_link_up serves mask_of mask_where switches
-near_without_b = refl
-
-pub near_without_itself : near ring (item.Down 0 ∷ []) 0 ≡ 0
-unfolding near is_link_up serves mask_of mask_where switches
-near_without_itself = refl
-
-pub near_without_link : near ring (item.LinkIs 0 2 false ∷ []) 0 ≡ 2
-unfolding near is_link_up serves mask_of mask_where switches
-near_without_link = refl
+nears = (refl, refl, refl, refl)
 
 -- ---- adverts
 
@@ -133,45 +108,20 @@ pub seq_down : own_seq ring (failing ++ item.Row 3 (step.Crash 0) ∷ item.Down 
 unfolding own_seq steps_in near is_link_up serves is_up boot_of mask_of mask_where switches
 seq_down = refl
 
--- the first advert of b counts in boot 1, until a newer one is heard; an older one changes nothing
-pub first_of_b :
-    advert_known open_net [] 0 1 ≡ Some (record { origin = 1; boot = 1; seq = 1; up = 1 })
+-- the first advert of b counts in boot 1, until a newer one is heard; an older one changes nothing;
+-- in boot 2 it knows of none, nor of itself; of itself it knows its own, whatever it hears
+pub adverts_of_a :
+    (advert_known open_net [] 0 1 ≡ Some (record { origin = 1; boot = 1; seq = 1; up = 1 }))
+    × (advert_known open_net (told 1 (advert 1 1 3 0) ++ told 2 (advert 1 1 2 1)) 0 1
+    ≡ Some (record { origin = 1; boot = 1; seq = 3; up = 0 }))
+    × (advert_known open_net (told 1 (advert 1 1 3 0) ++ told 2 (advert 1 2 1 1)) 0 1
+    ≡ Some (record { origin = 1; boot = 2; seq = 1; up = 1 }))
+    × (advert_known open_net restarted 0 1 ≡ None) × (advert_known open_net restarted 0 0 ≡ None)
+    × (advert_known open_net (told 1 (advert 0 1 9 0)) 0 0
+    ≡ Some (record { origin = 0; boot = 1; seq = 1; up = 2 }))
 unfolding adverts_known own_advert own_seq steps_in near is_link_up serves is_up boot_of heard
     message_of first_adverts after_hearing is_news switches mask_of mask_where
-first_of_b = refl
-
-pub newer_of_b :
-    advert_known open_net (told 1 (advert 1 1 3 0) ++ told 2 (advert 1 1 2 1)) 0 1
-    ≡ Some (record { origin = 1; boot = 1; seq = 3; up = 0 })
-unfolding adverts_known own_advert own_seq steps_in near is_link_up serves is_up boot_of heard
-    message_of first_adverts after_hearing is_news switches mask_of mask_where
-newer_of_b = refl
-
-pub newer_boot_of_b :
-    advert_known open_net (told 1 (advert 1 1 3 0) ++ told 2 (advert 1 2 1 1)) 0 1
-    ≡ Some (record { origin = 1; boot = 2; seq = 1; up = 1 })
-unfolding adverts_known own_advert own_seq steps_in near is_link_up serves is_up boot_of heard
-    message_of first_adverts after_hearing is_news switches mask_of mask_where
-newer_boot_of_b = refl
-
--- in boot 2 it knows of none, nor of itself
-pub none_of_b_in_boot_2 : advert_known open_net restarted 0 1 ≡ None
-unfolding adverts_known own_advert own_seq steps_in near is_link_up serves is_up boot_of heard
-    message_of first_adverts after_hearing is_news switches mask_of mask_where
-none_of_b_in_boot_2 = refl
-
-pub none_of_itself_in_boot_2 : advert_known open_net restarted 0 0 ≡ None
-unfolding adverts_known own_advert own_seq steps_in near is_link_up serves is_up boot_of heard
-    message_of first_adverts after_hearing is_news switches mask_of mask_where
-none_of_itself_in_boot_2 = refl
-
--- of itself it knows its own, whatever it hears
-pub own_of_a :
-    advert_known open_net (told 1 (advert 0 1 9 0)) 0 0
-    ≡ Some (record { origin = 0; boot = 1; seq = 1; up = 2 })
-unfolding adverts_known own_advert own_seq steps_in near is_link_up serves is_up boot_of heard
-    message_of first_adverts after_hearing is_news switches mask_of mask_where
-own_of_a = refl
+adverts_of_a = (refl, refl, refl, refl, refl, refl)
 
 -- ---- messages
 

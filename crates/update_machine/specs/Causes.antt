@@ -1,6 +1,5 @@
--- The causes of packets' ends: what stood in the journal before each item that ends a packet, or
--- says that it found a link down. The notion is our own.
-use Rattle.std.specs.Prelude.{⊤, ℕ, ◌≡◌, ◌⊎◌, Bool, false, not, ◌&&◌, ◌||◌, ◌==◌, Option, Some, None, option_to_list, List, [], ◌∷◌, ◌++◌, All, Contains, IsTrue, IsFalse}
+-- What stands in a journal before ends, failures and updates. The notion is our own.
+use Rattle.std.specs.Prelude.{⊤, ℕ, ◌≡◌, ◌⊎◌, Bool, true, false, not, ◌&&◌, ◌||◌, ◌==◌, Option, Some, None, option_to_list, List, [], ◌∷◌, ◌++◌, All, Contains, IsTrue, IsFalse}
 use Rattle.std.specs.List.{list_any}
 use Rattle.five_tuple.specs.declared.header.Header.{Header}
 use Rattle.net_file.specs.Joins.{are_linked, owner_of}
@@ -11,7 +10,7 @@ use Rattle.policy_rules.specs.declared.packet.Leg.TheVariants.{Seek, Exit}
 use Rattle.policy_rules.specs.declared.policy.Action.TheVariants.{Out}
 use Rattle.journal.specs.declared.item.Item.{Item}
 use Rattle.journal.specs.declared.item.Item.TheVariants as item
-use Rattle.steps.specs.declared.step.Step.TheVariants.{Crash, Lose}
+use Rattle.steps.specs.declared.step.Step.TheVariants.{Crash, LinkDown, LinkUp, Lose, Restart, Update}
 use Rattle.steps.specs.declared.step.Step.{Step}
 use Rattle.update_machine.specs.Folds.{last_told}
 use Rattle.update_machine.specs.Links.{can_use, knows_link, serves}
@@ -46,8 +45,6 @@ pub record IsLostWith (before : List Item) (packet : ℕ) : Type 0 where
 abbrev pub IsLostRightly : List Item → ℕ → Type 0
 IsLostRightly before packet =
     (present_step before ≡ Some (Lose packet)) ⊎ IsLostWith before packet
-
--- ---- links found down, and packets that are stuck
 
 -- a packet finds a link of the network down, from where it stands: that switch can't use it
 pub record FindsDown (setting : Setting) (before : List Item) (packet one two : ℕ) : Type 0 where
@@ -95,9 +92,13 @@ pub record IsStuckRightly (setting : Setting) (before : List Item) (packet switc
   pub no_path : All (λ target. (path : List ℕ)
       → ¬ Leads (is_open setting before packet switch) switch path target) targets
 
--- ---- all ends
+-- a link comes back or fails by its own row, which names its ends in either order
+abbrev pub IsLinkStep : Option Step → ℕ → ℕ → Bool → Type 0
+IsLinkStep step one two true = (step ≡ Some (LinkUp one two)) ⊎ (step ≡ Some (LinkUp two one))
+IsLinkStep step one two false =
+    (step ≡ Some (LinkDown one two)) ⊎ (step ≡ Some (LinkDown two one))
 
--- an item that ends a packet, or finds a link down, has its cause in the journal before it
+-- ends, links found down, failures, boots and submitted versions have their causes before them
 abbrev pub HasCause : Setting → List Item → Item → Type 0
 HasCause setting before (item.Left packet port leaving) =
     LeavesRightly setting before packet port leaving
@@ -105,6 +106,11 @@ HasCause setting before (item.Lost packet) = IsLostRightly before packet
 HasCause setting before (item.FoundDown packet one two) = FindsDown setting before packet one two
 HasCause setting before (item.Stuck packet switch cause leg down) =
     IsStuckRightly setting before packet switch leg
+HasCause setting before (item.Down switch) = present_step before ≡ Some (Crash switch)
+HasCause setting before (item.Booted switch boot) =
+    (present_step before ≡ Some (Restart switch)) × IsFalse (serves before switch)
+HasCause setting before (item.LinkIs one two up) = IsLinkStep (present_step before) one two up
+HasCause setting before (item.Submitted file version) = present_step before ≡ Some (Update file)
 HasCause setting before _ = ⊤
 
 -- behind this journal, each of the items has its cause in what stands before it: for any table of
@@ -113,6 +119,3 @@ abbrev pub HaveCauses : (List Item → Item → Type 0) → List Item → List I
 HaveCauses cause before [] = ⊤
 HaveCauses cause before (item ∷ items) =
     cause before item × HaveCauses cause (before ++ item ∷ []) items
-
-abbrev pub EndsHaveCauses : Setting → List Item → Type 0
-EndsHaveCauses setting journal = HaveCauses (HasCause setting) [] journal

@@ -33,7 +33,7 @@ use Rattle.update_machine.specs.LinkMasks.{near, adverts_begun, adverts_heard, l
 pub record PacketStarts (i : ℕ) : Type 0 where
   pub header : header_in [] i ≡ None
   pub ingress : ingress_of [] i ≡ None
-  pub place : standing [] i ≡ None
+  pub stands : standing [] i ≡ None
   pub travels : travels [] i ≡ false
   pub decision : decision_of [] i ≡ None
   pub leg : leg_of [] i ≡ None
@@ -106,7 +106,7 @@ pub record SwitchKeeps (setting : Setting) (s : ℕ) (before after : List Item) 
 pub record PacketKeeps (i : ℕ) (before after : List Item) : Type 0 where
   pub header : header_in after i ≡ header_in before i
   pub ingress : ingress_of after i ≡ ingress_of before i
-  pub place : standing after i ≡ standing before i
+  pub stands : standing after i ≡ standing before i
   pub travels : travels after i ≡ travels before i
   pub decision : decision_of after i ≡ decision_of before i
   pub leg : leg_of after i ≡ leg_of before i

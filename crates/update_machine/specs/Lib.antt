@@ -26,3 +26,4 @@ pub mod Quiet
 pub mod Numbers
 pub mod Concerns
 pub mod Laws
+pub mod Journals

@@ -23,12 +23,12 @@ at_target : (setting : Setting) (journal : List Item) (i s : ℕ) (header : Head
     → IsTrue (list_any (nat_eq s) targets)
 at_target setting journal i s header leg targets way at ends =
     let facts : PacketFacts = what_is_known journal i in
-    let last : way.under_way.place ≡ ends.target =
-    last_here facts.route facts.hops way.under_way.place ends.target way.stands
+    let last : way.under_way.switch ≡ ends.target =
+    last_here facts.route facts.hops way.under_way.switch ends.target way.stands
     (sym (next_in journal i) ∙ at.arrives.last) ends.last in
-    let place : way.under_way.place ≡ s =
-    some_same (standing journal i) way.under_way.place s
-    (place_in journal i way.under_way.place way.under_way.stands) at.stands in
+    let place : way.under_way.switch ≡ s =
+    some_same (standing journal i) way.under_way.switch s
+    (place_in journal i way.under_way.switch way.under_way.stands) at.stands in
     subst (λ k. IsTrue (list_any (nat_eq k) targets)) (sym last ∙ place) ends.own
 
 by_leg : (setting : Setting) (journal : List Item) (i s : ℕ) (header : Header) (leg : Leg)

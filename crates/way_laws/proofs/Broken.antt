@@ -19,20 +19,20 @@ use Rattle.policy_rules.specs.Placed.{NoPlan}
 use Rattle.ternary.specs.Word.{holds}
 use Rattle.journal.specs.declared.item.Item.{Item}
 use Rattle.journal.specs.declared.item.Item.TheVariants as item
-use Rattle.steps.specs.declared.step.Step.TheVariants.{Packet, Hop, LinkDown, Update, Deliver, Crash, Lose}
+use Rattle.steps.specs.declared.step.Step.TheVariants.{Packet, Hop, LinkDown, Update, Deliver, Crash, Lose, Restart}
 use Rattle.update_machine.specs.Boots.{is_up}
 use Rattle.update_machine.specs.Causes.{AreTargets, HasCause, Leads, is_open, present_step}
 use Rattle.update_machine.specs.Links.{claim_of, is_link_up, message_of, serves}
 use Rattle.update_machine.specs.Marks.{acked_stamp, controller_heard, current_mark, is_member, is_over, known_boot, next_retired, opened_at, retired_mark}
 use Rattle.update_machine.specs.Packets.{Decision, decision_of, header_in, standing}
-use Rattle.update_machine.specs.Setting.{IsFileOf, plan_of_file}
+use Rattle.update_machine.specs.Setting.{IsFileOf, Setting, plan_of_file}
 use Rattle.update_machine.specs.Ways.{next_switch, route_in, route_place}
 use Rattle.update_machine.specs.LinkMasks.{near}
 use Rattle.update_machine.proofs.CallerLemmas.{ends_within}
 use Rattle.update_machine.proofs.Examples.{all_dropped, any_word, on, one, open_net, other, plan_p, ring, row_of_three, rule}
 use Rattle.way_laws.specs.Facts.{entry_mark}
 use Rattle.way_laws.specs.StrongCauses.{StrongCause}
-use Rattle.way_laws.specs.WayCauses.{IsLostInCrash}
+use Rattle.way_laws.specs.WayCauses.{IsLostInCrash, MovesOver}
 
 -- ---- packets that are stuck, where the one link failed
 
@@ -229,12 +229,17 @@ abbrev leap : List Item
 leap = item.Row 1 (Packet 0 one) ∷ item.Entered 1 0 one ∷ item.Seeking 1 1 0 (0 ∷ 2 ∷ [])
     ∷ item.Row 2 (Hop 1) ∷ []
 
+hops_over_usable : (setting : Setting) (before : List Item) (packet s next : ℕ)
+    (moves : MovesOver setting before packet next) → s ≡ moves.switch
+    → IsTrue (has (near setting before s) next)
+hops_over_usable setting before packet s next moves at =
+    subst (λ k. IsTrue (has (near setting before k) next)) (sym at) moves.usable
+
 not_hopped_where_no_link_leads : StrongCause row_of_three leap (item.Hopped 1 2) → ⊥
 unfolding near standing has mask_of mask_where switches is_link_up serves
 not_hopped_where_no_link_leads cause =
-    let at : 0 ≡ cause.switch = cause.at.place in
-    let usable : false ≡ true =
-    subst (λ s. IsTrue (has (near row_of_three leap s) 2)) (sym at) cause.usable in absurd cc
+    let usable : false ≡ true = hops_over_usable row_of_three leap 1 0 2 cause cause.at.stands in
+    absurd cc
 
 not_found_down_where_no_link_is : HasCause row_of_three leap (item.FoundDown 1 0 2) → ⊥
 not_found_down_where_no_link_is cause =
@@ -248,9 +253,39 @@ failing = item.Row 1 (Packet 0 one) ∷ item.Entered 1 0 one ∷ item.Seeking 1 
 not_hopped_over_a_failed_link : StrongCause open_net failing (item.Hopped 1 1) → ⊥
 unfolding near standing has mask_of mask_where switches is_link_up serves
 not_hopped_over_a_failed_link cause =
-    let at : 0 ≡ cause.switch = cause.at.place in
-    let usable : false ≡ true =
-    subst (λ s. IsTrue (has (near open_net failing s) 1)) (sym at) cause.usable in absurd cc
+    let usable : false ≡ true = hops_over_usable open_net failing 1 0 1 cause cause.at.stands in
+    absurd cc
+
+-- ---- what fails
+
+-- a switch that no row crashes doesn't go down, and a link that no row fails doesn't change
+not_down_for_nothing : HasCause open_net (item.Row 1 (Deliver 7) ∷ []) (item.Down 0) → ⊥
+unfolding present_step
+not_down_for_nothing crashes = absurd cc
+
+not_booted_for_nothing : HasCause open_net (item.Row 1 (Crash 0) ∷ []) (item.Booted 0 2) → ⊥
+unfolding present_step
+not_booted_for_nothing cause = let restarts = cause.0 in absurd cc
+
+not_booted_while_it_serves : HasCause open_net (item.Row 1 (Restart 0) ∷ []) (item.Booted 0 2) → ⊥
+unfolding serves
+not_booted_while_it_serves cause = let closed : true ≡ false = cause.1 in absurd cc
+
+-- nor is a policy submitted that no row updates to
+not_submitted_for_nothing : HasCause open_net (item.Row 1 (Deliver 7) ∷ [])
+    (item.Submitted 2 2) → ⊥
+unfolding present_step
+not_submitted_for_nothing updates = absurd cc
+
+not_failed_for_nothing : HasCause open_net (item.Row 1 (LinkDown 0 2) ∷ [])
+    (item.LinkIs 0 1 false) → ⊥
+unfolding present_step
+not_failed_for_nothing (inl own) = absurd cc
+not_failed_for_nothing (inr turned) = absurd cc
+
+failed_by_its_row : HasCause open_net (item.Row 1 (LinkDown 1 0) ∷ []) (item.LinkIs 0 1 false)
+unfolding present_step
+failed_by_its_row = inr refl
 
 -- by another way than its route
 not_hopped_off_its_route : StrongCause ring

@@ -125,17 +125,17 @@ fallen_served before journal s numbered served same i travelling =
     rw (travels_more journal down i) at spared.travelling in
     let here : IsServed journal i = served i here_travels in
     let own : IsTrue (travels before i) = sym (same i).0 ∙ here_travels in
-    let stands : standing before i ≡ Some here.place = sym (same i).1 ∙ here.stands in
+    let stands : standing before i ≡ Some here.switch = sym (same i).1 ∙ here.stands in
     let number = numbered i own in
-    let elsewhere : (s == here.place) ≡ false =
-    left_elsewhere before s i here.place own stands number.0 (omega (arith, number.1))
+    let elsewhere : (s == here.switch) ≡ false =
+    left_elsewhere before s i here.switch own stands number.0 (omega (arith, number.1))
     spared.apart in
     subst (λ js. IsServed js i) whole (record {
-      place = here.place;
+      switch = here.switch;
       stands = lost_place packets (journal ++ down ∷ []) i ∙ place_more journal down i
           ∙ here.stands;
-      serving = lost_serves packets (journal ++ down ∷ []) here.place
-          ∙ rw (serving_more journal down here.place, elsewhere) here.serving;
+      serving = lost_serves packets (journal ++ down ∷ []) here.switch
+          ∙ rw (serving_more journal down here.switch, elsewhere) here.serving;
     })
 
 pub crash_served : (setting : Setting) (before : List Item) (s : ℕ) (journal : List Item)

@@ -21,7 +21,8 @@ use Rattle.journal.specs.declared.item.Item.{Item}
 use Rattle.journal.specs.declared.item.Item.TheVariants as item
 use Rattle.update_machine.specs.LinkMasks.{adverts_of_others, links_known, near}
 use Rattle.update_machine.specs.Causes.{AreTargets, FindsDown, HasCause, IsLostRightly, IsStuckRightly, Leads, LeavesRightly, is_open}
-use Rattle.update_machine.specs.Links.{can_use, is_end}
+use Rattle.update_machine.specs.Boots.{is_up}
+use Rattle.update_machine.specs.Links.{can_use, is_end, serves}
 use Rattle.update_machine.specs.Moves.{header_at}
 use Rattle.update_machine.specs.Packets.{Decision, decision_of, header_in, standing}
 use Rattle.update_machine.specs.Setting.{Setting}
@@ -29,6 +30,8 @@ use Rattle.update_machine.specs.Versions.{plan_at}
 use Rattle.update_machine.specs.Ways.{found_down, no_switch, owner, targets_of}
 use Rattle.update_machine.specs.ExactCauses.{FindsNextDown, SeeksOwn, FindsNoPath}
 use Rattle.update_machine.proofs.CallerLemmas.{plan_is, unreached}
+use Rattle.boot_laws.specs.ItemCauses.{HasItemCause}
+use Rattle.boot_laws.proofs.Serving.{IsKnown}
 use Rattle.advert_laws.proofs.Claims.{own_end}
 use Rattle.advert_laws.proofs.NetLinks.{linked_by_mask}
 use Rattle.way_laws.specs.OnWay.{FollowsLinks, IsExiting, IsOnLeg, IsOnWay, IsPartitionOf, IsSeeking}
@@ -49,7 +52,7 @@ decision_out journal i decision is = is
 stands_at : (setting : Setting) (before : List Item) (i s : ℕ) → IsHere setting before i s
     → standing before i ≡ Some s
 stands_at setting before i s here =
-    place_in before i here.under.place here.under.stands ∙ ap Some (sym here.at)
+    place_in before i here.under.switch here.under.stands ∙ ap Some (sym here.at)
 
 stands_known : (setting : Setting) (before : List Item) (i s : ℕ)
     → Knows setting before i (stage_of before i) → IsAt before i s → standing before i ≡ Some s
@@ -92,8 +95,8 @@ meets_link setting before i one two knows meets =
     here_known setting before i one knows meets.at in
     let way : IsOnWay setting before facts =
     knows.kept.on_way here.travelling (inl meets.moving) in
-    let place : way.under_way.place ≡ one =
-    some_same facts.stands way.under_way.place here.under.place way.under_way.stands
+    let place : way.under_way.switch ≡ one =
+    some_same facts.stands way.under_way.switch here.under.switch way.under_way.stands
     here.under.stands ∙ sym here.at in
     linked_by_mask setting.net.links one two
     (follows setting before facts way facts.hops one two (way.stands ∙ ap Some place)
@@ -378,11 +381,11 @@ leaves_by setting before i port leaving knows way here = by_port way.at_port
         knows.kept.on_way here.travelling (inl arrived.0.moving) in
         let on : IsExiting setting facts port =
         exiting_of setting before facts port was (leg_in before i (Some (Exit port)) arrived.1) in
-        let ends : was.under_way.place ≡ on.leads.ends.target =
-        last_here facts.route facts.hops was.under_way.place on.leads.ends.target was.stands
+        let ends : was.under_way.switch ≡ on.leads.ends.target =
+        last_here facts.route facts.hops was.under_way.switch on.leads.ends.target was.stands
         (sym (next_in before i) ∙ arrived.0.last) on.leads.ends.last in
-        let place : was.under_way.place ≡ here.under.place =
-        some_same facts.stands was.under_way.place here.under.place was.under_way.stands
+        let place : was.under_way.switch ≡ here.under.switch =
+        some_same facts.stands was.under_way.switch here.under.switch was.under_way.stands
         here.under.stands in
         let home : on.owner ≡ way.switch =
         sym (one_target on.leads.ends.target on.owner on.leads.ends.own) ∙ sym ends ∙ place
@@ -440,14 +443,29 @@ leaves_rightly setting before i port leaving knows way =
 
 -- ---- all ends
 
+-- a switch that is down doesn't serve
+not_serving : (before : List Item) (s : ℕ) → IsKnown before → IsFalse (is_up before s)
+    → IsFalse (serves before s)
+not_serving before s known down = by_serving (serves before s) refl
+  where
+    by_serving : (b : Bool) → serves before s ≡ b → IsFalse b
+    by_serving false e = refl
+    by_serving true e = let clash : true ≡ false = sym ((known.serving s).up e) ∙ down in absurd cc
+
 pub end_caused : (setting : Setting) (before : List Item) (next : Item)
-    → ((i : ℕ) → Knows setting before i (stage_of before i)) → WayCause setting before next
+    → ((i : ℕ) → Knows setting before i (stage_of before i)) → IsKnown before
+    → HasItemCause setting before next → WayCause setting before next
     → HasCause setting before next
-end_caused setting before (item.Left packet port leaving) knows way =
+end_caused setting before (item.Left packet port leaving) knows served own way =
     leaves_rightly setting before packet port leaving (knows packet) way
-end_caused setting before (item.Lost packet) knows way = lost_rightly before packet way
-end_caused setting before (item.FoundDown packet one two) knows way =
+end_caused setting before (item.Lost packet) knows served own way = lost_rightly before packet way
+end_caused setting before (item.FoundDown packet one two) knows served own way =
     finds_down setting before packet one two (knows packet) way
-end_caused setting before (item.Stuck packet switch cause leg down) knows way =
+end_caused setting before (item.Stuck packet switch cause leg down) knows served own way =
     stuck_by_claims setting before packet switch cause leg down (knows packet) way
-end_caused setting before next knows way = tt
+end_caused setting before (item.Down switch) knows served own way = way
+end_caused setting before (item.Booted switch boot) knows served own way =
+    (way, not_serving before switch served own.down)
+end_caused setting before (item.LinkIs one two up) knows served own way = way
+end_caused setting before (item.Submitted file version) knows served own way = way
+end_caused setting before next knows served own way = tt

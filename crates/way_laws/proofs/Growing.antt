@@ -96,7 +96,7 @@ under_on : (setting : Setting) (before after : List Item) (facts : PacketFacts)
 under_on setting before after facts grow under = record {
   header = under.header;
   ingress = under.ingress;
-  place = under.place;
+  switch = under.switch;
   entered = under.entered;
   sound = under.sound;
   came = under.came;

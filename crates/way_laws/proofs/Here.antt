@@ -71,7 +71,7 @@ header_in_words journal i header is = is
 pub record IsHere (setting : Setting) (before : List Item) (i s : ℕ) : Type 0 where
   pub travelling : IsTrue (what_is_known before i).travels
   pub under : IsUnderWay setting before (what_is_known before i)
-  pub at : s ≡ under.place
+  pub at : s ≡ under.switch
   pub header : header_at before i ≡ under.header
   pub stamped : IsStamped setting before s
 
@@ -82,8 +82,8 @@ pub here_of : (setting : Setting) (before : List Item) (i s : ℕ) (stage : Opti
 here_of setting before i s stage is have kept at =
     let travelling : IsTrue (what_is_known before i).travels = travels_in before i at.travelling in
     let under : IsUnderWay setting before (what_is_known before i) = kept.under_way travelling in
-    let same : s ≡ under.place =
-    sym at.place ∙ ap (λ o. unwrap_or o 0) (place_in before i under.place under.stands) in
+    let same : s ≡ under.switch =
+    sym at.stands ∙ ap (λ o. unwrap_or o 0) (place_in before i under.switch under.stands) in
     record {
       travelling = travelling;
       under = under;

@@ -77,7 +77,7 @@ abbrev under_as : (setting : Setting) (before : List Item) (one other : PacketFa
 under_as setting before one other header ingress place mark under = record {
   header = under.header;
   ingress = under.ingress;
-  place = under.place;
+  switch = under.switch;
   entered = header ∙ under.entered;
   sound = under.sound;
   came = ingress ∙ under.came;
@@ -398,7 +398,7 @@ hopped_after setting before i mark next knows moves =
     let under : IsUnderWay setting before after = record {
       header = was.under_way.header;
       ingress = was.under_way.ingress;
-      place = next;
+      switch = next;
       entered = was.under_way.entered;
       sound = was.under_way.sound;
       came = was.under_way.came;
@@ -441,7 +441,7 @@ found_after setting before i mark one two knows meets =
             (some_same facts.header was.under_way.header under.header was.under_way.entered
             under.entered) was.on_leg);
         stands = was.stands ∙ ap Some
-            (some_same facts.stands was.under_way.place under.place was.under_way.stands
+            (some_same facts.stands was.under_way.switch under.switch was.under_way.stands
             under.stands);
       };
       avoids = λ travels is. absurd cc;
@@ -456,7 +456,7 @@ entered_after setting before i s header facts there sound undecided no_leg = rec
   under_way = λ travels. record {
     header = header;
     ingress = s;
-    place = s;
+    switch = s;
     entered = refl;
     sound = sound;
     came = refl;

@@ -120,7 +120,7 @@ pub authority_told : (setting : Setting) (journal : List Item) (s : ℕ) (header
     → lookup_at setting journal s header ≡ found.Authority partition place
     → FindsRule setting journal s header partition place
 authority_told setting journal s header partition at stamped sound told =
-    let says : SaysOf setting journal s header (found.Authority partition at) =
+    let says =
     says_of setting journal s header (found.Authority partition at) stamped sound told
     (λ entry e. absurd cc) in
     by_target says.looks (has_target s says.looks.placed) refl says.is
@@ -149,7 +149,7 @@ pub redirect_told : (setting : Setting) (journal : List Item) (s : ℕ) (header 
     → lookup_at setting journal s header ≡ found.Redirect partition targets
     → FindsTargets setting journal s header partition targets
 redirect_told setting journal s header partition targets stamped sound told =
-    let says : SaysOf setting journal s header (found.Redirect partition targets) =
+    let says =
     says_of setting journal s header (found.Redirect partition targets) stamped sound told
     (λ entry e. absurd cc) in
     by_target says.looks (has_target s says.looks.placed) says.is

@@ -1,5 +1,5 @@
 -- Steps that aren't of packets bring no packet on and tell no cache rule.
-use Rattle.std.proofs.Common.{ℕ, Bool, true, false, List, [], ◌∷◌, ◌++◌, map, arith}
+use Rattle.std.proofs.Common.{ℕ, ◌≡◌, ◌⊎◌, Bool, true, false, Option, Some, List, [], ◌∷◌, ◌++◌, map, min, max, inl, inr, sym, ◌∙◌, arith}
 use Rattle.std.specs.Prelude.{⊤, filter}
 use Rattle.std.specs.List.{AllByRecursion}
 use Rattle.ctrl_msg.specs.declared.message.Body.{Body}
@@ -8,16 +8,18 @@ use Rattle.ctrl_msg.specs.declared.message.Message.{Message}
 use Rattle.masks.specs.Masks.{has}
 use Rattle.journal.specs.declared.item.Item.{Item}
 use Rattle.journal.specs.declared.item.Item.TheVariants as item
+use Rattle.steps.specs.declared.step.Step.{Step}
+use Rattle.steps.specs.declared.step.Step.TheVariants.{LinkDown, LinkUp, Restart, Update}
 use Rattle.update_machine.specs.Adverts.{held_adverts, own_advert}
-use Rattle.update_machine.specs.Causes.{HaveCauses}
+use Rattle.update_machine.specs.Causes.{HaveCauses, IsLinkStep, present_step}
 use Rattle.update_machine.specs.Deliveries.{advert_to, has_changed, link_changes, passed_on, switch_items, messages_of, messages_over, switches_in}
 use Rattle.update_machine.specs.LinkMasks.{near}
 use Rattle.update_machine.specs.Messages.{sends}
-use Rattle.update_machine.specs.Pieces.{deliver_items, expire_items, forget_items, link_items, resend_items, restart_items}
+use Rattle.update_machine.specs.Pieces.{deliver_items, expire_items, forget_items, link_items, resend_items, restart_items, update_items}
 use Rattle.update_machine.specs.Setting.{Setting, switches_of}
 use Rattle.update_machine.specs.Settling.{install_for, unacked, versions_from_current}
-use Rattle.update_machine.proofs.CallerLemmas.{have_first}
-use Rattle.boot_laws.proofs.Commands.{Control, IsCommand, IsControl, controller_control}
+use Rattle.update_machine.proofs.CallerLemmas.{have_first, step_stays}
+use Rattle.boot_laws.proofs.Commands.{Control, IsCommand, IsControl, controller_control, update_has}
 use Rattle.boot_laws.proofs.Delivered.{deliver_has, delivery_has}
 use Rattle.boot_laws.proofs.Facts.{have_weaker}
 use Rattle.boot_laws.proofs.Resent.{each_by_controller, each_to_member, later_versions, resent_has}
@@ -31,17 +33,18 @@ abbrev IsOther : Body → Type 0
 IsOther (CacheRule version word rule action) = ⊥
 IsOther _ = ⊤
 
--- an item of no packet, and of no cache rule
+-- an item of no packet, and of no cache rule; one that changes a switch or a link, or submits a
+-- version, is by its row
 abbrev pub IsAside : List Item → Item → Type 0
 IsAside before (item.Sent number message) = IsOther message.body
 IsAside before (item.Delivered number) = ⊤
 IsAside before (item.Forgotten number) = ⊤
 IsAside before (item.Expired s place number) = ⊤
-IsAside before (item.Booted s boot) = ⊤
+IsAside before (item.Booted s boot) = present_step before ≡ Some (Restart s)
 IsAside before (item.Opened s version) = ⊤
 IsAside before (item.OverNow s) = ⊤
-IsAside before (item.LinkIs one two up) = ⊤
-IsAside before (item.Submitted file version) = ⊤
+IsAside before (item.LinkIs one two up) = IsLinkStep (present_step before) one two up
+IsAside before (item.Submitted file version) = present_step before ≡ Some (Update file)
 IsAside before (item.Refused file code) = ⊤
 IsAside before (item.Current version) = ⊤
 IsAside before (item.Retired version) = ⊤
@@ -62,11 +65,11 @@ aside_way setting before (item.Sent number message) aside = by_body message.body
 aside_way setting before (item.Delivered number) aside = tt
 aside_way setting before (item.Forgotten number) aside = tt
 aside_way setting before (item.Expired s place number) aside = tt
-aside_way setting before (item.Booted s boot) aside = tt
+aside_way setting before (item.Booted s boot) aside = aside
 aside_way setting before (item.Opened s version) aside = tt
 aside_way setting before (item.OverNow s) aside = tt
-aside_way setting before (item.LinkIs one two up) aside = tt
-aside_way setting before (item.Submitted file version) aside = tt
+aside_way setting before (item.LinkIs one two up) aside = aside
+aside_way setting before (item.Submitted file version) aside = aside
 aside_way setting before (item.Refused file code) aside = tt
 aside_way setting before (item.Current version) aside = tt
 aside_way setting before (item.Retired version) aside = tt
@@ -108,7 +111,6 @@ command_other _ is = tt
 
 control_is_aside : (before : List Item) (next : Item) → IsControl before next → IsAside before next
 control_is_aside before (item.Sent number message) is = command_other message.body is
-control_is_aside before (item.Submitted file version) is = tt
 control_is_aside before (item.Refused file code) is = tt
 control_is_aside before (item.Current version) is = tt
 control_is_aside before (item.Retired version) is = tt
@@ -118,6 +120,12 @@ control_is_aside before _ is = absurd is
 
 pub control_aside : (journal items : List Item) → Control journal items → AreAside journal items
 control_aside = have_weaker IsControl IsAside control_is_aside
+
+pub update_aside : (setting : Setting) (file : ℕ) (journal : List Item)
+    → present_step journal ≡ Some (Update file)
+    → AreAside journal (update_items setting file journal)
+update_aside setting file journal is =
+    update_has IsAside control_is_aside setting file journal (λ version. is)
 
 -- ---- links and switches
 
@@ -143,14 +151,39 @@ changes_aside setting before journal =
     (switches_in setting (near setting journal s)))
     (filter (has_changed setting before journal) (switches_of setting)))
 
-pub link_aside : (setting : Setting) (before : List Item) (one two : ℕ) (up : Bool)
-    (journal : List Item) → AreAside journal (link_items setting before one two up journal)
-unfolding link_items
-link_aside setting before one two up journal = grind (arith, have_first, changes_aside)
+-- the row that brings a link back, or fails it
+abbrev pub link_step : ℕ → ℕ → Bool → Step
+link_step one two true = LinkUp one two
+link_step one two false = LinkDown one two
 
-pub restart_aside : (s : ℕ) (journal : List Item) → AreAside journal (restart_items s journal)
+link_named : (step : Option Step) (one two : ℕ) (up : Bool) → step ≡ Some (link_step one two up)
+    → IsLinkStep step (min one two) (max one two) up
+link_named step one two up is = by_order up (least one two) is
+  where
+    least : (one two : ℕ) → ((min one two ≡ one) × (max one two ≡ two))
+        ⊎ ((min one two ≡ two) × (max one two ≡ one))
+    least one two = grind arith
+
+    by_order : (up : Bool) → ((min one two ≡ one) × (max one two ≡ two))
+        ⊎ ((min one two ≡ two) × (max one two ≡ one))
+        → step ≡ Some (link_step one two up) → IsLinkStep step (min one two) (max one two) up
+    by_order true (inl same) is = rw (same.0, same.1) (inl is)
+    by_order true (inr turned) is = rw (turned.0, turned.1) (inr is)
+    by_order false (inl same) is = rw (same.0, same.1) (inl is)
+    by_order false (inr turned) is = rw (turned.0, turned.1) (inr is)
+
+pub link_aside : (setting : Setting) (before : List Item) (one two : ℕ) (up : Bool)
+    (journal : List Item) → present_step journal ≡ Some (link_step one two up)
+    → AreAside journal (link_items setting before one two up journal)
+unfolding link_items
+link_aside setting before one two up journal is =
+    let own = link_named (present_step journal) one two up is in
+    grind (arith, have_first, changes_aside, own)
+
+pub restart_aside : (s : ℕ) (journal : List Item) → present_step journal ≡ Some (Restart s)
+    → AreAside journal (restart_items s journal)
 unfolding restart_items
-restart_aside s journal = grind (arith, have_first, sends_aside)
+restart_aside s journal is = grind (arith, have_first, sends_aside)
 
 pub forget_aside : (number : ℕ) (journal : List Item)
     → AreAside journal (forget_items number journal)

@@ -14,8 +14,8 @@ use Rattle.update_machine.specs.Caches.{lookup_at}
 use Rattle.update_machine.specs.Causes.{HaveCauses}
 use Rattle.update_machine.specs.Deliveries.{link_changes}
 use Rattle.update_machine.specs.Messages.{sent_from}
-use Rattle.update_machine.specs.Moves.{AuthorityRule, arrive_by, arrive_items, authority_items, cache_items, end_items, found_items, go_on, header_at, leg_items, lookup_items, move_items, put, reroute_by, reroute_items}
-use Rattle.update_machine.specs.Travels.{leg_of, packets_at, tells_travelling, travels}
+use Rattle.update_machine.specs.Moves.{AuthorityRule, arrive_items, authority_items, cache_items, end_items, found_items, header_at, leg_items, lookup_items, move_items, put, reroute_items}
+use Rattle.update_machine.specs.Travels.{packets_at, tells_travelling, travels}
 use Rattle.update_machine.specs.Pieces.{crash_items, hop_items, lose_items, nothing, packet_items}
 use Rattle.update_machine.specs.Setting.{Setting}
 use Rattle.update_machine.proofs.CallerLemmas.{have_append, have_put, last_told_append}
@@ -142,30 +142,16 @@ unfolding lookup_items
 lookup_spares setting j i s journal apart =
     found_spares setting j i s (lookup_at setting journal s (header_at journal i)) journal apart
 
-arrive_by_spares : (setting : Setting) (j i s : ℕ) (leg : Option Leg) (journal : List Item)
-    → Apart i j → Spared j journal (arrive_by setting i s leg journal)
-arrive_by_spares setting j i s leg journal apart =
-    grind (arith, lookup_spares, authority_spares, apart)
-
 arrive_spares : (setting : Setting) (j i s : ℕ) (journal : List Item) → Apart i j
     → Spared j journal (arrive_items setting i s journal)
 unfolding arrive_items
 arrive_spares setting j i s journal apart =
-    arrive_by_spares setting j i s (leg_of journal i) journal apart
-
-go_on_spares : (setting : Setting) (j i s : ℕ) (journal : List Item) → Apart i j
-    → Spared j journal (go_on setting i s journal)
-go_on_spares setting j i s journal apart = grind (arith, arrive_spares, apart)
-
-reroute_by_spares : (setting : Setting) (j i s : ℕ) (leg : Option Leg) (journal : List Item)
-    → Apart i j → Spared j journal (reroute_by setting i s leg journal)
-reroute_by_spares setting j i s leg journal apart = grind (arith, go_on_spares, apart)
+    grind (arith, lookup_spares, authority_spares, apart)
 
 reroute_spares : (setting : Setting) (j i s : ℕ) (journal : List Item) → Apart i j
     → Spared j journal (reroute_items setting i s journal)
 unfolding reroute_items
-reroute_spares setting j i s journal apart =
-    reroute_by_spares setting j i s (leg_of journal i) journal apart
+reroute_spares setting j i s journal apart = grind (arith, arrive_spares, apart)
 
 move_spares : (setting : Setting) (j i s : ℕ) (journal : List Item) → Apart i j
     → Spared j journal (move_items setting i s journal)

@@ -63,7 +63,7 @@ unfolding travels standing serves
 still before next i s travelling place serving at = record {
   travelling = rw (last_told_append (tells_travelling i) before (next ∷ []), travelling)
       at.travelling;
-  place = rw (last_told_append (tells_standing i) before (next ∷ []), place) at.place;
+  stands = rw (last_told_append (tells_standing i) before (next ∷ []), place) at.stands;
   serving = rw (last_told_append (tells_serving s) before (next ∷ []), serving) at.serving;
 }
 
@@ -550,7 +550,7 @@ entered_at journal i s header serving =
     let entered : Item = item.Entered i s header in
     record {
       travelling = rw (last_told_append (tells_travelling i) journal (entered ∷ []), own i) refl;
-      place = rw (last_told_append (tells_standing i) journal (entered ∷ []), own i) refl;
+      stands = rw (last_told_append (tells_standing i) journal (entered ∷ []), own i) refl;
       serving = rw (last_told_append (tells_serving s) journal (entered ∷ [])) serving;
     }
 
@@ -583,7 +583,7 @@ hop_ways setting journal i rests = by_travelling (travels journal i) refl
     by_travelling true e =
         let here : IsServed journal i = rests.served i e in
         move_ways setting journal i (unwrap_or (standing journal i) 0)
-        (record { travelling = e; place = refl; serving = rw here.stands here.serving })
+        (record { travelling = e; stands = refl; serving = rw here.stands here.serving })
         (rests.moving i e)
 
 pub lose_ways : (setting : Setting) (journal : List Item) (i : ℕ)

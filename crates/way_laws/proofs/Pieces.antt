@@ -19,11 +19,11 @@ use Rattle.update_machine.specs.Setting.{Setting}
 use Rattle.update_machine.specs.Causes.{present_step, tells_step}
 use Rattle.update_machine.specs.Travels.{is_at, packets_at, travels, travels_at}
 use Rattle.update_machine.proofs.CallerLemmas.{have_first, have_put, last_told_append, packet_keeps, packets_keep, step_stays}
-use Rattle.boot_laws.proofs.Commands.{confirm_control, update_control}
+use Rattle.boot_laws.proofs.Commands.{confirm_control}
 use Rattle.boot_laws.proofs.Grown.{serving_more, up_more}
 use Rattle.way_laws.specs.Rest.{AreResting, IsServed}
 use Rattle.way_laws.specs.WayCauses.{WayCause, ends_with_row, fallen, tells_fall, tells_row}
-use Rattle.way_laws.proofs.OtherBlocks.{aside_ways, changes_aside, control_aside, deliver_aside, expire_aside, forget_aside, link_aside, resend_aside, restart_aside}
+use Rattle.way_laws.proofs.OtherBlocks.{aside_ways, changes_aside, control_aside, deliver_aside, expire_aside, forget_aside, link_aside, resend_aside, restart_aside, update_aside}
 use Rattle.way_laws.proofs.PacketBlocks.{Ways, hop_ways, lose_ways, packet_ways, stage_stays}
 
 -- ---- a crash
@@ -101,7 +101,7 @@ losts_ways setting before s k (suc n) journal went same =
               packet_keeps j journal (item.Lost k ∷ [])
               (ne_eqb k j (λ equal. omega (arith, equal, above)), tt) in (
                 keeps.travels ∙ (same j (omega (arith, above))).0,
-                keeps.place ∙ (same j (omega (arith, above))).1,
+                keeps.stands ∙ (same j (omega (arith, above))).1,
               )),
         )
 
@@ -128,14 +128,14 @@ crash_ways setting before s journal crashes same = by_up (is_up before s)
     by_up true =
         have_put (WayCause setting) (item.Down s ∷ map item.Lost (packets_at before s))
         (link_changes setting before) journal (
-          tt,
+          crashes,
           losts_ways setting before s 1 (count_of is_packet before)
               (journal ++ item.Down s ∷ []) (down_now journal s crashes)
               (λ j above.
               let keeps : PacketKeeps j journal (journal ++ item.Down s ∷ []) =
               packet_keeps j journal (item.Down s ∷ []) (refl, tt) in (
                 keeps.travels ∙ (same j (omega arith)).0,
-                keeps.place ∙ (same j (omega arith)).1,
+                keeps.stands ∙ (same j (omega arith)).1,
               )),
         )
         (aside_ways setting _ _ (changes_aside setting before _))
@@ -160,9 +160,9 @@ row_rests before row step rests = record {
   served = λ i travelling.
       let here : IsServed before i = rests.served i (sym (keeps i).travels ∙ travelling) in
       record {
-        place = here.place;
-        stands = (keeps i).place ∙ here.stands;
-        serving = rw (serving_more before (item.Row row step) here.place) here.serving;
+        switch = here.switch;
+        stands = (keeps i).stands ∙ here.stands;
+        serving = rw (serving_more before (item.Row row step) here.switch) here.serving;
       };
   moving = λ i travelling.
       stage_stays before (item.Row row step) i refl
@@ -192,18 +192,21 @@ step_ways setting before row (Forget number) rests =
 step_ways setting before row (Expire s place) rests =
     aside_ways setting _ _ (expire_aside setting s place _)
 step_ways setting before row (Update file) rests =
-    aside_ways setting _ _ (control_aside _ _ (update_control setting file _))
+    aside_ways setting _ _ (update_aside setting file _ (step_now before row (Update file)))
 step_ways setting before row (LinkDown one two) rests =
-    aside_ways setting _ _ (link_aside setting before one two false _)
+    aside_ways setting _ _
+    (link_aside setting before one two false _ (step_now before row (LinkDown one two)))
 step_ways setting before row (LinkUp one two) rests =
-    aside_ways setting _ _ (link_aside setting before one two true _)
+    aside_ways setting _ _
+    (link_aside setting before one two true _ (step_now before row (LinkUp one two)))
 step_ways setting before row (Crash s) rests =
     crash_ways setting before s _ (step_now before row (Crash s))
     (λ j above.
     let keeps : PacketKeeps j before (before ++ item.Row row (Crash s) ∷ []) =
     packet_keeps j before (item.Row row (Crash s) ∷ []) (refl, tt) in
-    (keeps.travels, keeps.place))
-step_ways setting before row (Restart s) rests = aside_ways setting _ _ (restart_aside s _)
+    (keeps.travels, keeps.stands))
+step_ways setting before row (Restart s) rests =
+    aside_ways setting _ _ (restart_aside s _ (step_now before row (Restart s)))
 step_ways setting before row (Confirm s) rests =
     aside_ways setting _ _ (control_aside _ _ (confirm_control setting s _))
 step_ways setting before row (Resend s) rests =

@@ -1,6 +1,6 @@
 -- Between steps all packets rest: on their way, at switches that serve. So all items of packets
 -- have their causes.
-use Rattle.std.proofs.Common.{ℕ, ◌≡◌, ◌≢◌, ◌+◌, ◌<◌, ◌==◌, true, false, Option, Some, None, List, [], ◌∷◌, ◌++◌, length, refl, ap, sym, subst, ◌∙◌, append_assoc, arith, inl, inr, ◌⊎◌}
+use Rattle.std.proofs.Common.{ℕ, ◌≡◌, ◌≢◌, ◌+◌, ◌<◌, ◌==◌, true, false, Option, Some, None, List, [], ◌∷◌, ◌++◌, length, refl, ap, sym, subst, ◌∙◌, arith, inl, inr, ◌⊎◌}
 use Rattle.std.specs.Prelude.{⊤, IsTrue, unwrap_or}
 use Rattle.std.proofs.lemmas.Bool.{cases_eq, eq-eqb, ne_eqb}
 use Rattle.five_tuple.specs.Header.{IsHeader}
@@ -21,11 +21,11 @@ use Rattle.update_machine.specs.Versions.{stamp_of}
 use Rattle.update_machine.specs.Travels.{travels}
 use Rattle.update_machine.proofs.CallerLemmas.{have_append, last_told_append, packet_keeps}
 use Rattle.boot_laws.specs.ItemCauses.{HasItemCause}
-use Rattle.boot_laws.proofs.Commands.{confirm_control, update_control}
+use Rattle.boot_laws.proofs.Commands.{confirm_control}
 use Rattle.boot_laws.proofs.Facts.{Both, fact_on, have_both, have_weaker}
 use Rattle.boot_laws.proofs.Grown.{serving_more}
 use Rattle.boot_laws.proofs.Pieces.{pieces_have}
-use Rattle.boot_laws.proofs.Reached.{NamesOwn}
+use Rattle.boot_laws.proofs.Reached.{NamesOwn, behind_piece}
 use Rattle.boot_laws.proofs.Serving.{caused_known, serving_known}
 use Rattle.advert_laws.proofs.LinkCauses.{HasLinkCause}
 use Rattle.advert_laws.proofs.Stepping.{pieces_caused}
@@ -36,9 +36,9 @@ use Rattle.way_laws.specs.WayCauses.{WayCause}
 use Rattle.way_laws.proofs.CrashServed.{crash_served}
 use Rattle.way_laws.proofs.Done.{hop_done, packet_done}
 use Rattle.way_laws.proofs.Lookups.{FindsRule, authority_told, rule_there, stamped}
-use Rattle.way_laws.proofs.OtherBlocks.{AreAside, IsAside, control_aside, deliver_aside, expire_aside, forget_aside, link_aside, resend_aside, restart_aside}
+use Rattle.way_laws.proofs.OtherBlocks.{AreAside, IsAside, control_aside, deliver_aside, expire_aside, forget_aside, link_aside, resend_aside, restart_aside, update_aside}
 use Rattle.way_laws.proofs.Others.{IsInStep, IsNoRow, Spares, SparesAll, aside_spares, crash_spares, hop_spares, in_step, lose_spares, packet_spares, spare, spared}
-use Rattle.way_laws.proofs.Pieces.{piece_ways, row_rests}
+use Rattle.way_laws.proofs.Pieces.{piece_ways, row_rests, step_now}
 use Rattle.way_laws.proofs.Served.{AreNumbered, HaveLegs, IsCausedUp, NotDown, legs_kept, numbered_kept, served_kept}
 
 -- ---- causes with their past
@@ -167,13 +167,16 @@ others_spare setting j before row (Forget number) none apart =
 others_spare setting j before row (Expire s place) none apart =
     aside_spares j _ _ (expire_aside setting s place _)
 others_spare setting j before row (Update file) none apart =
-    aside_spares j _ _ (control_aside _ _ (update_control setting file _))
+    aside_spares j _ _ (update_aside setting file _ (step_now before row (Update file)))
 others_spare setting j before row (LinkDown one two) none apart =
-    aside_spares j _ _ (link_aside setting before one two false _)
+    aside_spares j _ _
+    (link_aside setting before one two false _ (step_now before row (LinkDown one two)))
 others_spare setting j before row (LinkUp one two) none apart =
-    aside_spares j _ _ (link_aside setting before one two true _)
+    aside_spares j _ _
+    (link_aside setting before one two true _ (step_now before row (LinkUp one two)))
 others_spare setting j before row (Crash s) none apart = crash_spares setting j before s _
-others_spare setting j before row (Restart s) none apart = aside_spares j _ _ (restart_aside s _)
+others_spare setting j before row (Restart s) none apart =
+    aside_spares j _ _ (restart_aside s _ (step_now before row (Restart s)))
 others_spare setting j before row (Confirm s) none apart =
     aside_spares j _ _ (control_aside _ _ (confirm_control setting s _))
 others_spare setting j before row (Resend s) none apart =
@@ -324,19 +327,22 @@ step_served setting before row step settled = by_kind step
     by_kind (Forget number) = aside_served (Forget number) (forget_aside number _)
     by_kind (Expire s place) = aside_served (Expire s place) (expire_aside setting s place _)
     by_kind (Update file) =
-        aside_served (Update file) (control_aside _ _ (update_control setting file _))
+        aside_served (Update file) (update_aside setting file _ (step_now before row (Update file)))
     by_kind (LinkDown one two) =
-        aside_served (LinkDown one two) (link_aside setting before one two false _)
+        aside_served (LinkDown one two)
+        (link_aside setting before one two false _ (step_now before row (LinkDown one two)))
     by_kind (LinkUp one two) =
-        aside_served (LinkUp one two) (link_aside setting before one two true _)
+        aside_served (LinkUp one two)
+        (link_aside setting before one two true _ (step_now before row (LinkUp one two)))
     by_kind (Crash s) =
         crash_served setting before s (before ++ item.Row row (Crash s) ∷ [])
         (numbered setting before (ways_of_all setting [] before settled.causes))
         (row_rests before row (Crash s) settled.rests).served
         (λ i.
         let keeps = packet_keeps i before (item.Row row (Crash s) ∷ []) (refl, tt) in
-        (keeps.travels, keeps.place))
-    by_kind (Restart s) = aside_served (Restart s) (restart_aside s _)
+        (keeps.travels, keeps.stands))
+    by_kind (Restart s) =
+        aside_served (Restart s) (restart_aside s _ (step_now before row (Restart s)))
     by_kind (Confirm s) =
         aside_served (Confirm s) (control_aside _ _ (confirm_control setting s _))
     by_kind (Resend s) = aside_served (Resend s) (resend_aside setting s _)
@@ -407,18 +413,11 @@ step_moving setting before row step is own settled j = by_kind step own
 pub piece_settled : (setting : Setting) (before : List Item) (row : ℕ) (step : Step)
     → IsSetting setting → NamesOwn setting step → IsSettled setting before
     → IsSettled setting (before ++ piece setting before row step)
-unfolding piece
-piece_settled setting before row step is own settled =
-    let here : List Item = before ++ item.Row row step ∷ [] in
-    let whole : here ++ step_items setting before step here
-    ≡ before ++ item.Row row step ∷ step_items setting before step here =
-    append_assoc before (item.Row row step ∷ []) (step_items setting before step here) in
-    record {
-      causes = have_append (IsWayItem setting) [] before _ settled.causes
-          (piece_causes setting before row step own settled.rests);
-      rests = record {
-        served = subst AreServed whole (step_served setting before row step settled);
-        moving = λ j. subst (λ js. IsMoving js j) whole
-            (step_moving setting before row step is own settled j);
-      };
-    }
+piece_settled setting before row step is own settled = record {
+  causes = have_append (IsWayItem setting) [] before _ settled.causes
+      (piece_causes setting before row step own settled.rests);
+  rests = behind_piece setting before row step AreResting (record {
+    served = step_served setting before row step settled;
+    moving = step_moving setting before row step is own settled;
+  });
+}

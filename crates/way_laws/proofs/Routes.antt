@@ -1,9 +1,9 @@
 -- A route that a switch knows begins there, leads over links of the network to a target, and uses
 -- none of the links that the packet found down.
-use Rattle.std.proofs.Common.{ℕ, zero, suc, ◌≡◌, ◌+◌, ◌-◌, ◌<◌, ◌==◌, ◌&&◌, ◌||◌, not, Bool, true, false, Some, List, [], ◌∷◌, length, refl, ap, sym, subst, ◌∙◌, arith, inl, inr}
+use Rattle.std.proofs.Common.{ℕ, zero, suc, ◌≡◌, ◌+◌, ◌-◌, ◌<◌, ◌==◌, ◌&&◌, not, Bool, true, false, Some, List, [], ◌∷◌, length, refl, ap, sym, subst, ◌∙◌, arith, inl, inr}
 use Rattle.std.specs.Prelude.{IsTrue, IsFalse, nat_eq, slice_get, slice_index}
 use Rattle.std.specs.List.{list_any}
-use Rattle.std.proofs.lemmas.Bool.{eq-eqb}
+use Rattle.std.proofs.lemmas.Bool.{eq-eqb, or_left, or_right}
 use Rattle.failover.specs.Links.{is_link, named_links, has_link, AreJoined, IsPath, LinksLead}
 use Rattle.masks.specs.Masks.{has}
 use Rattle.failover.specs.Paths.{IsRoute}
@@ -113,10 +113,6 @@ path_way setting journal at target targets down (first ∷ rest) there own path 
       avoids = λ k one two here next. (good k one two here next).up;
     }
 
-or_right : (a b : Bool) → b ≡ true → (a || b) ≡ true
-or_right true b e = refl
-or_right false b e = e
-
 widen : (setting : Setting) (at first : ℕ) (targets down route : List ℕ)
     → IsWay setting at targets down route → IsWay setting at (first ∷ targets) down route
 widen setting at first targets down route way = record {
@@ -132,10 +128,6 @@ widen setting at first targets down route way = record {
   begins = way.begins;
   avoids = way.avoids;
 }
-
-or_left : (a b : Bool) → a ≡ true → (a || b) ≡ true
-or_left true b e = refl
-or_left false b e = absurd cc
 
 is_way : (setting : Setting) (journal : List Item) (at : ℕ) (targets down route : List ℕ)
     → LinksAreThere setting journal

@@ -1,5 +1,5 @@
 -- Moves that the abstract machine doesn't make: what a journal that is a run never says.
-use Rattle.std.proofs.Common.{ℕ, ◌≡◌, ◌<◌, Option, Some, None, List, length, ap, sym, ◌∙◌, arith}
+use Rattle.std.proofs.Common.{ℕ, ◌≡◌, ◌<◌, Option, Some, None, List, length, ap, sym, subst, ◌∙◌, arith}
 use Rattle.std.specs.Prelude.{option_map}
 use Rattle.std.proofs.lemmas.Option.{slice_get_within}
 use Rattle.five_tuple.specs.declared.header.Header.{Header}
@@ -39,23 +39,28 @@ not_decided_before_it_is_in : (old new : Machine) (version : ℕ) (hit : Hit)
 not_decided_before_it_is_in old new version hit unknown decides =
     let none : None ≡ Some decides.packet = sym unknown ∙ decides.entered in cc
 
+-- who is decided is undecided, and hasn't ended
+open_until_decided : (old new : Machine) (packet : Packet) (version : ℕ) (hit : Hit)
+    → old.packets 1 ≡ Some packet → Decides old 1 version hit new
+    → (packet.decision ≡ None) × (packet.end ≡ None)
+open_until_decided old new packet version hit entered decides =
+    subst (λ (p : Packet). (p.decision ≡ None) × (p.end ≡ None))
+    (some_same (old.packets 1) decides.packet packet decides.entered entered)
+    (decides.undecided, decides.not_ended)
+
 not_decided_twice : (old new : Machine) (packet : Packet) (version : ℕ) (first hit : Hit)
     → old.packets 1 ≡ Some packet → packet.decision ≡ Some first
     → Decides old 1 version hit new → ⊥
 not_decided_twice old new packet version first hit entered decided decides =
-    let same : decides.packet ≡ packet =
-    some_same (old.packets 1) decides.packet packet decides.entered entered in
-    let none : None ≡ Some first =
-    sym decides.undecided ∙ ap (λ (p : Packet). p.decision) same ∙ decided in cc
+    let was = open_until_decided old new packet version hit entered decides in
+    let none : None ≡ Some first = sym was.0 ∙ decided in cc
 
 not_decided_once_it_ended : (old new : Machine) (packet : Packet) (version : ℕ) (hit : Hit)
     (end : End) → old.packets 1 ≡ Some packet → packet.end ≡ Some end
     → Decides old 1 version hit new → ⊥
 not_decided_once_it_ended old new packet version hit end entered ended decides =
-    let same : decides.packet ≡ packet =
-    some_same (old.packets 1) decides.packet packet decides.entered entered in
-    let none : None ≡ Some end =
-    sym decides.not_ended ∙ ap (λ (p : Packet). p.end) same ∙ ended in cc
+    let was = open_until_decided old new packet version hit entered decides in
+    let none : None ≡ Some end = sym was.1 ∙ ended in cc
 
 not_by_a_version_to_come : (old new : Machine) (hit : Hit) → length old.policies ≡ 1
     → Decides old 1 3 hit new → ⊥

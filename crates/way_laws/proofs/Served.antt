@@ -70,9 +70,9 @@ stays_served before next i place (inl same) on served travelling =
     let here : IsServed before i =
     served (rw (travels_more before next i, same) at travelling) in
     record {
-      place = here.place;
+      switch = here.switch;
       stands = place_more before next i ∙ rw place here.stands;
-      serving = on here.place here.serving;
+      serving = on here.switch here.serving;
     }
 
 pub still_serves : (before : List Item) (next : Item) (s : ℕ) → tells_serving s next ≡ None
@@ -94,7 +94,7 @@ comes_served before packet s i header served serving travelling = by_same (packe
 
     by_same : (b : Bool) → (packet == i) ≡ b → IsServed (before ++ next ∷ []) i
     by_same true e = record {
-      place = s;
+      switch = s;
       stands = rw (place_more before next i, e) refl;
       serving = still_serves before next s refl serving;
     }
@@ -102,9 +102,9 @@ comes_served before packet s i header served serving travelling = by_same (packe
         let here : IsServed before i =
         served i (rw (travels_more before next i, e) at travelling) in
         record {
-          place = here.place;
+          switch = here.switch;
           stands = rw (place_more before next i, e) here.stands;
-          serving = still_serves before next here.place refl here.serving;
+          serving = still_serves before next here.switch refl here.serving;
         }
 
 hops_served : (before : List Item) (packet s i : ℕ) → AreServed before
@@ -120,14 +120,14 @@ hops_served before packet s i served serving travelling = by_same (packet == i) 
 
     by_same : (b : Bool) → (packet == i) ≡ b → IsServed (before ++ next ∷ []) i
     by_same true e = record {
-      place = s;
+      switch = s;
       stands = rw (place_more before next i, e) refl;
       serving = still_serves before next s refl serving;
     }
     by_same false e = record {
-      place = here.place;
+      switch = here.switch;
       stands = rw (place_more before next i, e) here.stands;
-      serving = still_serves before next here.place refl here.serving;
+      serving = still_serves before next here.switch refl here.serving;
     }
 
 booted_serves : (before : List Item) (switch boot s : ℕ) → ServingIsKnown before

@@ -48,7 +48,7 @@ looked_up_once (inr misses) = let moving = misses.arrives.moving in cc
 not_decided_twice : WayCause open_net decided (item.Decided 1 1 None Drop (Cached 1)) → ⊥
 unfolding standing
 not_decided_twice way =
-    let at : 0 ≡ way.switch = way.at.place in
+    let at : 0 ≡ way.switch = way.at.stands in
     looked_up_once (subst (IsLookedUp decided 1) (sym at) way.by.looked_up)
 
 -- ---- packets that are stuck
@@ -83,7 +83,7 @@ not_without_authority_on_its_way_out way = let why = way.why in cc
 not_sought_by_another_version : WayCause open_net in_at_0 (item.Seeking 1 2 0 (0 ∷ 1 ∷ [])) → ⊥
 unfolding standing stamp_of heard is_up boot_of
 not_sought_by_another_version way =
-    let at : 0 ≡ way.switch = way.at.place in
+    let at : 0 ≡ way.switch = way.at.stands in
     let stamp : 2 ≡ stamp_of in_at_0 way.switch = way.takes.stamp in
     let own : stamp_of in_at_0 way.switch ≡ 1 = subst (λ s. stamp_of in_at_0 s ≡ 1) at refl in
     omega (arith, stamp, own)
@@ -104,8 +104,8 @@ none_survives : AreResting (item.Row 1 (Packet 0 one) ∷ item.Entered 1 0 one
 unfolding travels standing serves
 none_survives rests =
     let here = rests.served 1 refl in
-    let at : Some 0 ≡ Some here.place = here.stands in
-    let same : 0 ≡ here.place = cc in
+    let at : Some 0 ≡ Some here.switch = here.stands in
+    let same : 0 ≡ here.switch = cc in
     let serving : false ≡ true =
     subst (λ s. IsTrue (serves (item.Row 1 (Packet 0 one) ∷ item.Entered 1 0 one
     ∷ item.Row 2 (Crash 0) ∷ item.Down 0 ∷ []) s)) (sym same) here.serving in

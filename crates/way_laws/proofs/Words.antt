@@ -12,24 +12,27 @@ use Rattle.update_machine.specs.Packets.{decision_of, header_in, standing, tells
 use Rattle.update_machine.specs.Travels.{changes_leg, ingress_of, leg_of, tells_ingress, tells_travelling, travels}
 use Rattle.update_machine.specs.Ways.{changes_found, changes_hops, found_down, route_in, route_place, tells_route}
 use Rattle.update_machine.proofs.CallerLemmas.{folded_append, last_told_append}
-use Rattle.way_laws.specs.Facts.{changes_mark, entry_mark, is_of_packet, facts_after, what_is_known}
+use Rattle.way_laws.specs.Facts.{PacketFacts, changes_mark, entry_mark, is_of_packet, facts_after, what_is_known}
 
 -- the words behind one more item, each by its own fold
-words_more : (before : List Item) (i : ℕ) (item : Item) → what_is_known (before ++ item ∷ []) i
-    ≡ record {
-      header = option_or (tells_header i item) (header_in before i);
-      ingress = option_or (tells_ingress i item) (ingress_of before i);
-      stands = option_or (tells_standing i item) (standing before i);
-      travels = unwrap_or (option_or (tells_travelling i item)
-          (last_told (tells_travelling i) before))
-          false;
-      decision = option_or (tells_decision i item) (decision_of before i);
-      leg = changes_leg i before (leg_of before i) item;
-      route = unwrap_or (option_or (tells_route i item) (last_told (tells_route i) before)) [];
-      hops = changes_hops i before (route_place before i) item;
-      found = changes_found i before (found_down before i) item;
-      mark = changes_mark i before (entry_mark before i) item;
-    }
+abbrev told_words : List Item → ℕ → Item → PacketFacts
+told_words before i item = record {
+  header = option_or (tells_header i item) (header_in before i);
+  ingress = option_or (tells_ingress i item) (ingress_of before i);
+  stands = option_or (tells_standing i item) (standing before i);
+  travels = unwrap_or (option_or (tells_travelling i item)
+      (last_told (tells_travelling i) before))
+      false;
+  decision = option_or (tells_decision i item) (decision_of before i);
+  leg = changes_leg i before (leg_of before i) item;
+  route = unwrap_or (option_or (tells_route i item) (last_told (tells_route i) before)) [];
+  hops = changes_hops i before (route_place before i) item;
+  found = changes_found i before (found_down before i) item;
+  mark = changes_mark i before (entry_mark before i) item;
+}
+
+words_more : (before : List Item) (i : ℕ) (item : Item)
+    → what_is_known (before ++ item ∷ []) i ≡ told_words before i item
 unfolding what_is_known header_in ingress_of standing travels decision_of leg_of route_in route_place
     found_down entry_mark
 words_more before i item =
@@ -46,61 +49,42 @@ words_more before i item =
       folded_append (changes_mark i) 0 before (item ∷ []),
     ) refl
 
-by_name : (before : List Item) (i : ℕ) (item : Item) (b : Bool) → is_of_packet i item ≡ b →
-    what_is_known (before ++ item ∷ []) i
+by_name : (before : List Item) (i : ℕ) (item : Item) (b : Bool) → is_of_packet i item ≡ b
+    → told_words before i item
     ≡ (if b then facts_after (retired_mark before) item (what_is_known before i) else what_is_known before i)
 unfolding what_is_known header_in ingress_of standing travels decision_of leg_of route_in route_place
     found_down entry_mark
-by_name before i (item.Entered packet switch header) true e = words_more before i
-    (item.Entered packet switch header) ∙ rw e refl
-by_name before i (item.Entered packet switch header) false e = words_more before i
-    (item.Entered packet switch header) ∙ rw e refl
-by_name before i (item.Seeking packet version partition route) true e = words_more before i
-    (item.Seeking packet version partition route) ∙ rw e refl
-by_name before i (item.Seeking packet version partition route) false e = words_more before i
-    (item.Seeking packet version partition route) ∙ rw e refl
-by_name before i (item.Exiting packet route) true e = words_more before i
-    (item.Exiting packet route) ∙ rw e refl
-by_name before i (item.Exiting packet route) false e = words_more before i
-    (item.Exiting packet route) ∙ rw e refl
-by_name before i (item.Rerouted packet route) true e = words_more before i
-    (item.Rerouted packet route) ∙ rw e refl
-by_name before i (item.Rerouted packet route) false e = words_more before i
-    (item.Rerouted packet route) ∙ rw e refl
-by_name before i (item.Hopped packet switch) true e = words_more before i
-    (item.Hopped packet switch) ∙ rw e refl
-by_name before i (item.Hopped packet switch) false e = words_more before i
-    (item.Hopped packet switch) ∙ rw e refl
-by_name before i (item.FoundDown packet one two) true e = words_more before i
-    (item.FoundDown packet one two) ∙ rw e refl
-by_name before i (item.FoundDown packet one two) false e = words_more before i
-    (item.FoundDown packet one two) ∙ rw e refl
-by_name before i (item.Decided packet version rule action how) true e = words_more before i
-    (item.Decided packet version rule action how) ∙ rw e refl
-by_name before i (item.Decided packet version rule action how) false e = words_more before i
-    (item.Decided packet version rule action how) ∙ rw e refl
-by_name before i (item.Left packet port leaving) true e = words_more before i
-    (item.Left packet port leaving) ∙ rw e refl
-by_name before i (item.Left packet port leaving) false e = words_more before i
-    (item.Left packet port leaving) ∙ rw e refl
-by_name before i (item.Dropped packet) true e = words_more before i (item.Dropped packet)
-    ∙ rw e refl
-by_name before i (item.Dropped packet) false e = words_more before i (item.Dropped packet)
-    ∙ rw e refl
-by_name before i (item.Lost packet) true e = words_more before i (item.Lost packet) ∙ rw e refl
-by_name before i (item.Lost packet) false e = words_more before i (item.Lost packet) ∙ rw e refl
-by_name before i (item.Stuck packet switch cause leg down) true e = words_more before i
-    (item.Stuck packet switch cause leg down) ∙ rw e refl
-by_name before i (item.Stuck packet switch cause leg down) false e = words_more before i
-    (item.Stuck packet switch cause leg down) ∙ rw e refl
+by_name before i (item.Entered packet switch header) true e = rw e refl
+by_name before i (item.Entered packet switch header) false e = rw e refl
+by_name before i (item.Seeking packet version partition route) true e = rw e refl
+by_name before i (item.Seeking packet version partition route) false e = rw e refl
+by_name before i (item.Exiting packet route) true e = rw e refl
+by_name before i (item.Exiting packet route) false e = rw e refl
+by_name before i (item.Rerouted packet route) true e = rw e refl
+by_name before i (item.Rerouted packet route) false e = rw e refl
+by_name before i (item.Hopped packet switch) true e = rw e refl
+by_name before i (item.Hopped packet switch) false e = rw e refl
+by_name before i (item.FoundDown packet one two) true e = rw e refl
+by_name before i (item.FoundDown packet one two) false e = rw e refl
+by_name before i (item.Decided packet version rule action how) true e = rw e refl
+by_name before i (item.Decided packet version rule action how) false e = rw e refl
+by_name before i (item.Left packet port leaving) true e = rw e refl
+by_name before i (item.Left packet port leaving) false e = rw e refl
+by_name before i (item.Dropped packet) true e = rw e refl
+by_name before i (item.Dropped packet) false e = rw e refl
+by_name before i (item.Lost packet) true e = rw e refl
+by_name before i (item.Lost packet) false e = rw e refl
+by_name before i (item.Stuck packet switch cause leg down) true e = rw e refl
+by_name before i (item.Stuck packet switch cause leg down) false e = rw e refl
 by_name before i other true e = absurd cc
-by_name before i other false e = words_more before i other
+by_name before i other false e = refl
 
 pub words_grow : (i : ℕ) (before : List Item) (item : Item) →
     what_is_known (before ++ item ∷ []) i
     ≡ (if is_of_packet i item then facts_after (retired_mark before) item (what_is_known before i) else what_is_known
     before i)
-words_grow i before item = by_name before i item (is_of_packet i item) refl
+words_grow i before item =
+    words_more before i item ∙ by_name before i item (is_of_packet i item) refl
 
 pub words_named : (i : ℕ) (before : List Item) (item : Item) → is_of_packet i item ≡ true
     → what_is_known (before ++ item ∷ []) i ≡ facts_after (retired_mark before) item (what_is_known before i)

@@ -86,13 +86,13 @@ IsOnLeg setting journal facts header (Exit port) = IsExiting setting facts port
 pub record IsUnderWay (setting : Setting) (journal : List Item) (facts : PacketFacts) : Type 0 where
   pub header : Header
   pub ingress : ℕ
-  pub place : ℕ
+  pub switch : ℕ
   pub entered : facts.header ≡ Some header
   pub sound : IsHeader header
   pub came : facts.ingress ≡ Some ingress
   pub at_first : ingress < length setting.net.switches
-  pub stands : facts.stands ≡ Some place
-  pub now : place < length setting.net.switches
+  pub stands : facts.stands ≡ Some switch
+  pub now : switch < length setting.net.switches
   pub mark : facts.mark ≤ retired_mark journal
 
 -- and, once its switch is done with it, it stands at its place of the route of its leg
@@ -101,7 +101,7 @@ pub record IsOnWay (setting : Setting) (journal : List Item) (facts : PacketFact
   pub leg : Leg
   pub takes : facts.leg ≡ Some leg
   pub on_leg : IsOnLeg setting journal facts under_way.header leg
-  pub stands : slice_get facts.route facts.hops ≡ Some under_way.place
+  pub stands : slice_get facts.route facts.hops ≡ Some under_way.switch
 
 -- of a packet that didn't come in nothing is known
 pub record IsUnknown (facts : PacketFacts) : Type 0 where

@@ -8,9 +8,9 @@ use Rattle.way_laws.specs.Stages.{OnWay, stage_of}
 
 -- the packet stands at a switch that serves
 pub record IsServed (journal : List Item) (packet : ℕ) : Type 0 where
-  pub place : ℕ
-  pub stands : standing journal packet ≡ Some place
-  pub serving : IsTrue (serves journal place)
+  pub switch : ℕ
+  pub stands : standing journal packet ≡ Some switch
+  pub serving : IsTrue (serves journal switch)
 
 -- each travelling packet does so
 abbrev pub AreServed : List Item → Type 0

@@ -19,7 +19,7 @@ use Rattle.switch_table.specs.declared.cache.CacheEntry.{CacheEntry}
 use Rattle.switch_table.specs.declared.search.Found.TheVariants as found
 use Rattle.journal.specs.declared.item.Item.{Item}
 use Rattle.journal.specs.declared.item.Item.TheVariants as item
-use Rattle.steps.specs.declared.step.Step.TheVariants.{Packet, Lose, Crash}
+use Rattle.steps.specs.declared.step.Step.TheVariants.{Packet, Lose, Crash, Restart, Update}
 use Rattle.update_machine.specs.Boots.{is_up}
 use Rattle.update_machine.specs.Caches.{lookup_at}
 use Rattle.update_machine.specs.Folds.{last_told}
@@ -27,7 +27,7 @@ use Rattle.update_machine.specs.LinkMasks.{near}
 use Rattle.update_machine.specs.Moves.{AuthorityRule, authority_rule, cache_rule, cause_at, first_place, header_at, leaves, route_for}
 use Rattle.update_machine.specs.Packets.{Decision, decision_of, next_packet, standing}
 use Rattle.update_machine.specs.Setting.{Setting}
-use Rattle.update_machine.specs.Causes.{present_step}
+use Rattle.update_machine.specs.Causes.{IsLinkStep, present_step}
 use Rattle.update_machine.specs.Versions.{holds_version, stamp_of}
 use Rattle.update_machine.specs.Travels.{ingress_of, is_at, leg_of, travels}
 use Rattle.update_machine.specs.Ways.{found_down, next_switch, owner}
@@ -39,7 +39,7 @@ use Rattle.way_laws.specs.Stages.{Blocked, CameIn, Judged, OnWay, stage_of}
 -- the packet travels, and stands at the switch, which serves
 pub record IsAt (before : List Item) (packet switch : ℕ) : Type 0 where
   pub travelling : IsTrue (travels before packet)
-  pub place : unwrap_or (standing before packet) 0 ≡ switch
+  pub stands : unwrap_or (standing before packet) 0 ≡ switch
   pub serving : IsTrue (serves before switch)
 
 abbrev pub tells_row : Item → Option Bool
@@ -286,7 +286,8 @@ TellsRightly setting before message (CacheRule version word rule action) =
     TellsRule setting before message
 TellsRightly setting before message _ = ⊤
 
--- each item of packets and of cache rules has its cause in the journal before it
+-- each item of packets and of cache rules, and each that changes a switch or a link or submits a
+-- version, has its cause in the journal before it
 abbrev pub WayCause : Setting → List Item → Item → Type 0
 WayCause setting before (item.Entered packet switch header) =
     IsOfRow before packet switch header × IsTrue (serves before switch)
@@ -308,4 +309,8 @@ WayCause setting before (item.Stuck packet switch cause leg down) =
     FindsNoRoute setting before packet switch cause leg down
 WayCause setting before (item.Sent number message) =
     TellsRightly setting before message message.body
+WayCause setting before (item.Down switch) = present_step before ≡ Some (Crash switch)
+WayCause setting before (item.Booted switch boot) = present_step before ≡ Some (Restart switch)
+WayCause setting before (item.LinkIs one two up) = IsLinkStep (present_step before) one two up
+WayCause setting before (item.Submitted file version) = present_step before ≡ Some (Update file)
 WayCause setting before _ = ⊤

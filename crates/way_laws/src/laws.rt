@@ -1,6 +1,6 @@
 //! The laws.
 ghost use Rattle.std.specs.Prelude.{[]};
-ghost use Rattle.update_machine.specs.Causes.{EndsHaveCauses, HaveCauses};
+ghost use Rattle.update_machine.specs.Causes.{HasCause, HaveCauses};
 ghost use Rattle.update_machine.specs.Machine.{IsRun};
 ghost use Rattle.update_machine.specs.Setting.{IsSetting};
 ghost use Rattle.boot_laws.specs.Always.{HoldsReached};
@@ -50,9 +50,11 @@ pub fn cache_rules_are_right()
     ensures { HoldsReached (λ setting journal. IsSetting setting → RulesAreRight setting journal) }
 {}
 
-/// The ends of packets, and the links that they found down, have their causes.
+/// The ends of packets, the links that they found down, the changes of switches and links, and the
+/// versions that are submitted have their causes.
 pub fn ends_have_causes()
-    ensures { HoldsReached (λ setting journal. IsSetting setting → EndsHaveCauses setting journal) }
+    ensures { HoldsReached (λ setting journal.
+        IsSetting setting → HaveCauses (HasCause setting) [] journal) }
 {}
 
 /// The journal is a run of the machine: each packet is decided once, by the first match of one whole

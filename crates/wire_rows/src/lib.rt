@@ -4,10 +4,4 @@
 #![tactic(auto)]
 
 #[cfg(test)]
-mod assembled;
-#[cfg(test)]
-mod bags;
-#[cfg(test)]
-mod messages;
-#[cfg(test)]
-mod spellings;
+mod tests;

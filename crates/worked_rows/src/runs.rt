@@ -58,21 +58,6 @@ pub fn run_over(alloc: Global, words: &[&str], files: &[(&str, &str)]) -> Result
     )
 }
 
-/// The same over this schedule, in `s.csv`, and these files.
-pub fn played(
-    alloc: Global,
-    words: &[&str],
-    schedule: &str,
-    files: &[(&str, &str)],
-) -> Result<Ran, AllocError> {
-    let mut all = Vec::new(alloc);
-    all.push(("s.csv", schedule))?;
-    for file in files {
-        all.push(*file)?;
-    }
-    run_over(alloc, words, &all)
-}
-
 /// A run with these words over these files, with a recorder for each port as the program has them.
 pub fn recorded(alloc: Global, words: &[&str], files: &[(&str, &str)]) -> Result<Ran, AllocError> {
     let shelf = shelf_of(alloc, files)?;

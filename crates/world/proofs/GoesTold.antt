@@ -46,6 +46,17 @@ pub record AreNoted {T E : Type 0} (r : Result T E) (begun : List Item) (number 
   pub posted : OnOk r (now.bag ≡ posts ++ act_posts acts)
   pub part : OnErr r (IsPart begun (act_items (number + 1) acts) now.journal)
 
+-- the acts are these
+pub as_noted : {T E : Type 0} (r : Result T E) (begun : List Item) (number : ℕ) (posts : List Post)
+    (now : Log) (given acts : List Act) → given ≡ acts
+    → OnOk r (now.journal ≡ begun ++ act_items (number + 1) given)
+    → OnOk r (now.bag ≡ posts ++ act_posts given)
+    → OnErr r (IsPart begun (act_items (number + 1) given) now.journal)
+    → AreNoted r begun number posts now acts
+as_noted r begun number posts now given acts same written posted part =
+    subst (AreNoted r begun number posts now) same
+    (record { written = written; posted = posted; part = part })
+
 pub goes_told : {T E : Type 0} (r : Result T E) (before : List Item) (row : ℕ) (step : Step)
     (old new : Parts) (first : Item) (tail : ℕ → List Item) (begun : List Item) (number : ℕ)
     (posts more : List Post) → BeginsStep before row step old → KeepNet old new

@@ -1,4 +1,5 @@
 pub mod OverParts
+pub mod OverSwitches
 pub mod Begun
 pub mod Frame
 pub mod GoesTold

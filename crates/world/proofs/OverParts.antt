@@ -16,10 +16,11 @@ use Rattle.travelling.specs.Travelling.{Travellers, WithOne, traveller}
 use Rattle.world_log.specs.Writing.{entered_items, entered_posts, entered_traveller}
 use Rattle.world.specs.declared.parts.Parts.{Parts}
 use Rattle.travelling.specs.declared.travelling.Traveller.{Traveller}
-use Rattle.world_ties.proofs.Asking.{can_ask, switch_is, within_here, number_of_packet}
+use Rattle.world_ties.proofs.Asking.{can_ask, within_here, number_of_packet}
 use Rattle.log_ties.proofs.CanAsk.{CanAsk}
 use Rattle.world_ties.proofs.HopTie.{hop_piece_of, hop_tied}
-use Rattle.world_ties.proofs.Incoming.{come_piece, come_ready, come_tied}
+use Rattle.world_ties.proofs.Incoming.{come_piece, come_tied}
+use Rattle.world_ties.proofs.Switches.{switch_is, switch_there}
 use Rattle.world_log.proofs.Writing.{both_ok, three_ok}
 
 -- ---- a packet that comes in
@@ -58,8 +59,8 @@ module _ (parts : Parts) (before : List Item) (row s : ℕ) (header : Header) (o
       (come_tied (control_in parts) (setting_in parts) before parts.switches.items
       parts.log.travelling parts.packets row s header parts.ports own ready.tied ready.may
       ready.sound.owners its after changed
-      (come_ready (control_in parts) (setting_in parts) before parts.switches.items
-      parts.log.travelling parts.packets s header ready.tied ready.may)
+      (switch_there (control_in parts) (setting_in parts) before parts.switches.items
+      parts.log.travelling parts.packets s ready.tied ready.may.0)
       (switch_is (control_in parts) (setting_in parts) before parts.switches.items
       parts.log.travelling parts.packets s own ready.tied ready.may.0 its)
       changed_is with)) posted travels

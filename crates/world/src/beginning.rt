@@ -31,7 +31,7 @@ pub fn switches_of(
         → switches.items ≡ map (switch_begun net.now plan.placed)
         (range_with_len 0 (length net.now.switches))) }
 {
-    let count = net.switches.rows().len();
+    let count = net.switches.items().len();
     let mut switches = Vec::with_capacity(alloc, count)?;
     for number in 0..count {
         let tables = controller.tables(alloc, 1, number as u32)?;

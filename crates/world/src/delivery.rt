@@ -1,5 +1,5 @@
 //! Messages that are delivered: who hears them, and what is sent upon them.
-ghost use Rattle.std.specs.Prelude.{ℕ, ◌≡◌, ◌+◌, ◌-◌, ◌^◌, ◌<◌, ◌≤◌, ◌++◌, ◌∷◌, [], All, OnOk, OnErr, length, map};
+ghost use Rattle.std.specs.Prelude.{◌≡◌, ◌+◌, ◌-◌, ◌^◌, ◌<◌, ◌≤◌, ◌++◌, All, OnOk, OnErr, length, map};
 ghost use Rattle.bag.specs.Posts.{posted};
 ghost use Rattle.controller.specs.Controller.{ControllerValue, SettlesWith};
 ghost use Rattle.controller.specs.Sends.{NamesThere, marks_after, hearing};
@@ -107,5 +107,5 @@ fn tell_controller(
     ensures travelling { log.new.travelling ≡ log.old.travelling }
 {
     let sends = controller.hear(alloc, body)?;
-    log.note_acts(alloc, sends.acts())
+    log.note_acts(alloc, sends.items())
 }

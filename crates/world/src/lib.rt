@@ -18,15 +18,11 @@
 #![tactic(auto)]
 
 mod beginning;
-mod confirming;
-mod crashing;
+mod control;
 mod delivery;
 mod error;
-mod link_rows;
+mod failures;
 mod parts;
-mod resending;
-mod restarting;
-mod updating;
 mod world;
 
 pub use controller::PlanError;

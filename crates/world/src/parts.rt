@@ -1,5 +1,4 @@
-ghost use Rattle.std.specs.Prelude.{◌≡◌};
-ghost use Rattle.steps.specs.declared.step.Step.TheVariants.{Deliver as DeliverStep, Expire as ExpireStep, Forget as ForgetStep, Hop as HopStep, Lose as LoseStep, Packet as PacketStep};
+ghost use Rattle.steps.specs.declared.step.Step.TheVariants.{Expire as ExpireStep, Forget as ForgetStep, Hop as HopStep, Lose as LoseStep, Packet as PacketStep};
 ghost use Rattle.world.specs.Parts.{Goes, HasBegun, IsReadyForStep, Plays};
 
 use controller::Controller;

@@ -1,4 +1,4 @@
-ghost use Rattle.std.specs.Prelude.{◌≡◌, ◌+◌, ◌-◌, ◌^◌, ◌++◌, ◌<◌, ◌≤◌, ℕ, false, true, [], length, slice_index_or, All, OnOk, OnErr, IfOk, IfErr, IsErrOf, is_some};
+ghost use Rattle.std.specs.Prelude.{◌≡◌, ◌+◌, ◌-◌, ◌++◌, ◌<◌, ◌≤◌, false, true, [], length, slice_index_or, All, OnOk, OnErr, IfOk, IfErr, IsErrOf, is_some};
 ghost use Rattle.bag.specs.Posts.{next_waiting_post};
 ghost use Rattle.controller.specs.Plan.{RefusesPlan};
 ghost use Rattle.net_file.specs.Net.{IsNet};
@@ -84,7 +84,7 @@ impl World {
             near,
             switches,
             log: Log {
-                journal: Journal::new(alloc),
+                journal: Journal::empty(alloc),
                 travelling: Travelling::new(alloc),
                 bag: Bag::new(alloc),
             },

@@ -6,7 +6,6 @@ use Rattle.net_file.specs.Owners.{AreOwners}
 use Rattle.net_file.specs.declared.ports.Ports.{Ports}
 use Rattle.switch_core.specs.Answering.{CanLookUp}
 use Rattle.switch_core.specs.State.{SwitchValue}
-use Rattle.switch_ties.specs.SwitchOf.{switch_of}
 use Rattle.tunnel.specs.Moves.{here}
 use Rattle.update_machine.specs.LinkMasks.{near}
 use Rattle.update_machine.specs.Setting.{Setting}
@@ -18,6 +17,7 @@ use Rattle.log_ties.proofs.Words.{traveller_now}
 use Rattle.travelling.specs.Travelling.{Travellers, traveller}
 use Rattle.travelling.specs.declared.travelling.Traveller.{Traveller}
 use Rattle.world_ties.specs.Tied.{AreTied, Control}
+use Rattle.world_ties.proofs.Switches.{switch_is}
 
 pub known_of : (control : Control) (setting : Setting) (journal : List Item)
     (switches : List SwitchValue) (before : Travellers) (count : ℕ)
@@ -26,16 +26,7 @@ unfolding AreTied
 known_of control setting journal switches before count tied =
     reached_known setting journal tied.sound tied.reached
 
--- the switch of this number is as the journal says
-pub switch_is : (control : Control) (setting : Setting) (journal : List Item)
-    (switches : List SwitchValue) (before : Travellers) (count s : ℕ) (w : SwitchValue)
-    → AreTied setting journal switches before count control → s < length setting.net.switches
-    → w ≡ get_or switches s w → w ≡ switch_of setting journal s
-unfolding AreTied
-switch_is control setting journal switches before count s w tied there its =
-    its ∙ tied.each s w (omega (arith, there, tied.many))
-
--- and so are its links
+-- the links of a switch are as the journal says
 pub mask_is : (control : Control) (setting : Setting) (journal : List Item)
     (switches : List SwitchValue) (before : Travellers) (count s : ℕ)
     → AreTied setting journal switches before count control → s < length setting.net.switches
@@ -61,14 +52,6 @@ pub can_look_up : (control : Control) (setting : Setting) (journal : List Item)
 can_look_up control setting journal switches before count s w tied there its =
     looks_up_as setting journal s w (known_of control setting journal switches before count tied)
     there (switch_is control setting journal switches before count s w tied there its)
-
--- its number is below 64
-pub below_64 : (control : Control) (setting : Setting) (journal : List Item)
-    (switches : List SwitchValue) (before : Travellers) (count s : ℕ)
-    → AreTied setting journal switches before count control → s < length switches → s < 64
-unfolding AreTied
-below_64 control setting journal switches before count s tied there =
-    omega (arith, there, tied.many, tied.sound.net.few_switches)
 
 -- ---- a packet on its way
 

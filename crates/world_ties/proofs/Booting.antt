@@ -42,11 +42,12 @@ use Rattle.update_machine.proofs.CallerLemmas.{last_told_append, messages_keep, 
 use Rattle.world_log.specs.Sending.{act_items, act_posts}
 use Rattle.world_ties.specs.Tied.{AreTied, Control, is_up_link}
 use Rattle.travelling.specs.Travelling.{Travellers}
-use Rattle.world_ties.proofs.Delivering.{nothing_tied}
+use Rattle.world_ties.proofs.Delivering.{nothing_happens}
 use Rattle.world_ties.proofs.GoneSwitches.{up_as}
 use Rattle.log_ties.proofs.Known.{reached_known}
 use Rattle.world_ties.proofs.OneItem.{grown}
 use Rattle.log_ties.proofs.Posting.{bag_on}
+use Rattle.world_ties.proofs.Switches.{switch_is, switch_there}
 use Rattle.world_ties.proofs.Told.{tied_told}
 use Rattle.world_ties.proofs.Tying.{one_changes, same_links}
 use Rattle.world_ties.proofs.LinksChange.{caused_first}
@@ -58,25 +59,15 @@ same_filter now before (link ∷ links) same =
     ap (λ b. cond b (link ∷ filter now links) (filter now links)) (same link)
     ∙ ap (λ rest. cond (before link) (link ∷ rest) rest) (same_filter now before links same)
 
--- the switch is there
-pub boot_here : (control : Control) (setting : Setting) (journal : List Item)
-    (switches : List SwitchValue) (before : Travellers) (count s : ℕ)
-    → AreTied setting journal switches before count control → IsStep setting.net (length setting.policies) (Restart s)
-    → s < length switches
-unfolding AreTied
-boot_here control setting journal switches before count s tied may =
-    omega (arith, may, tied.many)
-
 module _ (control : Control) (setting : Setting) (journal : List Item)
     (switches : List SwitchValue) (before : Travellers) (count row s : ℕ) (own : SwitchValue)
     (tied : AreTied setting journal switches before count control)
     (may : IsStep setting.net (length setting.policies) (Restart s)) (own_at : own ≡ get_or switches s own) where
   boot_there : s < length switches
-  boot_there = boot_here control setting journal switches before count s tied may
+  boot_there = switch_there control setting journal switches before count s tied may
 
   own_is : own ≡ switch_of setting journal s
-  unfolding AreTied
-  own_is = own_at ∙ tied.each s own boot_there
+  own_is = switch_is control setting journal switches before count s own tied may own_at
 
   own_up : is_up journal s ≡ own.is_up
   own_up = sym (up_as setting journal s) ∙ ap (λ (w : SwitchValue). w.is_up) (sym own_is)
@@ -93,16 +84,12 @@ module _ (control : Control) (setting : Setting) (journal : List Item)
       × AreTied setting (grown journal row (Restart s) item.Nothing) switches before count control
   unfolding piece restart_items
   up_already up =
-      let is : piece setting journal row (Restart s) ≡ item.Row row (Restart s) ∷ nothing =
-      ap (λ b. item.Row row (Restart s) ∷ elim b [
+      nothing_happens control setting journal switches before count row (Restart s) tied may
+      (λ q. refl) (ap (λ b. item.Row row (Restart s) ∷ elim b [
         | true ↦ nothing
         | false ↦ put (item.Booted s (boot_of rowed s + 1) ∷ [])
             (λ booted. sends booted (hello_of booted s ∷ [])) rowed
-      ]) (rowed_up ∙ up) in (
-        is,
-        nothing_tied control setting journal switches before count row (Restart s) tied may
-            (λ q. refl) is,
-      )
+      ]) (rowed_up ∙ up))
 
   -- it has a next boot
   pub boot_next : own.is_up ≡ false → length control.posts < 990_000

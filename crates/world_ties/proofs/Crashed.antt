@@ -40,11 +40,12 @@ use Rattle.world_ties.specs.Tied.{AreTied, Control, is_up_link, up_links}
 use Rattle.log_ties.specs.Travellers.{traveller_in}
 use Rattle.travelling.specs.Travelling.{Travellers, WithoutAt, numbers_at, traveller}
 use Rattle.world_ties.proofs.ActItems.{SparesActs, acts_apart, acts_unnamed}
-use Rattle.world_ties.proofs.Delivering.{nothing_tied}
+use Rattle.world_ties.proofs.Delivering.{nothing_happens}
 use Rattle.world_ties.proofs.Losses.{losts_apart, losts_bring_none, losts_no_rows, traveller_lost}
 use Rattle.world_ties.proofs.OneItem.{grown}
 use Rattle.log_ties.proofs.Posting.{bag_on}
 use Rattle.world_ties.proofs.Standing.{among, among_numbers, numbers_are}
+use Rattle.world_ties.proofs.Switches.{switch_is}
 use Rattle.world_ties.proofs.Tying.{same_links}
 use Rattle.log_ties.proofs.Words.{traveller_along, traveller_now}
 use Rattle.world_ties.proofs.LinksChange.{one_relinks, one_advert, one_next, LinksChange, change_piece, change_may, change_tied}
@@ -88,15 +89,6 @@ spares_policies = record {
 
 -- ---- a switch that is there
 
--- the network has the switch
-pub crash_ready : (control : Control) (setting : Setting) (journal : List Item)
-    (switches : List SwitchValue) (before : Travellers) (count s : ℕ)
-    → AreTied setting journal switches before count control → IsStep setting.net (length setting.policies) (Crash s)
-    → s < length switches
-unfolding AreTied
-crash_ready control setting journal switches before count s tied may =
-    omega (arith, may, tied.many)
-
 -- it is the one in its place
 pub same_switch : (switches : List SwitchValue) (s : ℕ) (one other : SwitchValue)
     → s < length switches → one ≡ get_or switches s one → other ≡ get_or switches s other
@@ -113,15 +105,9 @@ pub stays_down : (control : Control) (setting : Setting) (journal : List Item)
     × AreTied setting (grown journal row (Crash s) item.Nothing) switches before count control
 unfolding AreTied switch_of
 stays_down control setting journal switches before count row s own tied may own_at down =
-    let there : s < length switches =
-    crash_ready control setting journal switches before count s tied may in
-    let is : piece setting journal row (Crash s) ≡ item.Row row (Crash s) ∷ item.Nothing ∷ [] =
-    down_piece setting journal row s
-    (sym (ap (λ (w : SwitchValue). w.is_up) (own_at ∙ tied.each s own there)) ∙ down) in (
-      is,
-      nothing_tied control setting journal switches before count row (Crash s) tied may
-          (λ q. refl) is,
-    )
+    nothing_happens control setting journal switches before count row (Crash s) tied may
+    (λ q. refl) (down_piece setting journal row s (sym (ap (λ (w : SwitchValue). w.is_up)
+    (switch_is control setting journal switches before count s own tied may own_at)) ∙ down))
 
 -- ---- links
 

@@ -86,29 +86,32 @@ forget_piece setting journal row n =
 
 -- ---- a step that does nothing
 
-pub nothing_tied : (control : Control) (setting : Setting) (journal : List Item)
+pub nothing_happens : (control : Control) (setting : Setting) (journal : List Item)
     (switches : List SwitchValue) (before : Travellers) (count row : ℕ) (step : Step)
     → AreTied setting journal switches before count control → IsStep setting.net (length setting.policies) step
     → ((q : ℕ) → IsFalse (concerns_calls q journal (item.Row row step)))
     → piece setting journal row step ≡ item.Row row step ∷ nothing
-    → AreTied setting (grown journal row step item.Nothing) switches before count control
+    → (piece setting journal row step ≡ item.Row row step ∷ nothing)
+    × AreTied setting (grown journal row step item.Nothing) switches before count control
 unfolding AreTied
-nothing_tied control setting journal switches before count row step tied may uncalled is =
-    tied_one control control.posts setting journal switches switches before count row step
-    item.Nothing tied (record {
-      may = may;
-      piece_is = is;
-      not_told = (refl, (refl, tt));
-      apart = λ q. (refl, (refl, tt));
-      no_links = (refl, (refl, tt));
-      as_before = refl;
-      as_many = refl;
-      each = switches_stay control setting journal switches before count
-          (item.Row row step ∷ item.Nothing ∷ []) tied (λ q. (refl, (refl, tt)))
-          (λ q. (uncalled q, (refl, tt)));
-      bag = bag_on journal (item.Row row step ∷ item.Nothing ∷ []) control.posts (refl, (refl, tt))
-          tied.bag;
-    })
+nothing_happens control setting journal switches before count row step tied may uncalled is = (
+  is,
+  tied_one control control.posts setting journal switches switches before count row step
+      item.Nothing tied (record {
+        may = may;
+        piece_is = is;
+        not_told = (refl, (refl, tt));
+        apart = λ q. (refl, (refl, tt));
+        no_links = (refl, (refl, tt));
+        as_before = refl;
+        as_many = refl;
+        each = switches_stay control setting journal switches before count
+            (item.Row row step ∷ item.Nothing ∷ []) tied (λ q. (refl, (refl, tt)))
+            (λ q. (uncalled q, (refl, tt)));
+        bag = bag_on journal (item.Row row step ∷ item.Nothing ∷ []) control.posts
+            (refl, (refl, tt)) tied.bag;
+      }),
+)
 
 -- ---- a message is forgotten
 
@@ -158,11 +161,7 @@ pub unforgotten : (control : Control) (setting : Setting) (journal : List Item)
     × AreTied setting (grown journal row (Forget n) item.Nothing) switches before count control
 unfolding AreTied
 unforgotten control setting journal switches before count row n tied may none =
-    let is : piece setting journal row (Forget n) ≡ item.Row row (Forget n) ∷ nothing =
-    forget_piece setting journal row n
+    nothing_happens control setting journal switches before count row (Forget n) tied may
+    (λ q. refl) (forget_piece setting journal row n
     ∙ ap (λ b. item.Row row (Forget n) ∷ (if b then item.Forgotten n ∷ [] else nothing))
-    (deliverable_as journal control.posts n tied.bag ∙ none) in (
-      is,
-      nothing_tied control setting journal switches before count row (Forget n) tied may
-          (λ q. refl) is,
-    )
+    (deliverable_as journal control.posts n tied.bag ∙ none))

@@ -1,5 +1,5 @@
 -- A cached rule times out.
-use Rattle.std.proofs.Common.{ℕ, zero, suc, ◌≡◌, ◌<◌, ◌==◌, false, Option, Some, None, List, [], ◌∷◌, ◌++◌, refl, ap, sym, ◌∙◌, length, get_or, set, append_assoc, arith}
+use Rattle.std.proofs.Common.{ℕ, zero, suc, ◌≡◌, ◌<◌, ◌==◌, false, Option, Some, None, List, [], ◌∷◌, ◌++◌, refl, ap, sym, ◌∙◌, length, get_or, set, append_assoc}
 use Rattle.std.specs.Prelude.{◌||◌, option_map, remove, slice_get}
 use Rattle.std.proofs.lemmas.List.{length-set}
 use Rattle.journal.specs.declared.item.Item.{Item}
@@ -21,6 +21,7 @@ use Rattle.log_ties.specs.Bags.{IsBagOf}
 use Rattle.travelling.specs.Travelling.{Travellers}
 use Rattle.world_ties.proofs.OneItem.{WritesOne, grown, tied_one}
 use Rattle.log_ties.proofs.Posting.{bag_on}
+use Rattle.world_ties.proofs.Switches.{switch_is, switch_there}
 use Rattle.world_ties.proofs.Tying.{one_changes}
 
 -- what the step writes, by the number of the message that brought the entry
@@ -108,15 +109,6 @@ expired_other setting journal row s q place (Some message) other =
     kept_is setting q journal (item.Row row (Expire s place) ∷ item.Expired s place message ∷ [])
     (refl, (ap (λ b. b || false) other, tt)) (refl, (refl, tt))
 
--- its switch is there
-pub expire_ready : (control : Control) (setting : Setting) (journal : List Item)
-    (switches : List SwitchValue) (before : Travellers) (count s place : ℕ)
-    → AreTied setting journal switches before count control → IsStep setting.net (length setting.policies) (Expire s place)
-    → s < length switches
-unfolding AreTied
-expire_ready control setting journal switches before count s place tied may =
-    omega (arith, may.0, tied.many)
-
 -- the item concerns no packet, no message and no call
 expired_writes : (control : Control) (setting : Setting) (journal : List Item)
     (switches : List SwitchValue) (row s place : ℕ) (changed : SwitchValue) (found : Option ℕ)
@@ -167,8 +159,9 @@ unfolding AreTied
 expired_tied control setting journal switches before count row s place own changed found tied may
     own_at changed_is found_is =
     let there : s < length switches =
-    expire_ready control setting journal switches before count s place tied may in
-    let own_is : own ≡ switch_of setting journal s = own_at ∙ tied.each s own there in
+    switch_there control setting journal switches before count s tied may.0 in
+    let own_is : own ≡ switch_of setting journal s =
+    switch_is control setting journal switches before count s own tied may.0 own_at in
     let at : message_at setting journal s place ≡ found =
     ap (λ (w : SwitchValue). option_map entry_message (slice_get w.cache.entries place))
     (sym own_is) ∙ sym found_is in

@@ -1,6 +1,6 @@
 -- A switch that is down is confirmed to be gone: what is written then, and what the parts are
 -- behind it.
-use Rattle.std.proofs.Common.{ℕ, ◌≡◌, ◌+◌, ◌<◌, true, false, List, [], ◌∷◌, ◌++◌, refl, ap, sym, ◌∙◌, length, get_or, arith}
+use Rattle.std.proofs.Common.{ℕ, ◌≡◌, ◌+◌, ◌<◌, true, false, List, [], ◌∷◌, ◌++◌, refl, ap, sym, ◌∙◌, length, get_or}
 use Rattle.control_ties.specs.Written.{AreWritten}
 use Rattle.control_ties.proofs.CallerLemmas.{confirms}
 use Rattle.controller.specs.Controller.{ControllerValue, SettlesWith}
@@ -26,10 +26,11 @@ use Rattle.world_ties.specs.Tied.{AreTied, Control}
 use Rattle.log_ties.specs.Bags.{IsBagOf}
 use Rattle.travelling.specs.Travelling.{Travellers}
 use Rattle.world_ties.proofs.ActItems.{written_is}
-use Rattle.world_ties.proofs.Delivering.{nothing_tied}
+use Rattle.world_ties.proofs.Delivering.{nothing_happens}
 use Rattle.log_ties.proofs.Known.{reached_known}
 use Rattle.world_ties.proofs.OneItem.{grown}
 use Rattle.log_ties.proofs.Posting.{bag_on}
+use Rattle.world_ties.proofs.Switches.{switch_is, switch_known}
 use Rattle.world_ties.proofs.Told.{tied_told}
 use Rattle.world_ties.proofs.Tying.{links_stay, up_stay}
 use Rattle.world_ties.proofs.Sendable.{may_note}
@@ -40,32 +41,13 @@ pub up_as : (setting : Setting) (journal : List Item) (s : ℕ)
 unfolding switch_of
 up_as setting journal s = refl
 
--- the switch is there, and the controller knows it
-pub gone_there : (control : Control) (setting : Setting) (journal : List Item)
-    (switches : List SwitchValue) (before : Travellers) (count s : ℕ)
-    → AreTied setting journal switches before count control → IsStep setting.net (length setting.policies) (Confirm s)
-    → s < length switches
-unfolding AreTied
-gone_there control setting journal switches before count s tied may =
-    omega (arith, may, tied.many)
-
-pub gone_known : (control : Control) (setting : Setting) (journal : List Item)
-    (switches : List SwitchValue) (before : Travellers) (count s : ℕ)
-    → AreTied setting journal switches before count control → IsStep setting.net (length setting.policies) (Confirm s)
-    → s < length control.controller.marks.switches
-unfolding AreTied
-gone_known control setting journal switches before count s tied may =
-    omega (arith, may, tied.controller.marks.many)
-
 module _ (control : Control) (setting : Setting) (journal : List Item)
     (switches : List SwitchValue) (before : Travellers) (count row s : ℕ) (own : SwitchValue)
     (tied : AreTied setting journal switches before count control)
     (may : IsStep setting.net (length setting.policies) (Confirm s)) (own_at : own ≡ get_or switches s own) where
   own_up : is_up journal s ≡ own.is_up
-  unfolding AreTied
-  own_up = sym (up_as setting journal s)
-      ∙ ap (λ (w : SwitchValue). w.is_up) (sym (own_at ∙ tied.each s own
-      (gone_there control setting journal switches before count s tied may)))
+  own_up = sym (up_as setting journal s) ∙ ap (λ (w : SwitchValue). w.is_up)
+      (sym (switch_is control setting journal switches before count s own tied may own_at))
 
   pub still_up : own.is_up ≡ true
       → (piece setting journal row (Confirm s) ≡ item.Row row (Confirm s) ∷ nothing)
@@ -76,15 +58,11 @@ module _ (control : Control) (setting : Setting) (journal : List Item)
       let here : is_up rowed s ≡ true =
       (switch_keeps setting s journal (item.Row row (Confirm s) ∷ []) (refl, tt)).up
       ∙ own_up ∙ up in
-      let is : piece setting journal row (Confirm s) ≡ item.Row row (Confirm s) ∷ nothing =
-      ap (λ b. item.Row row (Confirm s) ∷ elim b [
+      nothing_happens control setting journal switches before count row (Confirm s) tied may
+      (λ q. refl) (ap (λ b. item.Row row (Confirm s) ∷ elim b [
         | true ↦ nothing
         | false ↦ put (item.OverNow s ∷ []) (machine.settling setting) rowed
-      ]) here in (
-        is,
-        nothing_tied control setting journal switches before count row (Confirm s) tied may
-            (λ q. refl) is,
-      )
+      ]) here)
 
   module _ (new : ControllerValue) (down : own.is_up ≡ false)
       (settles : SettlesWith (at_switch s after_over control.controller.marks)
@@ -104,7 +82,8 @@ module _ (control : Control) (setting : Setting) (journal : List Item)
     unfolding AreTied
     confirms_so = confirms setting journal row s control.controller new
         (reached_known setting journal tied.sound tied.reached).caused tied.controller
-        (own_up ∙ down) (omega (arith, may, tied.controller.marks.many)) settles
+        (own_up ∙ down)
+        (switch_known control setting journal switches before count s tied may) settles
 
     pub gone_piece : piece setting journal row (Confirm s) ≡ item.Row row (Confirm s)
         ∷ item.OverNow s ∷ act_items (length control.posts + 1) acts

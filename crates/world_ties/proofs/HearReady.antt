@@ -1,5 +1,5 @@
 -- What a delivered message finds: few messages are sent upon it, and its switch can hear it.
-use Rattle.std.proofs.Common.{ℕ, ◌≡◌, ◌<◌, ◌≤◌, Some, List, ap, ◌∙◌, get_or, length, arith}
+use Rattle.std.proofs.Common.{ℕ, ◌≡◌, ◌<◌, Some, List, ap, ◌∙◌, get_or, length, arith}
 use Rattle.bag.specs.Posts.{IsMessageOf}
 use Rattle.ctrl_msg.specs.declared.message.Message.{Message}
 use Rattle.ctrl_msg.specs.declared.message.Receiver.TheVariants as receiver
@@ -52,10 +52,3 @@ pub usable_here : (control : Control) (setting : Setting) (journal : List Item)
     → get_or control.near s 0 ≡ near setting journal s
 unfolding AreTied
 usable_here control setting journal switches before count s tied below = tied.usable s below
-
-pub few_switches : (control : Control) (setting : Setting) (journal : List Item)
-    (switches : List SwitchValue) (before : Travellers) (count : ℕ)
-    → AreTied setting journal switches before count control → length switches ≤ 64
-unfolding AreTied
-few_switches control setting journal switches before count tied =
-    omega (arith, tied.many, tied.sound.net.few_switches)

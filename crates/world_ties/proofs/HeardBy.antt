@@ -41,7 +41,7 @@ use Rattle.log_ties.specs.Bags.{IsBagOf}
 use Rattle.travelling.specs.Travelling.{Travellers}
 use Rattle.world_log.proofs.Sends.{posts_as_acts, sent_as_acts}
 use Rattle.world_ties.proofs.ActItems.{written_is}
-use Rattle.world_ties.proofs.Delivering.{deliverable_as, nothing_tied, sent_as}
+use Rattle.world_ties.proofs.Delivering.{deliverable_as, nothing_happens, sent_as}
 use Rattle.log_ties.proofs.Known.{reached_known}
 use Rattle.world_ties.proofs.OneItem.{grown}
 use Rattle.log_ties.proofs.Posting.{bag_delivered, bag_on, within_posts}
@@ -84,12 +84,9 @@ pub undelivered : (control : Control) (setting : Setting) (journal : List Item)
     × AreTied setting (grown journal row (Deliver n) item.Nothing) switches before count control
 unfolding AreTied
 undelivered control setting journal switches before count row n tied may none =
-    let is : piece setting journal row (Deliver n) ≡ item.Row row (Deliver n) ∷ nothing =
-    none_piece setting journal row n (deliverable_as journal control.posts n tied.bag ∙ none) in (
-      is,
-      nothing_tied control setting journal switches before count row (Deliver n) tied may
-          (λ q. refl) is,
-    )
+    nothing_happens control setting journal switches before count row (Deliver n) tied may
+    (λ q. refl)
+    (none_piece setting journal row n (deliverable_as journal control.posts n tied.bag ∙ none))
 
 -- ---- the message
 

@@ -25,11 +25,12 @@ use Rattle.travelling.specs.declared.travelling.Traveller.{Traveller}
 use Rattle.log_ties.proofs.CanAsk.{CanAsk}
 use Rattle.log_ties.proofs.HopPieces.{hop_called, hop_later, hop_others, hop_own, hop_packets, hop_piece, left_piece}
 use Rattle.world_ties.proofs.Asking.{known_of}
-use Rattle.log_ties.proofs.Known.{Known, traveller_stays}
+use Rattle.log_ties.proofs.Known.{Known}
 use Rattle.log_ties.proofs.Later.{hop_sends}
+use Rattle.world_ties.proofs.Delivering.{nothing_happens}
 use Rattle.world_ties.proofs.Losing.{travels_as}
 use Rattle.log_ties.proofs.Posting.{SendFrom, posts_in}
-use Rattle.world_ties.proofs.Tying.{Steps, numbered, one_changes, packets_are, switches_are, switches_stay, tied_more, tied_silent}
+use Rattle.world_ties.proofs.Tying.{Steps, numbered, one_changes, packets_are, switches_are, tied_more}
 
 -- ---- the tie
 
@@ -142,21 +143,5 @@ unfolding AreTied
 hop_left control setting journal switches before count row i tied may resting =
     let off : travels journal i ≡ false =
     sym (ap is_some (tied.packet i) ∙ travels_as setting journal i) ∙ resting in
-    let piece_is : piece setting journal row (Hop i) ≡ item.Row row (Hop i) ∷ item.Nothing ∷ [] =
-    left_piece setting journal row i off in
-    let kept : AreTied setting (journal ++ item.Row row (Hop i) ∷ item.Nothing ∷ []) switches
-    before count control =
-    tied_silent control setting journal switches switches before before count count row (Hop i)
-    (item.Nothing ∷ []) tied (record {
-      may = may;
-      piece_is = piece_is;
-      not_told = refl;
-      sends = tt;
-      as_many = refl;
-      each = switches_stay control setting journal switches before count
-          (item.Row row (Hop i) ∷ item.Nothing ∷ []) tied (λ s. (refl, (refl, tt)))
-          (λ s. (ap (λ x. x && is_at s (place_of journal i)) off, (refl, tt)));
-      travels = λ q. tied.packet q
-          ∙ sym (traveller_stays setting journal (item.Row row (Hop i) ∷ item.Nothing ∷ []) q
-          (known_of control setting journal switches before count tied) (refl, (refl, tt)));
-    }) (omega arith) refl in (piece_is, kept)
+    nothing_happens control setting journal switches before count row (Hop i) tied may
+    (λ s. ap (λ x. x && is_at s (place_of journal i)) off) (left_piece setting journal row i off)

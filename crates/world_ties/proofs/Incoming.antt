@@ -32,20 +32,11 @@ use Rattle.world_ties.proofs.Asking.{known_of, seen}
 use Rattle.log_ties.proofs.Coming.{ComesTo, come_goes, come_law, looking}
 use Rattle.log_ties.proofs.Known.{Known}
 use Rattle.log_ties.proofs.Later.{entered_sends}
-use Rattle.log_ties.proofs.Posting.{SendFrom, apart_policies, posts_in}
+use Rattle.log_ties.proofs.Posting.{SendFrom, are_apart, posts_in}
 use Rattle.world_ties.proofs.Tying.{Steps, numbered, one_changes, packets_are, switches_are, tied_more}
 use Rattle.log_ties.proofs.Words.{same_targets}
 
 -- ---- the step
-
--- its switch is there
-pub come_ready : (control : Control) (setting : Setting) (journal : List Item)
-    (switches : List SwitchValue) (before : Travellers) (count s : ℕ) (header : Header)
-    → AreTied setting journal switches before count control → IsStep setting.net (length setting.policies) (PacketStep s header)
-    → s < length switches
-unfolding AreTied
-come_ready control setting journal switches before count s header tied may =
-    omega (arith, may.0, tied.many)
 
 -- its number has 32 bits
 pub come_fits : (control : Control) (setting : Setting) (journal : List Item)
@@ -149,7 +140,7 @@ module _ (control : Control) (setting : Setting) (journal : List Item)
         (come_goes setting journal row i s taken header own near ports comes)
         (λ leg. same_targets setting (journal ++ first ∷ []) (item.Entered i s header ∷ [])
         (refl, tt) leg ∙ same_targets setting journal (first ∷ []) (refl, tt) leg)
-        (refl, apart_policies number (journal ++ first ∷ []) items sends)
+        (refl, (are_apart number (journal ++ first ∷ []) items sends).policies)
         (packets_are control setting journal switches before count tied q);
   }
 

@@ -1,3 +1,4 @@
+pub mod Switches
 pub mod Losing
 pub mod Tying
 pub mod Firsts

@@ -37,7 +37,7 @@ use Rattle.update_machine.proofs.CallerLemmas.{last_told_append}
 use Rattle.usable_links.specs.Linking.{AreRelinked, SetsLink, all_told, link_step, near_all}
 use Rattle.world_ties.specs.Tied.{AreTied, Control, is_up_link, up_links}
 use Rattle.travelling.specs.Travelling.{Travellers}
-use Rattle.world_ties.proofs.Delivering.{nothing_tied}
+use Rattle.world_ties.proofs.Delivering.{nothing_happens}
 use Rattle.world_ties.proofs.OneItem.{grown}
 use Rattle.log_ties.proofs.Posting.{bag_on}
 use Rattle.world_ties.proofs.LinksChange.{LinksChange, change_piece, change_may, unmoved, change_tied}
@@ -224,15 +224,11 @@ module _ (control : Control) (setting : Setting) (journal : List Item)
       → (piece setting journal row step ≡ item.Row row step ∷ nothing)
       × AreTied setting (grown journal row step item.Nothing) switches before count control
   same_tied same =
-      let is : piece setting journal row step ≡ item.Row row step ∷ nothing =
-      link_piece setting journal row one two up
+      nothing_happens control setting journal switches before count row step tied may
+      (λ q. uncalled journal q row one two up) (link_piece setting journal row one two up
       ∙ ap (λ items. item.Row row step ∷ items)
       (same_items setting journal (journal ++ item.Row row step ∷ []) one two up
-      (ap (λ b. beq b up) (sym end_is) ∙ same)) in (
-        is,
-        nothing_tied control setting journal switches before count row step tied may
-            (λ q. uncalled journal q row one two up) is,
-      )
+      (ap (λ b. beq b up) (sym end_is) ∙ same)))
 
   module _ (links : List ℕ) (other : beq (has (get_or control.links one 0) two) up ≡ false)
       (sets : SetsLink control.links one two up links)

@@ -1,5 +1,5 @@
 -- A packet is lost.
-use Rattle.std.proofs.Common.{ℕ, ◌≡◌, ◌==◌, Bool, true, false, if◌then◌else◌, Some, None, List, [], ◌∷◌, ◌++◌, refl, ap, sym, ◌∙◌, eqb-true, arith, length}
+use Rattle.std.proofs.Common.{ℕ, ◌≡◌, ◌==◌, Bool, true, false, if◌then◌else◌, Option, Some, None, List, [], ◌∷◌, ◌++◌, refl, ap, sym, ◌∙◌, eqb-true, arith, length}
 use Rattle.std.specs.Prelude.{is_some}
 use Rattle.std.proofs.lemmas.Bool.Decides.{nat_tests}
 use Rattle.journal.specs.declared.item.Item.{Item}
@@ -13,10 +13,12 @@ use Rattle.steps.specs.Steps.{IsStep}
 use Rattle.update_machine.specs.Setting.{Setting}
 use Rattle.way_laws.specs.Facts.{what_is_known}
 use Rattle.way_laws.proofs.Words.{words_grow}
-use Rattle.world_ties.specs.Tied.{AreTied, Control}
+use Rattle.world_ties.specs.Tied.{AreTied, Control, Tied}
 use Rattle.log_ties.specs.Travellers.{traveller_in}
 use Rattle.travelling.specs.Travelling.{Travellers, WithOne, traveller}
 use Rattle.log_ties.proofs.Known.{Known, reached_known, traveller_stays}
+use Rattle.world_ties.proofs.Delivering.{nothing_happens}
+use Rattle.world_ties.proofs.OneItem.{grown}
 use Rattle.world_ties.proofs.Tying.{switches_stay, tied_silent}
 use Rattle.log_ties.proofs.Words.{traveller_along}
 
@@ -99,51 +101,44 @@ lost control setting journal switches before after count row i tied may travelli
     )
 
 -- of a packet that didn't travel, nothing changes
-stayed : (setting : Setting) (journal : List Item) (row i : ℕ) (before : Travellers) (q : ℕ)
-    (b : Bool) → Known setting journal → (q == i) ≡ b → travels journal i ≡ false
-    → traveller before q ≡ traveller_in setting journal q
-    → (if b then None else traveller before q)
-    ≡ traveller_in setting (journal ++ item.Row row (Lose i) ∷ item.Nothing ∷ []) q
-unfolding traveller_in
-stayed setting journal row i before q b knows is off was =
-    by_test b is
-    ∙ sym (traveller_stays setting journal (item.Row row (Lose i) ∷ item.Nothing ∷ []) q knows
-    (refl, (refl, tt)))
+stayed : (before : Travellers) (i q : ℕ) (b : Bool) → (q == i) ≡ b
+    → is_some (traveller before i) ≡ false
+    → (if b then None else traveller before q) ≡ traveller before q
+stayed before i q true is resting =
+    sym (none_there (traveller before q) (ap (λ k. is_some (traveller before k)) (eqb-true _ _ is)
+    ∙ resting))
   where
-    by_test : (b : Bool) → (q == i) ≡ b
-        → (if b then None else traveller before q) ≡ traveller_in setting journal q
-    by_test true is =
-        let same : travels journal q ≡ false = ap (travels journal) (eqb-true _ _ is) ∙ off in
-        rw same refl
-    by_test false is = was
+    none_there : {X : Type 0} (o : Option X) → is_some o ≡ false → o ≡ None
+    none_there None none = refl
+    none_there (Some x) none = absurd cc
+stayed before i q false is resting = refl
 
 pub not_lost : (control : Control) (setting : Setting) (journal : List Item)
     (switches : List SwitchValue) (before after : Travellers) (count row i : ℕ)
     → AreTied setting journal switches before count control → IsStep setting.net (length setting.policies) (Lose i)
     → is_some (traveller before i) ≡ false → WithOne before i None after
     → (piece setting journal row (Lose i) ≡ item.Row row (Lose i) ∷ item.Nothing ∷ [])
-    × AreTied setting (journal ++ item.Row row (Lose i) ∷ item.Nothing ∷ []) switches after count
-    control
+    × AreTied setting (grown journal row (Lose i) item.Nothing) switches after count control
 unfolding AreTied
 not_lost control setting journal switches before after count row i tied may resting without =
     let off : travels journal i ≡ false =
     sym (ap is_some (tied.packet i) ∙ travels_as setting journal i) ∙ resting in
-    let is : piece setting journal row (Lose i) ≡ item.Row row (Lose i) ∷ item.Nothing ∷ [] =
-    lose_piece setting journal row i
-    ∙ ap (λ b. item.Row row (Lose i) ∷ (if b then item.Lost i ∷ [] else nothing)) off in (
-      is,
-      tied_silent control setting journal switches switches before after count count row (Lose i)
-          (item.Nothing ∷ []) tied (record {
-            may = may;
-            piece_is = is;
-            not_told = refl;
-            sends = tt;
-            as_many = refl;
-            each = switches_stay control setting journal switches before count
-                (item.Row row (Lose i) ∷ item.Nothing ∷ []) tied (λ s. (refl, (refl, tt)))
-                (λ s. (refl, (refl, tt)));
-            travels = λ q. without q
-                ∙ stayed setting journal row i before q (q == i)
-                (reached_known setting journal tied.sound tied.reached) refl off (tied.packet q);
-          }) (omega arith) refl,
+    let still : (piece setting journal row (Lose i) ≡ item.Row row (Lose i) ∷ nothing)
+    × Tied setting (grown journal row (Lose i) item.Nothing) switches before count control =
+    nothing_happens control setting journal switches before count row (Lose i) tied may
+    (λ q. refl) (lose_piece setting journal row i
+    ∙ ap (λ b. item.Row row (Lose i) ∷ (if b then item.Lost i ∷ [] else nothing)) off) in (
+      still.0,
+      record {
+        sound = still.1.sound;
+        reached = still.1.reached;
+        many = still.1.many;
+        each = still.1.each;
+        packet = λ q. without q ∙ stayed before i q (q == i) refl resting ∙ still.1.packet q;
+        counted = still.1.counted;
+        controller = still.1.controller;
+        bag = still.1.bag;
+        up = still.1.up;
+        usable = still.1.usable;
+      },
     )

@@ -34,10 +34,11 @@ use Rattle.world_ties.specs.Tied.{AreTied, Control}
 use Rattle.log_ties.specs.Bags.{IsBagOf}
 use Rattle.travelling.specs.Travelling.{Travellers}
 use Rattle.world_ties.proofs.ActItems.{written_is}
-use Rattle.world_ties.proofs.Delivering.{nothing_tied}
+use Rattle.world_ties.proofs.Delivering.{nothing_happens}
 use Rattle.log_ties.proofs.Known.{reached_known}
 use Rattle.world_ties.proofs.OneItem.{grown}
 use Rattle.log_ties.proofs.Posting.{bag_on}
+use Rattle.world_ties.proofs.Switches.{switch_is, switch_known}
 use Rattle.world_ties.proofs.Told.{tied_told}
 use Rattle.world_ties.proofs.Tying.{links_stay, up_stay}
 use Rattle.world_ties.proofs.Sendable.{may_note}
@@ -101,23 +102,6 @@ sent_tied setting journal switches before after count control posts bag same sta
     (subst (λ (moving : Travellers). AreTied setting journal switches moving count
     (record control { posts = posts })) (sym stayed) tied)
 
--- the switch is there
-pub again_here : (control : Control) (setting : Setting) (journal : List Item)
-    (switches : List SwitchValue) (before : Travellers) (count s : ℕ)
-    → AreTied setting journal switches before count control → IsStep setting.net (length setting.policies) (Resend s)
-    → (s < length switches) × (s < 64)
-unfolding AreTied
-again_here control setting journal switches before count s tied may =
-    (omega (arith, may, tied.many), omega (arith, may, tied.sound.net.few_switches))
-
-pub again_known : (control : Control) (setting : Setting) (journal : List Item)
-    (switches : List SwitchValue) (before : Travellers) (count s : ℕ)
-    → AreTied setting journal switches before count control → IsStep setting.net (length setting.policies) (Resend s)
-    → s < length control.controller.marks.switches
-unfolding AreTied
-again_known control setting journal switches before count s tied may =
-    omega (arith, may, tied.controller.marks.many)
-
 module _ (control : Control) (setting : Setting) (journal : List Item)
     (switches : List SwitchValue) (before : Travellers) (count row s : ℕ) (own : SwitchValue)
     (tied : AreTied setting journal switches before count control)
@@ -132,14 +116,12 @@ module _ (control : Control) (setting : Setting) (journal : List Item)
   acts = map Post messages ++ resending control.controller s
 
   own_is : own ≡ switch_of setting rowed s
-  unfolding AreTied
-  own_is = own_at
-      ∙ tied.each s own (again_here control setting journal switches before count s tied may).0
+  own_is = switch_is control setting journal switches before count s own tied may own_at
       ∙ sym (kept_is setting s journal (item.Row row (Resend s) ∷ []) (refl, tt) (refl, tt))
 
   near_is : get_or control.near s 0 ≡ near setting rowed s
   unfolding AreTied
-  near_is = tied.usable s (again_here control setting journal switches before count s tied may).1
+  near_is = tied.usable s (omega (arith, may, tied.sound.net.few_switches))
       ∙ sym (near_stays setting s journal (item.Row row (Resend s) ∷ []) (refl, tt))
 
   -- what a switch tells again, as the journal says
@@ -166,16 +148,11 @@ module _ (control : Control) (setting : Setting) (journal : List Item)
       × AreTied setting (grown journal row (Resend s) item.Nothing) switches before count control
   unfolding AreTied
   silent none =
-      let is : piece setting journal row (Resend s) ≡ item.Row row (Resend s) ∷ nothing =
-      (resends_nothing setting journal row s control.controller
+      nothing_happens control setting journal switches before count row (Resend s) tied may
+      (λ q. refl) (resends_nothing setting journal row s control.controller
       (reached_known setting journal tied.sound tied.reached).caused tied.controller
-      (again_known control setting journal switches before count s tied may)
+      (switch_known control setting journal switches before count s tied may)
       (sym acts_are ∙ none_there acts none)).same
-      in (
-        is,
-        nothing_tied control setting journal switches before count row (Resend s) tied may
-            (λ q. refl) is,
-      )
 
   -- ---- something is sent
 
@@ -190,7 +167,7 @@ module _ (control : Control) (setting : Setting) (journal : List Item)
     unfolding AreTied
     resent_so = resends_some setting journal row s control.controller
         (reached_known setting journal tied.sound tied.reached).caused tied.controller
-        (again_known control setting journal switches before count s tied may)
+        (switch_known control setting journal switches before count s tied may)
         (λ e. some_there acts some (acts_are ∙ e))
 
     pub again_piece : piece setting journal row (Resend s)

@@ -89,9 +89,9 @@ module _ (control : Control) (setting : Setting) (journal : List Item)
           tied.packet i ∙ ap (λ b. if b then Some t else None) on in
           let is : IsStanding setting journal i t =
           standing_of control setting journal switches before count i t tied some in
-          let here : get_or t.tunnel.route t.tunnel.place 0 ≡ is.place =
+          let here : get_or t.tunnel.route t.tunnel.place 0 ≡ is.switch =
           ap (λ (u : Traveller). get_or u.tunnel.route u.tunnel.place 0) is.is
-          ∙ got (what_is_known journal i).route (what_is_known journal i).hops is.place is.stands.here in
+          ∙ got (what_is_known journal i).route (what_is_known journal i).hops is.switch is.stands.here in
           ap (stands_at s) some ∙ ap (λ k. k == s) here
           ∙ sym (ap (λ b. b && is_at s (place_of journal i)) on
           ∙ ap (is_at s) is.stands.stands)

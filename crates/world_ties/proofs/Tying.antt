@@ -27,7 +27,7 @@ use Rattle.log_ties.specs.Bags.{IsBagOf}
 use Rattle.log_ties.specs.Travellers.{traveller_in}
 use Rattle.travelling.specs.Travelling.{Travellers, traveller}
 use Rattle.log_ties.proofs.Known.{reached_known, reached_more}
-use Rattle.log_ties.proofs.Posting.{SendFrom, apart_links, bag_sends, posts_in}
+use Rattle.log_ties.proofs.Posting.{SendFrom, are_apart, bag_sends, posts_in}
 
 -- where one switch became what it is now, and another one stays if it isn't that one
 pub one_changes : (setting : Setting) (journal after : List Item) (switches : List SwitchValue)
@@ -218,14 +218,14 @@ tied_more control setting journal switches others before after count next row st
       up = up_stay control setting journal switches before count
           (item.Row row step ∷ items) tied (
             refl,
-            apart_links (next_message journal) (journal ++ item.Row row step ∷ []) items
-                steps.sends,
+            (are_apart (next_message journal) (journal ++ item.Row row step ∷ []) items
+                steps.sends).links,
           );
       usable = links_stay control setting journal switches before count
           (item.Row row step ∷ items) tied (
             refl,
-            apart_links (next_message journal) (journal ++ item.Row row step ∷ []) items
-                steps.sends,
+            (are_apart (next_message journal) (journal ++ item.Row row step ∷ []) items
+                steps.sends).links,
           );
       bag = bag_sends (next_message journal) journal (item.Row row step ∷ items) control.posts
           steps.sends

@@ -6,16 +6,20 @@ use Rattle.placement.specs.Placement.{AreFirst}
 use Rattle.placement.proofs.FirstLemmas.{first_there, first_fits, first_distinct}
 use Rattle.placement.proofs.TurnLemmas.{Loaded, loaded_none, loaded_more, loaded_refused, placing_within, placing_all, placement_is, refusal_is}
 use Rattle.placement.proofs.place.Goals as goal
-use Rattle.placement.proofs.place.Goals.{After-items}
+use Rattle.placement.proofs.place.Goals.{After-items, After-number_at-size}
 
 -- the turn that the loop has come to
-turn_of : (sizes rooms : List ℕ) (backups : ℕ) (loads : List ℕ) (placement : List (List ℕ))
-    (order : List ℕ) (k : ℕ) → k < length order → Loaded sizes rooms backups loads placement
-    (take k order) (drop k order) → Loaded sizes rooms backups loads placement (take k order)
-    (get_or order k 0 ∷ drop (k + 1) order)
-turn_of sizes rooms backups loads placement order k within loaded =
-    subst (Loaded sizes rooms backups loads placement (take k order)) (drop_more order k 0 within)
-    loaded
+turn : (c : After-number_at-size)
+    → let order = c.deref-partition-items.result.now in
+    let k = c.loop-partition.partition-index in
+    Loaded c.args.sizes.now c.args.rooms.now c.args.backups c.loop-partition.loads.items
+    c.loop-partition.placement.items (take k order) (get_or order k 0 ∷ drop (k + 1) order)
+turn c =
+    let order = c.deref-partition-items.result.now in
+    let k = c.loop-partition.partition-index in
+    subst (Loaded c.args.sizes.now c.args.rooms.now c.args.backups c.loop-partition.loads.items
+    c.loop-partition.placement.items (take k order))
+    (drop_more order k 0 c.loop-partition-test.true) c.loop-partition.invariant
 
 none_yet : (loads : List ℕ) (n s : ℕ) → loads ≡ replicate n 0 → get_or loads s 0 ≡ 0
 none_yet loads n s is = grind (arith, common_steps)
@@ -40,9 +44,7 @@ pub returns-in_default-clause-refused : goal.returns-in_default-clause-refused
 returns-in_default-clause-refused c =
     let order = c.deref-partition-items.result.now in
     let k = c.loop-partition.partition-index in
-    let here = turn_of c.args.sizes.now c.args.rooms.now c.args.backups c.loop-partition.loads.items
-    c.loop-partition.placement.items order k c.loop-partition-test.true
-    c.loop-partition.invariant in
+    let here = turn (goal.at.returns-in_default-clause-refused c).After-number_at-size in
     let refused = loaded_refused c.args.sizes.now c.args.rooms.now c.args.backups
     c.loop-partition.loads.items c.loop-partition.placement.items (take k order)
     (get_or order k 0) (drop (k + 1) order) here
@@ -84,9 +86,7 @@ pub index_mut-requires : goal.index_mut-requires
 index_mut-requires c =
     let order = c.deref-partition-items.result.now in
     let k = c.loop-partition.partition-index in
-    let here = turn_of c.args.sizes.now c.args.rooms.now c.args.backups c.loop-partition.loads.items
-    c.loop-partition.placement.items order k c.loop-partition-test.true
-    c.loop-partition.invariant in
+    let here = turn (goal.at.index_mut-requires c).After-number_at-size in
     let within = placing_within c.args.sizes.now c.args.rooms.now c.args.backups
     c.loop-partition.placement.items (take k order) (get_or order k 0) (drop (k + 1) order)
     here.placing in
@@ -103,8 +103,7 @@ loop-partition-preserved c =
     let k = c.loop-partition.partition-index in
     let loads = c.loop-partition.loads.items in
     let sizes = c.args.sizes.now in
-    let here = turn_of sizes c.args.rooms.now c.args.backups loads c.loop-partition.placement.items
-    order k c.loop-partition-test.true c.loop-partition.invariant in
+    let here = turn (goal.at.loop-partition-preserved c).After-number_at-size in
     let first : AreFirst (λ s. get_or loads s 0) c.args.rooms.now
     (get_or sizes (get_or order k 0) 0) (1 + c.args.backups) c.in-Some.targets =
     rw (← c.deref.ensures.value, ← c.number_at-size.ensures)

@@ -5,21 +5,15 @@ use Rattle.csv.specs.Records.{fields_of}
 use Rattle.policy_rules.specs.Read.{HasSmallPort}
 use Rattle.policy_rules.specs.declared.policy.Row.{Row}
 use Rattle.policy_file.specs.Reading.{State, row_read}
-use Rattle.policy_file.proofs.Rows.{ends_at, next_of, refused_row, state_push, too_many}
+use Rattle.policy_file.proofs.Rows.{ended, next_of, refused_row, state_push, too_many}
 use Rattle.policy_file.proofs.read.read_rows.Goals as goal
 
 pub returns-then-not-branch-clause-read : goal.returns-then-not-branch-clause-read
 returns-then-not-branch-clause-read c =
     let known = c.loop-records.invariant in
-    record {
-      stated = known.stated;
-      few = known.few;
-      within = known.within;
-      ends = ends_at c.args.records.now (length c.loop-records.rows.items)
-          (fields_of c.read_next.new.fields) c.read_next.new.self c.loop-records.records
-          c.in_ok-read_next.field-0 c.if-not-branch.true known.left c.in_ok-read_next.ensures.takes
-          known.within;
-    }
+    ended c.args.records.now c.loop-records.rows.items (fields_of c.read_next.new.fields)
+    c.read_next.new.self c.loop-records.records c.in_ok-read_next.field-0 known.stated known.few
+    known.within c.if-not-branch.true known.left c.in_ok-read_next.ensures.takes
 
 pub returns-in-Err-clause-read : goal.returns-in-Err-clause-read
 returns-in-Err-clause-read c =
@@ -74,15 +68,9 @@ loop-records-preserved c =
 pub returns-then-not-branch-2-clause-read : goal.returns-then-not-branch-2-clause-read
 returns-then-not-branch-2-clause-read c =
     let known = c.loop-records.invariant in
-    record {
-      stated = known.stated;
-      few = known.few;
-      within = known.within;
-      ends = ends_at c.args.records.now (length c.loop-records.rows.items)
-          (fields_of c.read_next-2.new.fields) c.read_next-2.new.self c.loop-records.records
-          c.in_ok-read_next-2.field-0 c.if-not-branch-2.true known.left
-          c.in_ok-read_next-2.ensures.takes known.within;
-    }
+    ended c.args.records.now c.loop-records.rows.items (fields_of c.read_next-2.new.fields)
+    c.read_next-2.new.self c.loop-records.records c.in_ok-read_next-2.field-0 known.stated
+    known.few known.within c.if-not-branch-2.true known.left c.in_ok-read_next-2.ensures.takes
 
 pub returns-clause-read : goal.returns-clause-read
 returns-clause-read c =

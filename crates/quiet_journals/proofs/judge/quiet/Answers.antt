@@ -36,7 +36,7 @@ returns-then-not-is_settled c = λ setting net plain.
     let journal = c.args.journal.now in
     let marks = c.in_ok-delivered.delivered.items in
     let rows = c.in_ok-rows.rows.items in
-    let count = ap (λ (rows : List SwitchRow). length rows) c.rows.ensures in
+    let count = ap (λ (rows : List SwitchRow). length rows) c.items.ensures in
     let of_net = ap (λ (of : Net). length of.switches) net in
     let test = c.loop-switch-test.true in
     let within : s < length rows = omega (arith, test, c.in_ok-rows.ensures.count) in
@@ -55,8 +55,8 @@ pub returns : goal.returns
 returns c = λ setting net plain.
     let journal = c.args.journal.now in
     let marks = c.in_ok-delivered.delivered.items in
-    let all : length c.rows.result.now ≤ c.loop-switch.switch = c.loop-switch-test.false in
-    let count = ap (λ (rows : List SwitchRow). length rows) c.rows.ensures in
+    let all : length c.items.result.now ≤ c.loop-switch.switch = c.loop-switch-test.false in
+    let count = ap (λ (rows : List SwitchRow). length rows) c.items.ensures in
     let of_net = ap (λ (of : Net). length of.switches) net in
     answers_yes setting journal marks plain
     (marks_here c.items-items.result.now journal marks c.items-items.ensures

@@ -11,6 +11,6 @@ returns c =
     (λ now waiting are. noted_in_lane c.args.matters c.args.is_delivered c.args.next.now waiting
     c.args.lanes.now.items _ c.lane_of-lane.result c.index_mut.result.now
     (record { messages = c.note.new.messages }) are
-    (c.lane_of-lane.ensures ∙ ap (λ (m : Message). lane_of m.body) c.message.ensures)
+    (c.lane_of-lane.ensures ∙ ap (λ (m : Message). lane_of m.body) c.get.ensures)
     c.index_mut.ensures.value refl now)
     c.note.ensures

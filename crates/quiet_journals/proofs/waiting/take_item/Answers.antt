@@ -15,7 +15,7 @@ returns-in-Sent-clause-messages c =
     let matter = c.matters-matters.result in
     let is_delivered = c.is_marked-is_delivered.result in
     let matters_is : matter ≡ matters_to life boot message =
-    c.matters-matters.ensures ∙ ap (λ (m : Message). matters_to life boot m) c.message.ensures in
+    c.matters-matters.ensures ∙ ap (λ (m : Message). matters_to life boot m) c.get.ensures in
     on_ok_weaker c.note_in_lane.result
     (λ now waiting are. subst (λ (ms : List Message). AreLanes ms c.note_in_lane.new.lanes.items)
     (ap (λ m. noted m is_delivered message waiting) matters_is

@@ -3,6 +3,7 @@ use Rattle.std.specs.Int.{bit_at, bit_not, w64}
 use Rattle.std.specs.Int.Bits.{bit_and, bit_or}
 use Rattle.std.specs.Prelude.{◌||◌, if◌then◌else◌}
 use Rattle.std.proofs.lemmas.Nat.Bits.{bit_at_clear_other, bit_at_clear_same}
+use Rattle.std.proofs.lemmas.Bool.{or_right}
 use Rattle.masks.specs.Masks.{has}
 use Rattle.masks.proofs.CallerLemmas.{has-or, has-pow_other, has-pow_same}
 use Rattle.usable_links.proofs.up_links.set_end.Goals as goal
@@ -13,10 +14,6 @@ with_end : (mask other new : ℕ) (up : Bool) → up ≡ true → new ≡ bit_or
 with_end mask other new up is new_is k below =
     ap (λ m. has m k) new_is ∙ has-or mask (2 ^ other) k ∙ by_place (other == k) refl
   where
-    or_true : (b : Bool) → (b || true) ≡ true
-    or_true true = refl
-    or_true false = refl
-
     or_false : (b : Bool) → (b || false) ≡ b
     or_false true = refl
     or_false false = refl
@@ -25,7 +22,7 @@ with_end mask other new up is new_is k below =
         → (has mask k || has (2 ^ other) k) ≡ (if b then up else has mask k)
     by_place true e =
         ap (λ j. has mask k || has (2 ^ other) j) (sym (eqb-true other k e))
-        ∙ ap (λ b. has mask k || b) (has-pow_same other) ∙ or_true (has mask k) ∙ sym is
+        ∙ ap (λ b. has mask k || b) (has-pow_same other) ∙ or_right (has mask k) true refl ∙ sym is
     by_place false e =
         ap (λ b. has mask k || b) (has-pow_other other k
         (λ same. absurd (let yes : (other == k) ≡ true = eq-eqb other k (sym same) in cc)))

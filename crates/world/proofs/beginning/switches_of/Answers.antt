@@ -12,12 +12,12 @@ use Rattle.world.proofs.beginning.switches_of.Goals as goal
 
 pub begin-requires-clause-own : goal.begin-requires-clause-own
 begin-requires-clause-own c =
-    let many : length c.rows-count.result.now ≡ length c.args.net.now.switches =
-    ap length c.rows-count.ensures in
+    let many : length c.items-count.result.now ≡ length c.args.net.now.switches =
+    ap length c.items-count.ensures in
     let below : c.loop-number.number < 64 =
     omega (arith, many, c.requires.net.few_switches) in
     subst (λ base. HasOwnUpTo base c.loop-number.number 1 1) (sym c.begin-base.ensures)
-    (first_own c.args.near.now (length c.rows-count.result.now) c.loop-number.number below)
+    (first_own c.args.near.now (length c.items-count.result.now) c.loop-number.number below)
 
 pub begin-requires-clause-version : goal.begin-requires-clause-version
 begin-requires-clause-version c =
@@ -29,8 +29,8 @@ loop-number-preserved c = λ plan is.
     let number = c.loop-number.number in
     let net = c.args.net.now in
     let each : ℕ → SwitchValue = switch_begun net plan.placed in
-    let many : length c.rows-count.result.now ≡ length net.switches =
-    ap length c.rows-count.ensures in
+    let many : length c.items-count.result.now ≡ length net.switches =
+    ap length c.items-count.ensures in
     let told : c.begin-base.result ≡ first_adverts (map (links_of net.links)
     (range_with_len 0 (length net.switches))) (length net.switches) =
     c.begin-base.ensures

@@ -10,7 +10,7 @@ use Rattle.net_file.proofs.net.Net.links_of.Goals.{in-Some, in_default}
 pub loop-link-preserved : goal.loop-link-preserved
 loop-link-preserved c =
     let inv = c.loop-link.invariant in
-    let links = c.rows-link-items.result.now in
+    let links = c.items-link-items.result.now in
     let i = c.loop-link.link-index in
     let s = c.args.switch in
     let mask = c.loop-link.mask in
@@ -38,5 +38,5 @@ returns c =
     let inv = c.loop-link.invariant in
     mask_of_is c.loop-link.mask _ inv.small
     (λ k. inv.bits k ∙ ap (λ links. are_linked links c.args.switch k)
-    (take_all c.loop-link.link-index c.rows-link-items.result.now c.loop-link-test.false
+    (take_all c.loop-link.link-index c.items-link-items.result.now c.loop-link-test.false
     ∙ inv.items))

@@ -9,7 +9,7 @@ use Rattle.net_file.proofs.net.Net.port_mask.Goals as goal
 pub loop-row-preserved : goal.loop-row-preserved
 loop-row-preserved c =
     let inv = c.loop-row.invariant in
-    let rows = c.rows-row-items.result.now in
+    let rows = c.items-row-items.result.now in
     let row = c.row-item.result in
     record {
       items = inv.items;
@@ -25,5 +25,5 @@ returns c =
     let inv = c.loop-row.invariant in
     mask_of_is c.loop-row.mask _ (Fits-lt-pow c.loop-row.auto.mask-fits)
     (λ k. inv.bits k ∙ ap (λ rows. have_port rows k)
-    (take_all c.loop-row.row-index c.rows-row-items.result.now c.loop-row-test.false
+    (take_all c.loop-row.row-index c.items-row-items.result.now c.loop-row-test.false
     ∙ inv.items))

@@ -10,20 +10,16 @@ use Rattle.version_update.specs.Record.{after_over}
 use Rattle.world.specs.Parts.{control_in, setting_in}
 use Rattle.world_log.specs.Sending.{MayNote, act_items, act_posts}
 use Rattle.world.proofs.Frame.{goes_nothing, net_stays, none_in, nothing_goes}
-use Rattle.world.proofs.GoesTold.{AreNoted, goes_told}
-use Rattle.world_ties.proofs.GoneSwitches.{gone_may, gone_known, gone_piece, gone_there, gone_tied, still_up}
+use Rattle.world.proofs.GoesTold.{as_noted, goes_told}
+use Rattle.world.proofs.OverSwitches.{known_in, switch_in}
+use Rattle.world_ties.proofs.GoneSwitches.{gone_may, gone_piece, gone_tied, still_up}
 use Rattle.world.proofs.parts.Parts.confirm.Goals as goal
 
 pub index-requires : goal.index-requires
 index-requires c =
     let self = c.args.self.now in
-    omega (
-      arith,
-      gone_there (control_in self) (setting_in self) c.requires.before
-          self.switches.items self.log.travelling self.packets c.args.switch
-          c.requires.begins.ready.tied c.requires.begins.ready.may,
-      self.switches.ok.0,
-    )
+    let there = switch_in self c.args.switch c.requires c.requires.begins.ready.may in
+    omega (arith, there, self.switches.ok.0)
 
 -- ---- it is up
 
@@ -41,12 +37,8 @@ returns-then-is_up c = λ before row begins.
 pub over-requires : goal.over-requires
 over-requires c =
     let self = c.args.self.now in
-    omega (
-      arith,
-      gone_known (control_in self) (setting_in self) c.requires.before
-          self.switches.items self.log.travelling self.packets c.args.switch
-          c.requires.begins.ready.tied c.requires.begins.ready.may,
-    )
+    let known = known_in self c.args.switch c.requires c.requires.begins.ready.may in
+    omega (arith, known)
 
 pub returns-in_err-sends : goal.returns-in_err-sends
 returns-in_err-sends c = λ before row begins.
@@ -63,7 +55,7 @@ pub note_acts-requires : goal.note_acts-requires
 note_acts-requires c =
     let self = c.args.self.now in
     let ready = c.requires.begins.ready in
-    subst (MayNote self.log.bag) (sym (c.acts.ensures ∙ c.in_ok-sends.ensures.sends))
+    subst (MayNote self.log.bag) (sym (c.items.ensures ∙ c.in_ok-sends.ensures.sends))
     (gone_may (control_in self) (setting_in self) c.requires.before self.switches.items
     self.log.travelling self.packets c.requires.row c.args.switch c.index.result.now
     ready.tied ready.may c.index.ensures c.over.new.self
@@ -79,13 +71,9 @@ returns c = λ before row begins.
     settling_acts (at_switch s after_over self.controller.marks) new.marks in
     let down = sym c.is_up.ensures ∙ c.if-is_up.false in
     let begun = c.push-2.new.self in
-    let noted : AreNoted c.note_acts.result begun (length self.log.bag) self.log.bag
-    c.note_acts.new.self acts = subst (AreNoted c.note_acts.result begun (length self.log.bag)
-    self.log.bag c.note_acts.new.self) (c.acts.ensures ∙ c.in_ok-sends.ensures.sends) (record {
-      written = c.note_acts.ensures.written;
-      posted = c.note_acts.ensures.posted;
-      part = c.note_acts.ensures.part;
-    }) in
+    let noted = as_noted c.note_acts.result begun (length self.log.bag) self.log.bag
+    c.note_acts.new.self _ acts (c.items.ensures ∙ c.in_ok-sends.ensures.sends) c.note_acts.ensures.written
+    c.note_acts.ensures.posted c.note_acts.ensures.part in
     goes_told c.note_acts.result before row (Confirm s) self _ (item.OverNow s)
     (λ k. act_items k acts) begun (length self.log.bag) self.log.bag (act_posts acts) begins
     (net_stays refl refl) (record {

@@ -1,4 +1,4 @@
-use Rattle.std.proofs.Common.{ℕ, ◌≡◌, ◌+◌, ◌^◌, ◌<◌, ◌++◌, ◌∷◌, true, List, map, set, refl, ap, sym, subst, ◌∙◌, append_assoc, length, arith}
+use Rattle.std.proofs.Common.{◌≡◌, ◌+◌, ◌++◌, ◌∷◌, true, List, map, set, refl, ap, sym, subst, ◌∙◌, append_assoc, length, arith}
 use Rattle.std.proofs.lemmas.List.{length-set}
 use Rattle.std.proofs.lemmas.Result.{on_err_weaker, on_ok_weaker}
 use Rattle.bag.specs.Posts.{posted}
@@ -9,33 +9,30 @@ use Rattle.steps.specs.declared.step.Step.TheVariants.{Crash}
 use Rattle.switch_core.specs.State.{SwitchValue}
 use Rattle.update_machine.specs.Messages.{sent_from}
 use Rattle.usable_links.specs.Linking.{all_told, near_all}
-use Rattle.world.specs.Parts.{HasBegun, control_in, setting_in}
-use Rattle.world.specs.declared.parts.Parts.{Parts}
+use Rattle.world.specs.Parts.{control_in, setting_in}
 use Rattle.world_ties.specs.Tied.{AreTied}
 use Rattle.travelling.specs.Travelling.{WithoutAt, numbers_at}
 use Rattle.world_log.specs.Sending.{MaySend}
 use Rattle.world_log.specs.Writing.{IsPart}
-use Rattle.world_ties.proofs.Crashed.{crash_may, crash_next, crash_piece, crash_ready, crash_tied, same_switch, stays_down}
+use Rattle.world_ties.proofs.Crashed.{crash_may, crash_next, crash_piece, crash_tied, same_switch, stays_down}
 use Rattle.world.proofs.Frame.{goes, goes_nothing, net_stays, none_ok, nothing_goes}
 use Rattle.world.proofs.GoesTold.{same_control}
-use Rattle.world_ties.proofs.HearReady.{few_switches}
+use Rattle.world.proofs.OverSwitches.{few_in, switch_in}
 use Rattle.world_log.proofs.Writing.{by_error, part_of_first, part_of_rest, step_part, step_written, three_ok}
 use Rattle.world.proofs.parts.Parts.crash.Goals as goal
 use Rattle.world.proofs.parts.Parts.crash.Goals.{After-index_mut}
 
--- the switch is there
-there : (self : Parts) (s : ℕ) (begun : HasBegun (Crash s) self) → s < length self.switches.items
-there self s begun = crash_ready (control_in self) (setting_in self) begun.before
-    self.switches.items self.log.travelling self.packets s begun.begins.ready.tied
-    begun.begins.ready.may
-
 pub index-requires : goal.index-requires
 index-requires c =
-    omega (arith, there c.args.self.now c.args.switch c.requires, c.args.self.now.switches.ok.0)
+    let self = c.args.self.now in
+    let there = switch_in self c.args.switch c.requires c.requires.begins.ready.may in
+    omega (arith, there, self.switches.ok.0)
 
 pub index_mut-requires : goal.index_mut-requires
 index_mut-requires c =
-    omega (arith, there c.args.self.now c.args.switch c.requires, c.args.self.now.switches.ok.0)
+    let self = c.args.self.now in
+    let there = switch_in self c.args.switch c.requires c.requires.begins.ready.may in
+    omega (arith, there, self.switches.ok.0)
 
 -- ---- it is down
 
@@ -52,8 +49,10 @@ returns-then-not-is_up c = λ before row begins.
 
 was_up : (c : After-index_mut) → c.index_mut.result.now.is_up ≡ true
 was_up c =
-    ap (λ (w : SwitchValue). w.is_up) (same_switch c.args.self.now.switches.items c.args.switch
-    c.index_mut.result.now c.index.result.now (there c.args.self.now c.args.switch c.requires)
+    let self = c.args.self.now in
+    ap (λ (w : SwitchValue). w.is_up) (same_switch self.switches.items c.args.switch
+    c.index_mut.result.now c.index.result.now
+    (switch_in self c.args.switch c.requires c.requires.begins.ready.may)
     c.index_mut.ensures.value c.index.ensures)
     ∙ sym c.is_up.ensures ∙ c.if-not-is_up.false
 
@@ -68,7 +67,7 @@ returns-in_err-lose_at c = λ before row begins.
     let s = c.args.switch in
     let own = c.index_mut.result.now in
     let changed = c.crash.new.self in
-    let within = there self s c.requires in
+    let within = switch_in self s c.requires begins.ready.may in
     let others = set self.switches.items s changed in
     let messages : List Message = all_told self.near (near_all self.links others) others in
     let sends = sent_from (length self.log.bag + 1) messages in
@@ -95,8 +94,7 @@ change_links-requires-clause-many c =
     omega (
       arith,
       length-set self.switches.items c.args.switch c.crash.new.self,
-      few_switches (control_in self) (setting_in self) c.requires.before self.switches.items
-          self.log.travelling self.packets c.requires.begins.ready.tied,
+      few_in self c.requires,
     )
 
 pub change_links-requires-clause-next : goal.change_links-requires-clause-next
@@ -104,7 +102,7 @@ change_links-requires-clause-next c =
     let self = c.args.self.now in
     let s = c.args.switch in
     let ready = c.requires.begins.ready in
-    let within = there self s c.requires in
+    let within = switch_in self s c.requires ready.may in
     crash_next (control_in self) (setting_in self) c.requires.before self.switches.items
     self.log.travelling self.packets c.requires.row s c.index_mut.result.now c.crash.new.self
     ready.tied ready.may within c.index_mut.ensures.value c.crash.ensures
@@ -115,7 +113,7 @@ change_links-requires-clause-may c =
     let self = c.args.self.now in
     let s = c.args.switch in
     let ready = c.requires.begins.ready in
-    let within = there self s c.requires in
+    let within = switch_in self s c.requires ready.may in
     let others = set self.switches.items s c.crash.new.self in
     subst (λ bag. MaySend bag (all_told self.near (near_all self.links others) others))
     (sym c.lose_at.ensures.unsent)
@@ -133,7 +131,7 @@ returns c = λ before row begins.
     let ready = begins.ready in
     let own = c.index_mut.result.now in
     let changed = c.crash.new.self in
-    let within = there self s c.requires in
+    let within = switch_in self s c.requires ready.may in
     let is_up = was_up (goal.at.returns c).After-index_mut in
     let others = set self.switches.items s changed in
     let messages : List Message = all_told self.near (near_all self.links others) others in

@@ -1,4 +1,4 @@
-use Rattle.std.proofs.Common.{◌≡◌, ◌+◌, ◌^◌, ◌<◌, ◌++◌, ◌∷◌, List, OnOk, OnErr, get_or, length, map, set, refl, ap, sym, subst, ◌∙◌, arith}
+use Rattle.std.proofs.Common.{◌≡◌, ◌+◌, ◌<◌, ◌++◌, ◌∷◌, List, OnOk, OnErr, get_or, length, map, set, refl, ap, sym, subst, ◌∙◌, arith}
 use Rattle.std.specs.Prelude.{is_some}
 use Rattle.bag.specs.Deliveries.{delivered}
 use Rattle.std.proofs.lemmas.List.{length-set}
@@ -21,7 +21,8 @@ use Rattle.world_ties.proofs.Delivering.{found_there}
 use Rattle.world_log.specs.Writing.{IsPart}
 use Rattle.world.proofs.GoesTold.{first_goes, goes_told, same_control}
 use Rattle.world_ties.proofs.HeardBy.{control_may, control_piece, control_tied, first_piece, names_known, shut_may, shut_piece, shut_tied, undelivered}
-use Rattle.world_ties.proofs.HearReady.{few_switches, hear_ready, usable_here}
+use Rattle.world.proofs.OverSwitches.{few_in}
+use Rattle.world_ties.proofs.HearReady.{hear_ready, usable_here}
 use Rattle.world_ties.proofs.Opening.{opening_may, opening_next, opening_piece, opening_tied}
 use Rattle.world.proofs.Frame.{goes_nothing, net_stays, none_in, nothing_goes}
 use Rattle.world_log.proofs.Writing.{both_ok, step_part, step_written}
@@ -221,8 +222,7 @@ change_links-requires-clause-many c =
     omega (
       arith,
       length-set self.switches.items c.in-Switch.switch c.hear.new.self,
-      few_switches (control_in self) (setting_in self) c.requires.before self.switches.items
-          self.log.travelling self.packets c.requires.begins.ready.tied,
+      few_in self c.requires,
     )
 
 pub change_links-requires-clause-next : goal.change_links-requires-clause-next

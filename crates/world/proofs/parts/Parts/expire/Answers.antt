@@ -2,16 +2,15 @@ use Rattle.std.proofs.Common.{Some, None, refl, sym, ◌∙◌, arith}
 use Rattle.journal.specs.declared.item.Item.TheVariants as item
 use Rattle.steps.specs.declared.step.Step.TheVariants.{Expire}
 use Rattle.world.specs.Parts.{control_in, setting_in}
-use Rattle.world_ties.proofs.Expiring.{expire_ready, expired_tied}
+use Rattle.world_ties.proofs.Expiring.{expired_tied}
 use Rattle.world.proofs.Frame.{goes_one, net_stays, none_in, plane_stays}
+use Rattle.world.proofs.OverSwitches.{switch_in}
 use Rattle.world.proofs.parts.Parts.expire.Goals as goal
 
 pub index_mut-requires : goal.index_mut-requires
 index_mut-requires c =
     let self = c.args.self.now in
-    let there = expire_ready (control_in self) (setting_in self) c.requires.before
-    self.switches.items self.log.travelling self.packets c.args.switch c.args.place
-    c.requires.begins.ready.tied c.requires.begins.ready.may in
+    let there = switch_in self c.args.switch c.requires c.requires.begins.ready.may.0 in
     omega (arith, there, self.switches.ok.0)
 
 pub returns-in-None : goal.returns-in-None

@@ -4,8 +4,9 @@ use Rattle.steps.specs.declared.step.Step.TheVariants.{Packet as PacketStep}
 use Rattle.world.specs.Parts.{control_in, setting_in}
 use Rattle.world.proofs.Frame.{goes_quiet, net_stays, plane_stays}
 use Rattle.world_ties.proofs.Asking.{can_look_up}
-use Rattle.world_ties.proofs.Incoming.{come_fits, come_ready}
+use Rattle.world_ties.proofs.Incoming.{come_fits}
 use Rattle.world.proofs.OverParts.{come_is, come_ties}
+use Rattle.world.proofs.OverSwitches.{switch_in}
 use Rattle.world.proofs.parts.Parts.packet.Goals as goal
 
 pub overflow_add-self : goal.overflow_add-self
@@ -18,9 +19,7 @@ overflow_add-self c =
 pub index_mut-requires : goal.index_mut-requires
 index_mut-requires c =
     let self = c.args.self.now in
-    let there = come_ready (control_in self) (setting_in self) c.requires.before
-    self.switches.items self.log.travelling self.packets c.args.switch c.args.header.now
-    c.requires.begins.ready.tied c.requires.begins.ready.may in
+    let there = switch_in self c.args.switch c.requires c.requires.begins.ready.may.0 in
     omega (arith, there, self.switches.ok.0)
 
 pub enter-requires : goal.enter-requires

@@ -1,4 +1,4 @@
-use Rattle.std.proofs.Common.{ℕ, ◌≡◌, ◌+◌, ◌^◌, ◌<◌, ◌≤◌, ◌++◌, ◌∷◌, ◌==◌, false, true, List, get_or, length, map, refl, sym, subst, ◌∙◌, arith}
+use Rattle.std.proofs.Common.{◌≡◌, ◌+◌, ◌++◌, ◌∷◌, ◌==◌, false, true, List, get_or, length, map, refl, sym, subst, ◌∙◌, arith}
 use Rattle.std.proofs.lemmas.Result.{on_ok_weaker}
 use Rattle.controller.specs.Sends.{resending}
 use Rattle.controller.specs.declared.sends.Act.{Act}
@@ -6,47 +6,36 @@ use Rattle.controller.specs.declared.sends.Act.TheVariants.{Post}
 use Rattle.journal.specs.declared.item.Item.TheVariants as item
 use Rattle.steps.specs.declared.step.Step.TheVariants.{Resend}
 use Rattle.usable_links.specs.Linking.{told_again}
-use Rattle.world.specs.Parts.{HasBegun, control_in, setting_in}
-use Rattle.world.specs.declared.parts.Parts.{Parts}
+use Rattle.world.specs.Parts.{control_in, setting_in}
 use Rattle.world_log.specs.Sending.{MayNote, act_items, act_posts}
 use Rattle.world.proofs.Frame.{goes_nothing, goes_quiet, net_stays, none_in, nothing_goes, plane_stays}
-use Rattle.world.proofs.GoesTold.{AreNoted}
-use Rattle.world_ties.proofs.HearReady.{few_switches}
-use Rattle.world_ties.proofs.SentAgain.{acts_same, again_may, again_here, again_known, again_piece, again_tied, sent_tied, silent}
+use Rattle.world.proofs.GoesTold.{as_noted}
+use Rattle.world.proofs.OverSwitches.{few_in, known_in, switch_in}
+use Rattle.world_ties.proofs.SentAgain.{acts_same, again_may, again_piece, again_tied, sent_tied, silent}
 use Rattle.world.proofs.parts.Parts.resend.Goals as goal
 use Rattle.world.proofs.parts.Parts.resend.Goals.{After-are_none}
 
 -- ---- its switch
 
-here : (self : Parts) (s : ℕ) (begun : HasBegun (Resend s) self)
-    → (s < length self.switches.items) × (s < 64)
-here self s begun = again_here (control_in self) (setting_in self) begun.before
-    self.switches.items self.log.travelling self.packets s begun.begins.ready.tied
-    begun.begins.ready.may
-
-few : (self : Parts) (s : ℕ) (begun : HasBegun (Resend s) self)
-    → length self.switches.items ≤ 64
-few self s begun = few_switches (control_in self) (setting_in self) begun.before
-    self.switches.items self.log.travelling self.packets begun.begins.ready.tied
-
 pub bounds-self-here : goal.bounds-self-here
 bounds-self-here c =
-    (here c.args.self.now c.args.switch c.requires).1
+    let self = c.args.self.now in
+    let there = switch_in self c.args.switch c.requires c.requires.begins.ready.may in
+    omega (arith, there, few_in self c.requires)
 
 pub index-requires : goal.index-requires
 index-requires c =
-    omega (arith, (here c.args.self.now c.args.switch c.requires).0, c.args.self.now.switches.ok.0)
+    let self = c.args.self.now in
+    let there = switch_in self c.args.switch c.requires c.requires.begins.ready.may in
+    omega (arith, there, self.switches.ok.0)
 
 pub told_again-requires : goal.told_again-requires
 told_again-requires c =
-    omega (arith, few c.args.self.now c.args.switch c.requires, c.args.self.now.switches.ok.0)
+    omega (arith, few_in c.args.self.now c.requires, c.args.self.now.switches.ok.0)
 
 pub resend-requires : goal.resend-requires
 resend-requires c =
-    let self = c.args.self.now in
-    again_known (control_in self) (setting_in self) c.requires.before self.switches.items
-    self.log.travelling self.packets c.args.switch c.requires.begins.ready.tied
-    c.requires.begins.ready.may
+    known_in c.args.self.now c.args.switch c.requires c.requires.begins.ready.may
 
 pub returns-in_err-told : goal.returns-in_err-told
 returns-in_err-told c = λ before row begins.
@@ -60,7 +49,7 @@ returns-in_err-sends c = λ before row begins.
 
 -- what the switch and the controller have to say, as acts
 said : (c : After-are_none)
-    → map Post c.as_slice-messages.result.now ++ c.acts-acts.result.now
+    → map Post c.as_slice-messages.result.now ++ c.items-acts.result.now
     ≡ map Post (told_again c.args.switch (length c.args.self.now.switches.items)
     (get_or c.args.self.now.near c.args.switch 0) c.index.result.now)
     ++ resending c.args.self.now.controller c.args.switch
@@ -68,8 +57,8 @@ said c =
     let self = c.args.self.now in
     acts_same self.controller c.args.switch c.len-count.result (length self.switches.items)
     (get_or self.near c.args.switch 0) _ c.index.result.now c.as_slice-messages.result.now
-    c.acts-acts.result.now (c.as_slice-messages.ensures.value ∙ c.in_ok-told.ensures) (omega arith)
-    refl (c.acts-acts.ensures ∙ c.in_ok-sends.ensures)
+    c.items-acts.result.now (c.as_slice-messages.ensures.value ∙ c.in_ok-told.ensures) (omega arith)
+    refl (c.items-acts.ensures ∙ c.in_ok-sends.ensures)
 
 -- ---- nothing is sent
 
@@ -89,7 +78,7 @@ returns-then-are_none c = λ before row begins.
 
 pub overflow_cast-count : goal.overflow_cast-count
 overflow_cast-count c =
-    omega (arith, few c.args.self.now c.args.switch c.requires, c.args.self.now.switches.ok.0)
+    omega (arith, few_in c.args.self.now c.requires, c.args.self.now.switches.ok.0)
 
 pub send_and_note-requires : goal.send_and_note-requires
 send_and_note-requires c =
@@ -116,13 +105,9 @@ returns c = λ before row begins.
     let acts : List Act = map Post (told_again s (length self.switches.items)
     (get_or self.near s 0) own) ++ resending self.controller s in
     let r = c.send_and_note.result in
-    let noted : AreNoted r self.log.journal (length self.log.bag) self.log.bag
-    c.send_and_note.new.self acts = subst (AreNoted r self.log.journal (length self.log.bag)
-    self.log.bag c.send_and_note.new.self) are (record {
-      written = c.send_and_note.ensures.written;
-      posted = c.send_and_note.ensures.posted;
-      part = c.send_and_note.ensures.part;
-    }) in
+    let noted = as_noted r self.log.journal (length self.log.bag) self.log.bag
+    c.send_and_note.new.self _ acts are c.send_and_note.ensures.written
+    c.send_and_note.ensures.posted c.send_and_note.ensures.part in
     goes_quiet r before row (Resend s) self _ begins (net_stays refl refl)
     (act_items (length self.log.bag + 1) acts) (plane_stays refl refl refl)
     (again_piece (control_in self) (setting_in self) before self.switches.items

@@ -1,4 +1,4 @@
-use Rattle.std.proofs.Common.{ℕ, ◌≡◌, ◌+◌, ◌<◌, ◌++◌, ◌∷◌, [], OnOk, false, length, refl, ap, sym, subst, ◌∙◌, arith}
+use Rattle.std.proofs.Common.{◌≡◌, ◌+◌, ◌<◌, ◌++◌, ◌∷◌, [], OnOk, false, length, refl, ap, sym, subst, ◌∙◌, arith}
 use Rattle.std.proofs.lemmas.List.{get_or_default}
 use Rattle.std.proofs.lemmas.Result.{on_err_weaker, on_ok_weaker}
 use Rattle.bag.specs.Posts.{posted}
@@ -8,25 +8,21 @@ use Rattle.frame_laws.specs.Feeding.{HasShortSpelling}
 use Rattle.journal.specs.declared.item.Item.TheVariants as item
 use Rattle.steps.specs.declared.step.Step.TheVariants.{Restart}
 use Rattle.switch_core.specs.State.{SwitchValue}
-use Rattle.world.specs.Parts.{HasBegun, control_in, setting_in}
-use Rattle.world.specs.declared.parts.Parts.{Parts}
-use Rattle.world_ties.proofs.Asking.{below_64}
+use Rattle.world.specs.Parts.{control_in, setting_in}
 use Rattle.world_ties.proofs.Sendable.{hello_spelled}
-use Rattle.world_ties.proofs.Booting.{boot_here, boot_next, boot_piece, boot_tied, up_already}
+use Rattle.world_ties.proofs.Booting.{boot_next, boot_piece, boot_tied, up_already}
 use Rattle.world.proofs.Frame.{goes_nothing, net_stays, none_in, nothing_goes}
 use Rattle.world.proofs.GoesTold.{goes_told}
+use Rattle.world.proofs.OverSwitches.{few_in, switch_in}
 use Rattle.world_log.proofs.Writing.{part_none}
 use Rattle.world.proofs.parts.Parts.restart.Goals as goal
 use Rattle.world.proofs.parts.Parts.restart.Goals.{After-index_mut}
 
-here : (self : Parts) (s : ℕ) (begun : HasBegun (Restart s) self)
-    → s < length self.switches.items
-here self s begun = boot_here (control_in self) (setting_in self) begun.before self.switches.items
-    self.log.travelling self.packets s begun.begins.ready.tied begun.begins.ready.may
-
 pub index-requires : goal.index-requires
 index-requires c =
-    omega (arith, here c.args.self.now c.args.switch c.requires, c.args.self.now.switches.ok.0)
+    let self = c.args.self.now in
+    let there = switch_in self c.args.switch c.requires c.requires.begins.ready.may in
+    omega (arith, there, self.switches.ok.0)
 
 -- ---- it is up
 
@@ -43,15 +39,18 @@ returns-then-is_up c = λ before row begins.
 
 pub index_mut-requires : goal.index_mut-requires
 index_mut-requires c =
-    omega (arith, here c.args.self.now c.args.switch c.requires, c.args.self.now.switches.ok.0)
+    let self = c.args.self.now in
+    let there = switch_in self c.args.switch c.requires c.requires.begins.ready.may in
+    omega (arith, there, self.switches.ok.0)
 
 is_down : (c : After-index_mut) → c.index_mut.result.now.is_up ≡ false
 is_down c =
-    let switches = c.args.self.now.switches.items in
+    let self = c.args.self.now in
     let own = c.index_mut.result.now in
     let same : own ≡ c.index.result.now = c.index_mut.ensures.value
-    ∙ get_or_default switches c.args.switch own c.index.result.now
-    (here c.args.self.now c.args.switch c.requires) ∙ sym c.index.ensures in
+    ∙ get_or_default self.switches.items c.args.switch own c.index.result.now
+    (switch_in self c.args.switch c.requires c.requires.begins.ready.may)
+    ∙ sym c.index.ensures in
     ap (λ (w : SwitchValue). w.is_up) same ∙ sym c.is_up.ensures ∙ c.if-is_up.false
 
 pub restart-boot-requires : goal.restart-boot-requires
@@ -75,9 +74,8 @@ pub send-requires : goal.send-requires
 send-requires c =
     let self = c.args.self.now in
     let ready = c.requires.begins.ready in
-    let below = below_64 (control_in self) (setting_in self) c.requires.before
-    self.switches.items self.log.travelling self.packets c.args.switch ready.tied
-    (here self c.args.switch c.requires) in
+    let there = switch_in self c.args.switch c.requires ready.may in
+    let below : c.args.switch < 64 = omega (arith, there, few_in self c.requires) in
     record {
       spelling = subst HasShortSpelling (sym c.hello.ensures)
           (hello_spelled c.args.switch c.restart-boot.result below);

@@ -12,7 +12,7 @@ use Rattle.world.specs.State.{comes_in}
 use Rattle.world_ties.specs.Tied.{AreTied}
 use Rattle.world.proofs.Frame.{goes_nothing, net_stays, nothing_goes}
 use Rattle.world.proofs.GoesTold.{goes_told, same_control}
-use Rattle.world_ties.proofs.HearReady.{few_switches}
+use Rattle.world.proofs.OverSwitches.{few_in}
 use Rattle.world_ties.proofs.LinksChange.{numbers_left}
 use Rattle.world_ties.proofs.LinkRows.{ends_below, same_tied, set_may, set_piece, set_tied}
 use Rattle.world_log.proofs.Writing.{both_ok}
@@ -70,10 +70,7 @@ returns-in_err-push c = λ before row begins.
     c.in_err-push.ensures.unchanged
 
 pub change_links-requires-clause-many : goal.change_links-requires-clause-many
-change_links-requires-clause-many c =
-    let self = c.args.self.now in
-    few_switches (control_in self) (setting_in self) c.requires.before self.switches.items
-    self.log.travelling self.packets c.requires.begins.ready.tied
+change_links-requires-clause-many c = few_in c.args.self.now c.requires
 
 pub change_links-requires-clause-next : goal.change_links-requires-clause-next
 change_links-requires-clause-next c =

@@ -1,20 +1,45 @@
-use Rattle.std.proofs.Common.{◌≡◌, ◌≢◌, ◌+◌, ◌-◌, ◌^◌, ◌<◌, ◌++◌, ◌∷◌, [], List, Err, get_or, length, refl, ap, sym, subst, ◌∙◌, rules}
+use Rattle.std.proofs.Common.{ℕ, ◌≡◌, ◌≢◌, ◌+◌, ◌-◌, ◌++◌, ◌∷◌, [], List, Err, get_or, length, refl, ap, sym, subst, ◌∙◌, rules}
+use Rattle.std.specs.Prelude.{OnErr, OnOk, Result}
 use Rattle.std.proofs.lemmas.Result.{on_ok_weaker}
 use Rattle.control_ties.specs.Controller.{IsPlanOfFile}
 use Rattle.controller.specs.Controller.{ControllerValue}
 use Rattle.controller.specs.Sends.{submitting}
 use Rattle.controller.specs.Submit.{IsLeft}
 use Rattle.controller.specs.declared.sends.Act.{Act}
+use Rattle.journal.specs.declared.item.Item.{Item}
 use Rattle.journal.specs.declared.item.Item.TheVariants as item
 use Rattle.steps.specs.declared.step.Step.TheVariants.{Update}
-use Rattle.policy_store.specs.Files.{IsCompiled}
-use Rattle.world.specs.Parts.{control_in, setting_in}
+use Rattle.policy_store.specs.Files.{FilesValue, IsCompiled}
+use Rattle.update_machine.specs.Pieces.{piece}
+use Rattle.world.specs.Parts.{BeginsStep, Goes, control_in, setting_in}
+use Rattle.world.specs.declared.parts.Parts.{Parts}
 use Rattle.world_log.specs.Sending.{MayNote, act_items, act_posts}
 use Rattle.world.proofs.Frame.{goes_one, net_stays, none_in, not_err, nothing_goes, plane_stays}
-use Rattle.world.proofs.GoesTold.{AreNoted, goes_told}
+use Rattle.world.proofs.GoesTold.{as_noted, goes_told}
 use Rattle.world_ties.proofs.Submitting.{live_piece, planned_file, refused_piece, refused_tied, submitted_may, submitted_piece, submitted_tied, unplanned_code, versions_piece}
 use Rattle.world.proofs.parts.Parts.update.Goals as goal
 use Rattle.world.proofs.parts.Parts.update.Goals.{In-Planned}
+
+-- the update is refused by this code
+refused : {T E : Type 0} (r : Result T E) (before : List Item) (row file code : ℕ) (self : Parts)
+    (files : FilesValue) (controller : ControllerValue) (journal : List Item)
+    → BeginsStep before row (Update file) self → files ≡ self.files → controller ≡ self.controller
+    → piece (setting_in self) before row (Update file)
+    ≡ item.Row row (Update file) ∷ item.Refused file code ∷ []
+    → OnOk r (journal ≡ self.log.journal ++ item.Refused file code ∷ [])
+    → OnErr r (journal ≡ self.log.journal)
+    → Goes r before row (Update file) self (record self {
+      files = files;
+      log = record self.log { journal = journal };
+      controller = controller;
+    })
+refused r before row file code self files controller journal begins same stays is pushed unchanged =
+    goes_one r before row (Update file) self _ begins (net_stays same refl)
+    (item.Refused file code) self.log.bag (plane_stays stays refl refl) refl (none_in _) (
+      is,
+      refused_tied (control_in self) (setting_in self) before self.switches.items
+          self.log.travelling self.packets row file begins.ready.tied begins.ready.may code is,
+    ) pushed unchanged
 
 -- ---- the policy has no plan
 
@@ -36,13 +61,8 @@ returns-in-Refused c = λ before row begins.
     let is = refused_piece (setting_in self) before row file c.in-Refused.code
     (unplanned_code net policies (before ++ item.Row row (Update file) ∷ []) file
     c.in-Refused.code why.0 may.0 may.1 why.1 why.2) in
-    goes_one c.push.result before row (Update file) self _ begins
-    (net_stays c.in_ok-code.ensures.same refl)
-    (item.Refused file c.in-Refused.code) self.log.bag (plane_stays refl refl refl) refl (none_in _) (
-      is,
-      refused_tied (control_in self) (setting_in self) before self.switches.items
-          self.log.travelling self.packets row file begins.ready.tied may c.in-Refused.code is,
-    ) c.push.ensures.pushed c.push.ensures.unchanged
+    refused c.push.result before row file c.in-Refused.code self _ _ _ begins
+    c.in_ok-code.ensures.same refl is c.push.ensures.pushed c.push.ensures.unchanged
 
 -- ---- it is submitted
 
@@ -71,7 +91,7 @@ note_acts-requires c =
     let file = c.args.file in
     let ready = c.requires.begins.ready in
     let of_file = planned (goal.at.note_acts-requires c).In-Planned in
-    subst (MayNote self.log.bag) (sym (c.acts.ensures ∙ c.in-Ok.ensures.sends))
+    subst (MayNote self.log.bag) (sym (c.items.ensures ∙ c.in-Ok.ensures.sends))
     (submitted_may (control_in self) (setting_in self) c.requires.before
     self.switches.items self.log.travelling self.packets c.requires.row file ready.tied
     ready.may c.in-Planned.plan c.submit.new.self of_file
@@ -96,13 +116,9 @@ returns-in_ok-push-in-Ok c = λ before row begins.
     let acts : List Act = submitting self.controller.marks c.in-Planned.plan new.marks in
     let one = item.Submitted file (self.controller.marks.count + 1) in
     let begun = c.push-in-Ok.new.self in
-    let noted : AreNoted c.note_acts.result begun (length self.log.bag) self.log.bag
-    c.note_acts.new.self acts = subst (AreNoted c.note_acts.result begun (length self.log.bag)
-    self.log.bag c.note_acts.new.self) (c.acts.ensures ∙ c.in-Ok.ensures.sends) (record {
-      written = c.note_acts.ensures.written;
-      posted = c.note_acts.ensures.posted;
-      part = c.note_acts.ensures.part;
-    }) in
+    let noted = as_noted c.note_acts.result begun (length self.log.bag) self.log.bag
+    c.note_acts.new.self _ acts (c.items.ensures ∙ c.in-Ok.ensures.sends) c.note_acts.ensures.written
+    c.note_acts.ensures.posted c.note_acts.ensures.part in
     goes_told c.note_acts.result before row (Update file) self _ one (λ k. act_items k acts) begun
     (length self.log.bag) self.log.bag (act_posts acts) begins
     (net_stays c.in_ok-code.ensures.same refl) (record {
@@ -137,14 +153,9 @@ returns-in-Err-TooManyLive c = λ before row begins.
     (c.in-Err-TooManyLive.ensures.live.0 (ap Err c.in-Err-TooManyLive.field-0-is)) in
     let stays = subst (IsLeft self.controller c.in-Planned.plan c.submit.new.self)
     c.in-Err-TooManyLive.field-0-is c.in-Err-TooManyLive.ensures.refused in
-    goes_one c.push-in-Err-TooManyLive.result before row (Update file) self _ begins
-    (net_stays c.in_ok-code.ensures.same refl)
-    (item.Refused file 16) self.log.bag
-    (plane_stays stays refl refl) refl (none_in _) (
-      is,
-      refused_tied (control_in self) (setting_in self) before self.switches.items
-          self.log.travelling self.packets row file ready.tied ready.may 16 is,
-    ) c.push-in-Err-TooManyLive.ensures.pushed c.push-in-Err-TooManyLive.ensures.unchanged
+    refused c.push-in-Err-TooManyLive.result before row file 16 self _ _ _ begins
+    c.in_ok-code.ensures.same stays is c.push-in-Err-TooManyLive.ensures.pushed
+    c.push-in-Err-TooManyLive.ensures.unchanged
 
 pub returns-in-Err-TooManyVersions : goal.returns-in-Err-TooManyVersions
 returns-in-Err-TooManyVersions c = λ before row begins.
@@ -158,14 +169,9 @@ returns-in-Err-TooManyVersions c = λ before row begins.
     self.log.travelling self.packets row file c.in-Planned.plan ready.tied of_file many.0 many.1 in
     let stays = subst (IsLeft self.controller c.in-Planned.plan c.submit.new.self)
     c.in-Err-TooManyVersions.field-0-is c.in-Err-TooManyVersions.ensures.refused in
-    goes_one c.push-in-Err-TooManyVersions.result before row (Update file) self _ begins
-    (net_stays c.in_ok-code.ensures.same refl)
-    (item.Refused file 17) self.log.bag
-    (plane_stays stays refl refl) refl (none_in _) (
-      is,
-      refused_tied (control_in self) (setting_in self) before self.switches.items
-          self.log.travelling self.packets row file ready.tied ready.may 17 is,
-    ) c.push-in-Err-TooManyVersions.ensures.pushed c.push-in-Err-TooManyVersions.ensures.unchanged
+    refused c.push-in-Err-TooManyVersions.result before row file 17 self _ _ _ begins
+    c.in_ok-code.ensures.same stays is c.push-in-Err-TooManyVersions.ensures.pushed
+    c.push-in-Err-TooManyVersions.ensures.unchanged
 
 pub returns-in-Err-NoMemory : goal.returns-in-Err-NoMemory
 returns-in-Err-NoMemory c = λ before row begins.

@@ -1,0 +1,5 @@
+mod headers;
+mod partitions;
+mod placements;
+mod rule_lists;
+mod words;

@@ -1,0 +1,5 @@
+mod lines;
+mod marks;
+mod messages;
+mod routes;
+mod sends;

@@ -1,0 +1,3 @@
+mod campus;
+mod days;
+mod full;

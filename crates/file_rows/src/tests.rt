@@ -1,0 +1,5 @@
+mod networks;
+mod policies;
+mod records;
+mod schedules;
+mod shelves;

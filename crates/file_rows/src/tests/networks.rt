@@ -1,0 +1,217 @@
+//! Networks read from TOML text, and refused.
+ghost use Rattle.std.specs.Prelude.{IfOk};
+ghost use Rattle.net_file.specs.Net.{IsNet};
+
+use net_file::{Net, NetError, is_name, read_net, solo};
+use std::alloc::{AllocError, Global};
+use std::test::Fail;
+
+// The code and the row of a refusal.
+fn refusal(outcome: Result<Net, NetError>) -> Option<(u32, u32)> {
+    match outcome {
+        Err(NetError::Refused { refusal, row }) => Some((refusal.code(), row)),
+        _ => None,
+    }
+}
+
+// Whether the network has the switches `a`, with port 1, and `b`, with ports 2 and 63 and room 100,
+// and their link.
+fn is_pair(net: &Net) -> bool {
+    let [a, b] = net.switches.items() else {
+        return false;
+    };
+    let [link] = net.links.items() else {
+        return false;
+    };
+    a.name.bytes() == b"a".as_slice()
+        && a.ports == 2
+        && a.room == 0
+        && b.name.bytes() == b"b".as_slice()
+        && b.ports == 9223372036854775812
+        && b.room == 100
+        && link.joins(0, 1)
+        && net.leaf_rules == 64
+        && net.backups == 0
+        && net.cache == 256
+}
+
+fn states_pair(alloc: Global, text: &str) -> bool {
+    match read_net(alloc, text.as_bytes()) {
+        Ok(net) => is_pair(&net),
+        Err(_) => false,
+    }
+}
+
+// The pair in three spellings.
+const SPELLINGS: [&str; 3] = [
+    "[[switch]]\nname = \"a\"\nports = [1]\n[[switch]]\nname = \"b\"\nports = [2, 63]\n\
+     authority = 100\n[[link]]\nends = [\"a\", \"b\"]\n",
+    "\u{feff}other = 1.5\r\n[[switch]]\r\nname = \"a\"\r\nports = [1]\r\nrack = 4\r\n\
+     [[switch]]\r\nname = \"b\"\r\nports = [63, 2]\r\nauthority = 100\r\n[[link]]\r\n\
+     ends = [\"b\", \"a\"]\r\ncable = true\r\n",
+    "switch = [{name = \"a\", ports = [1], at.rack = 4}, \
+     {name = \"b\", ports = [2, 63], authority = 100}]\nlink = [{ends = [\"a\", \"b\"]}]",
+];
+
+#[test]
+fn reads_each_spelling(rt: HostRuntime) {
+    for text in &SPELLINGS {
+        assert!(rt; states_pair(rt.alloc(), text), "at {text}");
+    }
+}
+
+// Two switches, their link, and a second row of links.
+const PAIR: &str = "[[switch]]\nname = \"a\"\n[[switch]]\nname = \"b\"\n[[link]]\n\
+     ends = [\"a\", \"b\"]\n[[link]]\n";
+
+// Texts of two lines, each with the code and the row of its refusal.
+const REFUSED: [(&str, &str, u32, u32); 22] = [
+    ("", "", 2, 0),
+    ("switch", "", 1, 0),
+    ("cache = 9223372036854775808", "", 1, 0),
+    ("leaf_rules = true\nbackups = 4", "", 3, 0),
+    ("leaf_rules = 0\nbackups = 1.0", "", 4, 0),
+    ("backups = 4\ncache = \"1\"", "", 4, 0),
+    ("cache = 65537", "", 4, 0),
+    ("switch = []", "", 4, 0),
+    ("switch = 1979-05-27", "", 3, 0),
+    ("switch = [1]", "", 3, 1),
+    ("[[switch]]\nports = 1", "", 2, 1),
+    ("[[switch]]\nname = \"controller\"", "", 4, 1),
+    ("[[switch]]\nname = \"a\"\nports = [64, true]", "", 3, 1),
+    (
+        "[[switch]]\nname = \"a\"\nports = [-1]\nauthority = true",
+        "",
+        4,
+        1,
+    ),
+    (
+        "[[switch]]\nname = \"a\"\nports = [1]\n[[switch]]\nname = \"a\"\nports = [1]",
+        "",
+        6,
+        2,
+    ),
+    ("[[switch]]\nname = \"a\"\nports = [1, 1]", "", 7, 1),
+    (
+        "[[switch]]\nname = \"a\"\nports = [1]\n[[switch]]\nname = \"b\"\nports = [1]",
+        "",
+        7,
+        2,
+    ),
+    (PAIR, "ends = [\"a\"]", 3, 102),
+    (PAIR, "", 2, 102),
+    (PAIR, "ends = [\"a\", \"c\"]", 5, 102),
+    (PAIR, "ends = [\"b\", \"b\"]", 8, 102),
+    (PAIR, "ends = [\"b\", \"a\"]", 9, 102),
+];
+
+// Whether a text of these two lines is refused with this code at this row.
+fn is_refused(
+    alloc: Global,
+    before: &str,
+    after: &str,
+    told: (u32, u32),
+) -> Result<bool, AllocError> {
+    let text = format!(in alloc; "{before}\n{after}\n")?;
+    Ok(refusal(read_net(alloc, text.as_bytes())) == Some(told))
+}
+
+#[test]
+fn refuses_with_code_and_row(rt: HostRuntime) -> Result<(), Fail> {
+    for (before, after, code, row) in &REFUSED {
+        let is_so = is_refused(rt.alloc(), before, after, (*code, *row))?;
+        assert!(rt; is_so, "at {before} {after}");
+    }
+    Ok(())
+}
+
+#[test]
+fn refuses_other_bytes(rt: HostRuntime) {
+    assert!(rt; refusal(read_net(rt.alloc(), &[255])) == Some((1, 0)));
+}
+
+// The head of a text, and so many values in the array that it opens.
+fn with_many(alloc: Global, head: &str, count: u32) -> Result<String, AllocError> {
+    let mut text = String::from_str(alloc, head)?;
+    for _ in 0..count {
+        text.push_str("1,")?;
+    }
+    text.push_str("]")?;
+    Ok(text)
+}
+
+// Whether a text with so many values is refused for their count.
+fn has_too_many(alloc: Global, head: &str, count: u32) -> Result<bool, AllocError> {
+    let text = with_many(alloc, head, count)?;
+    Ok(refusal(read_net(alloc, text.as_bytes())) == Some((10, 0)))
+}
+
+#[test]
+fn counts_switches_and_links(rt: HostRuntime) -> Result<(), Fail> {
+    let alloc = rt.alloc();
+    assert!(rt; has_too_many(alloc, "switch = [", 65)?);
+    assert!(rt; has_too_many(alloc, "switch = [{name = \"a\"}]\nlink = [", 257)?);
+    Ok(())
+}
+
+// Three switches in a row, a, c and b.
+fn three(alloc: Global) -> Result<Net, NetError>
+    ensures { IfOk result IsNet }
+{
+    let text = "[[switch]]\nname = \"a\"\nports = [1]\n[[switch]]\nname = \"b\"\nports = [63]\n\
+          [[switch]]\nname = \"c\"\n[[link]]\nends = [\"a\", \"c\"]\n[[link]]\n\
+          ends = [\"c\", \"b\"]\n";
+    read_net(alloc, text.as_bytes())
+}
+
+// The names of switches 2 and 0 and of one that isn't there.
+fn names(alloc: Global, net: &Net) -> Result<String, AllocError>
+    requires { IsNet net.now }
+{
+    let mut names = String::new(alloc);
+    net.push_names(&mut names, &[2, 0, 3])?;
+    Ok(names)
+}
+
+#[test]
+fn answers_on_names(rt: HostRuntime) -> Result<(), Fail> {
+    let net = three(rt.alloc())?;
+    assert!(rt; net.number(b"c") == Some(2) && net.number(b"d").is_none());
+    assert!(rt; names(rt.alloc(), &net)?.as_str() == " c a ");
+    Ok(())
+}
+
+#[test]
+fn knows_names(rt: HostRuntime) {
+    assert!(rt; is_name(b"edge0-1") && !is_name(b"controller") && !is_name(b"1a"));
+}
+
+#[test]
+fn answers_on_links(rt: HostRuntime) -> Result<(), Fail> {
+    let net = three(rt.alloc())?;
+    assert!(rt; net.links_of(0) == 4 && net.links_of(2) == 3);
+    Ok(())
+}
+
+#[test]
+fn answers_on_ports(rt: HostRuntime) -> Result<(), Fail> {
+    let net = three(rt.alloc())?;
+    assert!(rt; net.port_mask() == 9223372036854775810);
+    let ports = net.ports();
+    assert!(rt; ports.owner(63) == Some(1) && ports.owner(2).is_none());
+    Ok(())
+}
+
+#[test]
+fn answers_on_copies(rt: HostRuntime) -> Result<(), Fail> {
+    let copy = three(rt.alloc())?.clone()?;
+    assert!(rt; copy.number(b"b") == Some(1));
+    Ok(())
+}
+
+#[test]
+fn answers_on_one_switch(rt: HostRuntime) -> Result<(), Fail> {
+    let solo = solo(rt.alloc())?;
+    assert!(rt; solo.number(b"s0") == Some(0) && solo.port_mask() == u64::MAX);
+    Ok(())
+}

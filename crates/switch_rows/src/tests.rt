@@ -1,0 +1,3 @@
+mod cache_words;
+mod caches;
+mod switches;

@@ -1,0 +1,356 @@
+//! One switch by its calls: a packet decided at an authority switch, a packet on its way to one and
+//! where its link is down, and a switch through two versions, a crash and a new boot.
+ghost use Rattle.std.specs.Prelude.{◌≡◌, [], ◌∷◌, IfOk, IsSomeAnd, IsTrue};
+ghost use Rattle.five_tuple.specs.declared.header.Header.{Header};
+ghost use Rattle.ternary.specs.Meets.{any_word};
+ghost use Rattle.policy_rules.specs.Placed.{is_in};
+ghost use Rattle.policy_rules.specs.declared.packet.Leg.TheVariants.{Seek};
+ghost use Rattle.switch_table.specs.Tables.{AreSoundTables};
+ghost use Rattle.switch_core.specs.Answering.{CanLookUp, IsAtAuthority};
+ghost use Rattle.switch_core.specs.Deciding.{own_part};
+ghost use Rattle.switch_core.specs.State.{HasOwnUpTo, serves};
+
+use ctrl_msg::{Body, SharedTables};
+use failover::{Advert, Database, DownSet};
+use five_tuple::{Fields, Header};
+use net_file::{Ports, solo};
+use policy_rules::{Action, Cause, How, Leg, Partition, Rule, Rules, Targets};
+use std::alloc::Global;
+use std::test::Fail;
+use switch_core::{Answer, Arrived, Decision, Entered, Heard, HopEnd, Next, Switch, switch_laws};
+use switch_table::{PartRow, PartRows, Partitions, Tables};
+use ternary::Word;
+use tunnel::Tunnel;
+
+// Tables of one partition, which has all headers, with these authority partitions.
+fn tables(alloc: Global, version: u32, auth: Vec<Partition>) -> Result<Tables, Fail>
+    ensures version { IfOk result (λ t. t.version ≡ version) }
+    ensures parts { IfOk result (λ t. t.parts
+        ≡ record { region = any_word; targets = 1 ∷ [] } ∷ []) }
+    ensures auth { IfOk result (λ t. t.auth ≡ auth.items) }
+{
+    let row = PartRow {
+        region: Word::any(),
+        targets: Targets::new(&[1]).ok_or("targets")?,
+    };
+    let mut rows = Vec::new(alloc);
+    rows.push(row)?;
+    Ok(Tables {
+        version,
+        parts: PartRows::new(rows)?,
+        auth: Partitions::new(auth)?,
+    })
+}
+
+// Of a switch that is no authority.
+#[tactic(auto, using(crate::proofs::TestTables::sound_ingress))]
+fn ingress_tables(alloc: Global, version: u32) -> Result<SharedTables, Fail>
+    ensures sound { IfOk result AreSoundTables }
+    ensures version { IfOk result (λ t. t.version ≡ version) }
+{
+    let tables = tables(alloc, version, Vec::new(alloc))?;
+    Ok(SharedTables::new(alloc, tables)?)
+}
+
+// Of the authority switch.
+#[tactic(auto, using(crate::proofs::TestTables::sound_authority, crate::proofs::TestTables::own_whole))]
+fn authority_tables(alloc: Global, version: u32) -> Result<SharedTables, Fail>
+    ensures sound { IfOk result AreSoundTables }
+    ensures version { IfOk result (λ t. t.version ≡ version) }
+    ensures own { IfOk result (λ t. (header : Header) →
+        IsSomeAnd (own_part t 0) (λ part. IsTrue (is_in header part))) }
+{
+    let mut rules = Vec::new(alloc);
+    rules.push(Rule {
+        word: Word::any(),
+        rank: 0,
+        rule: Some(100),
+        action: Action::Out(2),
+    })?;
+    let mut auth = Vec::new(alloc);
+    auth.push(Partition {
+        number: 0,
+        region: Word::any(),
+        rules: Rules::new(rules)?,
+    })?;
+    let tables = tables(alloc, version, auth)?;
+    Ok(SharedTables::new(alloc, tables)?)
+}
+
+// Switches a, b and c, numbered from 0, with the links a-b and b-c.
+fn chain() -> Database
+    ensures a { HasOwnUpTo result 0 1 1 }
+    ensures b { HasOwnUpTo result 1 1 1 }
+{
+    switch_laws();
+    let mut near = [0; 64];
+    near[0] = 0b010;
+    near[1] = 0b101;
+    near[2] = 0b010;
+    Database::begin(&near, 3)
+}
+
+fn header() -> Header {
+    Header::pack(&Fields {
+        src: 1,
+        dst: 2,
+        sport: 3,
+        dport: 4,
+        proto: 6,
+    })
+}
+
+// A packet that entered at a, and looks for partition 0 of this version at the end of its way.
+fn seeking(version: u32) -> Result<Tunnel, Fail>
+    ensures { IfOk result (λ t. t.leg ≡ Seek version 0) }
+{
+    let leg = Leg::Seek {
+        version,
+        partition: 0,
+    };
+    let to_b = Targets::new(&[1]).ok_or("b")?;
+    let down = DownSet::empty();
+    let route = chain().route(1, &to_b, 0b101, &down).ok_or("b to b")?;
+    Ok(Tunnel::begin(7, header(), 0, leg, to_b, route, down))
+}
+
+// b, with its tables of version 1.
+#[tactic(auto, using(crate::proofs::TestTables::at_authority, crate::proofs::TestTables::looks_up))]
+fn authority(alloc: Global) -> Result<Switch, Fail>
+    ensures boot { IfOk result (λ s. s.boot ≡ 1) }
+    ensures seq { IfOk result (λ s. s.seq ≡ 1) }
+    ensures serves { IfOk result (λ s. IsTrue (serves s)) }
+    ensures stamped { IfOk result CanLookUp }
+    ensures part { IfOk result (λ s. (header : Header) → IsAtAuthority s header (Seek 1 0)) }
+{
+    let tables = authority_tables(alloc, 1)?;
+    Ok(Switch::begin(alloc, 1, 4, tables, chain())?)
+}
+
+// The boot and the version that the switch acknowledges to the controller.
+fn acknowledged(heard: &Heard) -> Option<(u32, u32)> {
+    match heard.replies.items() {
+        [reply] => match reply.body {
+            Body::Installed { boot, version, .. } | Body::Stamped { boot, version, .. } => {
+                Some((boot, version))
+            }
+            _ => None,
+        },
+        _ => None,
+    }
+}
+
+// Whether it takes tables of this version in.
+fn takes_in(alloc: Global, b: &mut Switch, boot: u32, version: u32) -> Result<bool, Fail> {
+    let tables = authority_tables(alloc, version)?;
+    let heard = b.hear(alloc, 1, &Body::Install { boot, tables }, 0b101)?;
+    Ok(acknowledged(&heard) == Some((boot, version)))
+}
+
+// Whether it stamps with this version from now on.
+fn rises_to(alloc: Global, b: &mut Switch, version: u32) -> Result<bool, Fail> {
+    let heard = b.hear(alloc, 2, &Body::Stamp { boot: 1, version }, 0b101)?;
+    Ok(acknowledged(&heard) == Some((1, version)))
+}
+
+// Whether it drops the tables of version 1.
+fn drops_version_one(alloc: Global, b: &mut Switch) -> Result<bool, Fail> {
+    let collect = Body::Collect {
+        boot: 1,
+        version: 1,
+    };
+    b.hear(alloc, 3, &collect, 0b101)?;
+    Ok(!b.holds_version(1))
+}
+
+// Whether it opens at this version.
+fn opens_at(alloc: Global, b: &mut Switch, boot: u32, version: u32) -> Result<bool, Fail> {
+    let heard = b.hear(alloc, 4, &Body::OpenAt { boot, version }, 0b101)?;
+    Ok(heard.opened == Some(version))
+}
+
+// It hears of a rule for its cache, in a message of this number.
+fn learns(alloc: Global, b: &mut Switch, number: u32, version: u32) -> Result<(), Fail> {
+    let rule = Body::CacheRule {
+        version,
+        word: Word::any(),
+        rule: Some(100),
+        action: Action::Out(2),
+    };
+    b.hear(alloc, number, &rule, 0b101)?;
+    Ok(())
+}
+
+const fn by_authority() -> How {
+    How::Authority {
+        switch: 1,
+        partition: 0,
+    }
+}
+
+// Whether a packet that comes in is decided by this version, in this way.
+fn enters(b: &mut Switch, ports: &Ports, version: u32, how: How) -> bool {
+    if !b.holds_version(b.stamp()) {
+        return false;
+    }
+    match b.enter(8, &header(), 0b101, ports) {
+        Entered::Answered(Answer::Decided { decision, .. }) => {
+            decision.version == version && decision.how == how
+        }
+        _ => false,
+    }
+}
+
+// Whether a packet that arrived is decided by the authority rule of this version, its rule goes to
+// the cache of a, and the packet to a, which has its port.
+fn is_decided(arrived: &Arrived, version: u32) -> bool {
+    match arrived {
+        Arrived::Answered(
+            Answer::Decided {
+                decision,
+                cache: Some(
+                    Body::CacheRule {
+                        version: cached,
+                        ..
+                    },
+                ),
+                next: Next::Exit(_),
+            },
+        ) => {
+            let decided = Decision {
+                version,
+                rule: Some(100),
+                action: Action::Out(2),
+                how: by_authority(),
+            };
+            *decision == decided && *cached == version
+        }
+        _ => false,
+    }
+}
+
+// Whether a packet that looks for version 1, which isn't there, is decided by version 2.
+fn arrives_anew(b: &mut Switch, ports: &Ports) -> Result<bool, Fail> {
+    let packet = seeking(1)?;
+    let is_held = b.holds_version(1);
+    if is_held || !b.serves() || !b.holds_version(b.stamp()) {
+        return Ok(false);
+    }
+    let arrived = b.arrive(&packet, 0b101, ports);
+    Ok(is_decided(&arrived, 2))
+}
+
+#[test]
+fn an_authority_switch_decides(rt: HostRuntime) -> Result<(), Fail> {
+    let alloc = rt.alloc();
+    let ports = solo(alloc)?.ports();
+    let mut b = authority(alloc)?;
+    let arrived = b.arrive(&seeking(1)?, 0b101, &ports);
+    assert!(rt; is_decided(&arrived, 1));
+    assert_eq!(rt; b.handled(), 1);
+    assert_eq!(rt; b.number(), 1);
+    Ok(())
+}
+
+// The packet, where it sets out to an authority switch.
+fn sought(answer: Answer) -> Option<Tunnel> {
+    match answer {
+        Answer::Seek(packet) => Some(packet),
+        _ => None,
+    }
+}
+
+// A packet that comes in at a, and sets out.
+fn setting_out(a: &mut Switch, ports: &Ports) -> Option<Tunnel> {
+    if !a.holds_version(a.stamp()) {
+        return None;
+    }
+    match a.enter(7, &header(), 0b010, ports) {
+        Entered::Answered(answer) => sought(answer),
+        Entered::Closed => None,
+    }
+}
+
+#[test]
+fn a_packet_goes_on_or_is_stuck(rt: HostRuntime) -> Result<(), Fail> {
+    let alloc = rt.alloc();
+    let ports = solo(alloc)?.ports();
+    let mut a = Switch::begin(alloc, 0, 4, ingress_tables(alloc, 1)?, chain())?;
+    let mut packet = setting_out(&mut a, &ports).ok_or("to b")?;
+    assert_eq!(rt; a.hop(&mut packet, 0b010).end, HopEnd::Move(1));
+    assert_eq!(rt; packet.here(), 1);
+    let mut b = authority(alloc)?;
+    assert_eq!(rt; b.hop(&mut packet, 0b101).end, HopEnd::Arrive);
+    let mut lost = setting_out(&mut a, &ports).ok_or("to b")?;
+    let stuck = a.hop(&mut lost, 0);
+    assert_eq!(rt; stuck.found, Some(1));
+    assert_eq!(rt; stuck.end, HopEnd::Stuck(Cause::NoRoute));
+    Ok(())
+}
+
+#[test]
+fn one_version_follows_another(rt: HostRuntime) -> Result<(), Fail> {
+    let alloc = rt.alloc();
+    let ports = solo(alloc)?.ports();
+    let mut b = authority(alloc)?;
+    assert!(rt; takes_in(alloc, &mut b, 1, 2)?);
+    learns(alloc, &mut b, 5, 1)?;
+    assert!(rt; rises_to(alloc, &mut b, 2)?);
+    learns(alloc, &mut b, 6, 2)?;
+    assert!(rt; enters(&mut b, &ports, 2, How::Cached { message: 6 }));
+    assert_eq!(rt; b.expire(0), Some(6));
+    assert!(rt; drops_version_one(alloc, &mut b)?);
+    assert!(rt; arrives_anew(&mut b, &ports)?);
+    Ok(())
+}
+
+#[test]
+fn a_boot_follows_a_crash(rt: HostRuntime) -> Result<(), Fail> {
+    let alloc = rt.alloc();
+    let ports = solo(alloc)?.ports();
+    let mut b = authority(alloc)?;
+    assert_eq!(rt; b.boot(), 1);
+    b.crash();
+    assert!(rt; !b.is_up());
+    assert_eq!(rt; b.restart(), 2);
+    assert!(rt; !opens_at(alloc, &mut b, 1, 1)?, "of its old boot");
+    assert!(rt; takes_in(alloc, &mut b, 2, 3)?);
+    assert!(rt; opens_at(alloc, &mut b, 2, 3)?);
+    assert!(rt; enters(&mut b, &ports, 3, by_authority()));
+    Ok(())
+}
+
+const fn advert(origin: u32, seq: u32, up: u64) -> Advert {
+    Advert {
+        origin,
+        boot: 1,
+        seq,
+        up,
+    }
+}
+
+#[test]
+fn adverts_of_others_are_sent_on(rt: HostRuntime) -> Result<(), Fail> {
+    let alloc = rt.alloc();
+    let mut b = authority(alloc)?;
+    let own = b.near_changed(0b001);
+    assert_eq!(rt; own, advert(1, 2, 0b001));
+    let of_itself = Body::Advertise {
+        advert: advert(1, 9, 0b111),
+    };
+    assert!(rt;
+        b.hear(alloc, 1, &of_itself, 0b101)?
+            .replies
+            .items()
+            .is_empty()
+    );
+    assert_eq!(rt; b.known(1), Some(own));
+    let news = Body::Advertise {
+        advert: advert(2, 2, 0b010),
+    };
+    let messages = b.hear(alloc, 2, &news, 0b101)?.replies.into_items();
+    assert_eq!(rt; messages.len(), 2);
+    assert_eq!(rt; b.known(2), Some(advert(2, 2, 0b010)));
+    assert!(rt; b.hear(alloc, 3, &news, 0b101)?.replies.items().is_empty());
+    Ok(())
+}

@@ -1,0 +1,3 @@
+mod finders;
+mod rule_trees;
+mod words;

@@ -1,0 +1,4 @@
+mod assembled;
+mod bags;
+mod messages;
+mod spellings;

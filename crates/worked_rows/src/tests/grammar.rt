@@ -1,0 +1,46 @@
+//! Words off the grammar.
+use crate::files::{NO_ROW, PAIR};
+use crate::runs::{ended, recorded};
+use std::test::Fail;
+
+const ONE_PACKET: &str = "event,arguments\npacket,b,10.1.1.1,9.9.9.9,5000,80,tcp\n";
+
+const FILES: [(&str, &str); 3] = [("n.toml", PAIR), ("s.csv", ONE_PACKET), ("p.csv", NO_ROW)];
+
+/// Words off the grammar, whatever files there are.
+const OFF: [&[&str]; 18] = [
+    &[],
+    &["load"],
+    &["load", "0"],
+    &["load", "1001"],
+    &["load", "05"],
+    &["load", "5", "6"],
+    &["load", "5", "--net", "n.toml"],
+    &["load", "5", "--quiet"],
+    &[
+        "replay",
+        "--net=n.toml",
+        "s.csv",
+        "p.csv",
+        "--net",
+        "n.toml",
+    ],
+    &["replay", "s.csv", "p.csv", "--net", "-n.toml"],
+    &["replay", "s.csv", ""],
+    &["replay", "--", "s.csv", "p.csv"],
+    &["replay", "--help"],
+    &["replays", "s.csv", "p.csv"],
+    &["replay", "--quiet", "--quiet", "s.csv", "p.csv"],
+    &["replay", "--quiet", "s.csv", "p.csv", "--quiet"],
+    &["replay", "s.csv", "--quiet", "p.csv"],
+    &["compile", "p.csv", "--quiet"],
+];
+
+#[test]
+fn refuses_words_off_the_grammar(rt: HostRuntime) -> Result<(), Fail> {
+    for words in &OFF {
+        let off = recorded(rt.alloc(), words, &FILES)?;
+        assert!(rt; ended(&off, 2, "", "difane: words\n"));
+    }
+    Ok(())
+}

@@ -1,0 +1,114 @@
+//! Worked runs with meters at the ports, one of a kind of the caller's own among them.
+ghost use Rattle.std.specs.Prelude.{length, nat_le};
+
+use crate::files::NO_ROW;
+use crate::runs::{ended, metered, recorded, shelf_of, sink};
+use meters::{FirstN, Leaving, Meter, Recorder, Stay};
+use std::test::Fail;
+
+const TWO_ROWS: &str = "priority,src,dst,sport,dport,proto,action\n\
+    100,10.0.0.0/8,any,any,80,tcp,out:3\n50,any,any,any,any,any,drop\n";
+
+const ONE_PACKET: &str = "event,arguments\npacket,s0,10.1.1.1,9.9.9.9,5000,80,tcp\n";
+
+const TWO_PACKETS: &str = "event,arguments\npacket,s0,10.1.1.1,9.9.9.9,5000,80,tcp\n\
+    packet,s0,10.1.1.1,9.9.9.9,5000,80,tcp\n";
+
+const FIRST_LINES: &str = "row 1: packet s0 10.1.1.1 9.9.9.9 5000 80 tcp\n\
+    \x20 entered 1 s0\n\
+    \x20 decided 1 v1 rule 100 out:3 authority s0 part 0\n\
+    \x20 out 1 port 3\n\
+    meter port 3 notes 1\n";
+
+const TWICE: &str = "row 1: packet s0 10.1.1.1 9.9.9.9 5000 80 tcp\n\
+    \x20 entered 1 s0\n\
+    \x20 decided 1 v1 rule 100 out:3 authority s0 part 0\n\
+    \x20 out 1 port 3\n\
+    row 2: packet s0 10.1.1.1 9.9.9.9 5000 80 tcp\n\
+    \x20 entered 2 s0\n\
+    \x20 decided 2 v1 rule 100 out:3 authority s0 part 0\n\
+    \x20 out 2 port 3\n\
+    meter port 3 notes 2\n";
+
+/// A meter of the caller's own: it leaves with its second packet.
+#[derive(Drop)]
+struct Pair {
+    port: u32,
+    held: Vec<Leaving>,
+}
+
+impl Meter for Pair {
+    ghost seen = { λ m. record {
+      port = m.port;
+      held = m.held.items;
+      is_ended = λ held. nat_le 2 (length held);
+    } };
+
+    fn port(&self) -> u32 {
+        self.port
+    }
+
+    fn note(&mut self, leaving: &Leaving) -> Stay {
+        match self.held.push(*leaving) {
+            Ok(()) if self.held.len() >= 2 => Stay::Leave,
+            Ok(()) => Stay::Stay,
+            Err(_) => Stay::NoMemory,
+        }
+    }
+
+    fn notes(&self) -> u64 {
+        self.held.len() as u64
+    }
+}
+
+/// The first packet leaves by port 3, and is the one that its recorder has.
+#[test]
+fn recorders_tell_what_left(rt: HostRuntime) -> Result<(), Fail> {
+    let alloc = rt.alloc();
+    let words = ["replay", "s.csv", "p.csv"];
+    let files = [("s.csv", ONE_PACKET), ("p.csv", TWO_ROWS)];
+    let one = recorded(alloc, &words, &files)?;
+    assert!(rt; ended(&one, 0, FIRST_LINES, ""));
+    Ok(())
+}
+
+/// Meters leave at their time, each of its own kind, and those that are gone have no line.
+#[test]
+fn meters_leave_at_their_time(rt: HostRuntime) -> Result<(), Fail> {
+    let alloc = rt.alloc();
+    let mut meters: Vec<Box<dyn Meter>> = Vec::new(alloc);
+    meters.push(Box::new(alloc, FirstN::new(alloc, 3, 1))?)?;
+    meters.push(Box::new(alloc, Recorder::new(alloc, 3))?)?;
+    let held = Vec::new(alloc);
+    meters.push(Box::new(alloc, Pair { port: 3, held })?)?;
+    let words = ["replay", "s.csv", "p.csv"];
+    let files = [("s.csv", TWO_PACKETS), ("p.csv", TWO_ROWS)];
+    let shelf = shelf_of(alloc, &files)?;
+    let (two, _, still) = metered(alloc, &words, shelf, sink(alloc), sink(alloc), meters)?;
+    assert!(rt; ended(&two, 0, TWICE, ""));
+    assert_eq!(rt; still, 1);
+    Ok(())
+}
+
+/// A meter of a port that the network lacks comes back where the words are off the grammar, and
+/// with a plan; it is dropped by a play and where a file of one is refused.
+#[test]
+fn meters_come_back_where_nothing_is_played(rt: HostRuntime) -> Result<(), Fail> {
+    let alloc = rt.alloc();
+    let files = [("s.csv", ONE_PACKET), ("p.csv", NO_ROW)];
+    let cases: [(&[&str], u8, usize); 4] = [
+        (&["replay"], 2, 1),
+        (&["compile", "p.csv"], 0, 1),
+        (&["replay", "s.csv", "p.csv"], 0, 0),
+        (&["replay", "no.csv", "p.csv"], 3, 0),
+    ];
+    for (words, status, left) in &cases {
+        let mut meters: Vec<Box<dyn Meter>> = Vec::new(alloc);
+        meters.push(Box::new(alloc, FirstN::new(alloc, 90, 1))?)?;
+        let shelf = shelf_of(alloc, &files)?;
+        let (ran, _, still) = metered(alloc, words, shelf, sink(alloc), sink(alloc), meters)?;
+        assert_eq!(rt; ran.0, *status);
+        assert_eq!(rt; still, *left);
+    }
+    Ok(())
+}

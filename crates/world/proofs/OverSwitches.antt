@@ -1,0 +1,25 @@
+-- The switches over the parts of a world, on which a step was begun.
+use Rattle.std.proofs.Common.{ℕ, ◌<◌, ◌≤◌, length}
+use Rattle.steps.specs.Steps.{HasSwitch}
+use Rattle.steps.specs.declared.step.Step.{Step}
+use Rattle.world.specs.Parts.{HasBegun, control_in, setting_in}
+use Rattle.world.specs.declared.parts.Parts.{Parts}
+use Rattle.world_ties.proofs.Switches.{few_switches, switch_known, switch_there}
+
+-- a switch that the step names is there
+pub switch_in : {step : Step} (self : Parts) (s : ℕ) → HasBegun step self
+    → HasSwitch self.files.net s → s < length self.switches.items
+switch_in self s begun own = switch_there (control_in self) (setting_in self) begun.before
+    self.switches.items self.log.travelling self.packets s begun.begins.ready.tied own
+
+-- and the controller knows it
+pub known_in : {step : Step} (self : Parts) (s : ℕ) → HasBegun step self
+    → HasSwitch self.files.net s → s < length self.controller.marks.switches
+known_in self s begun own = switch_known (control_in self) (setting_in self) begun.before
+    self.switches.items self.log.travelling self.packets s begun.begins.ready.tied own
+
+-- each has a place in a mask
+pub few_in : {step : Step} (self : Parts) → HasBegun step self
+    → length self.switches.items ≤ 64
+few_in self begun = few_switches (control_in self) (setting_in self) begun.before
+    self.switches.items self.log.travelling self.packets begun.begins.ready.tied

@@ -1,0 +1,94 @@
+//! The controller's part: policies that are updated, switches that are confirmed to be gone, and
+//! what is sent again, for it may have been lost: the hello and the adverts of a switch, and what
+//! the controller knows it to lack.
+ghost use Rattle.std.specs.Prelude.{◌≡◌, ◌==◌, ◌++◌, length, map};
+ghost use Rattle.controller.specs.declared.sends.Act.TheVariants.{Post};
+ghost use Rattle.steps.specs.declared.step.Step.TheVariants.{Confirm as ConfirmStep, Resend as ResendStep, Update as UpdateStep};
+ghost use Rattle.world.specs.Parts.{HasBegun, Plays};
+
+use crate::parts::Parts;
+use controller::{Act, SubmitError};
+use journal::{Item, Message};
+use policy_store::Compiled;
+use std::alloc::{AllocError, Global};
+use usable_links::told_again;
+
+impl Parts {
+    /// The policy of the file becomes the newest version, unless it has no plan or the controller
+    /// refuses it.
+    ///
+    /// # Errors
+    /// Want of memory alone; a part of the items is written then.
+    pub fn update(&mut self, alloc: Global, file: u32) -> Result<(), AllocError>
+        requires { HasBegun (UpdateStep file) self.old }
+        ensures { Plays (UpdateStep file) result self.old self.new }
+    {
+        let plan = match self.files.compiled(alloc, file as usize - 1)? {
+            Compiled::Refused { code } => {
+                return self.log.journal.push(Item::Refused { file, code });
+            }
+            Compiled::Planned(plan) => plan,
+        };
+        let version = self.controller.marks().count() + 1;
+        match self.controller.submit(alloc, plan) {
+            Ok(sends) => {
+                self.log.journal.push(Item::Submitted { file, version })?;
+                self.log.note_acts(alloc, sends.items())
+            }
+            Err(SubmitError::TooManyLive) => {
+                self.log.journal.push(Item::Refused { file, code: 16 })
+            }
+            Err(SubmitError::TooManyVersions) => {
+                self.log.journal.push(Item::Refused { file, code: 17 })
+            }
+            Err(SubmitError::NoMemory) => Err(AllocError),
+        }
+    }
+
+    /// The controller is told that the switch is down, and waits for it no longer. Nothing happens
+    /// where the switch is up.
+    ///
+    /// # Errors
+    /// Want of memory alone; a part of the items is written then.
+    pub fn confirm(&mut self, alloc: Global, switch: u32) -> Result<(), AllocError>
+        requires { HasBegun (ConfirmStep switch) self.old }
+        ensures { Plays (ConfirmStep switch) result self.old self.new }
+    {
+        if self.switches[switch as usize].is_up() {
+            return self.log.journal.push(Item::Nothing);
+        }
+        let sends = self.controller.over(alloc, switch)?;
+        self.log.journal.push(Item::OverNow { switch })?;
+        self.log.note_acts(alloc, sends.items())
+    }
+
+    /// A switch that is up tells the controller its boot again, and its neighbours all adverts that
+    /// it holds; then the controller sends again what the switch didn't acknowledge. Nothing happens
+    /// where none of this is there to send.
+    ///
+    /// # Errors
+    /// Want of memory alone; a part of the items is written then.
+    pub fn resend(&mut self, alloc: Global, switch: u32) -> Result<(), AllocError>
+        requires { HasBegun (ResendStep switch) self.old }
+        ensures { Plays (ResendStep switch) result self.old self.new }
+    {
+        let here = switch as usize;
+        let count = self.switches.len() as u32;
+        let near = self.near[here];
+        let told = told_again(alloc, &self.switches[here], switch, count, near)?;
+        let sends = self.controller.resend(alloc, switch)?;
+        let messages = told.as_slice();
+        let acts = sends.items();
+        if are_none(messages, acts) {
+            return self.log.journal.push(Item::Nothing);
+        }
+        self.log.send_and_note(alloc, messages, acts)
+    }
+}
+
+// Whether there is nothing to send.
+fn are_none(messages: &[Message], acts: &[Act]) -> bool
+    ensures { result ≡ (length (map Post messages.now ++ acts.now) == 0) }
+{
+    messages.is_empty() && acts.is_empty()
+}

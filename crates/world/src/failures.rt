@@ -1,0 +1,75 @@
+//! Switches and links that fail and come back.
+ghost use Rattle.steps.specs.declared.step.Step.TheVariants.{Crash as CrashStep, Restart as RestartStep};
+ghost use Rattle.usable_links.specs.Linking.{link_step};
+ghost use Rattle.world.specs.Parts.{HasBegun, Plays};
+
+use crate::parts::Parts;
+use journal::Item;
+use masks::has;
+use std::alloc::{AllocError, Global};
+use usable_links::{hello, set_ends};
+
+impl Parts {
+    /// The switch goes down, unless it is down already: it loses what it learnt, and the packets
+    /// that stand there are lost. The other ends of its usable links tell their neighbours.
+    ///
+    /// # Errors
+    /// Want of memory alone; a part of the items is written then.
+    pub fn crash(&mut self, alloc: Global, switch: u32) -> Result<(), AllocError>
+        requires { HasBegun (CrashStep switch) self.old }
+        ensures { Plays (CrashStep switch) result self.old self.new }
+    {
+        if !self.switches[switch as usize].is_up() {
+            return self.log.journal.push(Item::Nothing);
+        }
+        self.switches[switch as usize].crash();
+        self.log.journal.push(Item::Down { switch })?;
+        self.log.lose_at(switch)?;
+        self.change_links(alloc)
+    }
+
+    /// The switch comes up again, closed, in its next boot, and tells the controller so. Nothing
+    /// happens where it is up.
+    ///
+    /// # Errors
+    /// Want of memory alone; a part of the items is written then.
+    pub fn restart(&mut self, alloc: Global, switch: u32) -> Result<(), AllocError>
+        requires { HasBegun (RestartStep switch) self.old }
+        ensures { Plays (RestartStep switch) result self.old self.new }
+    {
+        let here = switch as usize;
+        if self.switches[here].is_up() {
+            return self.log.journal.push(Item::Nothing);
+        }
+        let boot = self.switches[here].restart();
+        self.log.journal.push(Item::Booted { switch, boot })?;
+        self.log.send(alloc, hello(switch, boot))
+    }
+
+    /// The link of two switches comes back, or fails, at both of its ends, and those whose usable
+    /// links changed tell their neighbours. Where it is so already, nothing happens.
+    ///
+    /// # Errors
+    /// Want of memory alone; a part of the items is written then.
+    pub fn set_link(
+        &mut self,
+        alloc: Global,
+        one: u32,
+        two: u32,
+        up: bool,
+    ) -> Result<(), AllocError>
+        requires { HasBegun (link_step up one two) self.old }
+        ensures { Plays (link_step up one two) result self.old self.new }
+    {
+        if has(self.links[one as usize], two) == up {
+            return self.log.journal.push(Item::Nothing);
+        }
+        set_ends(&mut self.links, one, two, up);
+        self.log.journal.push(Item::LinkIs {
+            one: one.min(two),
+            two: one.max(two),
+            up,
+        })?;
+        self.change_links(alloc)
+    }
+}
