@@ -1,4 +1,4 @@
--- A rule that is told apart from a word by one bit alone: of the bits by which it differs from the
+-- A rule that differs from a word in one bit alone: of the bits by which it differs from the
 -- header, that one is the highest, since the word has not freed the bits above.
 use Rattle.std.proofs.Common.{ℕ, suc, zero, ◌≡◌, ◌≢◌, ◌+◌, ◌-◌, ◌*◌, ◌/◌, ◌%◌, ◌^◌, ◌<◌, ◌≤◌, min, max, Bool, true, false, ◌&&◌, ◌||◌, ◌⊎◌, List, [], ◌∷◌, All, get_or, length, take, cond, refl, ap, sym, ◌∙◌, subst, arith, inl, inr}
 use Rattle.std.specs.Prelude.{IsTrue, IsNone, IsSomeAnd, not, ◌==◌, bit_or, bit_and, bit_xor, is_some, is_none}
@@ -195,17 +195,17 @@ apart_unless covers meet exact free h region rules index n free_bits highest bou
             at_n met)))
         by_bool false none = meet.some _ _ ∙ none
 
--- ---- the rules that are told apart by one bit alone
+-- ---- the rules that differ in one bit alone
 
 -- among the bits that are still fixed, the rule differs in this bit alone, where the freed word
 -- meets it
-told_one : CoversLaws → ExactLaws → FreeLaws → (h : ℕ) (region : WordValue) (rules : List Rule)
-    (index n : ℕ) (rule : WordValue) → n < 104 → IsWord rule
+differs_in_one : CoversLaws → ExactLaws → FreeLaws → (h : ℕ) (region : WordValue)
+    (rules : List Rule) (index n : ℕ) (rule : WordValue) → n < 104 → IsWord rule
     → meets (widened h region rules index n) rule ≡ false
     → (bit_and (differing h rule) (widened h region rules index n).mask == 2 ^ n)
     ≡ meets (free_of (widened h region rules index n) n) rule
 unfolding is_fixed_of agrees_at
-told_one covers exact free h region rules index n rule bound is apart =
+differs_in_one covers exact free h region rules index n rule bound is apart =
     by_meet (meets (free_of (widened h region rules index n) n) rule) refl
   where
     both_one : (a b : ℕ) → a ≡ 1 → b ≡ 1 → min a b ≡ 1
@@ -275,14 +275,14 @@ told_one covers exact free h region rules index n rule bound is apart =
             ((free.meets_others (widened h region rules index n) rule n).1 (agrees (eqb-true _ _ equal))))
         by_test false unequal = refl
 
--- no rule is told apart from the word by this bit alone, where the freed word is apart from all
-pub told_by_none : CoversLaws → MeetLaws → ExactLaws → FreeLaws → (h : ℕ) (region : WordValue)
+-- no rule differs from the word in this bit alone, where the freed word is apart from all
+pub differs_in_none : CoversLaws → MeetLaws → ExactLaws → FreeLaws → (h : ℕ) (region : WordValue)
     (rules : List Rule) (index n : ℕ) → n < 104 → All (λ rule. IsWord rule.word) rules
     → IsIndependent region rules index (widened h region rules index n)
     → not (differs_alone h (widened h region rules index n).mask (2 ^ n) (take index rules))
     ≡ is_apart (free_of (widened h region rules index n) n) (take index rules)
 unfolding is_apart
-told_by_none covers meet exact free h region rules index n bound words independent =
+differs_in_none covers meet exact free h region rules index n bound words independent =
     all_of (take index rules) (All-take (λ (rule : Rule). IsWord rule.word) index rules words)
     independent.earlier
   where
@@ -298,7 +298,7 @@ told_by_none covers meet exact free h region rules index n bound words independe
     all_of (rule ∷ list) sound apart =
         let P : Rule → Type 0 = λ r. IsWord r.word in
         let Q : Rule → Type 0 = λ r. IsNone (meet_of (widened h region rules index n) r.word) in
-        let here = told_one covers exact free h region rules index n rule.word bound
+        let here = differs_in_one covers exact free h region rules index n rule.word bound
         (All-head P rule list sound)
         (sym (meet.some (widened h region rules index n) rule.word) ∙ All-head Q rule list apart) in
         let rest = all_of list (All-tail P rule list sound) (All-tail Q rule list apart) in

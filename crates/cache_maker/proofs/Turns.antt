@@ -19,7 +19,7 @@ use Rattle.policy_rules.specs.declared.rules.Rule.{Rule}
 use Rattle.cache_maker.specs.Independent.{IsIndependent, is_apart, is_independent, widened}
 use Rattle.cache_maker.specs.Differing.{differing, differs_alone, IsHighest, HaveHighest}
 use Rattle.cache_maker.proofs.Widening.{widened_independent, widened_word}
-use Rattle.cache_maker.proofs.Differing.{apart_unless, as_header, free_in_both, past_header, still_fixed, test_parts, told_by_none}
+use Rattle.cache_maker.proofs.Differing.{apart_unless, as_header, free_in_both, past_header, still_fixed, test_parts, differs_in_none}
 
 -- what `widen` is given, and has found of the rules
 pub record IsGiven (h : ℕ) (region : WordValue) (rules : List Rule)
@@ -313,7 +313,7 @@ differs_no_further {h} {region} {rules} {index} {free_bits} {last} {fixed} {unte
 
 -- a rule differs in the lowest untested bit alone, among those still fixed, where it does so in
 -- the turn of this bit
-told_alike : {h : ℕ} {region : WordValue} {rules : List Rule}
+differs_alike : {h : ℕ} {region : WordValue} {rules : List Rule}
     {index free_bits last fixed untested : ℕ}
     → IsGiven h region rules index free_bits last
     → IsLeft h region rules index free_bits last fixed untested → (n : ℕ)
@@ -321,7 +321,7 @@ told_alike : {h : ℕ} {region : WordValue} {rules : List Rule}
     → (bit_and (differing h rule.word) fixed == 2 ^ n)
     ≡ (bit_and (differing h rule.word) (widened h region rules index n).mask == 2 ^ n)
 unfolding is_fixed_of
-told_alike {h} {region} {rules} {index} {free_bits} {last} {fixed} {untested} given left n lowest
+differs_alike {h} {region} {rules} {index} {free_bits} {last} {fixed} {untested} given left n lowest
     rule is has =
     both_ways _ _ (λ e. eq-eqb _ _ (in_turn (eqb-true _ _ e)))
     (λ e. eq-eqb _ _ (at_once (eqb-true _ _ e)))
@@ -379,19 +379,19 @@ told_alike {h} {region} {rules} {index} {free_bits} {last} {fixed} {untested} gi
           ∙ sym (bit_at_and bits mask j) ∙ ap (λ x. bit_at x j) same
     ])
 
--- the lowest untested bit stays fixed where some rule is told by it alone
-told_fixed : {h : ℕ} {region : WordValue} {rules : List Rule}
+-- the lowest untested bit stays fixed where some rule differs in it alone
+differs_fixed : {h : ℕ} {region : WordValue} {rules : List Rule}
     {index free_bits last fixed untested : ℕ}
     → IsGiven h region rules index free_bits last
     → IsLeft h region rules index free_bits last fixed untested → (n : ℕ)
     → IsLowest untested n → differs_alone h fixed (2 ^ n) (take index rules)
     ≡ is_fixed_of (widened h region rules index 104) n
-told_fixed {h} {region} {rules} {index} {free_bits} {last} {fixed} {untested} given left n lowest =
+differs_fixed {h} {region} {rules} {index} {free_bits} {last} {fixed} {untested} given left n lowest =
     let fits = left.among n lowest.set in
     all_of (take index rules) (All-take (λ (rule : Rule). IsWord rule.word) index rules given.words)
     given.have
     ∙ sym (twice (differs_alone h mask (2 ^ n) (take index rules)))
-    ∙ ap not (told_by_none given.covers given.meet given.exact given.free h region rules index n
+    ∙ ap not (differs_in_none given.covers given.meet given.exact given.free h region rules index n
     fits.1 given.words (independent_at given n))
     ∙ sym (at_last given n fits.1
     ∙ ap (λ b. not (b && is_apart (free_of (widened h region rules index n) n) (take index rules)))
@@ -413,7 +413,7 @@ told_fixed {h} {region} {rules} {index} {free_bits} {last} {fixed} {untested} gi
         let Q : Rule → Type 0 = λ r. (k : ℕ) → IsHighest (differing h r.word) k
         → bit_and (differing h r.word) free_bits ≡ differing h r.word → bit_at last k ≡ 1 in
         ap (λ b. b || differs_alone h fixed (2 ^ n) list)
-        (told_alike given left n lowest rule (All-head P rule list sound)
+        (differs_alike given left n lowest rule (All-head P rule list sound)
         (All-head Q rule list has))
         ∙ ap (λ b. (bit_and (differing h rule.word) mask == 2 ^ n) || b)
         (all_of list (All-tail P rule list sound) (All-tail Q rule list has))
@@ -446,22 +446,22 @@ pub left_next : {h : ℕ} {region : WordValue} {rules : List Rule}
     {index free_bits last fixed untested : ℕ}
     → IsGiven h region rules index free_bits last
     → IsLeft h region rules index free_bits last fixed untested → (n : ℕ)
-    → IsLowest untested n → (told : Bool) (after : ℕ)
-    → told ≡ differs_alone h fixed (2 ^ n) (take index rules)
-    → after ≡ cond told fixed (bit_xor fixed (2 ^ n))
+    → IsLowest untested n → (alone : Bool) (after : ℕ)
+    → alone ≡ differs_alone h fixed (2 ^ n) (take index rules)
+    → after ≡ cond alone fixed (bit_xor fixed (2 ^ n))
     → IsLeft h region rules index free_bits last after (bit_xor untested (2 ^ n))
 left_next {h} {region} {rules} {index} {free_bits} {last} {fixed} {untested} given left n lowest
-    told after is made =
+    alone after is made =
     let gone = xor_same untested n lowest.set in
     record {
       done = λ j unset. elim (cases_eq j n) [
-        | inl here ↦ ap (λ k. bit_at after k == 1) here ∙ tested told made
-            ∙ is ∙ told_fixed given left n lowest
+        | inl here ↦ ap (λ k. bit_at after k == 1) here ∙ tested alone made
+            ∙ is ∙ differs_fixed given left n lowest
             ∙ sym (ap (λ k. is_fixed_of (widened h region rules index 104) k) here)
-        | inr other ↦ ap (λ x. x == 1) (others told made j other)
+        | inr other ↦ ap (λ x. x == 1) (others alone made j other)
             ∙ left.done j (λ one. unset (xor_other untested n j other ∙ one))
       ];
-      kept = λ j set. others told made j (not_here j set) ∙ left.kept j (before j set);
+      kept = λ j set. others alone made j (not_here j set) ∙ left.kept j (before j set);
       among = λ j set. left.among j (before j set);
       later = λ j k set past free_k last_k.
           let other : k ≢ n = λ here.

@@ -195,7 +195,7 @@ least_start first second height which bits bit p q =
 
 -- ---- which count is higher
 
--- a digit that tells two counts apart, and one that the first is the higher
+-- a digit in which two counts differ, and one that the first is the higher
 abbrev pub AreOrdered : ℕ → ℕ → ℕ → ℕ → Type 0
 AreOrdered settled more first second =
     ((settled ≡ 0) × (more ≡ 0) × (first ≡ second))

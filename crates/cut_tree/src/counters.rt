@@ -6,7 +6,8 @@ ghost use Rattle.cut_tree.specs.Counts.{IsHeight, IsLeastOf, count_at, count_by}
 const PLANES: usize = 32;
 
 /// A counter for each of 128 bits, all of them kept as binary numbers side by side: plane k holds
-/// of each counter the bit of weight 2^k. So a set of bits is counted in a few operations on words.
+/// of each counter the bit of weight 2^k. So a set of bits is counted in a few operations on
+/// numbers of 128 bits.
 #[derive(Clone, Copy)]
 pub struct Counters {
     pub planes: [u128; PLANES],

@@ -15,7 +15,7 @@ use Rattle.travelling.specs.Marks.{flipped_if, has_marks, is_marked}
 use Rattle.travelling.specs.Travelling.{AreMarked, Travellers, stands_at, traveller}
 use Rattle.travelling.specs.declared.travelling.Traveller.{Traveller}
 
--- ---- empty words
+-- ---- empty masks
 
 pub none_marked : (i s : ℕ) → is_marked [] i s ≡ false
 none_marked i s = has-zero (i % 64)
@@ -26,15 +26,15 @@ pushed_zero [] (suc j) = refl
 pushed_zero (m ∷ masks) zero = refl
 pushed_zero (m ∷ masks) (suc j) = pushed_zero masks j
 
--- the same words mark the same packets
+-- the same masks mark the same packets
 pub marked_on : (before after : Travellers) (masks more : List ℕ) → AreMarked before masks
     → ((i : ℕ) → traveller after i ≡ traveller before i)
     → ((j : ℕ) → get_or more j 0 ≡ get_or masks j 0) → AreMarked after more
-marked_on before after masks more marked same words = λ i s below.
-    ap (λ m. has m (i % 64)) (words (i / 64 * 64 + s)) ∙ marked i s below
+marked_on before after masks more marked same same_masks = λ i s below.
+    ap (λ m. has m (i % 64)) (same_masks (i / 64 * 64 + s)) ∙ marked i s below
     ∙ ap (stands_at s) (sym (same i))
 
--- there is a word for each slot
+-- there is a mask for each slot
 pub room_on : (before after : Travellers) (masks more : List ℕ) (n : ℕ)
     → ((i : ℕ) → i < length before → i + 64 ≤ length masks)
     → length after ≤ max (length before) (n + 1) → length masks ≤ length more
@@ -108,15 +108,15 @@ module _ (masks : List ℕ) (n t : ℕ) (t_below : t < 64)
   abbrev Turns : ℕ → ℕ → Bool → Type 0
   Turns i s test = is_marked turned i s ≡ flipped_if test (is_marked masks i s)
 
-  same_word : (i s : ℕ) → i / 64 * 64 + s ≡ p → get_or turned (i / 64 * 64 + s) 0
+  same_mask : (i s : ℕ) → i / 64 * 64 + s ≡ p → get_or turned (i / 64 * 64 + s) 0
       ≡ bit_xor (get_or masks (i / 64 * 64 + s) 0) (2 ^ (n % 64))
-  same_word i s e = subst (λ q. get_or turned q 0 ≡ bit_xor (get_or masks q 0) (2 ^ (n % 64)))
+  same_mask i s e = subst (λ q. get_or turned q 0 ≡ bit_xor (get_or masks q 0) (2 ^ (n % 64)))
       (sym e) (get_or-set_same masks p (bit_xor (get_or masks p 0) (2 ^ (n % 64))) 0 there)
 
   turns_one : (i s : ℕ) → i ≡ n → t ≡ s → Turns i s true
   turns_one i s same at =
       let e : i / 64 * 64 + s ≡ p = ap (λ k. k / 64 * 64 + s) same ∙ ap (λ u. n / 64 * 64 + u) (sym at) in
-      ap (λ m. has m (i % 64)) (same_word i s e)
+      ap (λ m. has m (i % 64)) (same_mask i s e)
       ∙ ap (λ k. has (bit_xor (get_or masks (i / 64 * 64 + s) 0) (2 ^ k)) (i % 64))
       (ap (λ k. k % 64) (sym same))
       ∙ has-xor_same (get_or masks (i / 64 * 64 + s) 0) (i % 64)
@@ -127,7 +127,7 @@ module _ (masks : List ℕ) (n t : ℕ) (t_below : t < 64)
       by_place : (i / 64 * 64 + s ≡ p) ⊎ (i / 64 * 64 + s ≢ p) → Turns i s false
       by_place (inl e) =
           let both = place_apart (i / 64) (n / 64) s t below t_below e in
-          ap (λ m. has m (i % 64)) (same_word i s e)
+          ap (λ m. has m (i % 64)) (same_mask i s e)
           ∙ has-xor_other (get_or masks (i / 64 * 64 + s) 0) (n % 64) (i % 64)
           (λ low. other (parts_same i n both.0 low) (sym both.1))
       by_place (inr apart) = ap (λ m. has m (i % 64)) (get_or-set_other masks p
@@ -205,20 +205,20 @@ module _ (masks : List ℕ) (s next : ℕ) where
       let less = shr_le (get_or masks (next / 64 * 64 + s) 0) (next % 64) in
       omega (arith, fits, less)
 
-  -- a packet of the same word
-  in_word : (i : ℕ) → next ≤ i → i < (next / 64 + 1) * 64
+  -- a packet of the same block
+  in_block : (i : ℕ) → next ≤ i → i < (next / 64 + 1) * 64
       → is_marked masks i s ≡ has rest (i - next)
-  in_word i above below =
+  in_block i above below =
       let high : i / 64 ≡ next / 64 = omega (arith, above, below) in
       let low : i % 64 ≡ next % 64 + (i - next) = omega (arith, above, below, high) in
       ap (λ q. has (get_or masks (q * 64 + s) 0) (i % 64)) high
       ∙ ap (has (get_or masks (next / 64 * 64 + s) 0)) low
       ∙ sym (has-shr (get_or masks (next / 64 * 64 + s) 0) (next % 64) (i - next))
 
-  pub none_in_word : rest ≡ 0 → (i : ℕ) → next ≤ i → i < (next / 64 + 1) * 64
+  pub none_in_mask : rest ≡ 0 → (i : ℕ) → next ≤ i → i < (next / 64 + 1) * 64
       → is_marked masks i s ≡ false
-  none_in_word empty i above below =
-      in_word i above below ∙ ap (λ m. has m (i - next)) empty ∙ has-zero (i - next)
+  none_in_mask empty i above below =
+      in_block i above below ∙ ap (λ m. has m (i - next)) empty ∙ has-zero (i - next)
 
   pub none_past : length masks ≤ next / 64 * 64 + s → (i : ℕ) → next ≤ i
       → is_marked masks i s ≡ false
@@ -243,11 +243,11 @@ module _ (masks : List ℕ) (s next : ℕ) where
 
     pub least_marked : is_marked masks (next + least_in rest) s ≡ true
     least_marked =
-        in_word (next + least_in rest) (omega arith) (omega (arith, within))
+        in_block (next + least_in rest) (omega arith) (omega (arith, within))
         ∙ ap (has rest) (let e : next + least_in rest - next ≡ least_in rest = omega arith in e)
         ∙ has_least rest some rest_fits
 
     pub none_before : (i : ℕ) → next ≤ i → i < next + least_in rest → is_marked masks i s ≡ false
     none_before i above below =
-        in_word i above (omega (arith, within, below))
+        in_block i above (omega (arith, within, below))
         ∙ least_below rest some rest_fits (i - next) (omega (arith, above, below))

@@ -146,4 +146,4 @@ pub record IsTable (travellers : Travellers) (first : ℕ) (marks : List ℕ) : 
   pub none : (i : ℕ) → i < first → traveller travellers i ≡ None
   pub room : (i : ℕ) → i < length travellers → i + 64 ≤ length marks
   pub marked : AreMarked travellers marks
-  pub places : StandBelow travellers
+  pub below : StandBelow travellers

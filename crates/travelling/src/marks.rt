@@ -1,8 +1,8 @@
 //! Where packets stand: a bit for each packet and each switch.
 //!
-//! The bits of a block, 64 packets, lie in one word for each switch. Bits of the same form say
-//! which of these words have one, and again which of theirs: so a search for the packets at a
-//! switch reads no packet, and passes 262,144 of them by one word where none stands there.
+//! The bits of a block, 64 packets, lie in one mask for each switch. Bits of the same form say
+//! which of these masks have one, and again which of theirs: so a search for the packets at a
+//! switch reads no packet, and passes 262,144 of them by one mask where none stands there.
 ghost use Rattle.std.specs.Prelude.{◌≡◌, ◌+◌, ◌*◌, ◌/◌, ◌<◌, ◌≤◌, ◌==◌, ◌&&◌, ℕ, [], false, true, length, max, slice_index_or, OnOk};
 ghost use Rattle.travelling.specs.Marks.{AreOfBlocks, IsLeastMarked, IsNextInBlock, IsNextMarked, flipped_if, has_marks, is_marked};
 ghost use Rattle.travelling.specs.Travelling.{stands_at};
@@ -45,7 +45,7 @@ impl Marks {
         }
     }
 
-    /// There is a bit for the packet of this number. Each new word is pushed, so that n packets
+    /// There is a bit for the packet of this number. Each new mask is pushed, so that n packets
     /// take O(n) in all.
     pub fn make_bits(&mut self, number: usize) -> Result<(), AllocError>
         requires { number < 4_294_967_296 }
@@ -53,9 +53,9 @@ impl Marks {
         ensures grown { length self.old ≤ length self.new }
         ensures same { (j : ℕ) → slice_index_or self.new j 0 ≡ slice_index_or self.old j 0 }
     {
-        make_words(&mut self.groups, number / 64 / 64)?;
-        make_words(&mut self.blocks, number / 64)?;
-        make_words(&mut self.packets, number)
+        make_masks(&mut self.groups, number / 64 / 64)?;
+        make_masks(&mut self.blocks, number / 64)?;
+        make_masks(&mut self.packets, number)
     }
 
     /// Where the slot's packet stands it is marked if it wasn't, and not marked if it was.
@@ -64,7 +64,7 @@ impl Marks {
         ensures room { length self.new ≡ length self.old }
         ensures marks { (i s : ℕ) → s < 64 → is_marked self.new i s
             ≡ flipped_if (i == number && stands_at s slot.now) (is_marked self.old i s) }
-        ensures places { (s : ℕ) → 64 ≤ s → stands_at s slot.now ≡ false }
+        ensures below { (s : ℕ) → 64 ≤ s → stands_at s slot.now ≡ false }
     {
         if let Some(kept) = slot {
             self.flip(number, kept.here());
@@ -105,8 +105,8 @@ impl Marks {
     }
 }
 
-// There are words up to that of this number at each switch.
-fn make_words(masks: &mut Vec<u64>, number: usize) -> Result<(), AllocError>
+// There are masks up to that of this number at each switch.
+fn make_masks(masks: &mut Vec<u64>, number: usize) -> Result<(), AllocError>
     requires { number < 4_294_967_296 }
     ensures room { OnOk result (number + 64 ≤ length masks.new.items) }
     ensures grown { length masks.old.items ≤ length masks.new.items }

@@ -188,11 +188,11 @@ fn set_slot(slots: &mut Vec<Option<Kept>>, marks: &mut Marks, number: usize, slo
     requires within { number < length slots.old.items }
     requires room { number + 64 ≤ length marks.old }
     requires marked { AreMarked slots.old.items marks.old }
-    requires places { StandBelow slots.old.items }
+    requires below { StandBelow slots.old.items }
     ensures slots { slots.new.items ≡ slice_set slots.old.items number slot }
     ensures room { length marks.new ≡ length marks.old }
     ensures marked { AreMarked slots.new.items marks.new }
-    ensures places { StandBelow slots.new.items }
+    ensures below { StandBelow slots.new.items }
 {
     marks.mark_slot(number, &slots[number]);
     marks.mark_slot(number, &slot);
@@ -204,12 +204,12 @@ fn move_slot(slots: &mut Vec<Option<Kept>>, marks: &mut Marks, number: usize, pl
     requires held { IsSomeAnd (traveller slots.old.items number) (HasPlace place) }
     requires room { number + 64 ≤ length marks.old }
     requires marked { AreMarked slots.old.items marks.old }
-    requires places { StandBelow slots.old.items }
+    requires below { StandBelow slots.old.items }
     ensures slots { slots.new.items ≡ slice_set slots.old.items number
         (option_map (placed_at place) (traveller slots.old.items number)) }
     ensures room { length marks.new ≡ length marks.old }
     ensures marked { AreMarked slots.new.items marks.new }
-    ensures places { StandBelow slots.new.items }
+    ensures below { StandBelow slots.new.items }
 {
     marks.mark_slot(number, &slots[number]);
     if let Some(kept) = &mut slots[number] {

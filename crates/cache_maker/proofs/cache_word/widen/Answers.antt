@@ -60,14 +60,14 @@ loop-untested-preserved c =
     let made : c.if-not-differs_alone.fixed ≡ cond c.differs_alone.result fixed freed =
     elim c.if-not-differs_alone.branch [
       | then-not-differs_alone w ↦
-          let untold = w.if-not-differs_alone.true in
+          let others = w.if-not-differs_alone.true in
           w.fixed-is ∙ ap (λ b. bit_xor c.loop-untested.fixed b) alone
           ∙ sym (cond-false c.differs_alone.result fixed freed
-          (first_of (assumption untold, search (rules, not-true))))
+          (first_of (assumption others, search (rules, not-true))))
       | else-not-differs_alone w ↦
-          let told = w.if-not-differs_alone.false in
+          let alone = w.if-not-differs_alone.false in
           w.fixed-is ∙ sym (cond-true c.differs_alone.result fixed freed
-          (first_of (assumption told, search (rules, not-false))))
+          (first_of (assumption alone, search (rules, not-false))))
     ] in
     record {
       given = invariant.given;

@@ -1,6 +1,6 @@
 use Rattle.std.proofs.Common.{ℕ, ◌≡◌, ◌+◌, ◌*◌, ◌/◌, ◌%◌, ◌^◌, ◌<◌, zero, suc, refl, get_or, arith}
 use Rattle.masks.specs.Masks.{least_in}
-use Rattle.travelling.proofs.Marked.{least_marked, none_before, none_in_word, none_past, rest_below}
+use Rattle.travelling.proofs.Marked.{least_marked, none_before, none_in_mask, none_past, rest_below}
 use Rattle.travelling.proofs.marks.next_in_block.Goals as goal
 
 pub returns-then-place-masks : goal.returns-then-place-masks
@@ -9,7 +9,7 @@ returns-then-place-masks c =
 
 pub returns-then-rest-eq0 : goal.returns-then-rest-eq0
 returns-then-rest-eq0 c =
-    none_in_word c.args.masks.now c.args.switch c.args.from c.if-rest-eq0.true
+    none_in_mask c.args.masks.now c.args.switch c.args.from c.if-rest-eq0.true
 
 pub returns : goal.returns
 unfolding least_in

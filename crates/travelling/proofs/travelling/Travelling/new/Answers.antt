@@ -11,6 +11,6 @@ invariant_of-result c = record {
   room = λ i below. absurd (omega (arith, below, ap length c.new.ensures.items));
   marked = λ i s below. ap (λ marks. is_marked marks i s) c.new-2.ensures ∙ none_marked i s
       ∙ sym (ap (λ (slots : Travellers). stands_at s (traveller slots i)) c.new.ensures.items);
-  places = λ i s past.
+  below = λ i s past.
       ap (λ (slots : Travellers). stands_at s (traveller slots i)) c.new.ensures.items;
 }

@@ -14,7 +14,7 @@ invariant_of-self c = record {
   marked = marked_on c.self.inside.slots.items c.self.inside.slots.items
       c.self.inside.marks c.make_bits.new.self c.self.invariant.marked (λ i. refl)
       c.make_bits.ensures.same;
-  places = c.self.invariant.places;
+  below = c.self.invariant.below;
 }
 
 pub invariant_of-self-in_err-make_room : goal.invariant_of-self-in_err-make_room
@@ -27,8 +27,8 @@ invariant_of-self-in_err-make_room c = record {
   marked = marked_on c.self.inside.slots.items c.make_room.new.slots.items
       c.self.inside.marks c.make_bits.new.self c.self.invariant.marked
       c.make_room.ensures.same c.make_bits.ensures.same;
-  places = λ i s past. ap (stands_at s) (c.make_room.ensures.same i)
-      ∙ c.self.invariant.places i s past;
+  below = λ i s past. ap (stands_at s) (c.make_room.ensures.same i)
+      ∙ c.self.invariant.below i s past;
 }
 
 pub set_slot-requires-clause-marked : goal.set_slot-requires-clause-marked
@@ -37,9 +37,9 @@ set_slot-requires-clause-marked c =
     c.make_bits.new.self c.self.invariant.marked c.make_room.ensures.same
     c.make_bits.ensures.same
 
-pub set_slot-requires-clause-places : goal.set_slot-requires-clause-places
-set_slot-requires-clause-places c = λ i s past.
-    ap (stands_at s) (c.make_room.ensures.same i) ∙ c.self.invariant.places i s past
+pub set_slot-requires-clause-below : goal.set_slot-requires-clause-below
+set_slot-requires-clause-below c = λ i s past.
+    ap (stands_at s) (c.make_room.ensures.same i) ∙ c.self.invariant.below i s past
 
 pub invariant_of-self-2 : goal.invariant_of-self-2
 invariant_of-self-2 c =
@@ -82,5 +82,5 @@ invariant_of-self-2 c =
         c.set_slot.ensures.room,
       );
       marked = c.set_slot.ensures.marked;
-      places = c.set_slot.ensures.places;
+      below = c.set_slot.ensures.below;
     }

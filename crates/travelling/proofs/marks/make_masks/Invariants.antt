@@ -1,5 +1,5 @@
 use Rattle.std.proofs.Common.{ℕ, ◌≡◌, ◌+◌, ◌-◌, ◌≤◌, length, max, get_or}
-use Rattle.travelling.proofs.marks.make_words.Given as goal
+use Rattle.travelling.proofs.marks.make_masks.Given as goal
 
 abbrev pub invariant-loop-masks : goal.invariant-loop-masks
 invariant-loop-masks l = record {
