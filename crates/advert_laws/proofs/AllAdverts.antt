@@ -29,11 +29,11 @@ use Rattle.update_machine.specs.Setting.{Setting, switches_of}
 use Rattle.update_machine.specs.Settling.{to_switch}
 use Rattle.update_machine.specs.Links.{message_of}
 use Rattle.update_machine.proofs.CallerLemmas.{known_link_laws, start_laws}
-use Rattle.boot_laws.proofs.Boots.{by_number}
-use Rattle.boot_laws.proofs.Facts.{AreKept, fact_on}
-use Rattle.boot_laws.proofs.Grown.{heard_more}
-use Rattle.boot_laws.proofs.Sends.{each_append}
-use Rattle.boot_laws.proofs.SwitchBlocks.{said_parts}
+use Rattle.version_laws.proofs.Boots.{by_number}
+use Rattle.version_laws.proofs.Facts.{AreKept, fact_on}
+use Rattle.version_laws.proofs.Grown.{heard_more}
+use Rattle.version_laws.proofs.Sends.{each_append}
+use Rattle.version_laws.proofs.SwitchBlocks.{said_parts}
 use Rattle.advert_laws.specs.Adverts.{AllAdverts}
 use Rattle.advert_laws.proofs.BothCauses.{HasBothCauses}
 use Rattle.advert_laws.proofs.LinkCauses.{IsTold, IsToldIn}

@@ -5,11 +5,11 @@ use Rattle.update_machine.specs.Causes.{HaveCauses}
 use Rattle.update_machine.specs.Pieces.{piece}
 use Rattle.update_machine.specs.Setting.{Setting}
 use Rattle.update_machine.proofs.CallerLemmas.{PiecesHave}
-use Rattle.boot_laws.specs.Always.{HoldsBehindItems}
-use Rattle.boot_laws.specs.ItemCauses.{HasItemCause}
-use Rattle.boot_laws.proofs.Behind.{behind_items}
-use Rattle.boot_laws.proofs.Facts.{Both, have_both}
-use Rattle.boot_laws.proofs.Pieces.{pieces_have}
+use Rattle.version_laws.specs.Always.{HoldsBehindItems}
+use Rattle.version_laws.specs.ItemCauses.{HasItemCause}
+use Rattle.version_laws.proofs.BehindItems.{behind_items}
+use Rattle.version_laws.proofs.Facts.{Both, have_both}
+use Rattle.version_laws.proofs.Pieces.{pieces_have}
 use Rattle.advert_laws.proofs.LinkCauses.{HasLinkCause}
 use Rattle.advert_laws.proofs.Stepping.{pieces_caused}
 

@@ -36,11 +36,11 @@ use Rattle.update_machine.specs.LinkMasks.{adverts_begun, adverts_of_others, nea
 use Rattle.update_machine.specs.Links.{Claim, can_use, changes_claim, claim_by, claim_in, claim_of, first_claim, is_end, message_of, newer_of, serves}
 use Rattle.update_machine.specs.Setting.{Setting, switches_of}
 use Rattle.update_machine.proofs.CallerLemmas.{folded_append, heard_by_origin, near_usable, start_laws, usable_linked}
-use Rattle.boot_laws.specs.ItemCauses.{HasItemCause}
-use Rattle.boot_laws.proofs.Boots.{boot_rises}
-use Rattle.boot_laws.proofs.Facts.{AreKept, fact_on, have_weaker}
-use Rattle.boot_laws.proofs.Grown.{boot_more, heard_more, up_more}
-use Rattle.boot_laws.proofs.Serving.{caused_known}
+use Rattle.version_laws.specs.ItemCauses.{HasItemCause}
+use Rattle.version_laws.proofs.Boots.{boot_rises}
+use Rattle.version_laws.proofs.Facts.{AreKept, fact_on, have_weaker}
+use Rattle.version_laws.proofs.Grown.{boot_more, heard_more, up_more}
+use Rattle.version_laws.proofs.Openings.{caused_known}
 use Rattle.advert_laws.specs.Adverts.{NamesLinks}
 use Rattle.advert_laws.proofs.AllAdverts.{AreSuch, IfAdvert, none_held, such_at_first, such_kept}
 use Rattle.advert_laws.proofs.BothCauses.{HasBothCauses}
@@ -221,7 +221,7 @@ said_by before s message = elim message [
       then Some told.body else None
 ]
 
--- words that an item leaves as they are
+-- facts that an item leaves as they are
 unchanged : (setting : Setting) (before now : List Item) (s one : ℕ)
     → is_in_first_boot now s ≡ is_in_first_boot before s → heard now s ≡ heard before s
     → claim_of setting now s one ≡ claim_of setting before s one

@@ -11,3 +11,11 @@ pub mod NetLinks
 pub mod Origins
 pub mod Claims
 pub mod AdvertRows
+pub mod Sums
+pub mod LinkSends
+pub mod Counts
+pub mod LinkPieces
+pub mod PieceKinds
+pub mod Numbers
+pub mod Fitting
+mod SendRows

@@ -144,9 +144,9 @@ no_link_in_none : (k : ℕ) → IsTrue (has 0 k) → ⊥
 no_link_in_none k is = let none : has 0 k ≡ false = has-zero k in absurd cc
 
 -- what a switch is told of another one's links
-pub told_row : (adverts : List (Option Advert)) (one : ℕ)
+pub claimed_mask : (adverts : List (Option Advert)) (one : ℕ)
     → get_or (map neighbours_named adverts) one 0 ≡ neighbours_named (held adverts one)
-told_row adverts one = elim (cases_lt one (length adverts)) [
+claimed_mask adverts one = elim (cases_lt one (length adverts)) [
   | inl within ↦ get_or-map neighbours_named adverts one None 0 within
   | inr past ↦
       get_or_past (map neighbours_named adverts) one 0
@@ -154,12 +154,12 @@ told_row adverts one = elim (cases_lt one (length adverts)) [
       ∙ ap neighbours_named (sym (get_or_past adverts one None past))
 ]
 
-named_row : (net : Net) (told : Option Advert) (one other : ℕ)
+claims_linked : (net : Net) (told : Option Advert) (one other : ℕ)
     → ((advert : Advert) → told ≡ Some advert
     → NamesLinks net advert × (advert.origin ≡ one))
     → IsTrue (has (neighbours_named told) other) → HasLink net one other
-named_row net None one other names is = absurd (no_link_in_none other is)
-named_row net (Some advert) one other names is =
+claims_linked net None one other names is = absurd (no_link_in_none other is)
+claims_linked net (Some advert) one other names is =
     let named = names advert refl in
     subst (λ origin. HasLink net origin other) named.1 (named.0 other is)
 
@@ -175,8 +175,8 @@ linked_row net adverts at own one other sees names is =
       | inl same ↦ by_place same (cases_lt at (length rows))
       | inr apart ↦
           let row : get_or (set rows at own) one 0 ≡ neighbours_named (held adverts one) =
-          get_or-set_other rows at one own 0 apart ∙ told_row adverts one in
-          named_row net (held adverts one) one other names
+          get_or-set_other rows at one own 0 apart ∙ claimed_mask adverts one in
+          claims_linked net (held adverts one) one other names
           (subst (λ mask. IsTrue (has mask other)) row is)
     ]
   where

@@ -13,9 +13,9 @@ use Rattle.update_machine.specs.Causes.{HaveCauses}
 use Rattle.update_machine.specs.Setting.{Setting}
 use Rattle.update_machine.specs.LinkMasks.{adverts_heard}
 use Rattle.update_machine.proofs.CallerLemmas.{start_laws}
-use Rattle.boot_laws.specs.ItemCauses.{HasItemCause}
-use Rattle.boot_laws.proofs.Boots.{boot_rises}
-use Rattle.boot_laws.proofs.Grown.{boot_more, up_more}
+use Rattle.version_laws.specs.ItemCauses.{HasItemCause}
+use Rattle.version_laws.proofs.Boots.{boot_rises}
+use Rattle.version_laws.proofs.Grown.{boot_more, up_more}
 use Rattle.advert_laws.specs.Adverts.{AllAdverts, IsNoNewer, OwnAreNewest}
 use Rattle.advert_laws.proofs.AllAdverts.{IsAdvertFact, all_such, begun_with}
 use Rattle.advert_laws.proofs.BothCauses.{HasBothCauses}

@@ -15,10 +15,10 @@ use Rattle.update_machine.specs.Messages.{sends}
 use Rattle.update_machine.specs.Pieces.{expire_items, forget_items, hop_items, lose_items, packet_items}
 use Rattle.update_machine.specs.Quiet.{is_advert}
 use Rattle.update_machine.specs.Setting.{Setting}
-use Rattle.boot_laws.proofs.Commands.{Control, IsCommand, IsControl}
-use Rattle.boot_laws.proofs.Facts.{have_weaker}
-use Rattle.boot_laws.proofs.Sent.{sends_any}
-use Rattle.boot_laws.proofs.Traffic.{IsRuleTo, IsWork, Work, expire_work, forget_work, hop_work, lose_work, packet_works}
+use Rattle.version_laws.proofs.Commands.{Control, IsCommand, IsControl}
+use Rattle.version_laws.proofs.Facts.{have_weaker}
+use Rattle.version_laws.proofs.Sent.{sends_any}
+use Rattle.version_laws.proofs.Traffic.{IsRuleTo, IsWork, Work, expire_work, forget_work, hop_work, lose_work, packet_works}
 
 -- the item changes no links, and sends no advert
 abbrev pub IsPlain : List Item → Item → Type 0

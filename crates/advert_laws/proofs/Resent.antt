@@ -9,9 +9,9 @@ use Rattle.update_machine.specs.Marks.{has_acked}
 use Rattle.update_machine.specs.Pieces.{resend_items}
 use Rattle.update_machine.specs.Setting.{Setting}
 use Rattle.update_machine.specs.Settling.{install_for, unacked, versions_from_current}
-use Rattle.boot_laws.proofs.Resent.{each_by_controller, each_to_member, later_versions, resent_has}
-use Rattle.boot_laws.proofs.Sends.{each, each_map}
-use Rattle.boot_laws.proofs.Sent.{each_by_switch}
+use Rattle.version_laws.proofs.Resent.{each_by_controller, each_to_member, later_versions, resent_has}
+use Rattle.version_laws.proofs.Sends.{each, each_map}
+use Rattle.version_laws.proofs.Sent.{each_by_switch}
 use Rattle.advert_laws.proofs.LinkCauses.{HasLinkCause, HaveLinkCauses}
 use Rattle.advert_laws.proofs.Telling.{Tells, each_neighbour, held_told, sends_told}
 

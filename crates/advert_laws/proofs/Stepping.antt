@@ -22,12 +22,12 @@ use Rattle.update_machine.specs.Steps.{changes_steps, steps_in}
 use Rattle.update_machine.specs.Versions.{stamp_of}
 use Rattle.update_machine.specs.Links.{serves}
 use Rattle.update_machine.proofs.CallerLemmas.{PiecesHave, folded_append, have_append, have_first, have_put}
-use Rattle.boot_laws.proofs.Commands.{confirm_control, controller_control, update_has}
-use Rattle.boot_laws.proofs.Crashes.{losts_have}
-use Rattle.boot_laws.proofs.Delivered.{deliver_has, delivery_has}
-use Rattle.boot_laws.proofs.Facts.{have_weaker}
-use Rattle.boot_laws.proofs.SwitchBlocks.{said_row}
-use Rattle.boot_laws.proofs.Grown.{heard_more}
+use Rattle.version_laws.proofs.Commands.{confirm_control, controller_control, update_has}
+use Rattle.version_laws.proofs.Crashes.{losts_have}
+use Rattle.version_laws.proofs.Delivered.{deliver_has, delivery_has}
+use Rattle.version_laws.proofs.Facts.{have_weaker}
+use Rattle.version_laws.proofs.SwitchBlocks.{said_row}
+use Rattle.version_laws.proofs.Grown.{heard_more}
 use Rattle.advert_laws.proofs.LinkCauses.{ChangedNoLinks, HasLinkCause, HaveLinkCauses, IsToldIn}
 use Rattle.advert_laws.proofs.Plain.{ArePlain, IsPlain, control_is_plain, control_plain, expire_plain, forget_plain, hop_plain, lose_plain, packet_plain}
 use Rattle.advert_laws.proofs.Resent.{resend_caused}

@@ -19,7 +19,7 @@ use Rattle.update_machine.specs.LinkMasks.{near, other_advert}
 use Rattle.update_machine.specs.Messages.{sends}
 use Rattle.update_machine.specs.Setting.{Setting, switches_of}
 use Rattle.update_machine.proofs.CallerLemmas.{known_keeps, links_keep, switch_keeps}
-use Rattle.boot_laws.proofs.Sends.{each_append, each_filter, each_flat_map, each_map, sends_kept}
+use Rattle.version_laws.proofs.Sends.{each_append, each_filter, each_flat_map, each_map, sends_kept}
 use Rattle.advert_laws.proofs.LinkCauses.{HasLinkCause, HaveLinkCauses, IsHeard, IsHeld, IsTold, IsToldIn}
 
 -- ---- what is told stays so while other messages are sent

@@ -1,1 +1,2 @@
 pub mod Adverts
+pub mod Sends

@@ -1,7 +1,7 @@
 -- What follows behind steps of the network, and at the end of a play.
 use Rattle.std.specs.Prelude.{ℕ, Option, List, []}
-use Rattle.boot_laws.specs.Always.{HoldsAtEnds, HoldsReached}
-use Rattle.entry_laws.specs.Entries.{AreEntered, rows_played}
+use Rattle.version_laws.specs.Always.{HoldsAtEnds, HoldsReached}
+use Rattle.way_laws.specs.Entries.{AreEntered, rows_played}
 use Rattle.journal.specs.declared.item.Item.{Item}
 use Rattle.net_file.specs.Net.{IsNet}
 use Rattle.quiet_journals.specs.Plain.{IsPlain}

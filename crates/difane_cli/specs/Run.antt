@@ -15,7 +15,7 @@ use Rattle.update_machine.specs.Machine.{IsRun}
 use Rattle.update_machine.specs.Setting.{IsSetting}
 use Rattle.steps.specs.Steps.{IsEvent}
 use Rattle.way_laws.specs.StrongCauses.{StrongCause}
-use Rattle.entry_laws.specs.Entries.{AreEntered, rows_played}
+use Rattle.way_laws.specs.Entries.{AreEntered, rows_played}
 use Rattle.load_case.specs.Case.{load_case}
 use Rattle.difane_cli.specs.Inputs.{case_inputs, known_task}
 use Rattle.difane_cli.specs.Texts.{play_text}

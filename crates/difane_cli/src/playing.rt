@@ -23,7 +23,6 @@ use crate::meter_lines::write_meters;
 use crate::report::Report;
 use crate::status::{Ended, Status};
 use crate::verdict::{judge, write_answer};
-use entry_laws::packet_rows_are_entered;
 use journal::Journal;
 use journal_text::write_text;
 use load_text::{summarize, summary_text};
@@ -36,7 +35,7 @@ use quiet_laws::{
 use replay::Played;
 use shelf::{Sink, SinkError, write_whole};
 use std::alloc::Global;
-use way_laws::{answers_are_runs, causes_are_strong, ends_have_causes};
+use way_laws::{answers_are_runs, causes_are_strong, ends_have_causes, packet_rows_are_entered};
 
 /// Plays the inputs, to their end or as far as there is room, while the meters note the packets that
 /// leave; writes the journal, and behind its last line, where it didn't stop full, those of the

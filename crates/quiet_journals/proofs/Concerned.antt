@@ -12,7 +12,7 @@ use Rattle.ctrl_msg.specs.declared.message.Receiver.{Receiver}
 use Rattle.ctrl_msg.specs.declared.message.Receiver.TheVariants as receiver
 use Rattle.journal.specs.declared.item.Item.{Item}
 use Rattle.journal.specs.declared.item.Item.TheVariants as item
-use Rattle.boot_laws.proofs.Sends.{each_append, each_kept}
+use Rattle.version_laws.proofs.Sends.{each_append, each_kept}
 use Rattle.update_machine.specs.Quiet.{Sending, sendings, speaker}
 use Rattle.quiet_journals.specs.declared.life.Life.{Life}
 use Rattle.quiet_journals.specs.declared.pending.Pending.{Pending}

@@ -11,7 +11,7 @@ use Rattle.ctrl_msg.specs.declared.message.Receiver.{Receiver}
 use Rattle.ctrl_msg.specs.declared.message.Receiver.TheVariants as receiver
 use Rattle.switch_table.specs.declared.tables.Tables.{Tables}
 use Rattle.journal.specs.declared.item.Item.{Item}
-use Rattle.name_laws.specs.Named.{IsAddressed, IsOfSwitch}
+use Rattle.version_laws.specs.Named.{IsAddressed, IsOfSwitch}
 use Rattle.steps.specs.Steps.{HasSwitch}
 use Rattle.update_machine.specs.Boots.{boot_of, is_up}
 use Rattle.update_machine.specs.Marks.{current_mark}

@@ -12,7 +12,7 @@ use Rattle.update_machine.specs.Boots.{boot_of, is_up}
 use Rattle.update_machine.specs.Marks.{current_mark}
 use Rattle.update_machine.specs.Messages.{is_delivery, was_delivered}
 use Rattle.update_machine.specs.Quiet.{boot_at, sendings}
-use Rattle.boot_laws.proofs.Grown.{boot_more, current_more, up_more}
+use Rattle.version_laws.proofs.Grown.{boot_more, current_more, up_more}
 use Rattle.quiet_laws.proofs.Downs.{waited_more}
 use Rattle.quiet_laws.proofs.Sendings.{delivered_more, sendings_more}
 use Rattle.quiet_journals.specs.declared.life.Life.{Life}

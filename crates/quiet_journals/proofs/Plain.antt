@@ -16,12 +16,12 @@ use Rattle.update_machine.specs.Setting.{Setting}
 use Rattle.update_machine.specs.Settling.{to_switch}
 use Rattle.update_machine.specs.Versions.{tables_at}
 use Rattle.update_machine.specs.Links.{message_of}
-use Rattle.boot_laws.specs.Always.{HoldsAlways, HoldsReached}
-use Rattle.boot_laws.specs.ItemCauses.{HasItemCause}
-use Rattle.boot_laws.proofs.Facts.{AreKept, Both, fact_on}
-use Rattle.boot_laws.proofs.Reached.{reached}
-use Rattle.mark_laws.proofs.Told.{each_weaker}
-use Rattle.name_laws.specs.Named.{BodiesNameThere, IsAddressed}
+use Rattle.version_laws.specs.Always.{HoldsAlways, HoldsReached}
+use Rattle.version_laws.specs.ItemCauses.{HasItemCause}
+use Rattle.version_laws.proofs.Facts.{AreKept, Both, fact_on}
+use Rattle.version_laws.proofs.Reached.{reached}
+use Rattle.version_laws.proofs.Told.{each_weaker}
+use Rattle.version_laws.specs.Named.{BodiesNameThere, IsAddressed}
 use Rattle.version_laws.specs.Planned.{TablesArePlanned}
 use Rattle.quiet_laws.proofs.Lists.{each_in, some_in}
 use Rattle.quiet_laws.proofs.Sendings.{AreTraced, IsInOrder, IsSentFirst, IsTraced, pieces_in_order, sent_by, sendings_more, traced_at_first, traced_kept}

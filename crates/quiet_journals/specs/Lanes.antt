@@ -6,7 +6,7 @@ use Rattle.ctrl_msg.specs.declared.message.Body.TheVariants.{Install, OpenAt, Ad
 use Rattle.ctrl_msg.specs.declared.message.Message.{Message}
 use Rattle.quiet_journals.specs.declared.lane.Lane.{Lane}
 
--- the origin of which an advert tells, or the version of tables; what says as much has the same
+-- the origin of an advert, or the version of tables; what says as much has the same
 abbrev pub subject : Body → ℕ
 subject (Advertise advert) = advert.origin
 subject (Install boot tables) = tables.version

@@ -44,7 +44,7 @@ pub fn lane_of(body: &Body) -> u32
     if subject < 64 { subject } else { 0 }
 }
 
-// The origin of which an advert tells, or the version of tables.
+// The origin of an advert, or the version of tables.
 fn subject(body: &Body) -> u32
     ensures { result ≡ subject body.now }
 {

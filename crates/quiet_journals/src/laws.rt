@@ -1,10 +1,9 @@
 //! The laws.
 ghost use Rattle.net_file.specs.Net.{IsNet};
-ghost use Rattle.boot_laws.specs.Always.{HoldsReached};
+ghost use Rattle.version_laws.specs.Always.{HoldsReached};
 ghost use Rattle.quiet_journals.specs.Plain.{IsPlain};
 
-use name_laws::bodies_name_what_is_there;
-use version_laws::tables_are_planned;
+use version_laws::{bodies_name_what_is_there, tables_are_planned};
 
 /// Each journal of a network's steps, and each beginning of one, is such as `quiet` judges.
 pub fn answers_are_plain()

@@ -22,12 +22,12 @@ use Rattle.update_machine.specs.Settling.{to_switch}
 use Rattle.update_machine.specs.Versions.{stamp_of}
 use Rattle.update_machine.specs.Links.{serves, message_of}
 use Rattle.update_machine.proofs.CallerLemmas.{start_laws}
-use Rattle.boot_laws.proofs.Facts.{AreKept, fact_on}
-use Rattle.boot_laws.proofs.Grown.{boot_more, heard_more, serving_more, up_more}
-use Rattle.boot_laws.proofs.StepCases.{deliver_cases, restart_cases}
-use Rattle.boot_laws.proofs.SwitchBlocks.{said_parts, said_row}
-use Rattle.boot_laws.proofs.Traffic.{IsTraffic, links_traffic}
-use Rattle.mark_laws.proofs.Switches.{is_delivered}
+use Rattle.version_laws.proofs.Facts.{AreKept, fact_on}
+use Rattle.version_laws.proofs.Grown.{boot_more, heard_more, serving_more, up_more}
+use Rattle.version_laws.proofs.StepCases.{deliver_cases, restart_cases}
+use Rattle.version_laws.proofs.SwitchBlocks.{said_parts, said_row}
+use Rattle.version_laws.proofs.Traffic.{IsTraffic, links_traffic}
+use Rattle.version_laws.proofs.Switches.{is_delivered}
 use Rattle.quiet_laws.proofs.Lists.{IsIn, in_either}
 use Rattle.quiet_laws.proofs.Plain.{IsPlain, Plain, delivery_plain, is_plain, sends_plain, step_plain}
 use Rattle.quiet_laws.proofs.Sendings.{IsSent, sends_all, sent_stays}

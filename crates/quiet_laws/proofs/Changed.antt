@@ -24,10 +24,10 @@ use Rattle.update_machine.specs.Messages.{sends}
 use Rattle.update_machine.specs.Setting.{Setting, switches_of}
 use Rattle.update_machine.specs.Links.{serves}
 use Rattle.update_machine.proofs.CallerLemmas.{known_link_laws, near_stays}
-use Rattle.boot_laws.proofs.Grown.{boot_more, heard_more, serving_more, up_more}
-use Rattle.boot_laws.proofs.Sent.{sends_any}
-use Rattle.boot_laws.proofs.Serving.{IsKnown, known_kept}
-use Rattle.mark_laws.proofs.Switches.{is_delivered, turns}
+use Rattle.version_laws.proofs.Grown.{boot_more, heard_more, serving_more, up_more}
+use Rattle.version_laws.proofs.Sent.{sends_any}
+use Rattle.version_laws.proofs.Openings.{IsKnown, known_kept}
+use Rattle.version_laws.proofs.Switches.{is_delivered, turns}
 use Rattle.advert_laws.proofs.BothCauses.{HasBothCauses}
 use Rattle.advert_laws.proofs.NetLinks.{ends_serve, near_linked}
 use Rattle.advert_laws.proofs.Newest.{own_on}

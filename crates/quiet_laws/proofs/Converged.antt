@@ -23,7 +23,7 @@ use Rattle.update_machine.specs.Quiet.{IsQuiet, Sending, boot_at, is_later_body,
 use Rattle.update_machine.specs.Setting.{Setting}
 use Rattle.update_machine.specs.Settling.{to_switch}
 use Rattle.update_machine.specs.Links.{serves}
-use Rattle.boot_laws.proofs.Facts.{AreKept}
+use Rattle.version_laws.proofs.Facts.{AreKept}
 use Rattle.advert_laws.specs.Adverts.{OwnAreNewest}
 use Rattle.advert_laws.proofs.NetLinks.{ends_serve, own_origin, second}
 use Rattle.quiet_laws.specs.Converged.{LeadsOver, Reaches}

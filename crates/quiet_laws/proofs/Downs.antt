@@ -21,16 +21,16 @@ use Rattle.update_machine.specs.Settling.{to_switch}
 use Rattle.update_machine.specs.Versions.{installs}
 use Rattle.update_machine.specs.Links.{serves, message_of}
 use Rattle.update_machine.proofs.CallerLemmas.{start_laws}
-use Rattle.boot_laws.specs.ItemCauses.{HasItemCause, IsRightInstalled, IsRightOpening}
-use Rattle.boot_laws.proofs.Boots.{by_number, known_rises, said_sent}
-use Rattle.boot_laws.proofs.Facts.{AreKept, fact_on}
-use Rattle.boot_laws.proofs.Grown.{boot_more, known_more, last_more, opened_at_more, opened_in, opened_more, opens_by, over_more, serving_more, told_more, up_more}
-use Rattle.boot_laws.proofs.Serving.{IsKnown, known_at_first, known_kept}
-use Rattle.boot_laws.proofs.HeardTables.{heard_known}
-use Rattle.mark_laws.proofs.Acks.{installed_is}
-use Rattle.mark_laws.proofs.Current.{StampsAreCurrent, current_at_first, current_kept}
-use Rattle.mark_laws.proofs.Members.{opened_same, raised_above, raised_none, unraised_same}
-use Rattle.mark_laws.proofs.Switches.{is_delivered}
+use Rattle.version_laws.specs.ItemCauses.{HasItemCause, IsRightInstalled, IsRightOpening}
+use Rattle.version_laws.proofs.Boots.{by_number, known_rises, said_sent}
+use Rattle.version_laws.proofs.Facts.{AreKept, fact_on}
+use Rattle.version_laws.proofs.Grown.{boot_more, known_more, last_more, opened_at_more, opened_in, opened_more, opens_by, over_more, serving_more, told_more, up_more}
+use Rattle.version_laws.proofs.Openings.{IsKnown, known_at_first, known_kept}
+use Rattle.version_laws.proofs.HeardTables.{heard_known}
+use Rattle.version_laws.proofs.Acks.{installed_is}
+use Rattle.version_laws.proofs.Current.{StampsAreCurrent, current_at_first, current_kept}
+use Rattle.version_laws.proofs.Members.{opened_same, raised_above, raised_none, unraised_same}
+use Rattle.version_laws.proofs.Switches.{is_delivered}
 use Rattle.quiet_laws.proofs.Lists.{IsIn, in_either}
 use Rattle.quiet_laws.proofs.Sendings.{IsSent, sendings_more, sent_by, sent_now, sent_stays}
 

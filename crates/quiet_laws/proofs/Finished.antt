@@ -9,9 +9,9 @@ use Rattle.update_machine.specs.Folds.{count_of}
 use Rattle.update_machine.specs.Messages.{is_deliverable, is_forgotten, is_sending, is_waiting, next_message, next_waiting, was_delivered}
 use Rattle.update_machine.specs.Quiet.{IsQuiet, IsReceived, Sending, matters, sendings}
 use Rattle.update_machine.specs.Setting.{Setting}
-use Rattle.boot_laws.specs.Always.{HoldsBehindItems}
-use Rattle.boot_laws.proofs.Behind.{behind_items}
-use Rattle.mark_laws.proofs.Told.{each_weaker}
+use Rattle.version_laws.specs.Always.{HoldsBehindItems}
+use Rattle.version_laws.proofs.BehindItems.{behind_items}
+use Rattle.version_laws.proofs.Told.{each_weaker}
 use Rattle.quiet_laws.specs.Finished.{IsFinished}
 use Rattle.quiet_laws.proofs.Lists.{IsIn, in_range}
 use Rattle.quiet_laws.proofs.Sendings.{IsInOrder, IsTraced, caused_traced, pieces_in_order}

@@ -37,14 +37,14 @@ use Rattle.update_machine.specs.Settling.{to_switch}
 use Rattle.update_machine.specs.Versions.{stamp_of}
 use Rattle.update_machine.specs.Links.{serves, message_of}
 use Rattle.update_machine.proofs.CallerLemmas.{have_append, links_keep, near_stays, start_laws}
-use Rattle.boot_laws.proofs.Commands.{confirm_control, controller_control, update_has}
-use Rattle.boot_laws.proofs.Facts.{Has}
-use Rattle.boot_laws.proofs.Grown.{boot_more, heard_more, up_more}
-use Rattle.boot_laws.proofs.Sent.{resends_any}
-use Rattle.boot_laws.proofs.Serving.{IsKnown, known_kept}
-use Rattle.boot_laws.proofs.StepCases.{deliver_cases}
-use Rattle.boot_laws.proofs.SwitchBlocks.{delivery_have, said_parts, said_row}
-use Rattle.boot_laws.proofs.Traffic.{expire_work, forget_work, hop_work, lose_work, packet_works}
+use Rattle.version_laws.proofs.Commands.{confirm_control, controller_control, update_has}
+use Rattle.version_laws.proofs.Facts.{Has}
+use Rattle.version_laws.proofs.Grown.{boot_more, heard_more, up_more}
+use Rattle.version_laws.proofs.Sent.{resends_any}
+use Rattle.version_laws.proofs.Openings.{IsKnown, known_kept}
+use Rattle.version_laws.proofs.StepCases.{deliver_cases}
+use Rattle.version_laws.proofs.SwitchBlocks.{delivery_have, said_parts, said_row}
+use Rattle.version_laws.proofs.Traffic.{expire_work, forget_work, hop_work, lose_work, packet_works}
 use Rattle.advert_laws.proofs.AllAdverts.{is_newest}
 use Rattle.advert_laws.proofs.NetLinks.{own_origin}
 use Rattle.advert_laws.proofs.Stepping.{delivered_first, row_first}

@@ -22,8 +22,8 @@ use Rattle.update_machine.specs.Messages.{next_message, sends, sent_from}
 use Rattle.update_machine.specs.Quiet.{boot_at, sendings}
 use Rattle.update_machine.specs.Setting.{Setting}
 use Rattle.update_machine.proofs.CallerLemmas.{links_keep}
-use Rattle.boot_laws.proofs.Facts.{AreKept, fact_on}
-use Rattle.boot_laws.proofs.Grown.{boot_more, heard_more, up_more}
+use Rattle.version_laws.proofs.Facts.{AreKept, fact_on}
+use Rattle.version_laws.proofs.Grown.{boot_more, heard_more, up_more}
 use Rattle.quiet_laws.specs.News.{IsAsNew}
 use Rattle.quiet_laws.proofs.Lists.{IsIn, in_either, in_filter_map, in_left, in_right, of_filter_map}
 use Rattle.quiet_laws.proofs.Sendings.{delivered_grows, sendings_more, sent_by}

@@ -25,21 +25,21 @@ use Rattle.update_machine.specs.Settling.{install_for, installs_to, installs_to_
 use Rattle.update_machine.specs.Versions.{tables_at, version_count}
 use Rattle.update_machine.specs.Links.{message_of}
 use Rattle.update_machine.proofs.CallerLemmas.{start_laws}
-use Rattle.boot_laws.specs.ItemCauses.{HasItemCause}
-use Rattle.boot_laws.proofs.Boots.{hello_sent}
-use Rattle.boot_laws.proofs.Commands.{settling_settles}
-use Rattle.boot_laws.proofs.ControllerBlocks.{settling_have}
-use Rattle.boot_laws.proofs.Facts.{AreKept, Both, fact_on, have_both}
-use Rattle.boot_laws.proofs.Grown.{count_more, current_more, known_more, message_more, over_more}
-use Rattle.boot_laws.proofs.Sends.{each, each_map}
-use Rattle.boot_laws.proofs.Sent.{sends_any}
-use Rattle.boot_laws.proofs.StepCases.{confirm_cases, deliver_cases, update_cases}
-use Rattle.mark_laws.proofs.Members.{unraised_same}
-use Rattle.settle_laws.specs.Steps.{asks_controller}
-use Rattle.settle_laws.proofs.Ends.{told_is}
-use Rattle.settle_laws.proofs.Leaves.{leaves_keep}
-use Rattle.settle_laws.proofs.Others.{ReopensAlone, installs_reopen, others_keep, sends_leave}
-use Rattle.settle_laws.proofs.Settles.{grows, in_two}
+use Rattle.version_laws.specs.ItemCauses.{HasItemCause}
+use Rattle.version_laws.proofs.Boots.{hello_sent}
+use Rattle.version_laws.proofs.Commands.{settling_settles}
+use Rattle.version_laws.proofs.ControllerBlocks.{settling_have}
+use Rattle.version_laws.proofs.Facts.{AreKept, Both, fact_on, have_both}
+use Rattle.version_laws.proofs.Grown.{count_more, current_more, known_more, message_more, over_more}
+use Rattle.version_laws.proofs.Sends.{each, each_map}
+use Rattle.version_laws.proofs.Sent.{sends_any}
+use Rattle.version_laws.proofs.StepCases.{confirm_cases, deliver_cases, update_cases}
+use Rattle.version_laws.proofs.Members.{unraised_same}
+use Rattle.version_laws.specs.Steps.{asks_controller}
+use Rattle.version_laws.proofs.Ends.{told_is}
+use Rattle.version_laws.proofs.Leaves.{leaves_keep}
+use Rattle.version_laws.proofs.Others.{ReopensAlone, installs_reopen, others_keep, sends_leave}
+use Rattle.version_laws.proofs.Settles.{grows, in_two}
 use Rattle.quiet_laws.proofs.Lists.{in_filter, in_map, in_range}
 use Rattle.quiet_laws.proofs.Plain.{IsPlain, settling_plain}
 use Rattle.quiet_laws.proofs.Sendings.{IsSent, sends_all, sent_on}

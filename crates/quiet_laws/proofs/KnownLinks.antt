@@ -17,7 +17,7 @@ use Rattle.update_machine.specs.Adverts.{adverts_known, own_advert, route_from}
 use Rattle.update_machine.specs.LinkMasks.{near, adverts_of_others, links_known}
 use Rattle.update_machine.specs.Setting.{Setting}
 use Rattle.update_machine.proofs.CallerLemmas.{has_known_link, known_places, unreached}
-use Rattle.advert_laws.proofs.NetLinks.{ends_serve, near_linked, second, told_row}
+use Rattle.advert_laws.proofs.NetLinks.{ends_serve, near_linked, second, claimed_mask}
 use Rattle.quiet_laws.specs.Converged.{AreUnusable, HasConverged, LeadsOver, Reaches}
 use Rattle.quiet_laws.proofs.Changed.{ends_there}
 use Rattle.quiet_laws.proofs.Converged.{AreQuiet, HoldsOwn, IsThere, adverts_reach, reached_holds, small_of, serving_up}
@@ -25,12 +25,12 @@ use Rattle.quiet_laws.proofs.Near.{near_both}
 
 -- ---- what a switch is told of one that it reaches
 
-row_known : (setting : Setting) (journal : List Item) (s z : ℕ) → s < 64
+mask_known : (setting : Setting) (journal : List Item) (s z : ℕ) → s < 64
     → HoldsOwn setting journal s z
     → slice_index (named_links (adverts_known setting journal s) s (near setting journal s)) z
     ≡ near setting journal z
 unfolding named_links own_advert
-row_known setting journal s z small holds = by_place (cases_eq z s) holds
+mask_known setting journal s z small holds = by_place (cases_eq z s) holds
   where
     rows : List ℕ
     rows = map neighbours_named (adverts_known setting journal s)
@@ -52,7 +52,7 @@ row_known setting journal s z small holds = by_place (cases_eq z s) holds
     by_place (inr apart) (inl same) = absurd (apart (sym same))
     by_place (inr apart) (inr known) =
         get_or-set_other rows s z (near setting journal s) 0 apart
-        ∙ told_row (adverts_known setting journal s) z
+        ∙ claimed_mask (adverts_known setting journal s) z
         ∙ ap neighbours_named known
 
 -- ---- known links
@@ -88,7 +88,7 @@ known_usable setting journal are s one other down is reaches small fits joined =
     sym (has_known_link setting journal s down one other small fits) ∙ joined in
     let named : has (slice_index rows one) other ≡ true = second _ _ _ _ told in
     subst (λ mask. IsTrue (has mask other))
-    (row_known setting journal s one (small_of setting are.net s is.there)
+    (mask_known setting journal s one (small_of setting are.net s is.there)
     (reached_holds setting journal are s one is reaches)) named
 
 usable_known : (setting : Setting) (journal : List Item) → AreQuiet setting journal
@@ -131,12 +131,12 @@ usable_known setting journal are s one other down is reaches unusable linked =
 
     named : has (slice_index rows one) other ≡ true
     named = ap (λ mask. has mask other)
-        (row_known setting journal s one s_small
+        (mask_known setting journal s one s_small
         (reached_holds setting journal are s one is reaches)) ∙ linked
 
     back : has (slice_index rows other) one ≡ true
     back = ap (λ mask. has mask one)
-        (row_known setting journal s other s_small
+        (mask_known setting journal s other s_small
         (reached_holds setting journal are s other is
         (reach_more setting journal s one other reaches linked)))
         ∙ near_both setting journal one other small linked

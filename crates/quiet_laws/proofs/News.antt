@@ -22,13 +22,13 @@ use Rattle.update_machine.specs.Pieces.{crash_items, hello_of, link_items, nothi
 use Rattle.update_machine.specs.Setting.{Setting}
 use Rattle.update_machine.specs.LinkMasks.{near}
 use Rattle.update_machine.proofs.CallerLemmas.{last_told_append, links_keep, near_same, near_stays}
-use Rattle.boot_laws.proofs.Commands.{Control, IsControl}
-use Rattle.boot_laws.proofs.Crashes.{losts_have, losts_keep}
-use Rattle.boot_laws.proofs.Facts.{have_weaker}
-use Rattle.boot_laws.proofs.Grown.{boot_more, heard_more, serving_more, up_more}
-use Rattle.boot_laws.proofs.Serving.{IsKnown}
-use Rattle.boot_laws.proofs.StepCases.{restart_cases}
-use Rattle.boot_laws.proofs.Traffic.{IsWork, Work}
+use Rattle.version_laws.proofs.Commands.{Control, IsControl}
+use Rattle.version_laws.proofs.Crashes.{losts_have, losts_keep}
+use Rattle.version_laws.proofs.Facts.{have_weaker}
+use Rattle.version_laws.proofs.Grown.{boot_more, heard_more, serving_more, up_more}
+use Rattle.version_laws.proofs.Openings.{IsKnown}
+use Rattle.version_laws.proofs.StepCases.{restart_cases}
+use Rattle.version_laws.proofs.Traffic.{IsWork, Work}
 use Rattle.advert_laws.proofs.Stepping.{row_first}
 use Rattle.quiet_laws.proofs.Changed.{IsOwed, link_news, pay_links, sends_still}
 use Rattle.quiet_laws.proofs.Givens.{HaveNews, IsHad, IsStill, given_grows, stills_news}

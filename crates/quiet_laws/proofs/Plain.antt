@@ -19,12 +19,12 @@ use Rattle.update_machine.specs.Pieces.{deliver_items, expire_items, forget_item
 use Rattle.update_machine.specs.Setting.{Setting}
 use Rattle.update_machine.specs.Settling.{settling}
 use Rattle.update_machine.proofs.CallerLemmas.{PiecesHave, have_first, message_keeps}
-use Rattle.boot_laws.proofs.Commands.{Control, IsControl, confirm_control, controller_control, settling_control, update_has}
-use Rattle.boot_laws.proofs.Crashes.{crash_changes, link_change}
-use Rattle.boot_laws.proofs.Delivered.{delivery_has}
-use Rattle.boot_laws.proofs.Facts.{have_weaker}
-use Rattle.boot_laws.proofs.Sent.{resends_any, sends_any}
-use Rattle.boot_laws.proofs.Traffic.{Change, IsChange, IsTraffic, hop_traffic, links_change, packet_has}
+use Rattle.version_laws.proofs.Commands.{Control, IsControl, confirm_control, controller_control, settling_control, update_has}
+use Rattle.version_laws.proofs.Crashes.{crash_changes, link_change}
+use Rattle.version_laws.proofs.Delivered.{delivery_has}
+use Rattle.version_laws.proofs.Facts.{have_weaker}
+use Rattle.version_laws.proofs.Sent.{resends_any, sends_any}
+use Rattle.version_laws.proofs.Traffic.{Change, IsChange, IsTraffic, hop_traffic, links_change, packet_has}
 
 abbrev pub IsPlain : List Item → Item → Type 0
 IsPlain before (item.Delivered number) = ⊥

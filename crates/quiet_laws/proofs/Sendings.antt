@@ -26,15 +26,15 @@ use Rattle.update_machine.specs.Setting.{Setting}
 use Rattle.update_machine.specs.Settling.{to_switch}
 use Rattle.update_machine.specs.Links.{message_of}
 use Rattle.update_machine.proofs.CallerLemmas.{PiecesHave, count_of_append, folded_append, piece_next, start_laws}
-use Rattle.boot_laws.specs.ItemCauses.{HasItemCause}
-use Rattle.boot_laws.proofs.Boots.{boot_rises}
-use Rattle.boot_laws.proofs.Facts.{AreKept, Both, fact_on, have_both}
-use Rattle.boot_laws.proofs.Grown.{boot_more, counted_more, heard_more, message_more, told_more}
-use Rattle.boot_laws.proofs.Pieces as boots
-use Rattle.boot_laws.proofs.Sends.{each_append}
-use Rattle.boot_laws.proofs.Serving.{IsKnown, known_at_first, known_kept}
-use Rattle.mark_laws.proofs.Switches.{GoesOn, goes_on, turns}
-use Rattle.mark_laws.proofs.Told.{each_weaker}
+use Rattle.version_laws.specs.ItemCauses.{HasItemCause}
+use Rattle.version_laws.proofs.Boots.{boot_rises}
+use Rattle.version_laws.proofs.Facts.{AreKept, Both, fact_on, have_both}
+use Rattle.version_laws.proofs.Grown.{boot_more, counted_more, heard_more, message_more, told_more}
+use Rattle.version_laws.proofs.Pieces as boots
+use Rattle.version_laws.proofs.Sends.{each_append}
+use Rattle.version_laws.proofs.Openings.{IsKnown, known_at_first, known_kept}
+use Rattle.version_laws.proofs.Switches.{GoesOn, goes_on, turns}
+use Rattle.version_laws.proofs.Told.{each_weaker}
 use Rattle.quiet_laws.proofs.Lists.{IsIn, in_left, in_right}
 use Rattle.quiet_laws.proofs.Plain as plain
 

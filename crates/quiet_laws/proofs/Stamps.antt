@@ -21,20 +21,20 @@ use Rattle.update_machine.specs.Setting.{Setting, switches_of}
 use Rattle.update_machine.specs.Settling.{current_items, installs_to, installs_to_all, open_items, retired_items, settling, stamp_for, to_switch}
 use Rattle.update_machine.specs.Versions.{version_count}
 use Rattle.update_machine.proofs.CallerLemmas.{have_first, have_in_turn}
-use Rattle.boot_laws.specs.ItemCauses.{HasItemCause}
-use Rattle.boot_laws.proofs.ControllerBlocks.{settling_have}
-use Rattle.boot_laws.proofs.Facts.{AreKept, Both, fact_on, have_both}
-use Rattle.boot_laws.proofs.Grown.{current_more, known_more, over_more}
-use Rattle.boot_laws.proofs.Sends.{each, each_map}
-use Rattle.boot_laws.proofs.Sent.{sends_any}
-use Rattle.boot_laws.proofs.StepCases.{confirm_cases, deliver_cases, update_cases}
-use Rattle.mark_laws.proofs.Current.{StampsAreCurrent, current_kept}
-use Rattle.mark_laws.proofs.Members.{LeavesMember, delivered_cases, member_was, over_cases, quiet_leaves, sent_cases}
-use Rattle.settle_laws.specs.Steps.{asks_controller}
-use Rattle.settle_laws.proofs.Ends.{told_is}
-use Rattle.settle_laws.proofs.Leaves.{leaves_keep}
-use Rattle.settle_laws.proofs.Others.{ReopensAlone, others_keep, sends_leave}
-use Rattle.settle_laws.proofs.Settles.{in_two}
+use Rattle.version_laws.specs.ItemCauses.{HasItemCause}
+use Rattle.version_laws.proofs.ControllerBlocks.{settling_have}
+use Rattle.version_laws.proofs.Facts.{AreKept, Both, fact_on, have_both}
+use Rattle.version_laws.proofs.Grown.{current_more, known_more, over_more}
+use Rattle.version_laws.proofs.Sends.{each, each_map}
+use Rattle.version_laws.proofs.Sent.{sends_any}
+use Rattle.version_laws.proofs.StepCases.{confirm_cases, deliver_cases, update_cases}
+use Rattle.version_laws.proofs.Current.{StampsAreCurrent, current_kept}
+use Rattle.version_laws.proofs.Members.{LeavesMember, delivered_cases, member_was, over_cases, quiet_leaves, sent_cases}
+use Rattle.version_laws.specs.Steps.{asks_controller}
+use Rattle.version_laws.proofs.Ends.{told_is}
+use Rattle.version_laws.proofs.Leaves.{leaves_keep}
+use Rattle.version_laws.proofs.Others.{ReopensAlone, others_keep, sends_leave}
+use Rattle.version_laws.proofs.Settles.{in_two}
 use Rattle.quiet_laws.proofs.Installs.{all_keep, delivery_told, installs_keep}
 use Rattle.quiet_laws.proofs.Lists.{in_filter, in_map, in_range}
 use Rattle.quiet_laws.proofs.Sendings.{IsSent, sends_all, sent_on}

@@ -28,9 +28,9 @@ use Rattle.update_machine.specs.Setting.{Setting}
 use Rattle.update_machine.specs.Versions.{plan_at}
 use Rattle.update_machine.specs.Ways.{changes_found, found_down, targets_in, targets_of}
 use Rattle.update_machine.proofs.CallerLemmas.{folded_append, have_first, links_keep, policies_keep}
-use Rattle.boot_laws.proofs.Facts.{AreKept, fact_on, have_front}
-use Rattle.boot_laws.proofs.Grown.{boot_more, heard_more, up_more}
-use Rattle.boot_laws.proofs.Traffic.{KnowsNoRoute}
+use Rattle.version_laws.proofs.Facts.{AreKept, fact_on, have_front}
+use Rattle.version_laws.proofs.Grown.{boot_more, heard_more, up_more}
+use Rattle.version_laws.proofs.Traffic.{KnowsNoRoute}
 use Rattle.quiet_laws.specs.Converged.{AreUnusable, Reaches}
 use Rattle.quiet_laws.specs.Stuck.{GetStuckApart}
 use Rattle.quiet_laws.proofs.Changed.{ends_there}

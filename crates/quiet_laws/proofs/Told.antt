@@ -18,12 +18,12 @@ use Rattle.update_machine.specs.Quiet.{IsQuiet, sendings}
 use Rattle.update_machine.specs.Setting.{Setting}
 use Rattle.update_machine.specs.Links.{serves}
 use Rattle.update_machine.proofs.CallerLemmas.{known_link_laws, start_laws}
-use Rattle.boot_laws.specs.Always.{HoldsAtEnds}
-use Rattle.boot_laws.proofs.Behind.{at_ends}
-use Rattle.boot_laws.proofs.Facts.{AreKept, fact_on, steps_have}
-use Rattle.boot_laws.proofs.Grown.{boot_more}
-use Rattle.boot_laws.proofs.Serving.{IsKnown, known_at_first, known_kept}
-use Rattle.mark_laws.proofs.Switches.{turns}
+use Rattle.version_laws.specs.Always.{HoldsAtEnds}
+use Rattle.version_laws.proofs.BehindItems.{at_ends}
+use Rattle.version_laws.proofs.Facts.{AreKept, fact_on, steps_have}
+use Rattle.version_laws.proofs.Grown.{boot_more}
+use Rattle.version_laws.proofs.Openings.{IsKnown, known_at_first, known_kept}
+use Rattle.version_laws.proofs.Switches.{turns}
 use Rattle.advert_laws.specs.Adverts.{OwnAreNewest}
 use Rattle.advert_laws.proofs.AllAdverts.{own_told}
 use Rattle.advert_laws.proofs.BothCauses.{HasBothCauses, behind_both}

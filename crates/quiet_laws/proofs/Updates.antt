@@ -21,17 +21,17 @@ use Rattle.update_machine.specs.Settling.{stamp_for}
 use Rattle.update_machine.specs.Versions.{first_stamp, stamp_in, stamp_of, version_count}
 use Rattle.update_machine.specs.Links.{serves}
 use Rattle.update_machine.proofs.CallerLemmas.{have_append}
-use Rattle.boot_laws.specs.Always.{HoldsAtEnds}
-use Rattle.boot_laws.specs.ItemCauses.{HasItemCause}
-use Rattle.boot_laws.proofs.Behind.{at_ends}
-use Rattle.boot_laws.proofs.Facts.{have_weaker}
-use Rattle.boot_laws.proofs.Grown.{opened_in, opened_is}
-use Rattle.boot_laws.proofs.Sends.{each_map, each_range}
-use Rattle.boot_laws.proofs.Serving.{member_parts}
-use Rattle.mark_laws.specs.Bounds.{MarksAreBounded}
-use Rattle.mark_laws.proofs.Greatest.{acked_stamp_opened, known_first}
-use Rattle.mark_laws.proofs.Marks.{bounded}
-use Rattle.settle_laws.proofs.Ends.{settled_at_ends}
+use Rattle.version_laws.specs.Always.{HoldsAtEnds}
+use Rattle.version_laws.specs.ItemCauses.{HasItemCause}
+use Rattle.version_laws.proofs.BehindItems.{at_ends}
+use Rattle.version_laws.proofs.Facts.{have_weaker}
+use Rattle.version_laws.proofs.Grown.{opened_in, opened_is}
+use Rattle.version_laws.proofs.Sends.{each_map, each_range}
+use Rattle.version_laws.proofs.Openings.{member_parts}
+use Rattle.version_laws.specs.Bounds.{MarksAreBounded}
+use Rattle.version_laws.proofs.Greatest.{acked_stamp_opened, known_first}
+use Rattle.version_laws.proofs.Marks.{bounded}
+use Rattle.version_laws.proofs.Ends.{settled_at_ends}
 use Rattle.quiet_laws.specs.Updated.{IsUpdated}
 use Rattle.quiet_laws.proofs.Answered.{HaveSpoken, piece_spoken, spoken_at_first}
 use Rattle.quiet_laws.proofs.Downs.{AreRecorded, caused_recorded}

@@ -10,8 +10,8 @@ use Rattle.update_machine.specs.Causes.{HaveCauses}
 use Rattle.update_machine.specs.LinkMasks.{near}
 use Rattle.update_machine.specs.Pieces.{hop_items, packet_items}
 use Rattle.update_machine.specs.Setting.{Setting}
-use Rattle.boot_laws.proofs.Facts.{have_weaker}
-use Rattle.boot_laws.proofs.Traffic.{IsWork, KnowsNoRoute, hop_work, packet_works}
+use Rattle.version_laws.proofs.Facts.{have_weaker}
+use Rattle.version_laws.proofs.Traffic.{IsWork, KnowsNoRoute, hop_work, packet_works}
 
 abbrev pub Walks : Setting → List Item → Item → Type 0
 Walks setting before (item.Stuck i s cause leg down) = KnowsNoRoute setting before i s leg down

@@ -4,7 +4,7 @@ ghost use Rattle.net_file.specs.Net.{IsNet};
 ghost use Rattle.journal.specs.declared.item.Item.{Item};
 ghost use Rattle.steps.specs.declared.step.Event.{Event};
 ghost use Rattle.update_machine.specs.Journals.{IsQuiet, Setting};
-ghost use Rattle.boot_laws.specs.Always.{HoldsAtEnds, HoldsBehindItems};
+ghost use Rattle.version_laws.specs.Always.{HoldsAtEnds, HoldsBehindItems};
 ghost use Rattle.quiet_laws.specs.Converged.{HasConverged};
 ghost use Rattle.quiet_laws.specs.Finished.{EndsFinished, IsFinished};
 ghost use Rattle.quiet_laws.specs.News.{NewsSpreads};

@@ -7,7 +7,7 @@ use Rattle.steps.specs.declared.step.Event.TheVariants.{Drain, Flush, One}
 use Rattle.steps.specs.declared.step.Step.{Step}
 use Rattle.steps.specs.declared.step.Step.TheVariants.{Deliver, Hop, Packet}
 use Rattle.steps.specs.Steps.{IsEvent, IsStep, max_events}
-use Rattle.hop_laws.specs.Drains.{drain_left}
+use Rattle.way_laws.specs.Drains.{drain_left}
 use Rattle.update_machine.specs.Answers.{IsReached}
 use Rattle.update_machine.specs.Full.{HasRoom}
 use Rattle.update_machine.specs.Messages.{next_waiting}

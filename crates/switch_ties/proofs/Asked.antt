@@ -30,15 +30,15 @@ use Rattle.update_machine.specs.Setting.{Setting}
 use Rattle.update_machine.specs.Settling.{to_switch}
 use Rattle.update_machine.specs.Versions.{stamp_of, plan_at}
 use Rattle.update_machine.specs.Links.{serves as serves_in, message_of}
-use Rattle.boot_laws.specs.BootLaws.{ServingIsKnown}
-use Rattle.send_laws.specs.Sends.{NumbersFit}
+use Rattle.version_laws.specs.BootLaws.{ServingIsKnown}
+use Rattle.advert_laws.specs.Sends.{NumbersFit}
 use Rattle.version_laws.specs.Authorities.{EndsAt, IsSoughtAt}
 use Rattle.version_laws.specs.Serving.{ServingHold}
 use Rattle.switch_ties.specs.Asked.{AskedTies, CanReceive, CanRestart, HasNextSeq}
 use Rattle.switch_ties.specs.Knowing.{TablesAreKnown}
 use Rattle.switch_ties.specs.SwitchOf.{switch_of}
 use Rattle.switch_ties.proofs.Knowing.{held_shown, planned, planned_tables, tables_sound}
-use Rattle.switch_ties.proofs.Words.{stamp_shown}
+use Rattle.switch_ties.proofs.SwitchFacts.{stamp_shown}
 
 -- ---- tables
 

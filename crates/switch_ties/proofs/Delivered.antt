@@ -35,18 +35,18 @@ use Rattle.update_machine.specs.Settling.{to_switch}
 use Rattle.update_machine.specs.Versions.{stamp_of}
 use Rattle.update_machine.specs.Links.{serves, message_of}
 use Rattle.update_machine.proofs.CallerLemmas.{last_told_append, links_keep}
-use Rattle.boot_laws.proofs.Grown.{heard_more, message_more}
-use Rattle.mark_laws.proofs.Told.{each_weaker}
-use Rattle.name_laws.specs.Named.{BodiesNameThere, NamesOnlyThere}
+use Rattle.version_laws.proofs.Grown.{heard_more, message_more}
+use Rattle.version_laws.proofs.Told.{each_weaker}
+use Rattle.version_laws.specs.Named.{BodiesNameThere, NamesOnlyThere}
 use Rattle.advert_laws.proofs.NetLinks.{near_linked}
 use Rattle.switch_ties.specs.Hearing.{HearTies, IsSentTo, delivering}
 use Rattle.switch_ties.specs.Links.{relinked}
 use Rattle.switch_ties.specs.SwitchOf.{switch_of}
 use Rattle.switch_ties.proofs.Heard.{by_obeying, controller_shut, controller_silent, heard_is, is_meant, open_kept, opens_as, said_is}
-use Rattle.switch_ties.proofs.Items.{words_opened}
+use Rattle.switch_ties.proofs.Items.{facts_opened}
 use Rattle.switch_ties.proofs.Links.{kept_is, one_if, relinks, seq_more, unchanged}
 use Rattle.switch_ties.proofs.Tables.{AreVersioned, IsVersioned}
-use Rattle.switch_ties.proofs.Words.{Words, advert_of, boot_shown, by_words, number_shown, seq_shown, stamp_shown, switch_is, words_of}
+use Rattle.switch_ties.proofs.SwitchFacts.{SwitchFacts, advert_of, boot_shown, by_facts, number_shown, seq_shown, stamp_shown, switch_is, facts_of}
 
 -- ---- versions that messages name
 
@@ -148,28 +148,28 @@ opened_seq setting before row n s stamp =
     ∙ ap (λ k. k + one_if (has_changed setting before now s))
     (sym ((kept_until setting before row n).seq s))
 
-opened_words : (setting : Setting) (before : List Item) (row n s stamp : ℕ)
+opened_facts : (setting : Setting) (before : List Item) (row n s stamp : ℕ)
     → let here = delivering before row n [] in
     let now = before ++ opening row n s stamp in
-    words_of setting now s
-    ≡ record (words_of setting here s) {
+    facts_of setting now s
+    ≡ record (facts_of setting here s) {
       serving = true;
       seq = own_seq setting here s + one_if (has_changed setting before now s);
       links = near setting now s;
     }
-opened_words setting before row n s stamp =
+opened_facts setting before row n s stamp =
     let here : List Item = delivering before row n [] in
     let now : List Item = before ++ opening row n s stamp in
     let split : now ≡ here ++ item.Opened s stamp ∷ [] =
     delivering_more before row n (item.Opened s stamp) in
-    ap (λ js. words_of setting js s) split
-    ∙ words_opened setting here s stamp
-    ∙ ap (λ js. record (words_of setting here s) {
+    ap (λ js. facts_of setting js s) split
+    ∙ facts_opened setting here s stamp
+    ∙ ap (λ js. record (facts_of setting here s) {
       serving = true;
       seq = own_seq setting js s;
       links = near setting js s;
     }) (sym split)
-    ∙ ap (λ seq. record (words_of setting here s) {
+    ∙ ap (λ seq. record (facts_of setting here s) {
       serving = true;
       seq = seq;
       links = near setting now s;
@@ -190,7 +190,7 @@ opening_is : (setting : Setting) (before : List Item) (row n s stamp : ℕ) (bod
     switch_of setting now s
     ≡ relinked setting before now s (with_message (switch_of setting before s) n body)
 opening_is setting before row n s stamp body is opens =
-    by_words setting now s _ (opened_words setting before row n s stamp)
+    by_facts setting now s _ (opened_facts setting before row n s stamp)
     ∙ relinks s (record w { serving = true }) _ _ _ _ (near setting now s)
     (has_changed setting before now s) same
     ∙ ap (relinked setting before now s)
@@ -205,8 +205,8 @@ opening_is setting before row n s stamp body is opens =
     now : List Item
     now = delivering before row n (item.Opened s stamp ∷ [])
 
-    w : Words
-    w = words_of setting here s
+    w : SwitchFacts
+    w = facts_of setting here s
 
     heard_now : SwitchValue
     heard_now = with_message (switch_of setting before s) n body

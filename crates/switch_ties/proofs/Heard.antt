@@ -20,10 +20,10 @@ use Rattle.update_machine.specs.Setting.{Setting}
 use Rattle.update_machine.specs.Settling.{to_switch}
 use Rattle.update_machine.specs.Links.{message_of}
 use Rattle.switch_ties.specs.SwitchOf.{switch_of}
-use Rattle.switch_ties.proofs.Hearing.{hears_words}
-use Rattle.switch_ties.proofs.Items.{words_delivered}
+use Rattle.switch_ties.proofs.Hearing.{hears_facts}
+use Rattle.switch_ties.proofs.Items.{facts_delivered}
 use Rattle.switch_ties.proofs.Tables.{AreVersioned, IsVersioned}
-use Rattle.switch_ties.proofs.Words.{Words, by_words, switch_by, switch_is, words_of}
+use Rattle.switch_ties.proofs.SwitchFacts.{SwitchFacts, by_facts, switch_by, switch_is, facts_of}
 
 -- ---- what is obeyed
 
@@ -103,8 +103,8 @@ heard_is setting before n s body sent olds new =
     now : List Item
     now = before ++ item.Delivered n ∷ []
 
-    w : Words
-    w = words_of setting before s
+    w : SwitchFacts
+    w = facts_of setting before s
 
     switch : SwitchValue
     switch = switch_by setting s w
@@ -120,12 +120,12 @@ heard_is setting before n s body sent olds new =
     by_meant : (meant : Bool) → is_meant before s body ≡ meant
         → switch_of setting now s ≡ hears_shut n body switch
     by_meant true is =
-        by_words setting now s _ (words_delivered setting before s n (Some body)
+        by_facts setting now s _ (facts_delivered setting before s n (Some body)
         (said_is before s n body sent ∙ ap (λ b. if b then Some body else None) is))
-        ∙ hears_words setting s n w (w.up && w.boot == 1) body olds new
+        ∙ hears_facts setting s n w (w.up && w.boot == 1) body olds new
         ∙ obeyed true is
     by_meant false is =
-        by_words setting now s _ (words_delivered setting before s n None
+        by_facts setting now s _ (facts_delivered setting before s n None
         (said_is before s n body sent ∙ ap (λ b. if b then Some body else None) is))
         ∙ obeyed false is
 

@@ -20,10 +20,10 @@ use Rattle.update_machine.specs.LinkMasks.{other_advert}
 use Rattle.update_machine.specs.Caches.{cache_after}
 use Rattle.update_machine.specs.Setting.{Setting}
 use Rattle.update_machine.specs.Versions.{stamp_in}
-use Rattle.boot_laws.proofs.Sends.{each_append}
+use Rattle.version_laws.proofs.Sends.{each_append}
 use Rattle.switch_ties.specs.SwitchOf.{collect_in, tables_in, with_tables}
 use Rattle.switch_ties.proofs.Tables.{AreVersioned, IsVersioned, above, above_more, above_twice, found_above, tables_are}
-use Rattle.switch_ties.proofs.Words.{Words, all_by, collected_by, filled, first_tables, others_by, stamp_by, switch_in}
+use Rattle.switch_ties.proofs.SwitchFacts.{SwitchFacts, all_by, collected_by, filled, first_tables, others_by, stamp_by, switch_in}
 
 -- ---- one body more
 
@@ -58,7 +58,8 @@ stamp_one first bodies body =
 -- ---- the record
 
 -- what the body makes of these: the stamp, the collect mark, all tables and the adverts of others
-abbrev heard_as : ℕ → ℕ → Words → Body → ℕ → ℕ → List Tables → List (Option Advert) → SwitchValue
+abbrev heard_as : ℕ → ℕ → SwitchFacts → Body → ℕ → ℕ → List Tables → List (Option Advert)
+    → SwitchValue
 heard_as s number w body stamp collected all others =
     let after = option_map_or (max stamp) (stamp_in body) stamp in
     let mark = option_map_or (max collected) (collect_in body) collected in
@@ -67,10 +68,10 @@ heard_as s number w body stamp collected all others =
     (option_map_or (after_hearing others) (other_advert s body) others)
 
 -- the switch before
-abbrev was : ℕ → Words → ℕ → ℕ → List Tables → List (Option Advert) → SwitchValue
+abbrev was : ℕ → SwitchFacts → ℕ → ℕ → List Tables → List (Option Advert) → SwitchValue
 was s w stamp collected all others = filled s w stamp collected (above collected all) others
 
-hears_tables : (s : ℕ) (w : Words) (stamp collected boot : ℕ) (all : List Tables)
+hears_tables : (s : ℕ) (w : SwitchFacts) (stamp collected boot : ℕ) (all : List Tables)
     (others : List (Option Advert)) (tables : Tables)
     → filled s w stamp collected (above collected (with_tables all tables)) others
     ≡ installed (was s w stamp collected all others) tables
@@ -136,7 +137,7 @@ hears_tables s w stamp collected boot all others tables =
         ∙ by_held past held)
 
 -- a greater stamp raises the cache
-hears_stamp : (s : ℕ) (w : Words) (stamp collected version : ℕ) (tables : List Tables)
+hears_stamp : (s : ℕ) (w : SwitchFacts) (stamp collected version : ℕ) (tables : List Tables)
     (others : List (Option Advert))
     → filled s (record w {
       cache = cache_after stamp (max stamp version) 0 w.cache (Stamp 0 version);
@@ -181,7 +182,7 @@ not_heard : (adverts : List (Option Advert)) (advert : Advert) → is_news adver
 unfolding after_hearing
 not_heard adverts advert none = rw none refl
 
-hears_advert : (s : ℕ) (w : Words) (stamp collected : ℕ) (tables : List Tables)
+hears_advert : (s : ℕ) (w : SwitchFacts) (stamp collected : ℕ) (tables : List Tables)
     (others : List (Option Advert)) (advert : Advert)
     → filled s w stamp collected tables
     (option_map_or (after_hearing others) (other_advert s (Advertise advert)) others)
@@ -213,7 +214,7 @@ hears_advert s w stamp collected tables others advert = by_origin (advert.origin
         ∙ by_news (is_news switch.database advert) refl
 
 -- but for whether it is open, which the journal tells by an item of its own
-hears : (s number : ℕ) (w : Words) (body : Body) (stamp collected : ℕ) (all : List Tables)
+hears : (s number : ℕ) (w : SwitchFacts) (body : Body) (stamp collected : ℕ) (all : List Tables)
     (others : List (Option Advert))
     → heard_as s number w body stamp collected all others
     ≡ record (after_body (was s w stamp collected all others) number body) { is_open = w.serving }
@@ -238,22 +239,22 @@ hears s number w (Hello switch boot) stamp collected all others = refl
 hears s number w (Installed switch boot version) stamp collected all others = refl
 hears s number w (Stamped switch boot version) stamp collected all others = refl
 
--- ---- the words
+-- ---- the facts
 
 -- once the body was heard as the message of this number
-abbrev pub heard_words : ℕ → Body → Bool → Words → Words
-heard_words number body first w = record w {
+abbrev pub heard_facts : ℕ → Body → Bool → SwitchFacts → SwitchFacts
+heard_facts number body first w = record w {
   bodies = w.bodies ++ body ∷ [];
   cache = cache_after (stamp_by first w.bodies) (stamp_by first (w.bodies ++ body ∷ [])) number
       w.cache body;
 }
 
-pub hears_words : (setting : Setting) (s number : ℕ) (w : Words) (first : Bool) (body : Body)
+pub hears_facts : (setting : Setting) (s number : ℕ) (w : SwitchFacts) (first : Bool) (body : Body)
     → AreVersioned w.bodies → IsVersioned body
-    → switch_in setting s (heard_words number body first w) first
+    → switch_in setting s (heard_facts number body first w) first
     ≡ record (after_body (switch_in setting s w first) number body) { is_open = w.serving }
-hears_words setting s number w first body olds new =
-    ap (λ these. filled s (heard_words number body first w) (stamp_by first more)
+hears_facts setting s number w first body olds new =
+    ap (λ these. filled s (heard_facts number body first w) (stamp_by first more)
     (collected_by more) these (others_by setting s first more))
     (tables_are tables first more refl
     (each_append IsVersioned w.bodies (body ∷ []) olds (new, tt)))

@@ -1,4 +1,4 @@
--- What one item makes of the words of a switch.
+-- What one item makes of the facts of a switch.
 use Rattle.std.proofs.Common.{ℕ, ◌≡◌, ◌==◌, Bool, true, ◌&&◌, Option, Some, None, unwrap_or, List, [], ◌∷◌, ◌++◌, refl, ap, ◌∙◌}
 use Rattle.std.specs.Option.{option_map_or}
 use Rattle.std.proofs.lemmas.Bool.{eq-eqb, or_parts}
@@ -16,18 +16,18 @@ use Rattle.update_machine.specs.Setting.{Setting}
 use Rattle.update_machine.specs.Versions.{stamp_of}
 use Rattle.update_machine.specs.Links.{serves, tells_serving}
 use Rattle.update_machine.proofs.CallerLemmas.{calls_stay, fewer, folded_append, links_keep, switch_keeps}
-use Rattle.boot_laws.proofs.Grown.{boot_more, heard_more, serving_more, up_more}
-use Rattle.switch_ties.proofs.Hearing.{heard_words}
-use Rattle.switch_ties.proofs.Words.{Words, stamp_by, words_of}
+use Rattle.version_laws.proofs.Grown.{boot_more, heard_more, serving_more, up_more}
+use Rattle.switch_ties.proofs.Hearing.{heard_facts}
+use Rattle.switch_ties.proofs.SwitchFacts.{SwitchFacts, stamp_by, facts_of}
 
 -- ---- items that concern neither the switch nor the links
 
--- they leave its words as they are, but for its calls
-pub words_kept : (setting : Setting) (s : ℕ) (before items : List Item)
+-- they leave its facts as they are, but for its calls
+pub facts_kept : (setting : Setting) (s : ℕ) (before items : List Item)
     → NoneConcern (concerns_known s) before items
-    → words_of setting (before ++ items) s
-    ≡ record (words_of setting before s) { handled = handled_count (before ++ items) s }
-words_kept setting s before items none =
+    → facts_of setting (before ++ items) s
+    ≡ record (facts_of setting before s) { handled = handled_count (before ++ items) s }
+facts_kept setting s before items none =
     let own = switch_keeps setting s before items
     (fewer (concerns_switch s) (concerns_known s)
     (λ js item none. (or_parts (concerns_switch s js item) (concerns_links js item) none).0)
@@ -55,10 +55,10 @@ cache_more setting before next s =
     folded_append (changes_cache s) (record { entries = []; capacity = setting.net.cache }) before
     (next ∷ [])
 
--- the words behind one more item, each by its own fold
-words_more : (setting : Setting) (before : List Item) (next : Item) (s : ℕ)
+-- the facts behind one more item, each by its own fold
+facts_more : (setting : Setting) (before : List Item) (next : Item) (s : ℕ)
     → let now = before ++ next ∷ [] in
-    words_of setting now s
+    facts_of setting now s
     ≡ record {
       boot = unwrap_or (tells_boot s next) (boot_of before s);
       up = unwrap_or (tells_up s next) (is_up before s);
@@ -69,7 +69,7 @@ words_more : (setting : Setting) (before : List Item) (next : Item) (s : ℕ)
       links = near setting now s;
       handled = handled_count now s;
     }
-words_more setting before next s =
+facts_more setting before next s =
     rw (
       boot_more before next s,
       up_more before next s,
@@ -85,13 +85,13 @@ stamp_is : (journal : List Item) (s : ℕ)
 unfolding stamp_of
 stamp_is journal s = refl
 
--- a message that says nothing to the switch leaves its words, and a body that is said is heard
-pub words_delivered : (setting : Setting) (before : List Item) (s n : ℕ) (said : Option Body)
+-- a message that says nothing to the switch leaves its facts, and a body that is said is heard
+pub facts_delivered : (setting : Setting) (before : List Item) (s n : ℕ) (said : Option Body)
     → said_to before s n ≡ said
-    → let w = words_of setting before s in
-    words_of setting (before ++ item.Delivered n ∷ []) s
-    ≡ option_map_or (λ body. heard_words n body (w.up && w.boot == 1) w) said w
-words_delivered setting before s n said is =
+    → let w = facts_of setting before s in
+    facts_of setting (before ++ item.Delivered n ∷ []) s
+    ≡ option_map_or (λ body. heard_facts n body (w.up && w.boot == 1) w) said w
+facts_delivered setting before s n said is =
     let next : Item = item.Delivered n in
     let now : List Item = before ++ next ∷ [] in
     let boot : boot_of now s ≡ boot_of before s = boot_more before next s in
@@ -119,8 +119,8 @@ words_delivered setting before s n said is =
     ≡ stamp_by (is_up before s && boot_of before s == 1) (heard before s) = stamp_is before s in
     rw (boot, up, serving, seq, near, handled, bodies, cache, stamp, earlier) (by_said said)
   where
-    w : Words
-    w = words_of setting before s
+    w : SwitchFacts
+    w = facts_of setting before s
 
     first : Bool
     first = w.up && w.boot == 1
@@ -132,35 +132,35 @@ words_delivered setting before s n said is =
               (option_map_or (λ body. w.bodies ++ body ∷ []) said w.bodies)) n w.cache) said
               w.cache;
         }
-        ≡ option_map_or (λ body. heard_words n body first w) said w
+        ≡ option_map_or (λ body. heard_facts n body first w) said w
     by_said None = refl
     by_said (Some body) = refl
 
 -- ---- an opening
 
 -- it serves, and the links may be others
-pub words_opened : (setting : Setting) (before : List Item) (s v : ℕ)
+pub facts_opened : (setting : Setting) (before : List Item) (s v : ℕ)
     → let now = before ++ item.Opened s v ∷ [] in
-    words_of setting now s
-    ≡ record (words_of setting before s) {
+    facts_of setting now s
+    ≡ record (facts_of setting before s) {
       serving = true;
       seq = own_seq setting now s;
       links = near setting now s;
     }
-words_opened setting before s v =
+facts_opened setting before s v =
     let next : Item = item.Opened s v in
-    words_more setting before next s
+    facts_more setting before next s
     ∙ rw (eq-eqb s s refl, calls_stay s before (next ∷ []) (refl, tt)) refl
 
 -- ---- a timeout
 
-pub words_expired : (setting : Setting) (before : List Item) (s place message : ℕ)
-    → words_of setting (before ++ item.Expired s place message ∷ []) s
-    ≡ record (words_of setting before s) {
+pub facts_expired : (setting : Setting) (before : List Item) (s place message : ℕ)
+    → facts_of setting (before ++ item.Expired s place message ∷ []) s
+    ≡ record (facts_of setting before s) {
       cache = expired place (cache_of setting before s);
     }
-words_expired setting before s place message =
+facts_expired setting before s place message =
     let next : Item = item.Expired s place message in
     let keep = links_keep setting before (next ∷ []) (refl, tt) in
-    words_more setting before next s
+    facts_more setting before next s
     ∙ rw (eq-eqb s s refl, keep.seq s, keep.near s, calls_stay s before (next ∷ []) (refl, tt)) refl

@@ -31,12 +31,12 @@ use Rattle.update_machine.specs.Boots.{boot_of, heard, is_up}
 use Rattle.update_machine.specs.Setting.{Setting, plan_of_file, policy_of_file}
 use Rattle.update_machine.specs.Versions.{collects, holds_version as holds_in, installs, stamp_of, tables_at, version_count, placed_in, file_of, plan_at}
 use Rattle.update_machine.proofs.CallerLemmas.{of_its_file}
-use Rattle.boot_laws.proofs.Sends.{each_kept}
+use Rattle.version_laws.proofs.Sends.{each_kept}
 use Rattle.version_laws.specs.Planned.{BringsTables, HasPlan}
 use Rattle.switch_ties.specs.Knowing.{KnowTies, TablesAreKnown}
 use Rattle.switch_ties.specs.SwitchOf.{switch_of, tables_in, with_tables}
 use Rattle.switch_ties.proofs.Tables.{with_each}
-use Rattle.switch_ties.proofs.Words.{all_by, came_by, first_tables, stamp_shown, switch_is}
+use Rattle.switch_ties.proofs.SwitchFacts.{all_by, came_by, first_tables, stamp_shown, switch_is}
 
 -- ---- which versions it has
 
@@ -134,12 +134,12 @@ twice : (a b : Bool) → (a && (a && b)) ≡ (a && b)
 twice true b = refl
 twice false b = refl
 
-holds_words : (journal : List Item) (s v : ℕ)
+holds_facts : (journal : List Item) (s v : ℕ)
     → holds_in journal s v
     ≡ (came_by (is_up journal s && boot_of journal s == 1) (heard journal s) v
     && not (list_any (collects v) (heard journal s)))
 unfolding holds_in
-holds_words journal s v = refl
+holds_facts journal s v = refl
 
 pub held_shown : (setting : Setting) (journal : List Item) (s v : ℕ)
     → holds_version (switch_of setting journal s) v ≡ holds_in journal s v
@@ -151,7 +151,7 @@ held_shown setting journal s v =
     ∙ found_in kept v (all_by (first_tables setting s) first bodies)
     ∙ ap (λ b. b && kept v) (all_came (first_tables setting s) first bodies v refl)
     ∙ twice (came_by first bodies v) (not (list_any (collects v) bodies))
-    ∙ sym (holds_words journal s v)
+    ∙ sym (holds_facts journal s v)
 
 -- ---- plans
 

@@ -1,4 +1,4 @@
-pub mod Words
+pub mod SwitchFacts
 pub mod Tables
 pub mod Hearing
 pub mod Items

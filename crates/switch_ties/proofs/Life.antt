@@ -20,21 +20,21 @@ use Rattle.update_machine.specs.Setting.{Setting}
 use Rattle.update_machine.specs.Steps.{steps_in}
 use Rattle.update_machine.specs.Links.{serves}
 use Rattle.update_machine.proofs.CallerLemmas.{calls_stay, start_laws}
-use Rattle.boot_laws.specs.ItemCauses.{HasItemCause}
-use Rattle.boot_laws.proofs.Boots.{boot_rises}
-use Rattle.boot_laws.proofs.Facts.{fact_on}
-use Rattle.boot_laws.proofs.Grown.{boot_more, heard_more, serving_more, up_more}
+use Rattle.version_laws.specs.ItemCauses.{HasItemCause}
+use Rattle.version_laws.proofs.Boots.{boot_rises}
+use Rattle.version_laws.proofs.Facts.{fact_on}
+use Rattle.version_laws.proofs.Grown.{boot_more, heard_more, serving_more, up_more}
 use Rattle.advert_laws.proofs.OwnAdverts.{seq_is}
-use Rattle.send_laws.proofs.Numbers.{began_on, down_none, none_counted, steps_past}
+use Rattle.advert_laws.proofs.Numbers.{began_on, down_none, none_counted, steps_past}
 use Rattle.switch_ties.specs.Life.{LifeTies, expired_by, message_at}
 use Rattle.switch_ties.specs.SwitchOf.{switch_of}
-use Rattle.switch_ties.proofs.Items.{cache_more, words_expired}
-use Rattle.switch_ties.proofs.Words.{Words, by_words, switch_by, switch_in, switch_is, words_of}
+use Rattle.switch_ties.proofs.Items.{cache_more, facts_expired}
+use Rattle.switch_ties.proofs.SwitchFacts.{SwitchFacts, by_facts, switch_by, switch_in, switch_is, facts_of}
 
 -- ---- what is forgotten
 
--- the words of a switch that forgot what it learnt
-abbrev blank : Words → ℕ → Bool → ℕ → Words
+-- the facts of a switch that forgot what it learnt
+abbrev blank : SwitchFacts → ℕ → Bool → ℕ → SwitchFacts
 blank w boot up links = record {
   boot = boot;
   up = up;
@@ -55,7 +55,7 @@ none_set : (s : ℕ) → set no_adverts s None ≡ no_adverts
 none_set s = same_set None 64 s
 
 -- behind its first boot it is as a switch that crashed, but for its boot and whether it is up
-forgets : (setting : Setting) (s : ℕ) (w : Words) (boot : ℕ) (up : Bool) (links : ℕ)
+forgets : (setting : Setting) (s : ℕ) (w : SwitchFacts) (boot : ℕ) (up : Bool) (links : ℕ)
     → switch_in setting s (blank w boot up links) false
     ≡ record (crashed (switch_by setting s w)) { boot = boot; is_up = up }
 forgets setting s w boot up links =
@@ -82,11 +82,11 @@ crash_is setting journal s =
     let seq : own_seq setting now s ≡ 0 = down_none setting now s up in
     let handled : handled_count now s ≡ handled_count journal s =
     calls_stay s journal (next ∷ []) (refl, tt) in
-    let words : words_of setting now s
-    ≡ blank (words_of setting journal s) (boot_of journal s) false (near setting now s) =
+    let facts : facts_of setting now s
+    ≡ blank (facts_of setting journal s) (boot_of journal s) false (near setting now s) =
     rw (boot, up, serving, bodies, cache, seq, handled) refl in
-    by_words setting now s _ words
-    ∙ forgets setting s (words_of setting journal s) (boot_of journal s) false (near setting now s)
+    by_facts setting now s _ facts
+    ∙ forgets setting s (facts_of setting journal s) (boot_of journal s) false (near setting now s)
     ∙ ap crashed (sym (switch_is setting journal s))
 
 -- ---- a boot
@@ -129,13 +129,13 @@ restart_is setting journal s have =
     below (began_on s (boot_of journal s) journal next (omega arith) past)) in
     let handled : handled_count now s ≡ handled_count journal s =
     calls_stay s journal (next ∷ []) (refl, tt) in
-    let words : words_of setting now s
-    ≡ blank (words_of setting journal s) (boot_of journal s + 1) true (near setting now s) =
+    let facts : facts_of setting now s
+    ≡ blank (facts_of setting journal s) (boot_of journal s + 1) true (near setting now s) =
     rw (boot, up, serving, bodies, cache, seq, handled) refl in
-    by_words setting now s _ words
-    ∙ ap (switch_in setting s (blank (words_of setting journal s) (boot_of journal s + 1) true
+    by_facts setting now s _ facts
+    ∙ ap (switch_in setting s (blank (facts_of setting journal s) (boot_of journal s + 1) true
     (near setting now s))) later
-    ∙ forgets setting s (words_of setting journal s) (boot_of journal s + 1) true
+    ∙ forgets setting s (facts_of setting journal s) (boot_of journal s + 1) true
     (near setting now s)
     ∙ ap restarted (sym (switch_is setting journal s))
 
@@ -145,8 +145,8 @@ pub expiry_is : (setting : Setting) (journal : List Item) (s place message : ℕ
     → switch_of setting (journal ++ item.Expired s place message ∷ []) s
     ≡ entry_expired (switch_of setting journal s) place
 expiry_is setting journal s place message =
-    by_words setting (journal ++ item.Expired s place message ∷ []) s _
-    (words_expired setting journal s place message)
+    by_facts setting (journal ++ item.Expired s place message ∷ []) s _
+    (facts_expired setting journal s place message)
     ∙ ap (λ (switch : SwitchValue). entry_expired switch place)
     (sym (switch_is setting journal s))
 

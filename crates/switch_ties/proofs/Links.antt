@@ -23,13 +23,13 @@ use Rattle.update_machine.specs.Setting.{Setting}
 use Rattle.update_machine.specs.Steps.{StepItems, steps_in}
 use Rattle.update_machine.proofs.CallerLemmas.{calls_stay, switch_keeps}
 use Rattle.advert_laws.proofs.OwnAdverts.{seq_is}
-use Rattle.send_laws.proofs.Numbers.{down_none}
+use Rattle.advert_laws.proofs.Numbers.{down_none}
 use Rattle.switch_ties.specs.Calls.{NoRows}
 use Rattle.switch_ties.specs.Links.{LeavesSwitch, LinkTies, all_held, relinked, tells}
 use Rattle.switch_ties.specs.SwitchOf.{switch_of}
-use Rattle.switch_ties.proofs.Items.{words_kept}
+use Rattle.switch_ties.proofs.Items.{facts_kept}
 use Rattle.switch_ties.proofs.Steps.{steps_more}
-use Rattle.switch_ties.proofs.Words.{Words, by_words, filled, switch_by, switch_is, told_by_words, words_of}
+use Rattle.switch_ties.proofs.SwitchFacts.{SwitchFacts, by_facts, filled, switch_by, switch_is, told_by_facts, facts_of}
 
 -- ---- the number of the own advert
 
@@ -95,14 +95,14 @@ is_told seq = ne_eqb (seq + 1) 0 (λ same. absurd (omega (arith, same)))
 
 -- the switch with the next number and these links, or as it was: where they didn't change, or where
 -- it tells nothing
-pub relinks : (s : ℕ) (w : Words) (stamp mark : ℕ) (tables : List Tables)
+pub relinks : (s : ℕ) (w : SwitchFacts) (stamp mark : ℕ) (tables : List Tables)
     (others : List (Option Advert)) (links : ℕ) (changed : Bool)
     → (changed ≡ false → (links ≡ w.links) ⊎ (w.seq ≡ 0))
     → filled s (record w { seq = w.seq + one_if changed; links = links }) stamp mark tables others
     ≡ (if changed then near_changed (filled s w stamp mark tables others) links
     else filled s w stamp mark tables others)
 relinks s w stamp mark tables others links true same =
-    let own : Advert = told_by_words s (record w { seq = w.seq + 1; links = links }) in
+    let own : Advert = told_by_facts s (record w { seq = w.seq + 1; links = links }) in
     let told : own_if_sent own ≡ Some own =
     ap (λ b. if b then None else Some own) (is_told w.seq) in
     ap (λ adverts. record (filled s w stamp mark tables others) {
@@ -110,7 +110,7 @@ relinks s w stamp mark tables others links true same =
       database = adverts;
     })
     (ap (set others s) told
-    ∙ sym (set_twice others s (own_if_sent (told_by_words s w)) (Some own)))
+    ∙ sym (set_twice others s (own_if_sent (told_by_facts s w)) (Some own)))
 relinks s w stamp mark tables others links false same = elim (same refl) [
   | inl links_same ↦ as_before (w.seq + 0) (omega arith) links_same
   | inr none ↦ untold (w.seq + 0) (omega (arith, none)) none
@@ -128,16 +128,16 @@ relinks s w stamp mark tables others links false same = elim (same refl) [
 
 -- ---- a step that isn't the switch's own
 
-words_relinked : (setting : Setting) (s : ℕ) (before : List Item) (row : ℕ) (step : Step)
+facts_relinked : (setting : Setting) (s : ℕ) (before : List Item) (row : ℕ) (step : Step)
     (items : List Item) → LeavesSwitch s before row step items
     → let now = before ++ item.Row row step ∷ items in
-    let w = words_of setting before s in
-    words_of setting now s
+    let w = facts_of setting before s in
+    facts_of setting now s
     ≡ record w {
       seq = w.seq + one_if (has_changed setting before now s);
       links = near setting now s;
     }
-words_relinked setting s before row step items leaves =
+facts_relinked setting s before row step items leaves =
     let all : List Item = item.Row row step ∷ items in
     let own = switch_keeps setting s before all leaves.apart in
     let boot = own.boot in
@@ -173,9 +173,9 @@ relink_is : (setting : Setting) (s : ℕ) (before : List Item) (row : ℕ) (step
     switch_of setting now s ≡ relinked setting before now s (switch_of setting before s)
 relink_is setting s before row step items leaves =
     let now : List Item = before ++ item.Row row step ∷ items in
-    let w : Words = words_of setting before s in
+    let w : SwitchFacts = facts_of setting before s in
     let own = switch_keeps setting s before (item.Row row step ∷ items) leaves.apart in
-    by_words setting now s _ (words_relinked setting s before row step items leaves)
+    by_facts setting now s _ (facts_relinked setting s before row step items leaves)
     ∙ relinks s w _ _ _ _ (near setting now s) (has_changed setting before now s)
     (unchanged setting before now s own.up)
     ∙ ap (relinked setting before now s) (sym (switch_is setting before s))
@@ -216,8 +216,8 @@ pub kept_is : (setting : Setting) (s : ℕ) (before items : List Item)
     → NoneConcern (concerns_known s) before items → NoneConcern (concerns_calls s) before items
     → switch_of setting (before ++ items) s ≡ switch_of setting before s
 kept_is setting s before items none calls =
-    by_words setting (before ++ items) s _ (words_kept setting s before items none)
-    ∙ ap (λ count. record (switch_by setting s (words_of setting before s)) { handled = count })
+    by_facts setting (before ++ items) s _ (facts_kept setting s before items none)
+    ∙ ap (λ count. record (switch_by setting s (facts_of setting before s)) { handled = count })
     (calls_stay s before items calls)
     ∙ sym (switch_is setting before s)
 

@@ -16,8 +16,8 @@ use Rattle.update_machine.specs.Steps.{StepItems, changes_steps, steps_in}
 use Rattle.update_machine.proofs.CallerLemmas.{count_of_append, folded_append}
 use Rattle.switch_ties.specs.Calls.{AreInStep, CallTies, IsInStep, NoRow, NoRows}
 use Rattle.switch_ties.specs.SwitchOf.{switch_of}
-use Rattle.switch_ties.proofs.Items.{words_kept}
-use Rattle.switch_ties.proofs.Words.{by_words, switch_by, switch_is, words_of}
+use Rattle.switch_ties.proofs.Items.{facts_kept}
+use Rattle.switch_ties.proofs.SwitchFacts.{by_facts, switch_by, switch_is, facts_of}
 
 -- ---- steps
 
@@ -117,8 +117,8 @@ called_by : (setting : Setting) (before : List Item) (row t : ℕ) (step : Step)
     }
 called_by setting before row t step items none apart =
     let all : List Item = item.Row row step ∷ items in
-    by_words setting (before ++ all) t _ (words_kept setting t before all apart)
-    ∙ ap (λ count. record (switch_by setting t (words_of setting before t)) { handled = count })
+    by_facts setting (before ++ all) t _ (facts_kept setting t before all apart)
+    ∙ ap (λ count. record (switch_by setting t (facts_of setting before t)) { handled = count })
     (handled_more t before row step items none)
     ∙ ap (λ (w : SwitchValue). record w {
       handled = min most_handled (w.handled + calls_in t before all);

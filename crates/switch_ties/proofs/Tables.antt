@@ -9,9 +9,9 @@ use Rattle.ctrl_msg.specs.declared.message.Body.{Body}
 use Rattle.ctrl_msg.specs.declared.message.Body.TheVariants.{Install, Collect}
 use Rattle.switch_table.specs.declared.tables.Tables.{Tables}
 use Rattle.update_machine.specs.Versions.{collects, installs}
-use Rattle.boot_laws.proofs.Sends.{each_append}
+use Rattle.version_laws.proofs.Sends.{each_append}
 use Rattle.switch_ties.specs.SwitchOf.{collect_in, tables_in, with_tables}
-use Rattle.switch_ties.proofs.Words.{all_by, came_by, collected_by, tables_by}
+use Rattle.switch_ties.proofs.SwitchFacts.{all_by, came_by, collected_by, tables_by}
 
 -- tables that a body brings have a version from 1 on
 abbrev pub IsVersioned : Body → Type 0

@@ -12,8 +12,8 @@ use Rattle.update_machine.specs.Boots.{is_up}
 use Rattle.update_machine.specs.Setting.{Setting}
 use Rattle.update_machine.specs.Settling.{to_switch}
 use Rattle.update_machine.specs.Links.{serves as serves_in, message_of}
-use Rattle.boot_laws.specs.BootLaws.{ServingIsKnown}
-use Rattle.send_laws.specs.Sends.{NumbersFit}
+use Rattle.version_laws.specs.BootLaws.{ServingIsKnown}
+use Rattle.advert_laws.specs.Sends.{NumbersFit}
 use Rattle.version_laws.specs.Authorities.{EndsAt}
 use Rattle.version_laws.specs.Serving.{ServingHold}
 use Rattle.switch_ties.specs.Knowing.{TablesAreKnown}

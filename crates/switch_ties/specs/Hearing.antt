@@ -16,7 +16,7 @@ use Rattle.update_machine.specs.Moves.{put}
 use Rattle.update_machine.specs.Setting.{Setting}
 use Rattle.update_machine.specs.Settling.{to_switch}
 use Rattle.update_machine.specs.Links.{message_of}
-use Rattle.name_laws.specs.Named.{BodiesNameThere}
+use Rattle.version_laws.specs.Named.{BodiesNameThere}
 use Rattle.switch_ties.specs.Links.{relinked}
 use Rattle.switch_ties.specs.SwitchOf.{switch_of}
 

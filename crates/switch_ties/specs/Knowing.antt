@@ -11,7 +11,7 @@ use Rattle.update_machine.specs.Caches.{lookup_at}
 use Rattle.update_machine.specs.LinkMasks.{near}
 use Rattle.update_machine.specs.Setting.{Setting, IsSetting}
 use Rattle.update_machine.specs.Versions.{holds_version as holds_in, stamp_of, tables_at}
-use Rattle.name_laws.specs.Named.{BodiesNameThere}
+use Rattle.version_laws.specs.Named.{BodiesNameThere}
 use Rattle.version_laws.specs.Planned.{TablesArePlanned, VersionsArePlanned}
 use Rattle.switch_ties.specs.SwitchOf.{switch_of}
 

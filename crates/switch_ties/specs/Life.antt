@@ -7,7 +7,7 @@ use Rattle.update_machine.specs.Boots.{boot_of}
 use Rattle.update_machine.specs.Causes.{HaveCauses}
 use Rattle.update_machine.specs.Pieces.{expire_items, nothing}
 use Rattle.update_machine.specs.Setting.{Setting}
-use Rattle.boot_laws.specs.ItemCauses.{HasItemCause}
+use Rattle.version_laws.specs.ItemCauses.{HasItemCause}
 use Rattle.switch_ties.specs.SwitchOf.{switch_of}
 
 -- the number of the message that brought the cache entry at a place, if one is there

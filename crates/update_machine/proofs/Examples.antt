@@ -178,8 +178,8 @@ ring = record {
 }
 
 -- a-b, b-c; c is the authority, and b its backup
-abbrev pub row_of_three : Setting
-row_of_three = record {
+abbrev pub line_of_three : Setting
+line_of_three = record {
   net = network
       (switch (codes "a") 0 0 ∷ switch (codes "b") 0 10 ∷ switch (codes "c") 4 10 ∷ [])
       (link 0 1 ∷ link 1 2 ∷ []);

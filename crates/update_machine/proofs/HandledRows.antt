@@ -7,7 +7,7 @@ use Rattle.steps.specs.declared.step.Step.TheVariants as step
 use Rattle.journal.specs.declared.item.Item.{Item}
 use Rattle.journal.specs.declared.item.Item.TheVariants as item
 use Rattle.update_machine.specs.Answers.{after_steps}
-use Rattle.update_machine.proofs.Examples.{advert, any_word, at, one, row_of_three, to}
+use Rattle.update_machine.proofs.Examples.{advert, any_word, at, one, line_of_three, to}
 use Rattle.update_machine.proofs.LinkRows.{round}
 -- ---- names that compute
 use Rattle.update_machine.specs.Adverts.{own_seq, own_advert, adverts_known, held_adverts, route_from, is_cut_off}
@@ -79,7 +79,7 @@ arriving =
     ∷ item.Sent 2 (to 0 (body.CacheRule 1 any_word (Some 100) Drop)) ∷ item.Dropped 1 ∷ []
 
 pub arriving_rows :
-    after_steps row_of_three []
+    after_steps line_of_three []
     (at 1 (step.Packet 0 one) ∷ at 2 (step.LinkDown 1 2) ∷ at 3 (step.Hop 1) ∷ at 4 (step.Hop 1)
     ∷ [])
     ≡ arriving

@@ -77,7 +77,7 @@ own_known setting journal s small =
     get_or-set_same (adverts_of_others setting journal s) s
     (own_if_sent (own_advert setting journal s)) None there
 
--- ---- its own advert tells it nothing of its own links
+-- ---- its own advert says nothing of its own links
 
 set_twice : {X : Type 0} (xs : List X) (i : ℕ) (a b : X) → set (set xs i a) i b ≡ set xs i b
 set_twice [] i a b = refl

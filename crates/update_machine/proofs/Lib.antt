@@ -14,10 +14,10 @@ pub mod Enclosed
 mod CauseRows
 mod MachineRows
 mod MarkRows
-mod MarkWords
-mod SwitchWords
-mod VersionWords
-mod CacheWords
+mod MarksSaid
+mod SwitchesSaid
+mod VersionsSaid
+mod CachesSaid
 mod FoldLemmas
 mod Policies
 mod OneAnswer

@@ -80,7 +80,7 @@ settled_behind = record {
   retired = refl;
 }
 
--- both stamp with version 2, but b's word is under way: 1 isn't retired yet; then it is
+-- both stamp with version 2, but b's message is under way: 1 isn't retired yet; then it is
 abbrev stamped : List Item
 stamped =
     acknowledged ++ item.Current 2 ∷ item.Sent 5 (to_controller (body.Stamped 0 1 2))

@@ -1,4 +1,4 @@
--- Items that don't concern a word leave it as it is: for each of the folds.
+-- Items that don't concern what a fold says leave it as it is: for each of the folds.
 use Rattle.std.proofs.Common.{◌≡◌, ◌+◌, Bool, true, false, Option, None, List, [], ◌∷◌, ◌++◌, refl, ap, sym, ◌∙◌, append_assoc, append-nil, add-zero}
 use Rattle.std.specs.Prelude.{◌||◌, IsFalse, unwrap_or}
 use Rattle.std.specs.Option.{option_or}
@@ -7,7 +7,7 @@ use Rattle.update_machine.specs.Concerns.{NoneConcern}
 use Rattle.update_machine.specs.Folds.{all_given, count_of, first_told, folded, last_told}
 use Rattle.update_machine.proofs.FoldLemmas.{all_given_append, count_of_append, first_told_append, folded_append, last_told_append, or_none}
 
--- of items that don't concern a word nothing is said, and its value stays as it is
+-- of items that don't concern it nothing is said, and its value stays as it is
 abbrev pub Silent : {X : Type 0} (concerns : List Item → Item → Bool) (says : Item → X)
     (nothing : X) → Type 0
 Silent concerns says nothing =
@@ -18,11 +18,11 @@ abbrev pub Keeps : {X : Type 0} (concerns : List Item → Item → Bool)
 Keeps {X} concerns changes = (before : List Item) (value : X) (item : Item)
     → IsFalse (concerns before item) → changes before value item ≡ value
 
--- and so does the word itself, behind many of them
-abbrev pub Stays : {X : Type 0} (concerns : List Item → Item → Bool) (word : List Item → X)
+-- and so does what is said, behind many of them
+abbrev pub Stays : {X : Type 0} (concerns : List Item → Item → Bool) (says : List Item → X)
     → Type 0
-Stays concerns word = (before items : List Item) → NoneConcern concerns before items
-    → word (before ++ items) ≡ word before
+Stays concerns says = (before items : List Item) → NoneConcern concerns before items
+    → says (before ++ items) ≡ says before
 
 -- items that don't concern more than it don't concern it either
 pub fewer : (less more : List Item → Item → Bool) →
@@ -40,15 +40,15 @@ pub neither_right : (b c : Bool) → IsFalse (b || c) → IsFalse c
 neither_right true c none = cc
 neither_right false c none = none
 
--- a word that one item that doesn't concern it leaves as it is, is left as it is by many
-pub stays : {X : Type 0} (word : List Item → X) (concerns : List Item → Item → Bool)
+-- what one item that doesn't concern it leaves as it is, is left as it is by many
+pub stays : {X : Type 0} (says : List Item → X) (concerns : List Item → Item → Bool)
     → ((before : List Item) (item : Item) → IsFalse (concerns before item)
-    → word (before ++ item ∷ []) ≡ word before)
-    → Stays concerns word
-stays word concerns one before [] none = ap word (append-nil before)
-stays word concerns one before (item ∷ items) none =
-    ap word (sym (append_assoc before (item ∷ []) items))
-    ∙ stays word concerns one (before ++ item ∷ []) items none.1 ∙ one before item none.0
+    → says (before ++ item ∷ []) ≡ says before)
+    → Stays concerns says
+stays says concerns one before [] none = ap says (append-nil before)
+stays says concerns one before (item ∷ items) none =
+    ap says (sym (append_assoc before (item ∷ []) items))
+    ∙ stays says concerns one (before ++ item ∷ []) items none.1 ∙ one before item none.0
 
 pub last_stays : {X : Type 0} (tells : Item → Option X) (concerns : List Item → Item → Bool)
     → Silent concerns tells None → Stays concerns (last_told tells)

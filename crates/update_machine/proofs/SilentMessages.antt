@@ -1,4 +1,4 @@
--- Items that don't concern a message, all messages, all packets or the steps leave their words as
+-- Items that don't concern a message, all messages, all packets or the steps leave their facts as
 -- they are.
 use Rattle.std.proofs.Common.{ℕ, ◌+◌, ◌≡◌, Bool, false, None, List, [], ◌∷◌, ◌++◌, refl, ap, ◌∙◌}
 use Rattle.std.specs.Prelude.{nat_lt, find, IsFalse}
@@ -89,7 +89,7 @@ find_same p q same (x ∷ xs) =
 sent_count_stays : Stays concerns_messages (count_of is_sending)
 sent_count_stays = count_stays is_sending concerns_messages sending_silent
 
--- so the first number that passes a test of words that stay is the same
+-- so the first number that passes a test of facts that stay is the same
 first_stays_of : (count : List Item → ℕ) (test : List Item → ℕ → Bool)
     (concerns : List Item → Item → Bool) → Stays concerns count
     → ((n : ℕ) → Stays concerns (λ js. test js n))

@@ -1,4 +1,4 @@
--- Items that don't concern a packet leave its words as they are.
+-- Items that don't concern a packet leave its facts as they are.
 use Rattle.std.proofs.Common.{ℕ, ◌≡◌, false, None, List, [], ◌++◌, refl}
 use Rattle.failover.specs.Links.{no_links}
 use Rattle.journal.specs.declared.item.Item.{Item}
@@ -18,10 +18,10 @@ ingress_silent : (i : ℕ) → Silent (concerns_packet i) (tells_ingress i) None
 ingress_silent i before (item.Entered packet switch header) apart = rw apart refl
 ingress_silent i before _ apart = refl
 
-place_silent : (i : ℕ) → Silent (concerns_packet i) (tells_standing i) None
-place_silent i before (item.Entered packet switch header) apart = rw apart refl
-place_silent i before (item.Hopped packet switch) apart = rw apart refl
-place_silent i before _ apart = refl
+standing_silent : (i : ℕ) → Silent (concerns_packet i) (tells_standing i) None
+standing_silent i before (item.Entered packet switch header) apart = rw apart refl
+standing_silent i before (item.Hopped packet switch) apart = rw apart refl
+standing_silent i before _ apart = refl
 
 travel_silent : (i : ℕ) → Silent (concerns_packet i) (tells_travelling i) None
 travel_silent i before (item.Entered packet switch header) apart = rw apart refl
@@ -65,9 +65,9 @@ ingress_stays : (i : ℕ) → Stays (concerns_packet i) (λ js. ingress_of js i)
 unfolding ingress_of
 ingress_stays i = last_stays (tells_ingress i) (concerns_packet i) (ingress_silent i)
 
-place_stays : (i : ℕ) → Stays (concerns_packet i) (λ js. standing js i)
+standing_stays : (i : ℕ) → Stays (concerns_packet i) (λ js. standing js i)
 unfolding standing
-place_stays i = last_stays (tells_standing i) (concerns_packet i) (place_silent i)
+standing_stays i = last_stays (tells_standing i) (concerns_packet i) (standing_silent i)
 
 travels_stays : (i : ℕ) → Stays (concerns_packet i) (λ js. travels js i)
 unfolding travels
@@ -107,7 +107,7 @@ pub packet_keeps : (i : ℕ) (before items : List Item) → NoneConcern (concern
 packet_keeps i before items none = record {
   header = header_stays i before items none;
   ingress = ingress_stays i before items none;
-  stands = place_stays i before items none;
+  stands = standing_stays i before items none;
   travels = travels_stays i before items none;
   decision = decision_stays i before items none;
   leg = leg_stays i before items none;

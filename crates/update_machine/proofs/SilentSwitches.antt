@@ -1,4 +1,4 @@
--- Items that don't concern a switch, or the links, leave its words as they are.
+-- Items that don't concern a switch, or the links, leave its facts as they are.
 use Rattle.std.proofs.Common.{ℕ, ◌≡◌, true, None, List, [], ◌++◌, refl, ap, arith}
 use Rattle.std.specs.Prelude.{IsFalse, unwrap_or}
 use Rattle.std.proofs.lemmas.List.Elements.{filter_agree}

@@ -1,4 +1,4 @@
--- The words of a journal without items.
+-- What a journal without items says.
 use Rattle.std.proofs.Common.{ℕ, ◌≡◌, ◌<◌, ◌≤◌, Bool, true, false, Some, None, List, [], ◌∷◌, refl, ap, sym, ◌∙◌, ◌==◌, arith}
 use Rattle.std.specs.Prelude.{filter, length, map, nat_lt, slice_index, slice_index_or, slice_set, ◌||◌, ◌&&◌}
 use Rattle.std.proofs.lemmas.Bool.Decides.{nat_tests}

@@ -1,5 +1,5 @@
--- The words by which clauses of the crates above speak of journals, passed on from the files that
--- define them.
+-- The definitions by which clauses of the crates above speak of journals, passed on from the files
+-- that define them.
 pub use Rattle.update_machine.specs.Answers.{AreAll, AreSome, IsReached, StepOfRow, after_steps, next_delivery, next_hop}
 pub use Rattle.update_machine.specs.Boots.{is_up}
 pub use Rattle.update_machine.specs.Causes.{HaveCauses}

@@ -1,5 +1,5 @@
 -- Which links a switch knows, as masks: its own that it can use, and of others those that both ends
--- tell of by the newest advert that it heard (RFC 2328, sections 13.1 and 16.1).
+-- name by the newest advert that it heard (RFC 2328, sections 13.1 and 16.1).
 use Rattle.std.specs.Prelude.{ℕ, ◌==◌, if◌then◌else◌, Option, Some, None, List, filter, length, map, filter_map}
 use Rattle.net_file.specs.Owners.{links_of}
 use Rattle.net_file.specs.declared.net.LinkRow.{LinkRow}
@@ -20,7 +20,7 @@ usable_links setting journal = filter (is_usable journal) setting.net.links
 unfoldable pub near : Setting → List Item → ℕ → ℕ
 near setting journal s = links_of (usable_links setting journal) s
 
--- an advert that tells of another switch
+-- an advert of another switch
 abbrev pub other_advert : ℕ → Body → Option Advert
 other_advert s (Advertise advert) = if advert.origin == s then None else Some advert
 other_advert s _ = None

@@ -42,7 +42,7 @@ next_travelling journal = find (travels journal) (packets_in journal)
 
 abbrev pub is_at : ℕ → Option ℕ → Bool
 is_at s None = false
-is_at s (Some place) = place == s
+is_at s (Some at) = at == s
 
 -- it travels, and stands at the switch
 abbrev pub travels_at : List Item → ℕ → ℕ → Bool

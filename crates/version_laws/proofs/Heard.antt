@@ -8,10 +8,10 @@ use Rattle.journal.specs.declared.item.Item.TheVariants as item
 use Rattle.update_machine.specs.Boots.{heard, said_to}
 use Rattle.update_machine.specs.Settling.{to_switch}
 use Rattle.update_machine.specs.Links.{message_of}
-use Rattle.boot_laws.proofs.Grown.{heard_more}
-use Rattle.boot_laws.proofs.Sends.{each_append}
-use Rattle.boot_laws.proofs.SwitchBlocks.{said_parts}
-use Rattle.mark_laws.proofs.Told.{each_weaker}
+use Rattle.version_laws.proofs.Grown.{heard_more}
+use Rattle.version_laws.proofs.Sends.{each_append}
+use Rattle.version_laws.proofs.SwitchBlocks.{said_parts}
+use Rattle.version_laws.proofs.Told.{each_weaker}
 
 -- what it heard before goes on to hold, and what it hears now was sent to it
 pub heard_on : (P Q : Body → Type 0) (before : List Item) (next : Item) (s : ℕ)

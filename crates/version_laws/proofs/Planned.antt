@@ -21,11 +21,11 @@ use Rattle.update_machine.specs.Settling.{to_switch}
 use Rattle.update_machine.specs.Versions.{collects, holds_version, installs, tables_at, version_count, file_of}
 use Rattle.update_machine.specs.Links.{message_of}
 use Rattle.update_machine.proofs.CallerLemmas.{file_append, file_kept, plan_kept, start_laws}
-use Rattle.boot_laws.specs.ItemCauses.{HasItemCause}
-use Rattle.boot_laws.proofs.Facts.{AreKept, fact_on}
-use Rattle.boot_laws.proofs.Grown.{count_more, retired_more}
-use Rattle.mark_laws.specs.Heard.{ArePlanned}
-use Rattle.mark_laws.proofs.Planned.{IsPlannedSoFar, count_rises, planned_at_first, planned_kept}
+use Rattle.version_laws.specs.ItemCauses.{HasItemCause}
+use Rattle.version_laws.proofs.Facts.{AreKept, fact_on}
+use Rattle.version_laws.proofs.Grown.{count_more, retired_more}
+use Rattle.version_laws.specs.Heard.{ArePlanned}
+use Rattle.version_laws.proofs.Bounded.{IsPlannedSoFar, count_rises, planned_at_first, planned_kept}
 use Rattle.version_laws.specs.Planned.{AreTablesOf, BringsTables, HasPlan, TablesArePlanned, VersionsArePlanned}
 use Rattle.version_laws.proofs.Heard.{heard_on}
 

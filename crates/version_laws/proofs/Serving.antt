@@ -1,5 +1,5 @@
--- Switches that serve hold what they stamp with: they acknowledged it, and no word to drop it was
--- ever heard.
+-- Switches that serve hold what they stamp with: they acknowledged it, and never heard a message to
+-- drop it.
 use Rattle.std.proofs.Common.{ℕ, ◌≡◌, ◌≤◌, ◌<◌, ◌==◌, ◌&&◌, Bool, true, false, not, Some, List, [], ◌∷◌, ◌++◌, refl, sym, subst, arith, inl, inr}
 use Rattle.std.specs.Prelude.{⊤, ◌||◌, IsTrue, IsFalse}
 use Rattle.std.specs.List.{AllByRecursion, list_any}
@@ -16,17 +16,17 @@ use Rattle.update_machine.specs.Settling.{to_switch}
 use Rattle.update_machine.specs.Versions.{collects, holds_version, installs, stamp_of}
 use Rattle.update_machine.specs.Links.{message_of}
 use Rattle.update_machine.proofs.CallerLemmas.{start_laws}
-use Rattle.boot_laws.specs.BootLaws.{ServingIsKnown}
-use Rattle.boot_laws.specs.ItemCauses.{HasItemCause}
-use Rattle.boot_laws.proofs.Facts.{AreKept, Behind, fact_on, with_fact}
-use Rattle.boot_laws.proofs.Serving.{caused_known, serving_known}
-use Rattle.mark_laws.specs.Acknowledged.{MembersAcknowledged}
-use Rattle.mark_laws.specs.Bounds.{MarksAreBounded}
-use Rattle.mark_laws.specs.Heard.{HasTables}
-use Rattle.mark_laws.proofs.AcksHeld.{acks_held}
-use Rattle.mark_laws.proofs.Greatest.{acked_stamp_opened}
-use Rattle.mark_laws.proofs.Marks.{acknowledged, bounded}
-use Rattle.mark_laws.proofs.Retired.{CollectsRetired, collects_at_first, collects_on, retired_rises}
+use Rattle.version_laws.specs.BootLaws.{ServingIsKnown}
+use Rattle.version_laws.specs.ItemCauses.{HasItemCause}
+use Rattle.version_laws.proofs.Facts.{AreKept, Behind, fact_on, with_fact}
+use Rattle.version_laws.proofs.Openings.{caused_known, serving_known}
+use Rattle.version_laws.specs.Acknowledged.{MembersAcknowledged}
+use Rattle.version_laws.specs.Bounds.{MarksAreBounded}
+use Rattle.version_laws.specs.Heard.{HasTables}
+use Rattle.version_laws.proofs.AcksHeld.{acks_held}
+use Rattle.version_laws.proofs.Greatest.{acked_stamp_opened}
+use Rattle.version_laws.proofs.Marks.{acknowledged, bounded}
+use Rattle.version_laws.proofs.Retired.{CollectsRetired, collects_at_first, collects_on, retired_rises}
 use Rattle.version_laws.specs.Serving.{ServingHold}
 use Rattle.version_laws.proofs.Heard.{heard_on}
 

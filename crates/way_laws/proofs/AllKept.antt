@@ -25,16 +25,16 @@ use Rattle.update_machine.specs.Versions.{policy_at, plan_at}
 use Rattle.update_machine.specs.Travels.{leg_of, travels}
 use Rattle.update_machine.specs.Ways.{found_down}
 use Rattle.update_machine.proofs.CallerLemmas.{step_stays}
-use Rattle.boot_laws.proofs.Facts.{AreKept, Behind, fact_on, have_weaker, with_fact}
-use Rattle.boot_laws.proofs.Grown.{message_more}
-use Rattle.boot_laws.proofs.Reached.{NamesOwn}
-use Rattle.boot_laws.proofs.SwitchBlocks.{said_parts}
+use Rattle.version_laws.proofs.Facts.{AreKept, Behind, fact_on, have_weaker, with_fact}
+use Rattle.version_laws.proofs.Grown.{message_more}
+use Rattle.version_laws.proofs.Reached.{NamesOwn}
+use Rattle.version_laws.proofs.SwitchBlocks.{said_parts}
 use Rattle.advert_laws.proofs.BothCauses.{HasBothCauses}
 use Rattle.advert_laws.proofs.NetLinks.{links_there}
 use Rattle.way_laws.specs.Rules.{IsRightEntry, IsRightRule}
 use Rattle.way_laws.specs.OnWay.{IsUnknown}
 use Rattle.way_laws.specs.Facts.{is_of_packet, facts_after, what_is_known}
-use Rattle.way_laws.proofs.Words.{words_named, words_other}
+use Rattle.way_laws.proofs.PacketFacts.{facts_named, facts_other}
 use Rattle.way_laws.specs.Kept.{AllKept, BringsRight, IsJudged, IsKept}
 use Rattle.way_laws.specs.Stages.{Blocked, CameIn, Judged, OnWay, Stage, stage_of, tells_stage}
 use Rattle.way_laws.specs.WayCauses.{TellsRightly, TellsRule, WayCause}
@@ -180,13 +180,13 @@ packets_on setting before next known cause grow i = by_name (is_of_packet i next
         → IsKept setting (before ++ next ∷ []) (what_is_known (before ++ next ∷ []) i)
         (stage_of (before ++ next ∷ []) i)
     by_name true e =
-        subst (λ words. IsKept setting (before ++ next ∷ []) words
-        (stage_of (before ++ next ∷ []) i)) (sym (words_named i before next e))
+        subst (λ facts. IsKept setting (before ++ next ∷ []) facts
+        (stage_of (before ++ next ∷ []) i)) (sym (facts_named i before next e))
         (kept_on setting before (before ++ next ∷ []) _ _ grow
         (named_after setting before next i known cause.way e))
     by_name false e =
-        subst (λ words. IsKept setting (before ++ next ∷ []) words
-        (stage_of (before ++ next ∷ []) i)) (sym (words_other i before next e))
+        subst (λ facts. IsKept setting (before ++ next ∷ []) facts
+        (stage_of (before ++ next ∷ []) i)) (sym (facts_other i before next e))
         (subst (IsKept setting (before ++ next ∷ []) (what_is_known before i))
         (sym (stage_stays before next i (unnamed_stage i next e)))
         (kept_on setting before (before ++ next ∷ []) _ _ grow (known.kept.packets i)))
@@ -242,7 +242,7 @@ unknown_on setting before next known way i past = by_name (is_of_packet i next) 
     by_name : (b : Bool) → is_of_packet i next ≡ b → IsUnknown (what_is_known (before ++ next ∷ []) i)
     by_name true e = not_named (named_travels setting before next i way e)
     by_name false e =
-        subst IsUnknown (sym (words_other i before next e))
+        subst IsUnknown (sym (facts_other i before next e))
         (known.kept.unknown i (omega (arith, past, packet_more before next)))
 
 -- ---- messages

@@ -14,7 +14,7 @@ use Rattle.way_laws.specs.Facts.{PacketFacts, what_is_known}
 use Rattle.way_laws.specs.Arriving.{IsAtEnd, PacketsArrive}
 use Rattle.way_laws.specs.Kept.{AllKept}
 use Rattle.way_laws.proofs.Ends.{last_here, one_target}
-use Rattle.way_laws.proofs.Here.{header_in_words, leg_in, next_in, place_in, some_same, travels_in}
+use Rattle.way_laws.proofs.Here.{header_in_facts, leg_in, next_in, stands_in, some_same, travels_in}
 
 -- it stands at a target of its leg
 at_target : (setting : Setting) (journal : List Item) (i s : ℕ) (header : Header) (leg : Leg)
@@ -26,10 +26,10 @@ at_target setting journal i s header leg targets way at ends =
     let last : way.under_way.switch ≡ ends.target =
     last_here facts.route facts.hops way.under_way.switch ends.target way.stands
     (sym (next_in journal i) ∙ at.arrives.last) ends.last in
-    let place : way.under_way.switch ≡ s =
+    let there : way.under_way.switch ≡ s =
     some_same (standing journal i) way.under_way.switch s
-    (place_in journal i way.under_way.switch way.under_way.stands) at.stands in
-    subst (λ k. IsTrue (list_any (nat_eq k) targets)) (sym last ∙ place) ends.own
+    (stands_in journal i way.under_way.switch way.under_way.stands) at.stands in
+    subst (λ k. IsTrue (list_any (nat_eq k) targets)) (sym last ∙ there) ends.own
 
 by_leg : (setting : Setting) (journal : List Item) (i s : ℕ) (header : Header) (leg : Leg)
     (way : IsOnWay setting journal (what_is_known journal i)) → IsAtEnd journal i s header leg
@@ -57,7 +57,7 @@ packets_arrive setting journal kept i s header leg at =
     some_same facts.leg way.leg leg way.takes (leg_in journal i (Some leg) at.takes) in
     let own : way.under_way.header ≡ header =
     some_same (header_in journal i) way.under_way.header header
-    (header_in_words journal i way.under_way.header way.under_way.entered) at.with_header in
+    (header_in_facts journal i way.under_way.header way.under_way.entered) at.with_header in
     by_leg setting journal i s header leg way at
     (subst (λ h. IsOnLeg setting journal facts h leg) own
     (subst (λ l. IsOnLeg setting journal facts way.under_way.header l) same way.on_leg))

@@ -29,7 +29,7 @@ use Rattle.update_machine.specs.Setting.{IsFileOf, Setting, plan_of_file}
 use Rattle.update_machine.specs.Ways.{next_switch, route_in, route_place}
 use Rattle.update_machine.specs.LinkMasks.{near}
 use Rattle.update_machine.proofs.CallerLemmas.{ends_within}
-use Rattle.update_machine.proofs.Examples.{all_dropped, any_word, on, one, open_net, other, plan_p, ring, row_of_three, rule}
+use Rattle.update_machine.proofs.Examples.{all_dropped, any_word, on, one, open_net, other, plan_p, ring, line_of_three, rule}
 use Rattle.way_laws.specs.Facts.{entry_mark}
 use Rattle.way_laws.specs.StrongCauses.{StrongCause}
 use Rattle.way_laws.specs.WayCauses.{IsLostInCrash, MovesOver}
@@ -235,13 +235,13 @@ hops_over_usable : (setting : Setting) (before : List Item) (packet s next : ℕ
 hops_over_usable setting before packet s next moves at =
     subst (λ k. IsTrue (has (near setting before k) next)) (sym at) moves.usable
 
-not_hopped_where_no_link_leads : StrongCause row_of_three leap (item.Hopped 1 2) → ⊥
+not_hopped_where_no_link_leads : StrongCause line_of_three leap (item.Hopped 1 2) → ⊥
 unfolding near standing has mask_of mask_where switches is_link_up serves
 not_hopped_where_no_link_leads cause =
-    let usable : false ≡ true = hops_over_usable row_of_three leap 1 0 2 cause cause.at.stands in
+    let usable : false ≡ true = hops_over_usable line_of_three leap 1 0 2 cause cause.at.stands in
     absurd cc
 
-not_found_down_where_no_link_is : HasCause row_of_three leap (item.FoundDown 1 0 2) → ⊥
+not_found_down_where_no_link_is : HasCause line_of_three leap (item.FoundDown 1 0 2) → ⊥
 not_found_down_where_no_link_is cause =
     let linked : false ≡ true = cause.linked in absurd cc
 

@@ -16,11 +16,11 @@ use Rattle.update_machine.specs.Pieces.{crash_items, nothing}
 use Rattle.update_machine.specs.Setting.{Setting}
 use Rattle.update_machine.specs.Travels.{packets_at, travels, travels_at}
 use Rattle.update_machine.specs.Links.{serves}
-use Rattle.boot_laws.proofs.Crashes.{losts_keep}
-use Rattle.boot_laws.proofs.Grown.{serving_more}
-use Rattle.boot_laws.proofs.Picked.{any_picked}
+use Rattle.version_laws.proofs.Crashes.{losts_keep}
+use Rattle.version_laws.proofs.Grown.{serving_more}
+use Rattle.version_laws.proofs.Picked.{any_picked}
 use Rattle.way_laws.specs.Rest.{AreServed, IsServed}
-use Rattle.way_laws.proofs.Served.{AreNumbered, place_more, stays_served, still_serves, travels_more}
+use Rattle.way_laws.proofs.Served.{AreNumbered, standing_more, stays_served, still_serves, travels_more}
 
 -- ---- what is sent leaves packets as they are
 
@@ -79,10 +79,10 @@ spared_by (k ∷ packets) journal i travelling =
     }
 
 -- losses move no packet and change no switch
-lost_place : (packets : List ℕ) (journal : List Item) (i : ℕ)
+lost_standing : (packets : List ℕ) (journal : List Item) (i : ℕ)
     → standing (journal ++ map item.Lost packets) i ≡ standing journal i
-lost_place packets journal i =
-    losts_keep (λ js. standing js i) (λ js k. place_more js (item.Lost k) i) packets journal
+lost_standing packets journal i =
+    losts_keep (λ js. standing js i) (λ js k. standing_more js (item.Lost k) i) packets journal
 
 lost_serves : (packets : List ℕ) (journal : List Item) (s : ℕ)
     → serves (journal ++ map item.Lost packets) s ≡ serves journal s
@@ -92,16 +92,16 @@ lost_serves packets journal s =
 -- ---- the crash
 
 -- a packet that isn't lost stands elsewhere
-left_elsewhere : (before : List Item) (s i place : ℕ) → IsTrue (travels before i)
-    → standing before i ≡ Some place → 1 ≤ i → i < 1 + count_of is_packet before
-    → IsFalse (among i (packets_at before s)) → (s == place) ≡ false
+left_elsewhere : (before : List Item) (s i t : ℕ) → IsTrue (travels before i)
+    → standing before i ≡ Some t → 1 ≤ i → i < 1 + count_of is_packet before
+    → IsFalse (among i (packets_at before s)) → (s == t) ≡ false
 unfolding among
-left_elsewhere before s i place travelling stands first last apart =
-    by_place (place == s) refl
+left_elsewhere before s i t travelling stands first last apart =
+    by_switch (t == s) refl
   where
-    by_place : (b : Bool) → (place == s) ≡ b → (s == place) ≡ false
-    by_place false e = grind (arith, nat_tests)
-    by_place true e =
+    by_switch : (b : Bool) → (t == s) ≡ b → (s == t) ≡ false
+    by_switch false e = grind (arith, nat_tests)
+    by_switch true e =
         let here : travels_at before s i ≡ true = rw (travelling, stands, e) refl in
         let there : among i (packets_at before s) ≡ true =
         any_picked (travels_at before s) i 1 (count_of is_packet before) first last ∙ here in
@@ -132,7 +132,7 @@ fallen_served before journal s numbered served same i travelling =
     spared.apart in
     subst (λ js. IsServed js i) whole (record {
       switch = here.switch;
-      stands = lost_place packets (journal ++ down ∷ []) i ∙ place_more journal down i
+      stands = lost_standing packets (journal ++ down ∷ []) i ∙ standing_more journal down i
           ∙ here.stands;
       serving = lost_serves packets (journal ++ down ∷ []) here.switch
           ∙ rw (serving_more journal down here.switch, elsewhere) here.serving;

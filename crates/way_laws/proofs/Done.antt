@@ -26,10 +26,7 @@ use Rattle.update_machine.specs.Ways.{next_switch, owner}
 use Rattle.update_machine.proofs.CallerLemmas.{folded_append, last_told_append}
 use Rattle.way_laws.specs.Rest.{IsMoving}
 use Rattle.way_laws.specs.Stages.{OnWay, tells_stage}
-use Rattle.way_laws.proofs.PacketBlocks.{stage_more, stage_stays}
-
-own : (i : ℕ) → (i == i) ≡ true
-own i = eq-eqb i i refl
+use Rattle.way_laws.proofs.PacketBlocks.{own, stage_more, stage_stays}
 
 -- ---- one item
 
@@ -161,7 +158,7 @@ arrive_done setting i s journal done = by_leg (leg_of journal i)
           (authority_rule setting journal version partition
           (first_place setting journal version partition (header_at journal i))) journal
     ]) i
-    by_held version partition false = lookup_done setting i s journal (λ part place told none. done)
+    by_held version partition false = lookup_done setting i s journal (λ part place answer none. done)
     by_held version partition true =
         authority_done setting i s
         (authority_rule setting journal version partition
@@ -267,4 +264,4 @@ packet_done setting i s header journal there done = by_serving (serves journal s
     by_serving true e =
         put_done (item.Entered i s header ∷ []) (lookup_items setting i s) journal i
         (lookup_done setting i s (journal ++ item.Entered i s header ∷ [])
-        (λ partition place told none. absurd (there e partition place told none)))
+        (λ partition place answer none. absurd (there e partition place answer none)))

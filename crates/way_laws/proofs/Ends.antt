@@ -30,8 +30,8 @@ use Rattle.update_machine.specs.Versions.{plan_at}
 use Rattle.update_machine.specs.Ways.{found_down, no_switch, owner, targets_of}
 use Rattle.update_machine.specs.ExactCauses.{FindsNextDown, SeeksOwn, FindsNoPath}
 use Rattle.update_machine.proofs.CallerLemmas.{plan_is, unreached}
-use Rattle.boot_laws.specs.ItemCauses.{HasItemCause}
-use Rattle.boot_laws.proofs.Serving.{IsKnown}
+use Rattle.version_laws.specs.ItemCauses.{HasItemCause}
+use Rattle.version_laws.proofs.Openings.{IsKnown}
 use Rattle.advert_laws.proofs.Claims.{own_end}
 use Rattle.advert_laws.proofs.NetLinks.{linked_by_mask}
 use Rattle.way_laws.specs.OnWay.{FollowsLinks, IsExiting, IsOnLeg, IsOnWay, IsPartitionOf, IsSeeking}
@@ -40,7 +40,7 @@ use Rattle.way_laws.specs.Kept.{IsJudged}
 use Rattle.way_laws.specs.Stages.{stage_of}
 use Rattle.way_laws.specs.StrongCauses.{SeeksRightly}
 use Rattle.way_laws.specs.WayCauses.{FindsNoRoute, IsAt, IsAtPort, IsBlockedOn, IsLostHere, LeavesHere, MeetsDown, TakesLeg, WayCause}
-use Rattle.way_laws.proofs.Here.{IsHere, decision_in, exiting_of, header_in_words, leg_in, next_in, place_in, seeking_of, some_same}
+use Rattle.way_laws.proofs.Here.{IsHere, decision_in, exiting_of, header_in_facts, leg_in, next_in, stands_in, seeking_of, some_same}
 use Rattle.way_laws.proofs.Kept.{Knows, here_known, port_named, redirected_to, stage_when, undecided_of}
 use Rattle.way_laws.proofs.OpenWays.{Sees, none_leads, open_joined}
 
@@ -52,7 +52,7 @@ decision_out journal i decision is = is
 stands_at : (setting : Setting) (before : List Item) (i s : ℕ) → IsHere setting before i s
     → standing before i ≡ Some s
 stands_at setting before i s here =
-    place_in before i here.under.switch here.under.stands ∙ ap Some (sym here.at)
+    stands_in before i here.under.switch here.under.stands ∙ ap Some (sym here.at)
 
 stands_known : (setting : Setting) (before : List Item) (i s : ℕ)
     → Knows setting before i (stage_of before i) → IsAt before i s → standing before i ≡ Some s
@@ -62,7 +62,7 @@ stands_known setting before i s knows at =
 entered_as : (setting : Setting) (before : List Item) (i s : ℕ)
     → (here : IsHere setting before i s) → header_in before i ≡ Some here.under.header
 entered_as setting before i s here =
-    header_in_words before i here.under.header here.under.entered
+    header_in_facts before i here.under.header here.under.entered
 
 -- ---- links found down
 
@@ -95,11 +95,11 @@ meets_link setting before i one two knows meets =
     here_known setting before i one knows meets.at in
     let way : IsOnWay setting before facts =
     knows.kept.on_way here.travelling (inl meets.moving) in
-    let place : way.under_way.switch ≡ one =
+    let there : way.under_way.switch ≡ one =
     some_same facts.stands way.under_way.switch here.under.switch way.under_way.stands
     here.under.stands ∙ sym here.at in
     linked_by_mask setting.net.links one two
-    (follows setting before facts way facts.hops one two (way.stands ∙ ap Some place)
+    (follows setting before facts way facts.hops one two (way.stands ∙ ap Some there)
     (sym (next_in before i) ∙ meets.goes_on))
 
 -- ---- losses
@@ -323,14 +323,14 @@ stuck_by_claims setting before i s cause leg down knows finds =
 -- ---- packets that leave
 
 -- where a route doesn't go on, the packet stands at its last switch
-pub last_here : (route : List ℕ) (hops place target : ℕ) → slice_get route hops ≡ Some place
+pub last_here : (route : List ℕ) (hops s target : ℕ) → slice_get route hops ≡ Some s
     → slice_get route (hops + 1) ≡ None → slice_get route (length route - 1) ≡ Some target
-    → place ≡ target
-last_here route hops place target here none last =
-    let within : hops < length route = slice_get_within route hops place here in
+    → s ≡ target
+last_here route hops s target here none last =
+    let within : hops < length route = slice_get_within route hops s here in
     let past : length route ≤ hops + 1 = not_within (cases_lt (hops + 1) (length route)) in
     let same : length route - 1 ≡ hops = omega arith in
-    some_same (slice_get route hops) place target here
+    some_same (slice_get route hops) s target here
     (subst (λ n. slice_get route n ≡ Some target) same last)
   where
     not_within : ((hops + 1) < length route) ⊎ (length route ≤ hops + 1) → length route ≤ hops + 1
@@ -384,11 +384,11 @@ leaves_by setting before i port leaving knows way here = by_port way.at_port
         let ends : was.under_way.switch ≡ on.leads.ends.target =
         last_here facts.route facts.hops was.under_way.switch on.leads.ends.target was.stands
         (sym (next_in before i) ∙ arrived.0.last) on.leads.ends.last in
-        let place : was.under_way.switch ≡ here.under.switch =
+        let there : was.under_way.switch ≡ here.under.switch =
         some_same facts.stands was.under_way.switch here.under.switch was.under_way.stands
         here.under.stands in
         let home : on.owner ≡ way.switch =
-        sym (one_target on.leads.ends.target on.owner on.leads.ends.own) ∙ sym ends ∙ place
+        sym (one_target on.leads.ends.target on.owner on.leads.ends.own) ∙ sym ends ∙ there
         ∙ sym here.at in
         record {
           has_port = on.has_port ∙ ap Some home;

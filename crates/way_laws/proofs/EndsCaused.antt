@@ -3,8 +3,8 @@ use Rattle.std.proofs.Common.{List, []}
 use Rattle.journal.specs.declared.item.Item.{Item}
 use Rattle.update_machine.specs.Causes.{HasCause, HaveCauses}
 use Rattle.update_machine.specs.Setting.{Setting, IsSetting}
-use Rattle.boot_laws.proofs.Facts.{Behind, have_weaker}
-use Rattle.boot_laws.proofs.Serving.{caused_known}
+use Rattle.version_laws.proofs.Facts.{Behind, have_weaker}
+use Rattle.version_laws.proofs.Openings.{caused_known}
 use Rattle.way_laws.specs.Kept.{AllKept}
 use Rattle.way_laws.proofs.AllKept.{kept_before, known_before, knows}
 use Rattle.way_laws.proofs.Ends.{end_caused}

@@ -14,10 +14,10 @@ use Rattle.update_machine.specs.Marks.{current_mark, retired_mark}
 use Rattle.update_machine.specs.Setting.{Setting, IsSetting}
 use Rattle.update_machine.specs.Versions.{is_version, policy_at, plan_at}
 use Rattle.update_machine.proofs.CallerLemmas.{plan_kept, policy_kept}
-use Rattle.boot_laws.specs.ItemCauses.{HasItemCause}
-use Rattle.mark_laws.proofs.Marks.{bounded}
-use Rattle.mark_laws.proofs.Planned.{current_rises}
-use Rattle.mark_laws.proofs.Retired.{retired_rises}
+use Rattle.version_laws.specs.ItemCauses.{HasItemCause}
+use Rattle.version_laws.proofs.Marks.{bounded}
+use Rattle.version_laws.proofs.Bounded.{current_rises}
+use Rattle.version_laws.proofs.Retired.{retired_rises}
 use Rattle.version_laws.specs.Planned.{HasPlan}
 use Rattle.version_laws.proofs.Planned.{versions_planned}
 use Rattle.way_laws.specs.Rules.{IsRightRule}

@@ -17,16 +17,16 @@ use Rattle.update_machine.specs.Setting.{Setting, IsSetting}
 use Rattle.update_machine.specs.Versions.{policy_at, stamp_of, plan_at}
 use Rattle.update_machine.specs.Travels.{leg_of, travels}
 use Rattle.update_machine.specs.Ways.{found_down, next_switch}
-use Rattle.boot_laws.specs.ItemCauses.{HasItemCause}
+use Rattle.version_laws.specs.ItemCauses.{HasItemCause}
 use Rattle.way_laws.specs.OnWay.{IsExiting, IsOnLeg, IsOnWay, IsSeeking, IsUnderWay}
 use Rattle.way_laws.specs.Facts.{PacketFacts, what_is_known}
 use Rattle.way_laws.specs.Kept.{IsKept, IsSought}
 use Rattle.way_laws.specs.Stages.{Stage}
 use Rattle.way_laws.specs.WayCauses.{AuthorityFinds, IsAt}
-use Rattle.way_laws.proofs.Lookups.{FindsRule, IsStamped, authority_told, current_planned, deciding, rule_there, stamped}
+use Rattle.way_laws.proofs.Lookups.{FindsRule, IsStamped, authority_found, current_planned, deciding, rule_there, stamped}
 use Rattle.way_laws.proofs.Plans.{Finds, IsPlanned, in_plan}
 
--- ---- words
+-- ---- facts
 
 pub some_same : {X : Type 0} (o : Option X) (x y : X) → o ≡ Some x → o ≡ Some y → x ≡ y
 some_same o x y p q = cc
@@ -55,15 +55,15 @@ pub next_in : (journal : List Item) (i : ℕ) → next_switch journal i
 unfolding what_is_known next_switch
 next_in journal i = refl
 
-pub place_in : (journal : List Item) (i : ℕ) (place : ℕ) → (what_is_known journal i).stands ≡ Some place
-    → standing journal i ≡ Some place
+pub stands_in : (journal : List Item) (i : ℕ) (s : ℕ) → (what_is_known journal i).stands ≡ Some s
+    → standing journal i ≡ Some s
 unfolding what_is_known
-place_in journal i place is = is
+stands_in journal i s is = is
 
-pub header_in_words : (journal : List Item) (i : ℕ) (header : Header)
+pub header_in_facts : (journal : List Item) (i : ℕ) (header : Header)
     → (what_is_known journal i).header ≡ Some header → header_in journal i ≡ Some header
 unfolding what_is_known
-header_in_words journal i header is = is
+header_in_facts journal i header is = is
 
 -- ---- at a switch
 
@@ -83,12 +83,12 @@ here_of setting before i s stage is have kept at =
     let travelling : IsTrue (what_is_known before i).travels = travels_in before i at.travelling in
     let under : IsUnderWay setting before (what_is_known before i) = kept.under_way travelling in
     let same : s ≡ under.switch =
-    sym at.stands ∙ ap (λ o. unwrap_or o 0) (place_in before i under.switch under.stands) in
+    sym at.stands ∙ ap (λ o. unwrap_or o 0) (stands_in before i under.switch under.stands) in
     record {
       travelling = travelling;
       under = under;
       at = same;
-      header = rw (header_in_words before i under.header under.entered) refl;
+      header = rw (header_in_facts before i under.header under.entered) refl;
       stamped = stamped setting before s is have
           (subst (λ x. x < length setting.net.switches) (sym same) under.now) at.serving;
     }
@@ -144,18 +144,18 @@ pub rules_of : (setting : Setting) (before : List Item) (i s version : ℕ) (fou
     → AuthorityFinds setting before i s version found
     → Rules setting before (what_is_known before i) here.under.header version found
 rules_of setting before i s version found is have here sought finds = elim finds.says [
-  | inl told ↦
+  | inl says ↦
       let stamp : ℕ = stamp_of before s in
       let own : FindsRule setting before s here.under.header finds.partition finds.place =
-      authority_told setting before s here.under.header finds.partition finds.place here.stamped
-      here.under.sound (ap (lookup_at setting before s) (sym here.header) ∙ told.told) in
+      authority_found setting before s here.under.header finds.partition finds.place here.stamped
+      here.under.sound (ap (lookup_at setting before s) (sym here.header) ∙ says.answer) in
       let rule : authority_rule setting before stamp finds.partition own.part.finds.place
       ≡ Some found =
       ap (authority_rule setting before stamp finds.partition) own.found_at
       ∙ subst (λ v. authority_rule setting before v finds.partition finds.place ≡ Some found)
-      told.stamp finds.rule in
+      says.stamp finds.rule in
       subst (λ v. Rules setting before (what_is_known before i) here.under.header v found)
-      (sym told.stamp) (record {
+      (sym says.stamp) (record {
         not_retired = omega (arith, here.under.mark, here.stamped.retired);
         current = here.stamped.current;
         planned = here.stamped.planned;

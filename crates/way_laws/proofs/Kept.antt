@@ -40,7 +40,7 @@ use Rattle.update_machine.specs.Packets.{Decision}
 use Rattle.update_machine.specs.Setting.{Setting, IsSetting, NamesOwnPort}
 use Rattle.update_machine.specs.Versions.{policy_at, stamp_of, tables_at, plan_at}
 use Rattle.update_machine.specs.Ways.{found_down, no_switch, owner, targets_of}
-use Rattle.boot_laws.specs.ItemCauses.{HasItemCause}
+use Rattle.version_laws.specs.ItemCauses.{HasItemCause}
 use Rattle.advert_laws.specs.Adverts.{LinksAreThere}
 use Rattle.advert_laws.proofs.BothCauses.{HasBothCauses}
 use Rattle.way_laws.specs.Rules.{IsRightEntry}
@@ -50,7 +50,7 @@ use Rattle.way_laws.specs.Kept.{Avoids, IsJudged, IsKept, IsSought}
 use Rattle.way_laws.specs.Stages.{Blocked, CameIn, Judged, OnWay, Stage, stage_of}
 use Rattle.way_laws.specs.WayCauses.{AuthorityDecides, CacheDecides, DecidesBy, IsAt, IsDecided, IsRedirected, MeetsDown, MovesOver, TakesDetour, TakesExit, TakesRoute}
 use Rattle.way_laws.proofs.Here.{IsHere, Rules, found_in, here_of, leg_in, next_in, decision_in, rules_of, seeking_of, some_same}
-use Rattle.way_laws.proofs.Lookups.{FindsTargets, redirect_told}
+use Rattle.way_laws.proofs.Lookups.{FindsTargets, redirect_found}
 use Rattle.way_laws.proofs.PacketBlocks.{WhenDecided}
 use Rattle.way_laws.proofs.Plans.{scan_named}
 use Rattle.way_laws.proofs.Routes.{IsWay, route_way}
@@ -70,11 +70,11 @@ pub here_known : (setting : Setting) (before : List Item) (i s : ℕ)
 here_known setting before i s knows at =
     here_of setting before i s (stage_of before i) knows.is knows.have knows.kept at
 
--- words that leave it under way as it was
+-- facts that leave it under way as it was
 abbrev under_as : (setting : Setting) (before : List Item) (one other : PacketFacts)
     → other.header ≡ one.header → other.ingress ≡ one.ingress → other.stands ≡ one.stands
     → other.mark ≡ one.mark → IsUnderWay setting before one → IsUnderWay setting before other
-under_as setting before one other header ingress place mark under = record {
+under_as setting before one other header ingress stands mark under = record {
   header = under.header;
   ingress = under.ingress;
   switch = under.switch;
@@ -82,7 +82,7 @@ under_as setting before one other header ingress place mark under = record {
   sound = under.sound;
   came = ingress ∙ under.came;
   at_first = under.at_first;
-  stands = place ∙ under.stands;
+  stands = stands ∙ under.stands;
   now = under.now;
   mark = subst (λ m. m ≤ retired_mark before) (sym mark) under.mark;
 }
@@ -196,18 +196,18 @@ pub redirected_to : (setting : Setting) (before : List Item) (i s version partit
     → (placed : Placed)
     × IsPartitionOf setting before here.under.header version partition placed
 redirected_to setting before i s version partition here takes =
-    let told : FindsTargets setting before s here.under.header partition takes.targets =
-    redirect_told setting before s here.under.header partition takes.targets here.stamped
-    here.under.sound (ap (lookup_at setting before s) (sym here.header) ∙ takes.told) in
-    let placed : Placed = told.part.placed in (
+    let leads : FindsTargets setting before s here.under.header partition takes.targets =
+    redirect_found setting before s here.under.header partition takes.targets here.stamped
+    here.under.sound (ap (lookup_at setting before s) (sym here.header) ∙ takes.answer) in
+    let placed : Placed = leads.part.placed in (
       placed,
       subst (λ v. IsPartitionOf setting before here.under.header v partition placed)
           (sym takes.stamp) (record {
             found = ap (slice_get (plan_at setting before (stamp_of before s)))
-                (sym told.part.number) ∙ told.part.finds.at;
-            number = told.part.number;
-            first = told.part.finds.first;
-            holds = told.part.finds.holds;
+                (sym leads.part.number) ∙ leads.part.finds.at;
+            number = leads.part.number;
+            first = leads.part.finds.first;
+            holds = leads.part.finds.holds;
           }),
     )
 
@@ -487,14 +487,14 @@ table_not_cached tables header entry = by_part (find (is_in header) tables.auth)
     by_part None e = cc
     by_part (Some part) e = cc
 
-cached_told : (setting : Setting) (journal : List Item) (s : ℕ) (header : Header)
+cached_found : (setting : Setting) (journal : List Item) (s : ℕ) (header : Header)
     (entry : CacheEntry) → lookup_at setting journal s header ≡ found.Cached entry
     → first_entry (stamp_of journal s) (number_of header) (cache_of setting journal s).entries
     ≡ Some entry
 unfolding lookup_at
-cached_told setting journal s header entry told =
+cached_found setting journal s header entry answer =
     by_entry (first_entry (stamp_of journal s) (number_of header)
-    (cache_of setting journal s).entries) told
+    (cache_of setting journal s).entries) answer
   where
     by_entry : (o : Option CacheEntry)
         → option_map_or found.Cached o
@@ -523,8 +523,8 @@ cache_decides setting before i s version rule act message here right by =
     let header : Header = here.under.header in
     let first : first_entry (stamp_of before s) (number_of header)
     (cache_of setting before s).entries ≡ Some entry =
-    cached_told setting before s header entry
-    (ap (lookup_at setting before s) (sym here.header) ∙ by.told) in
+    cached_found setting before s header entry
+    (ap (lookup_at setting before s) (sym here.header) ∙ by.answer) in
     let there : Contains (cache_of setting before s).entries entry
     × (((entry.version == stamp_of before s) && holds entry.word (number_of header)) ≡ true) =
     find-there (λ (x : CacheEntry). (x.version == stamp_of before s)

@@ -1,4 +1,4 @@
-pub mod Words
+pub mod PacketFacts
 pub mod FirstLinks
 pub mod PacketBlocks
 pub mod OtherBlocks
@@ -24,9 +24,26 @@ pub mod Ends
 pub mod EndsCaused
 pub mod Arriving
 pub mod Runs
-mod Trials
+mod CauseTrials
 mod Broken
 mod ArrivingRows
 mod RunRows
 mod StepRows
 pub mod Strong
+mod Links
+mod Tally
+mod FewRoutes
+mod Waiting
+mod Flushing
+mod Asked
+mod Acts
+mod Within
+mod Ready
+mod Draining
+mod Playing
+mod RouteRows
+mod RowPieces
+mod Rows
+mod Plays
+mod EntryTrials
+mod Together

@@ -21,8 +21,8 @@ use Rattle.update_machine.specs.Marks.{current_mark, retired_mark}
 use Rattle.update_machine.specs.Moves.{AuthorityRule, authority_rule}
 use Rattle.update_machine.specs.Setting.{Setting, IsSetting}
 use Rattle.update_machine.specs.Versions.{policy_at, stamp_of, tables_at, plan_at}
-use Rattle.boot_laws.specs.ItemCauses.{HasItemCause}
-use Rattle.mark_laws.proofs.Marks.{bounded}
+use Rattle.version_laws.specs.ItemCauses.{HasItemCause}
+use Rattle.version_laws.proofs.Marks.{bounded}
 use Rattle.version_laws.specs.Serving.{HoldsStamp}
 use Rattle.version_laws.proofs.Planned.{versions_planned}
 use Rattle.version_laws.proofs.Serving.{serving_hold}
@@ -80,10 +80,10 @@ table_says : (setting : Setting) (journal : List Item) (s : ℕ) (header : Heade
     → ((entry : CacheEntry) → found.Cached entry ≡ other → ⊥)
     → table_lookup (tables_at setting journal (stamp_of journal s) s) header ≡ other
 unfolding lookup_at
-table_says setting journal s header other told none =
+table_says setting journal s header other answer none =
     by_tables (first_entry (stamp_of journal s) (number_of header)
     (cache_of setting journal s).entries)
-    (table_lookup (tables_at setting journal (stamp_of journal s) s) header) other told none
+    (table_lookup (tables_at setting journal (stamp_of journal s) s) header) other answer none
 
 -- what a lookup says that no cached rule answers, by a partition of the plan of the stamp
 abbrev LooksUpAt : Setting → List Item → ℕ → Header → Type 0
@@ -100,13 +100,13 @@ says_of : (setting : Setting) (journal : List Item) (s : ℕ) (header : Header) 
     → IsStamped setting journal s → IsHeader header → lookup_at setting journal s header ≡ what
     → ((entry : CacheEntry) → found.Cached entry ≡ what → ⊥)
     → SaysOf setting journal s header what
-says_of setting journal s header what stamped sound told none =
+says_of setting journal s header what stamped sound answer none =
     let looks = looks_up setting (policy_at setting journal (stamp_of journal s))
     (plan_at setting journal (stamp_of journal s)) (stamp_of journal s) s header stamped.planned
     sound in
     record {
       looks = looks;
-      is = sym looks.says ∙ table_says setting journal s header what told none;
+      is = sym looks.says ∙ table_says setting journal s header what answer none;
     }
 
 pub record FindsRule (setting : Setting) (journal : List Item) (s : ℕ) (header : Header)
@@ -115,13 +115,13 @@ pub record FindsRule (setting : Setting) (journal : List Item) (s : ℕ) (header
   pub found_at : part.finds.place ≡ place
   pub target : IsTrue (has_target s part.placed)
 
-pub authority_told : (setting : Setting) (journal : List Item) (s : ℕ) (header : Header)
+pub authority_found : (setting : Setting) (journal : List Item) (s : ℕ) (header : Header)
     (partition place : ℕ) → IsStamped setting journal s → IsHeader header
     → lookup_at setting journal s header ≡ found.Authority partition place
     → FindsRule setting journal s header partition place
-authority_told setting journal s header partition at stamped sound told =
+authority_found setting journal s header partition at stamped sound answer =
     let says =
-    says_of setting journal s header (found.Authority partition at) stamped sound told
+    says_of setting journal s header (found.Authority partition at) stamped sound answer
     (λ entry e. absurd cc) in
     by_target says.looks (has_target s says.looks.placed) refl says.is
   where
@@ -144,13 +144,13 @@ pub record FindsTargets (setting : Setting) (journal : List Item) (s : ℕ) (hea
   pub part : FindsPart setting journal s header partition
   pub own : part.placed.1 ≡ targets
 
-pub redirect_told : (setting : Setting) (journal : List Item) (s : ℕ) (header : Header)
+pub redirect_found : (setting : Setting) (journal : List Item) (s : ℕ) (header : Header)
     (partition : ℕ) (targets : List ℕ) → IsStamped setting journal s → IsHeader header
     → lookup_at setting journal s header ≡ found.Redirect partition targets
     → FindsTargets setting journal s header partition targets
-redirect_told setting journal s header partition targets stamped sound told =
+redirect_found setting journal s header partition targets stamped sound answer =
     let says =
-    says_of setting journal s header (found.Redirect partition targets) stamped sound told
+    says_of setting journal s header (found.Redirect partition targets) stamped sound answer
     (λ entry e. absurd cc) in
     by_target says.looks (has_target s says.looks.placed) says.is
   where

@@ -45,8 +45,8 @@ none_leads joined links from target rows over small unreached path leads =
 -- ---- links
 
 -- what a switch is told of the links of one
-abbrev told_row : Setting → List Item → ℕ → ℕ → ℕ
-told_row setting before s one = slice_index
+abbrev claimed_mask : Setting → List Item → ℕ → ℕ → ℕ
+claimed_mask setting before s one = slice_index
     (named_links (adverts_of_others setting before s) s (near setting before s)) one
 
 -- what is known of a journal in which a switch serves
@@ -58,7 +58,7 @@ pub record Sees (setting : Setting) (before : List Item) (s : ℕ) : Type 0 wher
 -- to a serving switch one has a link to two, so the row of one has two
 end_has : (setting : Setting) (before : List Item) (s one two : ℕ) → Sees setting before s
     → IsTrue (is_end setting before s one two)
-    → IsNamed one two (IsTrue (has (told_row setting before s one) two))
+    → IsNamed one two (IsTrue (has (claimed_mask setting before s one) two))
 unfolding named_links names
 end_has setting before s one two sees is = elim (cases_eq one s) [
   | inl same ↦ own same
@@ -124,15 +124,15 @@ unfolding is_link
 open_joined setting before i s sees one two is =
     let parts = all_parts (not (one == two)) (is_end setting before s one two)
     (is_end setting before s two one) (list_any (finds_down i one two) before) is in
-    let there : IsNamed one two (IsTrue (has (told_row setting before s one) two)) =
+    let there : IsNamed one two (IsTrue (has (claimed_mask setting before s one) two)) =
     end_has setting before s one two sees parts.1 in
-    let back : IsNamed two one (IsTrue (has (told_row setting before s two) one)) =
+    let back : IsNamed two one (IsTrue (has (claimed_mask setting before s two) one)) =
     end_has setting before s two one sees parts.2 in
     let down : List ℕ = found_down before i in (
       there.two_small,
       has_known (adverts_of_others setting before s) s (near setting before s) down one two
           there.one_small there.two_small
-          ∙ all_four (not (one == two)) (has (told_row setting before s one) two)
-          (has (told_row setting before s two) one) (has_link down one two) parts.0
+          ∙ all_four (not (one == two)) (has (claimed_mask setting before s one) two)
+          (has (claimed_mask setting before s two) one) (has_link down one two) parts.0
           there.named back.named (link_not_found before i one two parts.3),
     )

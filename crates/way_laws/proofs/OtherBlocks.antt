@@ -19,12 +19,12 @@ use Rattle.update_machine.specs.Pieces.{deliver_items, expire_items, forget_item
 use Rattle.update_machine.specs.Setting.{Setting, switches_of}
 use Rattle.update_machine.specs.Settling.{install_for, unacked, versions_from_current}
 use Rattle.update_machine.proofs.CallerLemmas.{have_first, step_stays}
-use Rattle.boot_laws.proofs.Commands.{Control, IsCommand, IsControl, controller_control, update_has}
-use Rattle.boot_laws.proofs.Delivered.{deliver_has, delivery_has}
-use Rattle.boot_laws.proofs.Facts.{have_weaker}
-use Rattle.boot_laws.proofs.Resent.{each_by_controller, each_to_member, later_versions, resent_has}
-use Rattle.boot_laws.proofs.Sends.{each, each_flat_map, each_map}
-use Rattle.boot_laws.proofs.Sent.{each_by_switch, sends_each}
+use Rattle.version_laws.proofs.Commands.{Control, IsCommand, IsControl, controller_control, update_has}
+use Rattle.version_laws.proofs.Delivered.{deliver_has, delivery_has}
+use Rattle.version_laws.proofs.Facts.{have_weaker}
+use Rattle.version_laws.proofs.Resent.{each_by_controller, each_to_member, later_versions, resent_has}
+use Rattle.version_laws.proofs.Sends.{each, each_flat_map, each_map}
+use Rattle.version_laws.proofs.Sent.{each_by_switch, sends_each}
 use Rattle.way_laws.specs.WayCauses.{WayCause}
 
 -- ---- items

@@ -19,7 +19,7 @@ use Rattle.update_machine.specs.Travels.{packets_at, tells_travelling, travels}
 use Rattle.update_machine.specs.Pieces.{crash_items, hop_items, lose_items, nothing, packet_items}
 use Rattle.update_machine.specs.Setting.{Setting}
 use Rattle.update_machine.proofs.CallerLemmas.{have_append, have_put, last_told_append}
-use Rattle.boot_laws.proofs.Facts.{AreKept, fact_on, have_weaker}
+use Rattle.version_laws.proofs.Facts.{AreKept, fact_on, have_weaker}
 use Rattle.way_laws.specs.Rest.{IsMoving}
 use Rattle.way_laws.specs.Stages.{CameIn, tells_stage}
 use Rattle.way_laws.proofs.OtherBlocks.{AreAside, IsAside, changes_aside}

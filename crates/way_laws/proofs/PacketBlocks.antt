@@ -40,7 +40,7 @@ use Rattle.way_laws.proofs.FirstLinks.{first_usable}
 abbrev pub Ways : Setting → List Item → List Item → Type 0
 Ways setting journal items = HaveCauses (WayCause setting) journal items
 
-own : (i : ℕ) → (i == i) ≡ true
+pub own : (i : ℕ) → (i == i) ≡ true
 own i = eq-eqb i i refl
 
 -- ---- what stays behind one more item
@@ -60,10 +60,10 @@ pub still : (before : List Item) (next : Item) (i s : ℕ) → tells_travelling 
     → tells_standing i next ≡ None → tells_serving s next ≡ None → IsAt before i s
     → IsAt (before ++ next ∷ []) i s
 unfolding travels standing serves
-still before next i s travelling place serving at = record {
+still before next i s travelling stands serving at = record {
   travelling = rw (last_told_append (tells_travelling i) before (next ∷ []), travelling)
       at.travelling;
-  stands = rw (last_told_append (tells_standing i) before (next ∷ []), place) at.stands;
+  stands = rw (last_told_append (tells_standing i) before (next ∷ []), stands) at.stands;
   serving = rw (last_told_append (tells_serving s) before (next ∷ []), serving) at.serving;
 }
 
@@ -98,13 +98,13 @@ leg_ways setting journal i s leg at takes = by_route (route_for setting journal 
 -- ---- ends
 
 -- the packet was just decided at the switch
-pub record IsJudged (journal : List Item) (i s : ℕ) (decision : Decision) : Type 0 where
+pub record IsDecidedHere (journal : List Item) (i s : ℕ) (decision : Decision) : Type 0 where
   pub at : IsAt journal i s
   pub judged : stage_of journal i ≡ Some Judged
   pub decided : decision_of journal i ≡ Some decision
 
 pub end_ways : (setting : Setting) (journal : List Item) (i s : ℕ) (decision : Decision)
-    (act : Action) → IsJudged journal i s decision → decision.action ≡ act
+    (act : Action) → IsDecidedHere journal i s decision → decision.action ≡ act
     → Ways setting journal (end_items setting i s act journal)
 unfolding end_items
 end_ways setting journal i s decision action.Drop here says = (
@@ -146,7 +146,7 @@ end_ways setting journal i s decision (action.Out port) here says =
 
 judged_now : (journal : List Item) (i s version : ℕ) (rule : Option ℕ) (act : Action) (by : How)
     → IsAt journal i s
-    → IsJudged (journal ++ item.Decided i version rule act by ∷ []) i s
+    → IsDecidedHere (journal ++ item.Decided i version rule act by ∷ []) i s
     (record { version = version; rule = rule; action = act })
 unfolding decision_of
 judged_now journal i s version rule act by at =
@@ -158,8 +158,8 @@ judged_now journal i s version rule act by at =
     }
 
 judged_on : (journal : List Item) (i s number : ℕ) (message : Message) (decision : Decision)
-    → IsJudged journal i s decision
-    → IsJudged (journal ++ item.Sent number message ∷ []) i s decision
+    → IsDecidedHere journal i s decision
+    → IsDecidedHere (journal ++ item.Sent number message ∷ []) i s decision
 unfolding decision_of
 judged_on journal i s number message decision here =
     let sent : Item = item.Sent number message in
@@ -200,12 +200,12 @@ finds_on setting journal i s version found rule act by finds =
       place = finds.place;
       rule = rw (same_plan, authority_rule) finds.rule;
       says = elim finds.says [
-        | inl told ↦ inl (record {
-          told = rw (
+        | inl here ↦ inl (record {
+          answer = rw (
             same_header,
             lookup_stays setting s (header_at journal i) journal (decided ∷ []) (refl, tt),
-          ) told.told;
-          stamp = told.stamp ∙ sym same_stamp;
+          ) here.answer;
+          stamp = here.stamp ∙ sym same_stamp;
         })
         | inr sought ↦ inr (record {
           seeks = leg_more journal i version rule act by ∙ sought.seeks;
@@ -220,7 +220,7 @@ cache_ways : (setting : Setting) (journal : List Item) (i s : ℕ) (found : Auth
       rule = found.rule.rule;
       action = found.rule.action;
     } in
-    IsJudged journal i s decision → AuthorityFinds setting journal i s found.version found
+    IsDecidedHere journal i s decision → AuthorityFinds setting journal i s found.version found
     → Ways setting journal
     (in_turn (cache_items setting i s found ∷ end_items setting i s found.rule.action ∷ []) journal)
 unfolding cache_items sent_from
@@ -236,7 +236,7 @@ cache_ways setting journal i s found here finds = by_apart (is_at s (ingress_of 
     message : Message
     message = cache_rule found (unwrap_or (ingress_of journal i) 0) (header_at journal i)
 
-    ends : (after : List Item) → IsJudged after i s decision
+    ends : (after : List Item) → IsDecidedHere after i s decision
         → Ways setting after (in_turn (end_items setting i s found.rule.action ∷ []) after)
     ends after judged =
         have_append (WayCause setting) after (end_items setting i s found.rule.action after) []
@@ -339,7 +339,7 @@ cached_ways : (setting : Setting) (journal : List Item) (i s : ℕ) (entry : Cac
     → IsAt journal i s → IsLookedUp journal i s
     → lookup_at setting journal s (header_at journal i) ≡ found.Cached entry
     → Ways setting journal (found_items setting i s (found.Cached entry) journal)
-cached_ways setting journal i s entry at looked told =
+cached_ways setting journal i s entry at looked answer =
     have_first (WayCause setting)
     (item.Decided i entry.version entry.rule entry.action (how.Cached entry.message))
     (end_items setting i s entry.action) journal
@@ -349,7 +349,7 @@ cached_ways setting journal i s entry at looked told =
       by = record {
         looked_up = looked;
         entry = entry;
-        told = told;
+        answer = answer;
         of_version = refl;
         by_rule = refl;
         says = refl;
@@ -365,9 +365,9 @@ found_ways : (setting : Setting) (journal : List Item) (i s : ℕ) (what : Found
     → IsAt journal i s → IsLookedUp journal i s
     → lookup_at setting journal s (header_at journal i) ≡ what
     → Ways setting journal (found_items setting i s what journal)
-found_ways setting journal i s (found.Cached entry) at looked told =
-    cached_ways setting journal i s entry at looked told
-found_ways setting journal i s (found.Authority partition place) at looked told =
+found_ways setting journal i s (found.Cached entry) at looked answer =
+    cached_ways setting journal i s entry at looked answer
+found_ways setting journal i s (found.Authority partition place) at looked answer =
     authority_ways setting journal i s (stamp_of journal s)
     (authority_rule setting journal (stamp_of journal s) partition place) at (inl looked)
     (λ rule is. (
@@ -376,12 +376,12 @@ found_ways setting journal i s (found.Authority partition place) at looked told 
         partition = partition;
         place = place;
         rule = is;
-        says = inl (record { told = told; stamp = refl });
+        says = inl (record { answer = answer; stamp = refl });
       },
     ))
-found_ways setting journal i s (found.Redirect partition targets) at looked told =
+found_ways setting journal i s (found.Redirect partition targets) at looked answer =
     leg_ways setting journal i s (Seek (stamp_of journal s) partition) at
-    (record { looked_up = looked; targets = targets; told = told; stamp = refl })
+    (record { looked_up = looked; targets = targets; answer = answer; stamp = refl })
 
 pub lookup_ways : (setting : Setting) (journal : List Item) (i s : ℕ) → IsAt journal i s
     → IsLookedUp journal i s → Ways setting journal (lookup_items setting i s journal)

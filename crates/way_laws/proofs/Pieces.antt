@@ -19,8 +19,8 @@ use Rattle.update_machine.specs.Setting.{Setting}
 use Rattle.update_machine.specs.Causes.{present_step, tells_step}
 use Rattle.update_machine.specs.Travels.{is_at, packets_at, travels, travels_at}
 use Rattle.update_machine.proofs.CallerLemmas.{have_first, have_put, last_told_append, packet_keeps, packets_keep, step_stays}
-use Rattle.boot_laws.proofs.Commands.{confirm_control}
-use Rattle.boot_laws.proofs.Grown.{serving_more, up_more}
+use Rattle.version_laws.proofs.Commands.{confirm_control}
+use Rattle.version_laws.proofs.Grown.{serving_more, up_more}
 use Rattle.way_laws.specs.Rest.{AreResting, IsServed}
 use Rattle.way_laws.specs.WayCauses.{WayCause, ends_with_row, fallen, tells_fall, tells_row}
 use Rattle.way_laws.proofs.OtherBlocks.{aside_ways, changes_aside, control_aside, deliver_aside, expire_aside, forget_aside, link_aside, resend_aside, restart_aside, update_aside}
@@ -39,9 +39,9 @@ record WentDown (journal : List Item) (s : ℕ) : Type 0 where
   fell : fallen journal ≡ Some s
   down : IsFalse (is_up journal s)
 
-at_place : (s : ℕ) (place : Option ℕ) → is_at s place ≡ true → place ≡ Some s
-at_place s None is = absurd cc
-at_place s (Some place) is = ap Some (eqb-true place s is)
+at_switch : (s : ℕ) (at : Option ℕ) → is_at s at ≡ true → at ≡ Some s
+at_switch s None is = absurd cc
+at_switch s (Some at) is = ap Some (eqb-true at s is)
 
 fallen_more : (journal : List Item) (next : Item)
     → fallen (journal ++ next ∷ [])
@@ -92,7 +92,7 @@ losts_ways setting before s k (suc n) journal went same =
               crashes = went.crashes;
               fell = went.fell;
               down = went.down;
-              stands = (same k (omega arith)).1 ∙ at_place s (standing before k) both.1;
+              stands = (same k (omega arith)).1 ∙ at_switch s (standing before k) both.1;
             });
           },
           later (journal ++ item.Lost k ∷ []) (lost_on journal s k went)

@@ -6,8 +6,8 @@ use Rattle.update_machine.specs.Causes.{HaveCauses}
 use Rattle.update_machine.specs.Travels.{travels}
 use Rattle.update_machine.specs.Setting.{Setting, IsSetting}
 use Rattle.update_machine.proofs.CallerLemmas.{answers_so_far}
-use Rattle.boot_laws.specs.Always.{HoldsReached}
-use Rattle.boot_laws.proofs.Reached.{IsCarried, OfSettings, reached_by, reached_carries, setting_carries, so_far_carries}
+use Rattle.version_laws.specs.Always.{HoldsReached}
+use Rattle.version_laws.proofs.Reached.{IsCarried, OfSettings, reached_by, reached_carries, setting_carries, so_far_carries}
 use Rattle.way_laws.specs.Between.{HoldsBetween}
 use Rattle.way_laws.proofs.Rests.{IsSettled, IsWayItem, piece_settled}
 

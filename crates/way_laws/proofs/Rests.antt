@@ -20,22 +20,22 @@ use Rattle.update_machine.specs.Setting.{Setting, IsSetting}
 use Rattle.update_machine.specs.Versions.{stamp_of}
 use Rattle.update_machine.specs.Travels.{travels}
 use Rattle.update_machine.proofs.CallerLemmas.{have_append, last_told_append, packet_keeps}
-use Rattle.boot_laws.specs.ItemCauses.{HasItemCause}
-use Rattle.boot_laws.proofs.Commands.{confirm_control}
-use Rattle.boot_laws.proofs.Facts.{Both, fact_on, have_both, have_weaker}
-use Rattle.boot_laws.proofs.Grown.{serving_more}
-use Rattle.boot_laws.proofs.Pieces.{pieces_have}
-use Rattle.boot_laws.proofs.Reached.{NamesOwn, behind_piece}
-use Rattle.boot_laws.proofs.Serving.{caused_known, serving_known}
+use Rattle.version_laws.specs.ItemCauses.{HasItemCause}
+use Rattle.version_laws.proofs.Commands.{confirm_control}
+use Rattle.version_laws.proofs.Facts.{Both, fact_on, have_both, have_weaker}
+use Rattle.version_laws.proofs.Grown.{serving_more}
+use Rattle.version_laws.proofs.Pieces.{pieces_have}
+use Rattle.version_laws.proofs.Reached.{NamesOwn, behind_piece}
+use Rattle.version_laws.proofs.Openings.{caused_known, serving_known}
 use Rattle.advert_laws.proofs.LinkCauses.{HasLinkCause}
 use Rattle.advert_laws.proofs.Stepping.{pieces_caused}
-use Rattle.boot_laws.proofs.Traffic.{IsTraffic, Traffic, hop_traffic, lose_traffic, packet_has}
+use Rattle.version_laws.proofs.Traffic.{IsTraffic, Traffic, hop_traffic, lose_traffic, packet_has}
 use Rattle.way_laws.specs.Rest.{AreResting, AreServed, IsMoving}
 use Rattle.way_laws.specs.Stages.{stage_of}
 use Rattle.way_laws.specs.WayCauses.{WayCause}
 use Rattle.way_laws.proofs.CrashServed.{crash_served}
 use Rattle.way_laws.proofs.Done.{hop_done, packet_done}
-use Rattle.way_laws.proofs.Lookups.{FindsRule, authority_told, rule_there, stamped}
+use Rattle.way_laws.proofs.Lookups.{FindsRule, authority_found, rule_there, stamped}
 use Rattle.way_laws.proofs.OtherBlocks.{AreAside, IsAside, control_aside, deliver_aside, expire_aside, forget_aside, link_aside, resend_aside, restart_aside, update_aside}
 use Rattle.way_laws.proofs.Others.{IsInStep, IsNoRow, Spares, SparesAll, aside_spares, crash_spares, hop_spares, in_step, lose_spares, packet_spares, spare, spared}
 use Rattle.way_laws.proofs.Pieces.{piece_ways, row_rests, step_now}
@@ -263,16 +263,16 @@ rules_there : (setting : Setting) (journal : List Item) (i s : ℕ) (header : He
     → let entered = journal ++ item.Entered i s header ∷ [] in
     lookup_at setting entered s (header_at entered i) ≡ found.Authority partition place
     → authority_rule setting entered (stamp_of entered s) partition place ≡ None → ⊥
-rules_there setting journal i s header is have there sound serving partition place told none =
+rules_there setting journal i s header is have there sound serving partition place answer none =
     let next : Item = item.Entered i s header in
     let entered : List Item = journal ++ next ∷ [] in
     let own_header : header_at entered i ≡ header = rw (header_now journal i s header) refl in
     let finds : FindsRule setting entered s header partition place =
-    authority_told setting entered s header partition place
+    authority_found setting entered s header partition place
     (stamped setting entered s is
     (have_append (HasItemCause setting) [] journal (next ∷ []) have (tt, tt)) there
     (rw (serving_more journal next s) serving)) sound
-    (ap (lookup_at setting entered s) (sym own_header) ∙ told) in
+    (ap (lookup_at setting entered s) (sym own_header) ∙ answer) in
     let rule = rule_there setting entered header finds.part.placed (stamp_of entered s) partition
     finds.part.finds finds.part.number in
     let clash : Some _ ≡ None =

@@ -25,15 +25,15 @@ use Rattle.update_machine.specs.Laws.{PoliciesKeep}
 use Rattle.update_machine.specs.Versions.{is_submission, is_version, policy_at, version_count, file_of}
 use Rattle.update_machine.specs.Travels.{travels}
 use Rattle.update_machine.proofs.CallerLemmas.{file_append, have_append, of_its_file, policies_keep, policy_kept, start_laws}
-use Rattle.boot_laws.specs.ItemCauses.{HasItemCause, RetiresRightly, SubmitsRightly}
-use Rattle.boot_laws.proofs.Facts.{Behind}
-use Rattle.boot_laws.proofs.Grown.{count_more, retired_more}
-use Rattle.boot_laws.proofs.Versions.{caused_numbered}
-use Rattle.mark_laws.proofs.Marks.{bounded}
+use Rattle.version_laws.specs.ItemCauses.{HasItemCause, RetiresRightly, SubmitsRightly}
+use Rattle.version_laws.proofs.Facts.{Behind}
+use Rattle.version_laws.proofs.Grown.{count_more, retired_more}
+use Rattle.version_laws.proofs.Versions.{caused_numbered}
+use Rattle.version_laws.proofs.Marks.{bounded}
 use Rattle.way_laws.specs.OnWay.{IsUnknown}
 use Rattle.way_laws.specs.Facts.{PacketFacts, is_of_packet, facts_after, what_is_known}
-use Rattle.way_laws.proofs.Words.{other_number, own_number, words_named, words_other}
-use Rattle.way_laws.proofs.Words.{words_grow}
+use Rattle.way_laws.proofs.PacketFacts.{other_number, own_number, facts_named, facts_other}
+use Rattle.way_laws.proofs.PacketFacts.{facts_grow}
 use Rattle.way_laws.specs.Kept.{AllKept}
 use Rattle.way_laws.specs.Stages.{stage_of}
 use Rattle.way_laws.specs.WayCauses.{IsDecided, WayCause}
@@ -43,7 +43,7 @@ use Rattle.way_laws.proofs.Ends.{leaves_rightly}
 use Rattle.way_laws.proofs.Kept.{IsDecidedNow, Knows, decided_now, stage_when, undecided_of}
 use Rattle.way_laws.proofs.Rests.{IsWayItem, Past, switches_of_all}
 
--- ---- what the machine knows of a packet, by its words
+-- ---- what the machine knows of a packet, by its facts
 
 abbrev hit_in : Decision → Hit
 hit_in decision = record { rule = decision.rule; action = decision.action }
@@ -77,7 +77,7 @@ not_known None facts seen e = refl
 not_known (Some packet) facts seen e =
     let there : facts.header ≡ Some packet.header = seen.header in absurd cc
 
--- words that the machine doesn't tell apart
+-- facts that are the same to the machine
 seen_same : (o : Option Packet) (one other : PacketFacts) → other.header ≡ one.header
     → other.mark ≡ one.mark → other.decision ≡ one.decision → other.travels ≡ one.travels →
     SeenAs o one → SeenAs o other
@@ -103,28 +103,28 @@ IsUnseen (item.Lost packet) = ⊥
 IsUnseen (item.Stuck packet switch cause leg down) = ⊥
 IsUnseen _ = ⊤
 
-unseen_words : (mark : ℕ) (item : Item) (facts : PacketFacts) (o : Option Packet) → IsUnseen item
+unseen_facts : (mark : ℕ) (item : Item) (facts : PacketFacts) (o : Option Packet) → IsUnseen item
     → SeenAs o facts → SeenAs o (facts_after mark item facts)
-unseen_words mark (item.Submitted file version) facts o is seen = absurd is
-unseen_words mark (item.Retired version) facts o is seen = absurd is
-unseen_words mark (item.Entered packet switch header) facts o is seen = absurd is
-unseen_words mark (item.Decided packet version rule act by) facts o is seen = absurd is
-unseen_words mark (item.Dropped packet) facts o is seen = absurd is
-unseen_words mark (item.Left packet port leaving) facts o is seen = absurd is
-unseen_words mark (item.Lost packet) facts o is seen = absurd is
-unseen_words mark (item.Stuck packet switch cause leg down) facts o is seen = absurd is
-unseen_words mark (item.Seeking packet version partition route) facts o is seen =
+unseen_facts mark (item.Submitted file version) facts o is seen = absurd is
+unseen_facts mark (item.Retired version) facts o is seen = absurd is
+unseen_facts mark (item.Entered packet switch header) facts o is seen = absurd is
+unseen_facts mark (item.Decided packet version rule act by) facts o is seen = absurd is
+unseen_facts mark (item.Dropped packet) facts o is seen = absurd is
+unseen_facts mark (item.Left packet port leaving) facts o is seen = absurd is
+unseen_facts mark (item.Lost packet) facts o is seen = absurd is
+unseen_facts mark (item.Stuck packet switch cause leg down) facts o is seen = absurd is
+unseen_facts mark (item.Seeking packet version partition route) facts o is seen =
     seen_same o facts (facts_after mark (item.Seeking packet version partition route) facts) refl refl
     refl refl seen
-unseen_words mark (item.Exiting packet route) facts o is seen =
+unseen_facts mark (item.Exiting packet route) facts o is seen =
     seen_same o facts (facts_after mark (item.Exiting packet route) facts) refl refl refl refl seen
-unseen_words mark (item.Rerouted packet route) facts o is seen =
+unseen_facts mark (item.Rerouted packet route) facts o is seen =
     seen_same o facts (facts_after mark (item.Rerouted packet route) facts) refl refl refl refl seen
-unseen_words mark (item.Hopped packet switch) facts o is seen =
+unseen_facts mark (item.Hopped packet switch) facts o is seen =
     seen_same o facts (facts_after mark (item.Hopped packet switch) facts) refl refl refl refl seen
-unseen_words mark (item.FoundDown packet one two) facts o is seen =
+unseen_facts mark (item.FoundDown packet one two) facts o is seen =
     seen_same o facts (facts_after mark (item.FoundDown packet one two) facts) refl refl refl refl seen
-unseen_words mark _ facts o is seen = seen
+unseen_facts mark _ facts o is seen = seen
 
 no_submission : (next : Item) → IsUnseen next → is_submission next ≡ false
 no_submission (item.Submitted file version) is = absurd is
@@ -143,7 +143,7 @@ unseen_matches setting machine journal next is matches = record {
       matches.policies v above (subst (λ n. v ≤ n) keep.count below)
       ∙ ap Some (sym (keep.policy setting v));
   mark = matches.mark ∙ sym (rw (retired_more journal next, no_retirement next is) refl);
-  packets = λ i. subst (SeenAs (machine.packets i)) (sym (words_grow i journal next))
+  packets = λ i. subst (SeenAs (machine.packets i)) (sym (facts_grow i journal next))
       (by_name i (is_of_packet i next));
 }
   where
@@ -153,7 +153,7 @@ unseen_matches setting machine journal next is matches = record {
     by_name : (i : ℕ) (b : Bool)
         → SeenAs (machine.packets i)
         (if b then facts_after (retired_mark journal) next (what_is_known journal i) else what_is_known journal i)
-    by_name i true = unseen_words (retired_mark journal) next (what_is_known journal i)
+    by_name i true = unseen_facts (retired_mark journal) next (what_is_known journal i)
         (machine.packets i) is (matches.packets i)
     by_name i false = matches.packets i
 
@@ -192,7 +192,7 @@ changed_matches setting machine journal next i packet matches keeps others seen 
     | inr apart ↦
         subst (λ b. SeenAs (if b then Some packet else machine.packets j)
         (what_is_known (journal ++ next ∷ []) j)) (sym (ne_eqb j i apart))
-        (subst (SeenAs (machine.packets j)) (sym (words_other j journal next (others j apart)))
+        (subst (SeenAs (machine.packets j)) (sym (facts_other j journal next (others j apart)))
         (matches.packets j))
   ];
 }
@@ -267,7 +267,7 @@ goes_in setting machine journal i s header before matches number =
     let none : IsUnknown (what_is_known journal i) = before.kept.unknown i (omega (arith, number)) in
     let after : what_is_known (journal ++ entered ∷ []) i
     ≡ facts_after (retired_mark journal) entered (what_is_known journal i) =
-    words_named i journal entered (own_number i) in
+    facts_named i journal entered (own_number i) in
     record {
       new = with_packet machine i packet;
       takes = record {
@@ -315,7 +315,7 @@ goes_decided setting machine journal i version rule act by before matches way =
     ap (scan policy) (sym same) ∙ now.rightly.first_match in
     let after : what_is_known (journal ++ decided ∷ []) i
     ≡ facts_after (retired_mark journal) decided facts =
-    words_named i journal decided (own_number i) in
+    facts_named i journal decided (own_number i) in
     let new : Packet = record at.0 { decision = Some (record { rule = rule; action = act }) } in
     record {
       new = with_packet machine i new;
@@ -349,13 +349,13 @@ snoc_new : (xs : List (List Row)) (x : List Row) → slice_get (xs ++ x ∷ []) 
 snoc_new [] x = refl
 snoc_new (y ∷ xs) x = snoc_new xs x
 
--- words of packets don't change with what names none
+-- facts of packets don't change with what names none
 packets_same : (machine : Machine) (journal : List Item) (next : Item)
     → ((i : ℕ) → is_of_packet i next ≡ false)
     → ((i : ℕ) → SeenAs (machine.packets i) (what_is_known journal i))
     → (i : ℕ) → SeenAs (machine.packets i) (what_is_known (journal ++ next ∷ []) i)
 packets_same machine journal next none seen i =
-    subst (SeenAs (machine.packets i)) (sym (words_other i journal next (none i))) (seen i)
+    subst (SeenAs (machine.packets i)) (sym (facts_other i journal next (none i))) (seen i)
 
 goes_retired : (setting : Setting) (machine : Machine) (journal : List Item) (version : ℕ)
     → HaveCauses (HasItemCause setting) [] journal → Matches setting machine journal
@@ -511,7 +511,7 @@ goes setting machine journal (item.Left i port leaving) before cause matches =
     goes_end setting machine journal next i (LeftBy port) before matches
     cause.way.at.travelling
     (left_action setting journal i port leaving before cause.way)
-    (words_named i journal next (own_number i)) (λ j apart. other_number i j apart)
+    (facts_named i journal next (own_number i)) (λ j apart. other_number i j apart)
     (keeps_marks setting journal next refl refl) (λ new ends. ends)
 goes setting machine journal (item.Dropped i) before cause matches =
     let next : Item = item.Dropped i in
@@ -519,19 +519,19 @@ goes setting machine journal (item.Dropped i) before cause matches =
     (λ packet seen. action_of packet (what_is_known journal i) cause.way.decision seen
     (decision_in journal i (Some cause.way.decision) cause.way.decided)
     ∙ ap Some cause.way.action)
-    (words_named i journal next (own_number i)) (λ j apart. other_number i j apart)
+    (facts_named i journal next (own_number i)) (λ j apart. other_number i j apart)
     (keeps_marks setting journal next refl refl) (λ new ends. ends)
 goes setting machine journal (item.Lost i) before cause matches =
     let next : Item = item.Lost i in
     goes_end setting machine journal next i Lost before matches cause.way.travelling
     (λ packet seen. tt)
-    (words_named i journal next (own_number i)) (λ j apart. other_number i j apart)
+    (facts_named i journal next (own_number i)) (λ j apart. other_number i j apart)
     (keeps_marks setting journal next refl refl) (λ new ends. ends)
 goes setting machine journal (item.Stuck i switch why leg down) before cause matches =
     let next : Item = item.Stuck i switch why leg down in
     goes_end setting machine journal next i Stuck before matches cause.way.at.travelling
     (λ packet seen. tt)
-    (words_named i journal next (own_number i)) (λ j apart. other_number i j apart)
+    (facts_named i journal next (own_number i)) (λ j apart. other_number i j apart)
     (keeps_marks setting journal next refl refl) (λ new ends. ends)
 goes setting machine journal next before cause matches =
     record { new = machine; takes = refl; matches = unseen_matches setting machine journal next tt matches }

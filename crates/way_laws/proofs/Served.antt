@@ -17,27 +17,27 @@ use Rattle.update_machine.specs.Packets.{is_packet, next_packet, standing, tells
 use Rattle.update_machine.specs.Setting.{Setting}
 use Rattle.update_machine.specs.Travels.{changes_leg, exit_port, leg_of, tells_travelling, travels}
 use Rattle.update_machine.proofs.CallerLemmas.{count_of_append, folded_append, last_told_append}
-use Rattle.boot_laws.specs.BootLaws.{ServingIsKnown}
-use Rattle.boot_laws.specs.ItemCauses.{HasItemCause}
-use Rattle.boot_laws.proofs.Facts.{AreKept}
-use Rattle.boot_laws.proofs.Grown.{last_more, serving_more}
+use Rattle.version_laws.specs.BootLaws.{ServingIsKnown}
+use Rattle.version_laws.specs.ItemCauses.{HasItemCause}
+use Rattle.version_laws.proofs.Facts.{AreKept}
+use Rattle.version_laws.proofs.Grown.{last_more, serving_more}
 use Rattle.advert_laws.proofs.NetLinks.{ends_serve}
 use Rattle.way_laws.specs.Rest.{AreServed, IsServed}
 use Rattle.way_laws.specs.Stages.{OnWay, stage_of, tells_stage}
 use Rattle.way_laws.specs.WayCauses.{WayCause}
 use Rattle.way_laws.proofs.Others.{ends_or_not}
 
--- ---- what one more item makes of words
+-- ---- what one more item makes of facts
 
 pub travels_more : (before : List Item) (next : Item) (i : ℕ)
     → travels (before ++ next ∷ []) i ≡ unwrap_or (tells_travelling i next) (travels before i)
 unfolding travels
 travels_more before next i = last_more (tells_travelling i) before next false
 
-pub place_more : (before : List Item) (next : Item) (i : ℕ)
+pub standing_more : (before : List Item) (next : Item) (i : ℕ)
     → standing (before ++ next ∷ []) i ≡ option_or (tells_standing i next) (standing before i)
 unfolding standing
-place_more before next i = last_told_append (tells_standing i) before (next ∷ [])
+standing_more before next i = last_told_append (tells_standing i) before (next ∷ [])
 
 pub packet_more : (before : List Item) (next : Item)
     → next_packet (before ++ next ∷ []) ≡ next_packet before + count_of is_packet (next ∷ [])
@@ -56,22 +56,22 @@ abbrev pub NotDown : Item → Type 0
 NotDown (item.Down s) = ⊥
 NotDown _ = ⊤
 
--- an item that brings no packet to another place, behind which the place serves as before
+-- an item that brings no packet to another switch, behind which its own serves as before
 pub stays_served : (before : List Item) (next : Item) (i : ℕ) → tells_standing i next ≡ None
     → (tells_travelling i next ≡ None) ⊎ (tells_travelling i next ≡ Some false)
     → ((s : ℕ) → IsTrue (serves before s) → IsTrue (serves (before ++ next ∷ []) s))
     → (IsTrue (travels before i) → IsServed before i)
     → IsTrue (travels (before ++ next ∷ []) i) → IsServed (before ++ next ∷ []) i
-stays_served before next i place (inr ends) on served travelling =
+stays_served before next i stays (inr ends) on served travelling =
     let clash : true ≡ false =
     sym travelling ∙ travels_more before next i ∙ ap (λ o. unwrap_or o (travels before i)) ends in
     absurd cc
-stays_served before next i place (inl same) on served travelling =
+stays_served before next i stays (inl same) on served travelling =
     let here : IsServed before i =
     served (rw (travels_more before next i, same) at travelling) in
     record {
       switch = here.switch;
-      stands = place_more before next i ∙ rw place here.stands;
+      stands = standing_more before next i ∙ rw stays here.stands;
       serving = on here.switch here.serving;
     }
 
@@ -95,7 +95,7 @@ comes_served before packet s i header served serving travelling = by_same (packe
     by_same : (b : Bool) → (packet == i) ≡ b → IsServed (before ++ next ∷ []) i
     by_same true e = record {
       switch = s;
-      stands = rw (place_more before next i, e) refl;
+      stands = rw (standing_more before next i, e) refl;
       serving = still_serves before next s refl serving;
     }
     by_same false e =
@@ -103,7 +103,7 @@ comes_served before packet s i header served serving travelling = by_same (packe
         served i (rw (travels_more before next i, e) at travelling) in
         record {
           switch = here.switch;
-          stands = rw (place_more before next i, e) here.stands;
+          stands = rw (standing_more before next i, e) here.stands;
           serving = still_serves before next here.switch refl here.serving;
         }
 
@@ -121,12 +121,12 @@ hops_served before packet s i served serving travelling = by_same (packet == i) 
     by_same : (b : Bool) → (packet == i) ≡ b → IsServed (before ++ next ∷ []) i
     by_same true e = record {
       switch = s;
-      stands = rw (place_more before next i, e) refl;
+      stands = rw (standing_more before next i, e) refl;
       serving = still_serves before next s refl serving;
     }
     by_same false e = record {
       switch = here.switch;
-      stands = rw (place_more before next i, e) here.stands;
+      stands = rw (standing_more before next i, e) here.stands;
       serving = still_serves before next here.switch refl here.serving;
     }
 

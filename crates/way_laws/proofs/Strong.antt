@@ -14,8 +14,8 @@ use Rattle.update_machine.specs.Ways.{found_down, targets_of}
 use Rattle.update_machine.specs.Setting.{Setting, IsSetting}
 use Rattle.update_machine.specs.Versions.{holds_version, stamp_of}
 use Rattle.update_machine.specs.Travels.{leg_of}
-use Rattle.boot_laws.specs.ItemCauses.{HasItemCause}
-use Rattle.boot_laws.proofs.Facts.{Behind, have_weaker}
+use Rattle.version_laws.specs.ItemCauses.{HasItemCause}
+use Rattle.version_laws.proofs.Facts.{Behind, have_weaker}
 use Rattle.version_laws.proofs.Serving.{serving_hold}
 use Rattle.way_laws.specs.OnWay.{IsSeeking}
 use Rattle.way_laws.specs.Facts.{PacketFacts, what_is_known}

@@ -9,3 +9,9 @@ pub mod Kept
 pub mod Travelling
 pub mod StrongCauses
 pub mod Arriving
+pub mod Hops
+pub mod Drains
+pub mod Routes
+pub mod Stops
+pub mod Entries
+pub mod Whole

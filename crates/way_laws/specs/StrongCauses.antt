@@ -21,7 +21,7 @@ use Rattle.update_machine.specs.Setting.{Setting}
 use Rattle.update_machine.specs.Travels.{leg_of}
 use Rattle.update_machine.specs.Ways.{found_down, targets_of}
 use Rattle.update_machine.specs.ExactCauses.{FindsNextDown, FindsNoPath}
-use Rattle.boot_laws.specs.ItemCauses.{RetiresRightly, SubmitsRightly}
+use Rattle.version_laws.specs.ItemCauses.{RetiresRightly, SubmitsRightly}
 use Rattle.way_laws.specs.Facts.{entry_mark}
 use Rattle.way_laws.specs.Kept.{Avoids}
 use Rattle.way_laws.specs.WayCauses.{IsDecided, IsDroppedHere, IsLostHere, IsOfRow, MovesOver}

@@ -81,7 +81,7 @@ pub record IsRedirected (setting : Setting) (before : List Item)
     (packet switch version partition : ℕ) : Type 0 where
   pub looked_up : IsLookedUp before packet switch
   pub targets : List ℕ
-  pub told : lookup_at setting before switch (header_at before packet)
+  pub answer : lookup_at setting before switch (header_at before packet)
       ≡ found.Redirect partition targets
   pub stamp : version ≡ stamp_of before switch
 
@@ -153,9 +153,9 @@ pub record MeetsDown (setting : Setting) (before : List Item) (packet one two : 
 -- ---- decisions
 
 -- the switch's lookup gives the place of a rule of its own
-pub record IsToldHere (setting : Setting) (before : List Item)
+pub record AnswersHere (setting : Setting) (before : List Item)
     (packet switch version partition place : ℕ) : Type 0 where
-  pub told : lookup_at setting before switch (header_at before packet)
+  pub answer : lookup_at setting before switch (header_at before packet)
       ≡ found.Authority partition place
   pub stamp : version ≡ stamp_of before switch
 
@@ -171,7 +171,7 @@ pub record AuthorityFinds (setting : Setting) (before : List Item) (packet switc
   pub partition : ℕ
   pub place : ℕ
   pub rule : authority_rule setting before version partition place ≡ Some found
-  pub says : IsToldHere setting before packet switch version partition place
+  pub says : AnswersHere setting before packet switch version partition place
       ⊎ IsSoughtHere setting before packet version partition place
 
 -- a cached rule decides it
@@ -179,7 +179,7 @@ pub record CacheDecides (setting : Setting) (before : List Item) (packet switch 
     (rule : Option ℕ) (action : Action) (message : ℕ) : Type 0 where
   pub looked_up : IsLookedUp before packet switch
   pub entry : CacheEntry
-  pub told : lookup_at setting before switch (header_at before packet) ≡ found.Cached entry
+  pub answer : lookup_at setting before switch (header_at before packet) ≡ found.Cached entry
   pub of_version : version ≡ entry.version
   pub by_rule : rule ≡ entry.rule
   pub says : action ≡ entry.action

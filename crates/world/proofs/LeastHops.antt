@@ -10,9 +10,9 @@ use Rattle.update_machine.specs.Travels.{next_travelling, travels}
 use Rattle.way_laws.specs.Facts.{what_is_known}
 use Rattle.world.specs.State.{IsTied, WorldValue, setting_at}
 use Rattle.world_ties.specs.Tied.{AreTied}
-use Rattle.log_ties.specs.Travellers.{traveller_in, traveller_of}
+use Rattle.world_ties.specs.Travellers.{traveller_in, traveller_of}
 use Rattle.travelling.specs.Travelling.{IsNextFrom, Travellers, traveller}
-use Rattle.log_ties.proofs.Known.{reached_known}
+use Rattle.world_ties.proofs.Known.{reached_known}
 
 -- the least number from here on that satisfies the test
 abbrev IsLeast : (ℕ → Bool) → ℕ → Option ℕ → Type 0

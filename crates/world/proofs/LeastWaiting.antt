@@ -15,7 +15,7 @@ use Rattle.update_machine.specs.Messages.{is_deliverable, is_forgotten, is_sendi
 use Rattle.update_machine.specs.Links.{message_of}
 use Rattle.world.specs.State.{IsTied, WorldValue}
 use Rattle.world_ties.specs.Tied.{AreTied}
-use Rattle.log_ties.specs.Bags.{IsBagOf, post_in}
+use Rattle.world_ties.specs.Bags.{IsBagOf, post_in}
 
 find_same : (one other : ℕ → Bool) → ((n : ℕ) → one n ≡ other n) → (numbers : List ℕ)
     → find one numbers ≡ find other numbers

@@ -17,7 +17,7 @@ use Rattle.world_log.specs.Writing.{entered_items, entered_posts, entered_travel
 use Rattle.world.specs.declared.parts.Parts.{Parts}
 use Rattle.travelling.specs.declared.travelling.Traveller.{Traveller}
 use Rattle.world_ties.proofs.Asking.{can_ask, within_here, number_of_packet}
-use Rattle.log_ties.proofs.CanAsk.{CanAsk}
+use Rattle.world_ties.proofs.CanAsk.{CanAsk}
 use Rattle.world_ties.proofs.HopTie.{hop_piece_of, hop_tied}
 use Rattle.world_ties.proofs.Incoming.{come_piece, come_tied}
 use Rattle.world_ties.proofs.Switches.{switch_is, switch_there}

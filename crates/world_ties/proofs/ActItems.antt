@@ -5,7 +5,7 @@ use Rattle.std.proofs.lemmas.List.Sums.{sum_by-cons}
 use Rattle.bag.specs.Posts.{posted}
 use Rattle.controller.specs.declared.sends.Act.{Act}
 use Rattle.controller.specs.declared.sends.Act.TheVariants as act
-use Rattle.control_ties.specs.Written.{written}
+use Rattle.world_ties.specs.Written.{written}
 use Rattle.ctrl_msg.specs.declared.message.Message.{Message}
 use Rattle.journal.specs.declared.item.Item.{Item}
 use Rattle.journal.specs.declared.item.Item.TheVariants as item
@@ -14,8 +14,8 @@ use Rattle.update_machine.specs.Folds.{count_of}
 use Rattle.update_machine.specs.Messages.{is_sending, next_message}
 use Rattle.update_machine.proofs.CallerLemmas.{messages_keep}
 use Rattle.world_log.specs.Sending.{act_items, act_posts, act_item, number_after}
-use Rattle.log_ties.proofs.Others.{NoneName}
-use Rattle.log_ties.proofs.Posting.{SendFrom, posts_in, sending_one}
+use Rattle.world_ties.proofs.Others.{NoneName}
+use Rattle.world_ties.proofs.Posting.{SendFrom, posts_in, sending_one}
 use Rattle.update_machine.specs.Packets.{is_packet}
 
 -- what marks and messages concern not

@@ -9,11 +9,11 @@ use Rattle.switch_core.specs.State.{SwitchValue}
 use Rattle.tunnel.specs.Moves.{here}
 use Rattle.update_machine.specs.LinkMasks.{near}
 use Rattle.update_machine.specs.Setting.{Setting}
-use Rattle.log_ties.proofs.CanAsk.{CanAsk, can_be_asked, looks_up_as, sees_as, stands_at}
-use Rattle.log_ties.proofs.Known.{Known, reached_known}
-use Rattle.log_ties.proofs.OnWay.{IsStanding, standing_by}
-use Rattle.log_ties.proofs.Seeing.{Sees}
-use Rattle.log_ties.proofs.Words.{traveller_now}
+use Rattle.world_ties.proofs.CanAsk.{CanAsk, can_be_asked, looks_up_as, sees_as, stands_at}
+use Rattle.world_ties.proofs.Known.{Known, reached_known}
+use Rattle.world_ties.proofs.OnWay.{IsStanding, standing_by}
+use Rattle.world_ties.proofs.Seeing.{Sees}
+use Rattle.world_ties.proofs.FactsAlong.{traveller_now}
 use Rattle.travelling.specs.Travelling.{Travellers, traveller}
 use Rattle.travelling.specs.declared.travelling.Traveller.{Traveller}
 use Rattle.world_ties.specs.Tied.{AreTied, Control}

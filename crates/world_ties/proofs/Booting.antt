@@ -6,8 +6,8 @@ use Rattle.std.specs.Option.{option_or}
 use Rattle.update_machine.specs.Folds.{last_told}
 use Rattle.std.proofs.lemmas.List.{length-set}
 use Rattle.bag.specs.Posts.{posted}
-use Rattle.boot_laws.proofs.Serving.{caused_known, serving_known}
-use Rattle.control_ties.proofs.CallerLemmas.{steps_leave}
+use Rattle.version_laws.proofs.Openings.{caused_known, serving_known}
+use Rattle.world_ties.proofs.Steps.{steps_leave}
 use Rattle.controller.specs.declared.sends.Act.TheVariants.{Post as PostAct}
 use Rattle.ctrl_msg.specs.declared.message.Message.{Message}
 use Rattle.ctrl_msg.specs.declared.message.Body.TheVariants.{Hello}
@@ -16,8 +16,8 @@ use Rattle.journal.specs.declared.item.Item.{Item}
 use Rattle.journal.specs.declared.item.Item.TheVariants as item
 use Rattle.net_file.specs.Owners.{links_of}
 use Rattle.net_file.specs.declared.net.LinkRow.{LinkRow}
-use Rattle.send_laws.specs.Sends.{NumbersFit}
-use Rattle.send_laws.proofs.Fitting.{fit_in_room}
+use Rattle.advert_laws.specs.Sends.{NumbersFit}
+use Rattle.advert_laws.proofs.Fitting.{fit_in_room}
 use Rattle.steps.specs.declared.step.Step.TheVariants.{Restart}
 use Rattle.switch_core.specs.Life.{near_changed, restarted}
 use Rattle.switch_core.specs.State.{SwitchValue}
@@ -27,7 +27,7 @@ use Rattle.switch_ties.proofs.Asked.{asked_ties}
 use Rattle.switch_ties.proofs.Life.{life_ties}
 use Rattle.switch_ties.proofs.Links.{kept_is, link_ties}
 use Rattle.update_machine.specs.Boots.{boot_of, is_up, tells_boot}
-use Rattle.boot_laws.specs.ItemCauses.{HasItemCause}
+use Rattle.version_laws.specs.ItemCauses.{HasItemCause}
 use Rattle.update_machine.specs.Causes.{HaveCauses}
 use Rattle.update_machine.specs.Deliveries.{has_changed}
 use Rattle.update_machine.specs.Full.{HasRoom}
@@ -44,9 +44,9 @@ use Rattle.world_ties.specs.Tied.{AreTied, Control, is_up_link}
 use Rattle.travelling.specs.Travelling.{Travellers}
 use Rattle.world_ties.proofs.Delivering.{nothing_happens}
 use Rattle.world_ties.proofs.GoneSwitches.{up_as}
-use Rattle.log_ties.proofs.Known.{reached_known}
+use Rattle.world_ties.proofs.Known.{reached_known}
 use Rattle.world_ties.proofs.OneItem.{grown}
-use Rattle.log_ties.proofs.Posting.{bag_on}
+use Rattle.world_ties.proofs.Posting.{bag_on}
 use Rattle.world_ties.proofs.Switches.{switch_is, switch_there}
 use Rattle.world_ties.proofs.Told.{tied_told}
 use Rattle.world_ties.proofs.Tying.{one_changes, same_links}

@@ -37,17 +37,17 @@ use Rattle.usable_links.specs.Linking.{AreRelinked, all_told, near_all}
 use Rattle.steps.specs.Steps.{IsStep}
 use Rattle.world_log.specs.Sending.{MaySend, act_items}
 use Rattle.world_ties.specs.Tied.{AreTied, Control, is_up_link, up_links}
-use Rattle.log_ties.specs.Travellers.{traveller_in}
+use Rattle.world_ties.specs.Travellers.{traveller_in}
 use Rattle.travelling.specs.Travelling.{Travellers, WithoutAt, numbers_at, traveller}
 use Rattle.world_ties.proofs.ActItems.{SparesActs, acts_apart, acts_unnamed}
 use Rattle.world_ties.proofs.Delivering.{nothing_happens}
 use Rattle.world_ties.proofs.Losses.{losts_apart, losts_bring_none, losts_no_rows, traveller_lost}
 use Rattle.world_ties.proofs.OneItem.{grown}
-use Rattle.log_ties.proofs.Posting.{bag_on}
+use Rattle.world_ties.proofs.Posting.{bag_on}
 use Rattle.world_ties.proofs.Standing.{among, among_numbers, numbers_are}
 use Rattle.world_ties.proofs.Switches.{switch_is}
 use Rattle.world_ties.proofs.Tying.{same_links}
-use Rattle.log_ties.proofs.Words.{traveller_along, traveller_now}
+use Rattle.world_ties.proofs.FactsAlong.{traveller_along, traveller_now}
 use Rattle.world_ties.proofs.LinksChange.{one_relinks, one_advert, one_next, LinksChange, change_piece, change_may, change_tied}
 
 -- ---- what it writes

@@ -18,10 +18,10 @@ use Rattle.update_machine.specs.Setting.{Setting}
 use Rattle.update_machine.specs.Links.{message_of}
 use Rattle.update_machine.proofs.CallerLemmas.{message_keeps}
 use Rattle.world_ties.specs.Tied.{AreTied, Control}
-use Rattle.log_ties.specs.Bags.{IsBagOf, post_in}
+use Rattle.world_ties.specs.Bags.{IsBagOf, post_in}
 use Rattle.travelling.specs.Travelling.{Travellers}
 use Rattle.world_ties.proofs.OneItem.{grown, tied_one}
-use Rattle.log_ties.proofs.Posting.{bag_forgotten, bag_on, some_within}
+use Rattle.world_ties.proofs.Posting.{bag_forgotten, bag_on, some_within}
 use Rattle.world_ties.proofs.Tying.{switches_stay}
 
 -- ---- what the bag says of a message

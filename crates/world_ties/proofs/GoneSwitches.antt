@@ -1,8 +1,8 @@
 -- A switch that is down is confirmed to be gone: what is written then, and what the parts are
 -- behind it.
 use Rattle.std.proofs.Common.{ℕ, ◌≡◌, ◌+◌, ◌<◌, true, false, List, [], ◌∷◌, ◌++◌, refl, ap, sym, ◌∙◌, length, get_or}
-use Rattle.control_ties.specs.Written.{AreWritten}
-use Rattle.control_ties.proofs.CallerLemmas.{confirms}
+use Rattle.world_ties.specs.Written.{AreWritten}
+use Rattle.world_ties.proofs.Calls.{confirms}
 use Rattle.controller.specs.Controller.{ControllerValue, SettlesWith}
 use Rattle.controller.specs.Sends.{settling_acts}
 use Rattle.controller.specs.declared.sends.Act.{Act}
@@ -23,13 +23,13 @@ use Rattle.version_update.specs.Marks.{at_switch}
 use Rattle.version_update.specs.Record.{after_over}
 use Rattle.world_log.specs.Sending.{MayNote, act_items, act_posts}
 use Rattle.world_ties.specs.Tied.{AreTied, Control}
-use Rattle.log_ties.specs.Bags.{IsBagOf}
+use Rattle.world_ties.specs.Bags.{IsBagOf}
 use Rattle.travelling.specs.Travelling.{Travellers}
 use Rattle.world_ties.proofs.ActItems.{written_is}
 use Rattle.world_ties.proofs.Delivering.{nothing_happens}
-use Rattle.log_ties.proofs.Known.{reached_known}
+use Rattle.world_ties.proofs.Known.{reached_known}
 use Rattle.world_ties.proofs.OneItem.{grown}
-use Rattle.log_ties.proofs.Posting.{bag_on}
+use Rattle.world_ties.proofs.Posting.{bag_on}
 use Rattle.world_ties.proofs.Switches.{switch_is, switch_known}
 use Rattle.world_ties.proofs.Told.{tied_told}
 use Rattle.world_ties.proofs.Tying.{links_stay, up_stay}

@@ -4,9 +4,9 @@ use Rattle.bag.specs.Posts.{IsMessageOf}
 use Rattle.ctrl_msg.specs.declared.message.Message.{Message}
 use Rattle.ctrl_msg.specs.declared.message.Receiver.TheVariants as receiver
 use Rattle.journal.specs.declared.item.Item.{Item}
-use Rattle.send_laws.specs.Sends.{StepsSendFew}
-use Rattle.send_laws.proofs.Fitting.{versions_few}
-use Rattle.send_laws.proofs.PieceKinds.{piece_few}
+use Rattle.advert_laws.specs.Sends.{StepsSendFew}
+use Rattle.advert_laws.proofs.Fitting.{versions_few}
+use Rattle.advert_laws.proofs.PieceKinds.{piece_few}
 use Rattle.switch_core.specs.Hearing.{IsSoundBody}
 use Rattle.switch_core.specs.State.{SwitchValue}
 use Rattle.switch_ties.specs.Knowing.{TablesAreKnown}
@@ -18,7 +18,7 @@ use Rattle.update_machine.specs.Settling.{to_switch}
 use Rattle.world_ties.specs.Tied.{AreTied, Control}
 use Rattle.travelling.specs.Travelling.{Travellers}
 use Rattle.world_ties.proofs.Delivering.{sent_as}
-use Rattle.log_ties.proofs.Known.{Known, reached_known}
+use Rattle.world_ties.proofs.Known.{Known, reached_known}
 
 pub sends_few : (setting : Setting) (journal : List Item) → Known setting journal
     → StepsSendFew setting journal

@@ -6,8 +6,10 @@ use Rattle.std.proofs.lemmas.List.{length-set}
 use Rattle.bag.specs.Posts.{IsMessageOf, Post, is_post_deliverable, posted, with_delivered, with_status}
 use Rattle.bag.specs.Deliveries.{delivered}
 use Rattle.bag.proofs.Numbered.{length_changed}
-use Rattle.control_ties.specs.Written.{AreWritten}
-use Rattle.control_ties.proofs.CallerLemmas.{hears, names_there, steps_leave}
+use Rattle.world_ties.specs.Written.{AreWritten}
+use Rattle.world_ties.proofs.Calls.{hears}
+use Rattle.world_ties.proofs.Resends.{names_there}
+use Rattle.world_ties.proofs.Steps.{steps_leave}
 use Rattle.controller.specs.Controller.{ControllerValue, SettlesWith}
 use Rattle.controller.specs.Sends.{NamesThere, marks_after, hearing}
 use Rattle.controller.specs.declared.sends.Act.{Act}
@@ -37,14 +39,14 @@ use Rattle.update_machine.specs.Links.{message_of}
 use Rattle.update_machine.proofs.CallerLemmas.{message_keeps}
 use Rattle.world_log.specs.Sending.{MayNote, MaySend, act_items, act_posts}
 use Rattle.world_ties.specs.Tied.{AreTied, Control}
-use Rattle.log_ties.specs.Bags.{IsBagOf}
+use Rattle.world_ties.specs.Bags.{IsBagOf}
 use Rattle.travelling.specs.Travelling.{Travellers}
 use Rattle.world_log.proofs.Sends.{posts_as_acts, sent_as_acts}
 use Rattle.world_ties.proofs.ActItems.{written_is}
 use Rattle.world_ties.proofs.Delivering.{deliverable_as, nothing_happens, sent_as}
-use Rattle.log_ties.proofs.Known.{reached_known}
+use Rattle.world_ties.proofs.Known.{reached_known}
 use Rattle.world_ties.proofs.OneItem.{grown}
-use Rattle.log_ties.proofs.Posting.{bag_delivered, bag_on, within_posts}
+use Rattle.world_ties.proofs.Posting.{bag_delivered, bag_on, within_posts}
 use Rattle.world_ties.proofs.Told.{IsTold, tied_told}
 use Rattle.world_ties.proofs.Tying.{links_stay, one_changes, up_stay}
 use Rattle.world_ties.proofs.Sendable.{may_note, may_send}

@@ -12,24 +12,24 @@ use Rattle.switch_core.specs.State.{SwitchValue, call_counted}
 use Rattle.switch_core.specs.declared.answers.HopEnd.{HopEnd}
 use Rattle.switch_ties.specs.SwitchOf.{switch_of}
 use Rattle.update_machine.specs.Messages.{next_message}
-use Rattle.update_machine.specs.Packets.{standing as place_of}
+use Rattle.update_machine.specs.Packets.{standing}
 use Rattle.update_machine.specs.Pieces.{piece}
 use Rattle.steps.specs.Steps.{IsStep}
 use Rattle.update_machine.specs.Setting.{Setting}
 use Rattle.update_machine.specs.Travels.{is_at, travels}
 use Rattle.world_log.specs.Packets.{ended_switch, hop_written, hop_posts, hop_traveller, hopped_switch}
 use Rattle.world_ties.specs.Tied.{AreTied, Control}
-use Rattle.log_ties.specs.Travellers.{traveller_in}
+use Rattle.world_ties.specs.Travellers.{traveller_in}
 use Rattle.travelling.specs.Travelling.{Travellers, WithOne, traveller}
 use Rattle.travelling.specs.declared.travelling.Traveller.{Traveller}
-use Rattle.log_ties.proofs.CanAsk.{CanAsk}
-use Rattle.log_ties.proofs.HopPieces.{hop_called, hop_later, hop_others, hop_own, hop_packets, hop_piece, left_piece}
+use Rattle.world_ties.proofs.CanAsk.{CanAsk}
+use Rattle.world_ties.proofs.HopPieces.{hop_called, hop_later, hop_others, hop_own, hop_packets, hop_piece, left_piece}
 use Rattle.world_ties.proofs.Asking.{known_of}
-use Rattle.log_ties.proofs.Known.{Known}
-use Rattle.log_ties.proofs.Later.{hop_sends}
+use Rattle.world_ties.proofs.Known.{Known}
+use Rattle.world_ties.proofs.Later.{hop_sends}
 use Rattle.world_ties.proofs.Delivering.{nothing_happens}
 use Rattle.world_ties.proofs.Losing.{travels_as}
-use Rattle.log_ties.proofs.Posting.{SendFrom, posts_in}
+use Rattle.world_ties.proofs.Posting.{SendFrom, posts_in}
 use Rattle.world_ties.proofs.Tying.{Steps, numbered, one_changes, packets_are, switches_are, tied_more}
 
 -- ---- the tie
@@ -144,4 +144,4 @@ hop_left control setting journal switches before count row i tied may resting =
     let off : travels journal i ≡ false =
     sym (ap is_some (tied.packet i) ∙ travels_as setting journal i) ∙ resting in
     nothing_happens control setting journal switches before count row (Hop i) tied may
-    (λ s. ap (λ x. x && is_at s (place_of journal i)) off) (left_piece setting journal row i off)
+    (λ s. ap (λ x. x && is_at s (standing journal i)) off) (left_piece setting journal row i off)

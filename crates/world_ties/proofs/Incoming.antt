@@ -27,14 +27,14 @@ use Rattle.world_ties.specs.Tied.{AreTied, Control}
 use Rattle.travelling.specs.Travelling.{Travellers, WithOne, traveller}
 use Rattle.world_log.specs.Writing.{entered_items, entered_posts, entered_traveller}
 use Rattle.travelling.specs.Travelling.{Standing}
-use Rattle.log_ties.proofs.ComePieces.{come_along, come_called, entered_once}
+use Rattle.world_ties.proofs.ComePieces.{come_along, come_called, entered_once}
 use Rattle.world_ties.proofs.Asking.{known_of, seen}
-use Rattle.log_ties.proofs.Coming.{ComesTo, come_goes, come_law, looking}
-use Rattle.log_ties.proofs.Known.{Known}
-use Rattle.log_ties.proofs.Later.{entered_sends}
-use Rattle.log_ties.proofs.Posting.{SendFrom, are_apart, posts_in}
+use Rattle.world_ties.proofs.Coming.{ComesTo, come_goes, come_law, looking}
+use Rattle.world_ties.proofs.Known.{Known}
+use Rattle.world_ties.proofs.Later.{entered_sends}
+use Rattle.world_ties.proofs.Posting.{SendFrom, are_apart, posts_in}
 use Rattle.world_ties.proofs.Tying.{Steps, numbered, one_changes, packets_are, switches_are, tied_more}
-use Rattle.log_ties.proofs.Words.{same_targets}
+use Rattle.world_ties.proofs.FactsAlong.{same_targets}
 
 -- ---- the step
 

@@ -1,3 +1,39 @@
+mod Lengths
+mod Planned
+pub mod Spelled
+pub mod Picked
+pub mod Written
+pub mod Kept
+pub mod Past
+pub mod Heard
+pub mod Settled
+pub mod Plans
+pub mod Calls
+pub mod Submits
+pub mod Resends
+pub mod Steps
+mod ControllerTrials
+pub mod FactsAlong
+pub mod Others
+pub mod Known
+pub mod Seeing
+pub mod Own
+pub mod Legs
+pub mod Ends
+pub mod Deciding
+pub mod Saying
+pub mod Looking
+pub mod Goings
+pub mod Arrivals
+pub mod Coming
+pub mod OnWay
+pub mod Posting
+pub mod Later
+pub mod Moving
+pub mod CanAsk
+pub mod ComePieces
+pub mod HopPieces
+pub mod Ties
 pub mod Switches
 pub mod Losing
 pub mod Tying

@@ -17,7 +17,7 @@ use Rattle.net_file.specs.Joins.{are_linked, joins}
 use Rattle.net_file.specs.declared.net.LinkRow.{LinkRow}
 use Rattle.net_file.specs.declared.net.Net.{Net}
 use Rattle.net_file.proofs.Places.{links as link_laws}
-use Rattle.settle_laws.specs.Steps.{asks_controller}
+use Rattle.version_laws.specs.Steps.{asks_controller}
 use Rattle.steps.specs.Steps.{HasLink, IsStep}
 use Rattle.steps.specs.declared.step.Step.{Step}
 use Rattle.switch_core.specs.Life.{next_advert}
@@ -39,7 +39,7 @@ use Rattle.world_ties.specs.Tied.{AreTied, Control, is_up_link, up_links}
 use Rattle.travelling.specs.Travelling.{Travellers}
 use Rattle.world_ties.proofs.Delivering.{nothing_happens}
 use Rattle.world_ties.proofs.OneItem.{grown}
-use Rattle.log_ties.proofs.Posting.{bag_on}
+use Rattle.world_ties.proofs.Posting.{bag_on}
 use Rattle.world_ties.proofs.LinksChange.{LinksChange, change_piece, change_may, unmoved, change_tied}
 use Rattle.world_log.specs.Sending.{MaySend}
 

@@ -5,25 +5,25 @@ use Rattle.std.specs.Prelude.{IsFalse, All}
 use Rattle.std.specs.List.{flat_map}
 use Rattle.std.proofs.lemmas.List.{get_or-set_other, get_or-set_same, length-set}
 use Rattle.bag.specs.Posts.{Post, posted}
-use Rattle.boot_laws.proofs.Serving.{caused_known, serving_known}
-use Rattle.boot_laws.specs.ItemCauses.{HasItemCause}
-use Rattle.boot_laws.proofs.Facts.{have_front}
+use Rattle.version_laws.proofs.Openings.{caused_known, serving_known}
+use Rattle.version_laws.specs.ItemCauses.{HasItemCause}
+use Rattle.version_laws.proofs.Facts.{have_front}
 use Rattle.controller.specs.declared.sends.Act.{Act}
 use Rattle.controller.specs.declared.sends.Act.TheVariants.{Post as PostAct}
 use Rattle.ctrl_msg.specs.declared.message.Message.{Message}
 use Rattle.journal.specs.declared.item.Item.{Item}
 use Rattle.journal.specs.declared.item.Item.TheVariants as item
-use Rattle.log_ties.specs.Bags.{IsBagOf}
-use Rattle.log_ties.specs.Travellers.{traveller_in}
-use Rattle.log_ties.proofs.Known.{reached_known, reached_more, traveller_stays}
-use Rattle.log_ties.proofs.Others.{NoneName, none_more}
-use Rattle.log_ties.proofs.Posting.{bag_sends}
+use Rattle.world_ties.specs.Bags.{IsBagOf}
+use Rattle.world_ties.specs.Travellers.{traveller_in}
+use Rattle.world_ties.proofs.Known.{reached_known, reached_more, traveller_stays}
+use Rattle.world_ties.proofs.Others.{NoneName, none_more}
+use Rattle.world_ties.proofs.Posting.{bag_sends}
 use Rattle.masks.specs.Masks.{has}
 use Rattle.masks.proofs.CallerLemmas.{has_mask}
 use Rattle.net_file.specs.Joins.{are_linked}
-use Rattle.send_laws.specs.Sends.{NumbersFit}
-use Rattle.send_laws.proofs.Fitting.{fit_in_room}
-use Rattle.settle_laws.specs.Steps.{asks_controller}
+use Rattle.advert_laws.specs.Sends.{NumbersFit}
+use Rattle.advert_laws.proofs.Fitting.{fit_in_room}
+use Rattle.version_laws.specs.Steps.{asks_controller}
 use Rattle.steps.specs.Steps.{IsStep}
 use Rattle.steps.specs.declared.step.Step.{Step}
 use Rattle.switch_core.specs.Life.{next_advert}

@@ -12,22 +12,22 @@ use Rattle.update_machine.specs.Pieces.{lose_items, nothing, piece}
 use Rattle.steps.specs.Steps.{IsStep}
 use Rattle.update_machine.specs.Setting.{Setting}
 use Rattle.way_laws.specs.Facts.{what_is_known}
-use Rattle.way_laws.proofs.Words.{words_grow}
+use Rattle.way_laws.proofs.PacketFacts.{facts_grow}
 use Rattle.world_ties.specs.Tied.{AreTied, Control, Tied}
-use Rattle.log_ties.specs.Travellers.{traveller_in}
+use Rattle.world_ties.specs.Travellers.{traveller_in}
 use Rattle.travelling.specs.Travelling.{Travellers, WithOne, traveller}
-use Rattle.log_ties.proofs.Known.{Known, reached_known, traveller_stays}
+use Rattle.world_ties.proofs.Known.{Known, reached_known, traveller_stays}
 use Rattle.world_ties.proofs.Delivering.{nothing_happens}
 use Rattle.world_ties.proofs.OneItem.{grown}
 use Rattle.world_ties.proofs.Tying.{switches_stay, tied_silent}
-use Rattle.log_ties.proofs.Words.{traveller_along}
+use Rattle.world_ties.proofs.FactsAlong.{traveller_along}
 
 -- a row tells nothing of a packet
 pub travels_on : (journal : List Item) (row i : ℕ) (step : Step)
     → travels (journal ++ item.Row row step ∷ []) i ≡ travels journal i
 unfolding what_is_known
-travels_on journal row i step = ap (λ words. words.travels)
-    (words_grow i journal (item.Row row step))
+travels_on journal row i step = ap (λ facts. facts.travels)
+    (facts_grow i journal (item.Row row step))
 
 pub travels_as : (setting : Setting) (journal : List Item) (i : ℕ)
     → is_some (traveller_in setting journal i) ≡ travels journal i

@@ -10,9 +10,9 @@ use Rattle.update_machine.specs.Folds.{count_of}
 use Rattle.update_machine.specs.Marks.{retired_mark}
 use Rattle.update_machine.specs.Packets.{is_packet}
 use Rattle.way_laws.specs.Facts.{PacketFacts, facts_after}
-use Rattle.log_ties.proofs.Others.{NoneName, unnamed}
+use Rattle.world_ties.proofs.Others.{NoneName, unnamed}
 use Rattle.world_ties.proofs.Standing.{among}
-use Rattle.log_ties.proofs.Words.{Targets, traveller_by, words_along}
+use Rattle.world_ties.proofs.FactsAlong.{Targets, traveller_by, facts_along}
 
 -- what losses don't concern stays
 pub losts_apart : (concerns : List Item → Item → Bool)
@@ -41,13 +41,13 @@ abbrev ended : PacketFacts → PacketFacts
 ended facts = record facts { travels = false }
 
 -- those among them travel no more, and the rest is said of no packet
-words_lost : (i : ℕ) (before : List Item) (packets : List ℕ) (more : List Item)
+facts_lost : (i : ℕ) (before : List Item) (packets : List ℕ) (more : List Item)
     (facts : PacketFacts) → NoneName i more
-    → words_along i before (map item.Lost packets ++ more) facts
+    → facts_along i before (map item.Lost packets ++ more) facts
     ≡ (if among i packets then ended facts else facts)
-words_lost i before [] more facts none = unnamed i before more facts none
-words_lost i before (k ∷ packets) more facts none =
-    by_same (k == i) refl (λ now. words_lost i (before ++ item.Lost k ∷ []) packets more now none)
+facts_lost i before [] more facts none = unnamed i before more facts none
+facts_lost i before (k ∷ packets) more facts none =
+    by_same (k == i) refl (λ now. facts_lost i (before ++ item.Lost k ∷ []) packets more now none)
   where
     after : List Item
     after = before ++ item.Lost k ∷ []
@@ -57,18 +57,18 @@ words_lost i before (k ∷ packets) more facts none =
     still false = refl
 
     by_same : (b : Bool) → (k == i) ≡ b
-        → ((now : PacketFacts) → words_along i after (map item.Lost packets ++ more) now
+        → ((now : PacketFacts) → facts_along i after (map item.Lost packets ++ more) now
         ≡ (if among i packets then ended now else now))
-        → words_along i before (item.Lost k ∷ map item.Lost packets ++ more) facts
+        → facts_along i before (item.Lost k ∷ map item.Lost packets ++ more) facts
         ≡ (if among i (k ∷ packets) then ended facts else facts)
     by_same true e rest =
-        ap (λ b. words_along i after (map item.Lost packets ++ more)
+        ap (λ b. facts_along i after (map item.Lost packets ++ more)
         (if b then facts_after (retired_mark before) (item.Lost k) facts else facts)) e
         ∙ rest (ended facts)
         ∙ still (among i packets)
         ∙ sym (rw e refl)
     by_same false e rest =
-        ap (λ b. words_along i after (map item.Lost packets ++ more)
+        ap (λ b. facts_along i after (map item.Lost packets ++ more)
         (if b then facts_after (retired_mark before) (item.Lost k) facts else facts)) e
         ∙ rest facts
         ∙ sym (rw e refl)
@@ -76,10 +76,10 @@ words_lost i before (k ∷ packets) more facts none =
 -- a packet is gone where it is among them, behind items that don't name it
 pub traveller_lost : (targets : Targets) (i : ℕ) (before first : List Item) (packets : List ℕ)
     (more : List Item) (facts : PacketFacts) → NoneName i first → NoneName i more
-    → traveller_by targets i (words_along i before (first ++ map item.Lost packets ++ more) facts)
+    → traveller_by targets i (facts_along i before (first ++ map item.Lost packets ++ more) facts)
     ≡ (if among i packets then None else traveller_by targets i facts)
 traveller_lost targets i before [] packets more facts none last =
-    ap (traveller_by targets i) (words_lost i before packets more facts last)
+    ap (traveller_by targets i) (facts_lost i before packets more facts last)
     ∙ by_among (among i packets)
   where
     by_among : (b : Bool) → traveller_by targets i (if b then ended facts else facts)
@@ -87,7 +87,7 @@ traveller_lost targets i before [] packets more facts none last =
     by_among true = refl
     by_among false = refl
 traveller_lost targets i before (one ∷ first) packets more facts none last =
-    ap (λ b. traveller_by targets i (words_along i (before ++ one ∷ [])
+    ap (λ b. traveller_by targets i (facts_along i (before ++ one ∷ [])
     (first ++ map item.Lost packets ++ more)
     (if b then facts_after (retired_mark before) one facts else facts))) none.0
     ∙ traveller_lost targets i (before ++ one ∷ []) first packets more facts none.1 last

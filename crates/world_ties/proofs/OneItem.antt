@@ -1,7 +1,7 @@
 -- A step that writes one item, by which no packet moves and no switch answers a call.
 use Rattle.std.proofs.Common.{ℕ, ◌≡◌, ◌<◌, List, [], ◌∷◌, ◌++◌, sym, ◌∙◌, length, get_or, arith}
 use Rattle.bag.specs.Posts.{Post}
-use Rattle.control_ties.proofs.CallerLemmas.{items_leave}
+use Rattle.world_ties.proofs.Steps.{items_leave}
 use Rattle.journal.specs.declared.item.Item.{Item}
 use Rattle.journal.specs.declared.item.Item.TheVariants as item
 use Rattle.steps.specs.declared.step.Step.{Step}
@@ -14,10 +14,10 @@ use Rattle.update_machine.specs.Pieces.{piece}
 use Rattle.steps.specs.Steps.{IsStep}
 use Rattle.update_machine.specs.Setting.{Setting}
 use Rattle.world_ties.specs.Tied.{AreTied, Control}
-use Rattle.log_ties.specs.Bags.{IsBagOf}
+use Rattle.world_ties.specs.Bags.{IsBagOf}
 use Rattle.travelling.specs.Travelling.{Travellers}
-use Rattle.log_ties.proofs.Known.{reached_known, traveller_stays}
-use Rattle.log_ties.proofs.Others.{NoneName}
+use Rattle.world_ties.proofs.Known.{reached_known, traveller_stays}
+use Rattle.world_ties.proofs.Others.{NoneName}
 use Rattle.world_ties.proofs.Tying.{links_stay, tied_taken, up_stay}
 
 -- the journal behind the step

@@ -30,12 +30,12 @@ use Rattle.update_machine.specs.LinkMasks.{near}
 use Rattle.update_machine.proofs.CallerLemmas.{last_told_append}
 use Rattle.usable_links.specs.Linking.{AreRelinked, all_told, near_all}
 use Rattle.world_ties.specs.Tied.{AreTied, Control, is_up_link, up_links}
-use Rattle.log_ties.specs.Bags.{IsBagOf}
+use Rattle.world_ties.specs.Bags.{IsBagOf}
 use Rattle.travelling.specs.Travelling.{Travellers}
 use Rattle.world_ties.proofs.HeardBy.{IsThere, as_sent, deliver_piece, is_there, row_keeps}
 use Rattle.world_ties.proofs.OneItem.{grown}
-use Rattle.log_ties.proofs.Known.{reached_known}
-use Rattle.log_ties.proofs.Posting.{bag_on}
+use Rattle.world_ties.proofs.Known.{reached_known}
+use Rattle.world_ties.proofs.Posting.{bag_on}
 use Rattle.world_ties.proofs.Tying.{same_links}
 use Rattle.world_ties.proofs.LinksChange.{one_relinks, one_advert, one_next, LinksChange, change_piece, change_may, unmoved, change_tied}
 use Rattle.world_log.specs.Sending.{MaySend}

@@ -14,8 +14,8 @@ use Rattle.frame_laws.specs.Feeding.{HasShortSpelling}
 use Rattle.frame_laws.proofs.Lengths.{alone_short}
 use Rattle.journal.specs.declared.item.Item.{Item}
 use Rattle.journal.specs.declared.item.Item.TheVariants as item
-use Rattle.spelling_laws.specs.Spelled.{AreSpelled}
-use Rattle.spelling_laws.proofs.Spelled.{reached_spelled}
+use Rattle.world_ties.specs.Spelled.{AreSpelled}
+use Rattle.world_ties.proofs.Spelled.{reached_spelled}
 use Rattle.steps.specs.Steps.{IsStep}
 use Rattle.steps.specs.declared.step.Step.{Step}
 use Rattle.switch_core.specs.State.{SwitchValue}
@@ -27,7 +27,7 @@ use Rattle.update_machine.specs.Setting.{Setting}
 use Rattle.update_machine.proofs.CallerLemmas.{last_told_append}
 use Rattle.world_log.specs.Sending.{IsSpelled, MayNote, MaySend, act_items}
 use Rattle.world_log.proofs.Sends.{messages_spelled, posts_as_acts}
-use Rattle.log_ties.proofs.Known.{reached_known, reached_more}
+use Rattle.world_ties.proofs.Known.{reached_known, reached_more}
 use Rattle.world_ties.specs.Tied.{AreTied, Control}
 use Rattle.world_ties.proofs.HearReady.{sends_few}
 use Rattle.world_ties.proofs.Told.{acts_fit}

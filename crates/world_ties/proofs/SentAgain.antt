@@ -4,8 +4,8 @@ use Rattle.std.proofs.Common.{ℕ, ◌≡◌, ◌≢◌, ◌+◌, ◌<◌, ◌==
 use Rattle.std.specs.Prelude.{if◌then◌else◌}
 use Rattle.std.specs.List.{flat_map}
 use Rattle.bag.specs.Posts.{Post as BagPost}
-use Rattle.control_ties.specs.Written.{AreWritten, resent}
-use Rattle.control_ties.proofs.CallerLemmas.{resends_nothing, resends_some}
+use Rattle.world_ties.specs.Written.{AreWritten, resent}
+use Rattle.world_ties.proofs.Steps.{resends_nothing, resends_some}
 use Rattle.controller.specs.Controller.{ControllerValue}
 use Rattle.controller.specs.Sends.{resending}
 use Rattle.controller.specs.declared.sends.Act.{Act}
@@ -31,13 +31,13 @@ use Rattle.usable_links.specs.Linking.{told_again}
 use Rattle.steps.specs.Steps.{IsStep}
 use Rattle.world_log.specs.Sending.{MayNote, act_items, act_posts}
 use Rattle.world_ties.specs.Tied.{AreTied, Control}
-use Rattle.log_ties.specs.Bags.{IsBagOf}
+use Rattle.world_ties.specs.Bags.{IsBagOf}
 use Rattle.travelling.specs.Travelling.{Travellers}
 use Rattle.world_ties.proofs.ActItems.{written_is}
 use Rattle.world_ties.proofs.Delivering.{nothing_happens}
-use Rattle.log_ties.proofs.Known.{reached_known}
+use Rattle.world_ties.proofs.Known.{reached_known}
 use Rattle.world_ties.proofs.OneItem.{grown}
-use Rattle.log_ties.proofs.Posting.{bag_on}
+use Rattle.world_ties.proofs.Posting.{bag_on}
 use Rattle.world_ties.proofs.Switches.{switch_is, switch_known}
 use Rattle.world_ties.proofs.Told.{tied_told}
 use Rattle.world_ties.proofs.Tying.{links_stay, up_stay}

@@ -8,19 +8,19 @@ use Rattle.journal.specs.declared.item.Item.{Item}
 use Rattle.switch_core.specs.State.{SwitchValue}
 use Rattle.update_machine.specs.Folds.{count_of}
 use Rattle.update_machine.specs.Packets.{is_packet, next_packet}
-use Rattle.update_machine.specs.Packets.{standing as place_of}
+use Rattle.update_machine.specs.Packets.{standing}
 use Rattle.update_machine.specs.Setting.{Setting}
 use Rattle.update_machine.specs.Travels.{is_at, packets_at, travels, travels_at}
 use Rattle.way_laws.specs.Facts.{what_is_known}
 use Rattle.way_laws.proofs.Rests.{numbered, ways_of_all}
 use Rattle.world_ties.specs.Tied.{AreTied, Control}
-use Rattle.log_ties.specs.Travellers.{traveller_in, traveller_of}
+use Rattle.world_ties.specs.Travellers.{traveller_in, traveller_of}
 use Rattle.travelling.specs.Travelling.{Travellers, numbers_at, stands_at, traveller}
 use Rattle.travelling.specs.declared.travelling.Traveller.{Traveller}
 use Rattle.travelling.proofs.Numbers.{beyond, none_between}
-use Rattle.log_ties.proofs.Known.{Known, reached_known}
-use Rattle.log_ties.proofs.OnWay.{IsStanding, got}
-use Rattle.control_ties.proofs.Picked.{any_picked}
+use Rattle.world_ties.proofs.Known.{Known, reached_known}
+use Rattle.world_ties.proofs.OnWay.{IsStanding, got}
+use Rattle.world_ties.proofs.Picked.{any_picked}
 use Rattle.world_ties.proofs.Asking.{standing_of}
 
 -- ---- numbers that pass a test
@@ -73,9 +73,9 @@ module _ (control : Control) (setting : Setting) (journal : List Item)
     (switches : List SwitchValue) (before : Travellers) (count s : ℕ)
     (tied : AreTied setting journal switches before count control) where
   -- where a packet stands by its route, it stands by the journal
-  same_place : (i : ℕ) → stands_at s (traveller before i) ≡ travels_at journal s i
+  same_switch : (i : ℕ) → stands_at s (traveller before i) ≡ travels_at journal s i
   unfolding AreTied traveller_in what_is_known
-  same_place i = by_travels (travels journal i) refl
+  same_switch i = by_travels (travels journal i) refl
     where
       by_travels : (b : Bool) → travels journal i ≡ b
           → stands_at s (traveller before i) ≡ travels_at journal s i
@@ -93,7 +93,7 @@ module _ (control : Control) (setting : Setting) (journal : List Item)
           ap (λ (u : Traveller). get_or u.tunnel.route u.tunnel.place 0) is.is
           ∙ got (what_is_known journal i).route (what_is_known journal i).hops is.switch is.stands.here in
           ap (stands_at s) some ∙ ap (λ k. k == s) here
-          ∙ sym (ap (λ b. b && is_at s (place_of journal i)) on
+          ∙ sym (ap (λ b. b && is_at s (standing journal i)) on
           ∙ ap (is_at s) is.stands.stands)
 
   -- so these are the packets that the journal says
@@ -103,11 +103,11 @@ module _ (control : Control) (setting : Setting) (journal : List Item)
       let knows : Known setting journal = reached_known setting journal tied.sound tied.reached in
       let own = numbered setting journal (ways_of_all setting [] journal knows.settled.causes) in
       let many : ℕ = count_of is_packet journal in
-      filter_agree (λ i. stands_at s (traveller before i)) (travels_at journal s) same_place
+      filter_agree (λ i. stands_at s (traveller before i)) (travels_at journal s) same_switch
       (range_with_len 0 (length before))
       ∙ same_numbers (travels_at journal s) (length before) many
       (unnumbered 0 (travels journal 0) refl (λ on. absurd (omega (arith, (own 0 on).0))))
-      (λ i past. sym (same_place i) ∙ beyond before s i past)
+      (λ i past. sym (same_switch i) ∙ beyond before s i past)
       (λ i past. unnumbered i (travels journal i) refl
       (λ on. absurd (omega (arith, (own i on).1, past))))
     where

@@ -4,8 +4,8 @@ use Rattle.std.specs.Prelude.{Ok, IsOk, Some}
 use Rattle.std.specs.List.{range_with_len}
 use Rattle.std.proofs.lemmas.List.Elements.{All-nil}
 use Rattle.std.proofs.lemmas.List.FromFn.{get_or-map-range_with_len, length-map-range_with_len}
-use Rattle.control_ties.specs.Controller.{IsControllerOf, IsPlanOfFile}
-use Rattle.control_ties.proofs.CallerLemmas.{begins}
+use Rattle.world_ties.specs.Controller.{IsControllerOf, IsPlanOfFile}
+use Rattle.world_ties.proofs.Calls.{begins}
 use Rattle.controller.specs.Controller.{ControllerValue, first_controller}
 use Rattle.controller.specs.Plan.{PlanValue}
 use Rattle.net_file.specs.Net.{IsNet}
@@ -26,8 +26,8 @@ use Rattle.update_machine.proofs.CallerLemmas.{of_its_file, start_laws}
 use Rattle.usable_links.specs.Linking.{AreNear}
 use Rattle.world_ties.specs.Begun.{switch_begun}
 use Rattle.world_ties.specs.Tied.{AreTied, is_up_link}
-use Rattle.log_ties.specs.Travellers.{traveller_in}
-use Rattle.log_ties.proofs.Posting.{bag_begun}
+use Rattle.world_ties.specs.Travellers.{traveller_in}
+use Rattle.world_ties.proofs.Posting.{bag_begun}
 
 planned_first : (net : Net) (policies : List (List Row)) → 1 ≤ length policies
     → plan_of_file (setting_of net policies) 1 ≡ plan_of (get_or policies 0 []) net

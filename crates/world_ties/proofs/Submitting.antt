@@ -2,9 +2,10 @@
 use Rattle.std.proofs.Common.{ℕ, ◌≡◌, ◌≢◌, ◌+◌, ◌-◌, ◌<◌, ◌≤◌, Some, None, List, [], ◌∷◌, ◌++◌, refl, ap, sym, subst, ◌∙◌, length, get_or, append-nil, arith, ne_eqb}
 use Rattle.std.specs.Prelude.{Err, Ok, if◌then◌else◌, slice_get, Result}
 use Rattle.std.proofs.lemmas.Option.{slice_get-get_or}
-use Rattle.control_ties.specs.Controller.{IsControllerOf, IsPlanOfFile}
-use Rattle.control_ties.specs.Written.{AreWritten}
-use Rattle.control_ties.proofs.CallerLemmas.{items_leave, submits, too_many_live, too_many_versions}
+use Rattle.world_ties.specs.Controller.{IsControllerOf, IsPlanOfFile}
+use Rattle.world_ties.specs.Written.{AreWritten}
+use Rattle.world_ties.proofs.Steps.{items_leave}
+use Rattle.world_ties.proofs.Submits.{submits, too_many_live, too_many_versions}
 use Rattle.controller.specs.Controller.{ControllerValue}
 use Rattle.controller.specs.Plan.{PlanValue}
 use Rattle.controller.specs.Sends.{submitting}
@@ -27,12 +28,12 @@ use Rattle.update_machine.specs.Settling.{submitted_items}
 use Rattle.update_machine.specs.Versions.{version_count}
 use Rattle.world_log.specs.Sending.{MayNote, act_items, act_posts}
 use Rattle.world_ties.specs.Tied.{AreTied, Control}
-use Rattle.log_ties.specs.Bags.{IsBagOf}
+use Rattle.world_ties.specs.Bags.{IsBagOf}
 use Rattle.travelling.specs.Travelling.{Travellers}
 use Rattle.world_ties.proofs.ActItems.{written_is}
-use Rattle.log_ties.proofs.Known.{reached_known}
+use Rattle.world_ties.proofs.Known.{reached_known}
 use Rattle.world_ties.proofs.OneItem.{grown}
-use Rattle.log_ties.proofs.Posting.{bag_on}
+use Rattle.world_ties.proofs.Posting.{bag_on}
 use Rattle.world_ties.proofs.Told.{tied_told}
 use Rattle.world_ties.proofs.Tying.{links_stay, up_stay}
 use Rattle.world_ties.proofs.Sendable.{may_note}

@@ -2,11 +2,11 @@
 -- messages are sent.
 use Rattle.std.proofs.Common.{ℕ, ◌≡◌, ◌+◌, ◌<◌, ◌≤◌, Bool, List, ◌∷◌, ◌++◌, refl, ap, sym, subst, ◌∙◌, length, get_or, append_assoc, arith}
 use Rattle.std.specs.Prelude.{IsFalse}
-use Rattle.control_ties.specs.Controller.{IsControllerOf}
+use Rattle.world_ties.specs.Controller.{IsControllerOf}
 use Rattle.controller.specs.declared.sends.Act.{Act}
 use Rattle.journal.specs.declared.item.Item.{Item}
 use Rattle.journal.specs.declared.item.Item.TheVariants as item
-use Rattle.send_laws.specs.Sends.{StepsSendFew}
+use Rattle.advert_laws.specs.Sends.{StepsSendFew}
 use Rattle.steps.specs.declared.step.Step.{Step}
 use Rattle.switch_core.specs.State.{SwitchValue}
 use Rattle.switch_ties.specs.SwitchOf.{switch_of}
@@ -21,12 +21,12 @@ use Rattle.update_machine.specs.Setting.{Setting}
 use Rattle.update_machine.proofs.CallerLemmas.{count_of_append, have_append, near_stays, packets_keep}
 use Rattle.world_log.specs.Sending.{act_items, act_posts}
 use Rattle.world_ties.specs.Tied.{AreTied, AreUp, AreUsable, Control}
-use Rattle.log_ties.specs.Bags.{IsBagOf}
+use Rattle.world_ties.specs.Bags.{IsBagOf}
 use Rattle.travelling.specs.Travelling.{Travellers}
 use Rattle.world_ties.proofs.ActItems.{SparesActs, acts_apart, acts_counted, acts_posted, acts_send, acts_unnamed}
-use Rattle.log_ties.proofs.Known.{reached_known, reached_more, traveller_stays}
-use Rattle.log_ties.proofs.Others.{NoneName, none_more}
-use Rattle.log_ties.proofs.Posting.{bag_sends}
+use Rattle.world_ties.proofs.Known.{reached_known, reached_more, traveller_stays}
+use Rattle.world_ties.proofs.Others.{NoneName, none_more}
+use Rattle.world_ties.proofs.Posting.{bag_sends}
 use Rattle.world_ties.proofs.Tying.{up_stays}
 
 -- the step of the row writes these items; they name no packet, and what is done leaves the switches,

@@ -2,13 +2,13 @@
 use Rattle.std.proofs.Common.{ℕ, ◌≡◌, ◌≢◌, ◌+◌, ◌<◌, ◌==◌, Bool, true, false, cond, refl, List, [], ◌∷◌, ◌++◌, ap, sym, append-nil, subst, ◌∙◌, length, filter, get_or, set, arith, eq-eqb, eqb-true}
 use Rattle.std.specs.Prelude.{IsFalse}
 use Rattle.std.proofs.lemmas.List.{get_or-set_other, get_or-set_same}
-use Rattle.control_ties.specs.Controller.{IsControllerOf}
-use Rattle.control_ties.proofs.CallerLemmas.{steps_leave}
+use Rattle.world_ties.specs.Controller.{IsControllerOf}
+use Rattle.world_ties.proofs.Steps.{steps_leave}
 use Rattle.journal.specs.declared.item.Item.{Item}
 use Rattle.journal.specs.declared.item.Item.TheVariants as item
 use Rattle.net_file.specs.Owners.{links_of}
 use Rattle.net_file.specs.declared.net.LinkRow.{LinkRow}
-use Rattle.settle_laws.specs.Steps.{asks_controller}
+use Rattle.version_laws.specs.Steps.{asks_controller}
 use Rattle.steps.specs.declared.step.Step.{Step}
 use Rattle.switch_core.specs.State.{SwitchValue}
 use Rattle.switch_ties.specs.SwitchOf.{switch_of}
@@ -23,11 +23,11 @@ use Rattle.steps.specs.Steps.{IsStep}
 use Rattle.update_machine.specs.Setting.{Setting}
 use Rattle.update_machine.proofs.CallerLemmas.{count_of_append, links_keep, near_stays}
 use Rattle.world_ties.specs.Tied.{AreTied, AreUp, AreUsable, Control, is_up_link}
-use Rattle.log_ties.specs.Bags.{IsBagOf}
-use Rattle.log_ties.specs.Travellers.{traveller_in}
+use Rattle.world_ties.specs.Bags.{IsBagOf}
+use Rattle.world_ties.specs.Travellers.{traveller_in}
 use Rattle.travelling.specs.Travelling.{Travellers, traveller}
-use Rattle.log_ties.proofs.Known.{reached_known, reached_more}
-use Rattle.log_ties.proofs.Posting.{SendFrom, are_apart, bag_sends, posts_in}
+use Rattle.world_ties.proofs.Known.{reached_known, reached_more}
+use Rattle.world_ties.proofs.Posting.{SendFrom, are_apart, bag_sends, posts_in}
 
 -- where one switch became what it is now, and another one stays if it isn't that one
 pub one_changes : (setting : Setting) (journal after : List Item) (switches : List SwitchValue)

@@ -1,2 +1,9 @@
+pub mod Spelled
+pub mod Marks
+pub mod Controller
+pub mod Written
+pub mod Bags
+pub mod Travellers
+pub mod Ties
 pub mod Tied
 pub mod Begun

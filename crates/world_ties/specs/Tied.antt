@@ -2,9 +2,9 @@
 use Rattle.std.specs.Prelude.{ℕ, ◌≡◌, ◌+◌, ◌<◌, Bool, filter, slice_index, List, length, slice_index_or}
 use Rattle.bag.specs.Posts.{Post}
 use Rattle.controller.specs.Controller.{ControllerValue}
-use Rattle.control_ties.specs.Controller.{IsControllerOf}
-use Rattle.log_ties.specs.Bags.{IsBagOf}
-use Rattle.log_ties.specs.Travellers.{traveller_in}
+use Rattle.world_ties.specs.Controller.{IsControllerOf}
+use Rattle.world_ties.specs.Bags.{IsBagOf}
+use Rattle.world_ties.specs.Travellers.{traveller_in}
 use Rattle.journal.specs.declared.item.Item.{Item}
 use Rattle.net_file.specs.Owners.{links_of}
 use Rattle.net_file.specs.declared.net.LinkRow.{LinkRow}

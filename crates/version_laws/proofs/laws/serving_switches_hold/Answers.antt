@@ -1,4 +1,4 @@
-use Rattle.boot_laws.proofs.Pieces.{always}
+use Rattle.version_laws.proofs.Pieces.{always}
 use Rattle.version_laws.proofs.Serving.{serving_hold}
 use Rattle.version_laws.proofs.laws.serving_switches_hold.Goals as goal
 

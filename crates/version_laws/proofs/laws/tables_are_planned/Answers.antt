@@ -1,4 +1,4 @@
-use Rattle.boot_laws.proofs.Pieces.{always}
+use Rattle.version_laws.proofs.Pieces.{always}
 use Rattle.version_laws.proofs.Planned.{tables_planned}
 use Rattle.version_laws.proofs.laws.tables_are_planned.Goals as goal
 

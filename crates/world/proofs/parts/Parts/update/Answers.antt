@@ -1,7 +1,7 @@
 use Rattle.std.proofs.Common.{ℕ, ◌≡◌, ◌≢◌, ◌+◌, ◌-◌, ◌++◌, ◌∷◌, [], List, Err, get_or, length, refl, ap, sym, subst, ◌∙◌, rules}
 use Rattle.std.specs.Prelude.{OnErr, OnOk, Result}
 use Rattle.std.proofs.lemmas.Result.{on_ok_weaker}
-use Rattle.control_ties.specs.Controller.{IsPlanOfFile}
+use Rattle.world_ties.specs.Controller.{IsPlanOfFile}
 use Rattle.controller.specs.Controller.{ControllerValue}
 use Rattle.controller.specs.Sends.{submitting}
 use Rattle.controller.specs.Submit.{IsLeft}

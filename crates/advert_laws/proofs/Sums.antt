@@ -1,0 +1,191 @@
+-- Sums over switches, and how many pairs of switches links join.
+use Rattle.std.proofs.Common.{ℕ, zero, suc, ◌≡◌, ◌+◌, ◌*◌, ◌<◌, ◌≤◌, ◌==◌, Bool, true, false, not, ◌&&◌, ◌||◌, cond, Option, Some, None, List, [], ◌∷◌, length, get_or, refl, ap, sym, ◌∙◌, arith, inl, inr, sum_by}
+use Rattle.std.specs.Prelude.{filter, filter_map}
+use Rattle.std.specs.List.{cons_option, range_with_len}
+use Rattle.std.proofs.Math.Nat.{mul-add}
+use Rattle.std.proofs.lemmas.Bool.{cases_eq, eq-eqb, ne_eqb}
+use Rattle.std.proofs.lemmas.List.Filters.{sum_by-filter_both}
+use Rattle.std.proofs.lemmas.List.Sums.{count_by-le-length, length-filter, sum_by-cons, sum_by-le, sum_by-le-sum_by}
+use Rattle.net_file.specs.Joins.{are_linked, joins}
+use Rattle.net_file.specs.declared.net.LinkRow.{LinkRow}
+
+-- 1 where the test holds
+abbrev pub once : Bool → ℕ
+once b = cond b 1 0
+
+-- ---- sums
+
+pub sum_plus : (f g : ℕ → ℕ) (xs : List ℕ)
+    → sum_by (λ x. f x + g x) xs ≡ sum_by f xs + sum_by g xs
+sum_plus f g [] = refl
+sum_plus f g (x ∷ xs) =
+    omega (
+      arith,
+      sum_by-cons (λ y. f y + g y) x xs,
+      sum_by-cons f x xs,
+      sum_by-cons g x xs,
+      sum_plus f g xs,
+    )
+
+pub sum_times : (c : ℕ) (f : ℕ → ℕ) (xs : List ℕ)
+    → sum_by (λ x. c * f x) xs ≡ c * sum_by f xs
+sum_times c f [] = omega arith
+sum_times c f (x ∷ xs) =
+    sum_by-cons (λ y. c * f y) x xs ∙ ap (λ n. c * f x + n) (sum_times c f xs)
+    ∙ sym (mul-add c (f x) (sum_by f xs)) ∙ ap (λ n. c * n) (sym (sum_by-cons f x xs))
+
+-- each is at most the bound
+pub sum_each : {X : Type 0} (f : X → ℕ) (most : ℕ) (xs : List X) → ((x : X) → f x ≤ most)
+    → sum_by f xs ≤ length xs * most
+sum_each f most xs few = sum_by-le f most xs (λ k d within. few (get_or xs k d))
+
+zero_plus : (n : ℕ) → 0 + n ≡ n
+zero_plus n = omega arith
+
+-- a sum over those that pass a test
+pub sum_filter : {X : Type 0} (f : X → ℕ) (test : X → Bool) (xs : List X)
+    → sum_by f (filter test xs) ≡ sum_by (λ x. cond (test x) (f x) 0) xs
+sum_filter f test [] = refl
+sum_filter f test (x ∷ xs) = by_test (test x) refl (sum_filter f test xs)
+  where
+    by_test : (b : Bool) → test x ≡ b
+        → sum_by f (filter test xs) ≡ sum_by (λ y. cond (test y) (f y) 0) xs
+        → sum_by f (cond b (x ∷ filter test xs) (filter test xs))
+        ≡ sum_by (λ y. cond (test y) (f y) 0) (x ∷ xs)
+    by_test true e rest =
+        sum_by-cons f x (filter test xs) ∙ ap (λ k. f x + k) rest
+        ∙ ap (λ b. cond b (f x) 0 + sum_by (λ y. cond (test y) (f y) 0) xs) (sym e)
+        ∙ sym (sum_by-cons (λ y. cond (test y) (f y) 0) x xs)
+    by_test false e rest =
+        rest ∙ sym (zero_plus (sum_by (λ y. cond (test y) (f y) 0) xs))
+        ∙ ap (λ b. cond b (f x) 0 + sum_by (λ y. cond (test y) (f y) 0) xs) (sym e)
+        ∙ sym (sum_by-cons (λ y. cond (test y) (f y) 0) x xs)
+
+pub sum_some : {X : Type 0} (f : X → ℕ) (test : X → Bool) (xs : List X)
+    → sum_by f (filter test xs) ≤ sum_by f xs
+sum_some f test xs =
+    omega (arith, sum_by-filter_both test (λ x. not (test x)) (λ x. refl) f xs)
+
+-- ---- one place
+
+-- a number is met at most once
+none_before : (k low n : ℕ) → k < low → sum_by (λ x. once (k == x)) (range_with_len low n) ≡ 0
+none_before k low zero below = refl
+none_before k low (suc n) below =
+    let apart : once (k == low) ≡ 0 = ap once (ne_eqb k low (λ e. omega (arith, e, below))) in
+    omega (
+      arith,
+      sum_by-cons (λ x. once (k == x)) low (range_with_len (low + 1) n),
+      apart,
+      none_before k (low + 1) n (omega (arith, below)),
+    )
+
+pub met_once : (k low n : ℕ) → sum_by (λ x. once (k == x)) (range_with_len low n) ≤ 1
+met_once k low zero = omega arith
+met_once k low (suc n) =
+    let split = sum_by-cons (λ x. once (k == x)) low (range_with_len (low + 1) n) in
+    elim (cases_eq k low) [
+      | inl same ↦
+          let here : once (k == low) ≡ 1 = ap once (eq-eqb k low same) in
+          omega (arith, split, here, none_before k (low + 1) n (omega (arith, same)))
+      | inr apart ↦
+          let here : once (k == low) ≡ 0 = ap once (ne_eqb k low apart) in
+          omega (arith, split, here, met_once k (low + 1) n)
+    ]
+
+-- ---- pairs that are joined
+
+either : (b c : Bool) → once (b || c) ≤ once b + once c
+either true c = omega arith
+either false c = omega arith
+
+turned : (b c : Bool) → once (b && c) ≤ once (c && b)
+turned true true = omega arith
+turned true false = omega arith
+turned false c = omega arith
+
+half : (d : Bool) (k low n : ℕ)
+    → sum_by (λ x. once (d && k == x)) (range_with_len low n) ≤ once d
+half true k low n = met_once k low n
+half false k low n =
+    omega (arith, sum_each (λ x. 0) 0 (range_with_len low n) (λ x. omega arith))
+
+-- the link joins one switch to at most one other
+ends_few : (b c : Bool) (one two low n : ℕ)
+    → sum_by (λ x. once ((b && two == x) || (one == x && c))) (range_with_len low n)
+    ≤ once b + once c
+ends_few b c one two low n =
+    let all : List ℕ = range_with_len low n in
+    omega (
+      arith,
+      sum_by-le-sum_by (λ x. once ((b && two == x) || (one == x && c)))
+          (λ x. once (b && two == x) + once (one == x && c)) all
+          (λ x. either (b && two == x) (one == x && c)),
+      sum_plus (λ x. once (b && two == x)) (λ x. once (one == x && c)) all,
+      sum_by-le-sum_by (λ x. once (one == x && c)) (λ x. once (c && one == x)) all
+          (λ x. turned (one == x) c),
+      half b two low n,
+      half c one low n,
+    )
+
+-- how many pairs the links join
+abbrev pub pairs : List LinkRow → ℕ → ℕ → ℕ
+pairs links n m =
+    sum_by (λ s. sum_by (λ x. once (are_linked links s x)) (range_with_len 0 m))
+    (range_with_len 0 n)
+
+sum_more : (link : LinkRow) (links : List LinkRow) (s m : ℕ)
+    → sum_by (λ x. once (are_linked (link ∷ links) s x)) (range_with_len 0 m)
+    ≤ once (link.one == s) + once (link.two == s)
+    + sum_by (λ x. once (are_linked links s x)) (range_with_len 0 m)
+sum_more link links s m =
+    omega (
+      arith,
+      sum_by-le-sum_by (λ x. once (are_linked (link ∷ links) s x))
+          (λ x. once (joins s x link) + once (are_linked links s x)) (range_with_len 0 m)
+          (λ x. either (joins s x link) (are_linked links s x)),
+      sum_plus (λ x. once (joins s x link)) (λ x. once (are_linked links s x))
+          (range_with_len 0 m),
+      ends_few (link.one == s) (link.two == s) link.one link.two 0 m,
+    )
+
+-- at most two for each link
+pub pairs_few : (links : List LinkRow) (n m : ℕ) → pairs links n m ≤ 2 * length links
+pairs_few [] n m =
+    omega (
+      arith,
+      sum_each (λ s. sum_by (λ x. once (are_linked [] s x)) (range_with_len 0 m)) 0
+          (range_with_len 0 n)
+          (λ s. omega (arith, sum_each (λ x. 0) 0 (range_with_len 0 m) (λ x. omega arith))),
+    )
+pairs_few (link ∷ links) n m =
+    let joined : ℕ → ℕ =
+    λ s. sum_by (λ x. once (are_linked links s x)) (range_with_len 0 m) in
+    omega (
+      arith,
+      sum_by-le-sum_by
+          (λ s. sum_by (λ x. once (are_linked (link ∷ links) s x)) (range_with_len 0 m))
+          (λ s. once (link.one == s) + once (link.two == s) + joined s) (range_with_len 0 n)
+          (λ s. sum_more link links s m),
+      sum_plus (λ s. once (link.one == s) + once (link.two == s)) joined (range_with_len 0 n),
+      sum_plus (λ s. once (link.one == s)) (λ s. once (link.two == s)) (range_with_len 0 n),
+      met_once link.one 0 n,
+      met_once link.two 0 n,
+      pairs_few links n m,
+    )
+
+-- ---- lengths
+
+pub length_filter_less : {X : Type 0} (test : X → Bool) (xs : List X)
+    → length (filter test xs) ≤ length xs
+length_filter_less test xs = omega (arith, length-filter test xs, count_by-le-length test xs)
+
+pub length_given_less : {X Y : Type 0} (gives : X → Option Y) (xs : List X)
+    → length (filter_map gives xs) ≤ length xs
+length_given_less gives [] = omega arith
+length_given_less {Y = Y} gives (x ∷ xs) = by_given (gives x) (length_given_less gives xs)
+  where
+    by_given : (o : Option Y) → length (filter_map gives xs) ≤ length xs
+        → length (cons_option o (filter_map gives xs)) ≤ length (x ∷ xs)
+    by_given None less = omega (arith, less)
+    by_given (Some y) less = omega (arith, less)

@@ -1,6 +1,0 @@
-use Rattle.boot_laws.proofs.Pieces.{always}
-use Rattle.boot_laws.proofs.Versions.{caused_numbered}
-use Rattle.boot_laws.proofs.laws.versions_are_numbered.Goals as goal
-
-pub returns : goal.returns
-returns c = always _ caused_numbered

@@ -1,3 +1,0 @@
-pub mod ItemCauses
-pub mod Always
-pub mod BootLaws

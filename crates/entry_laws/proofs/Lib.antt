@@ -1,4 +1,0 @@
-mod Pieces
-mod Rows
-mod Plays
-mod Trials

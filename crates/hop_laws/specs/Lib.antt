@@ -1,4 +1,0 @@
-pub mod Hops
-pub mod Drains
-pub mod Routes
-pub mod Stops

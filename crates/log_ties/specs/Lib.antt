@@ -1,3 +1,0 @@
-pub mod Bags
-pub mod Travellers
-pub mod Ties

@@ -1,2 +1,0 @@
-pub mod Rises
-pub mod Steps

@@ -1,3 +1,0 @@
-mod Lengths
-mod Planned
-pub mod Spelled

@@ -1,0 +1,464 @@
+-- Each piece of a step of the network names what is there, as far as its items alone tell.
+use Rattle.std.proofs.Common.{ℕ, ◌≡◌, ◌+◌, ◌<◌, ◌≤◌, ◌⊎◌, ◌&&◌, Bool, true, false, Some, List, [], ◌∷◌, ◌++◌, length, map, refl, ap, ◌∙◌, arith, inl, inr}
+use Rattle.std.specs.Prelude.{⊤, IsTrue, not, filter, option_and_then}
+use Rattle.std.specs.List.{AllByRecursion, flat_map}
+use Rattle.std.proofs.lemmas.Bool.Decides.{nat_tests}
+use Rattle.ctrl_msg.specs.declared.message.Body.{Body}
+use Rattle.ctrl_msg.specs.declared.message.Body.TheVariants.{Install, OpenAt, Stamp, Collect, CacheRule, Advertise, Hello, Installed, Stamped}
+use Rattle.ctrl_msg.specs.declared.message.Message.{Message}
+use Rattle.ctrl_msg.specs.declared.message.Receiver.{Receiver}
+use Rattle.ctrl_msg.specs.Kinds.{to_controller}
+use Rattle.ctrl_msg.specs.declared.message.Receiver.TheVariants as receiver
+use Rattle.failover.specs.declared.advert.Advert.{Advert}
+use Rattle.switch_table.specs.declared.tables.Tables.{Tables}
+use Rattle.journal.specs.declared.item.Item.{Item}
+use Rattle.journal.specs.declared.item.Item.TheVariants as item
+use Rattle.steps.specs.declared.step.Step.{Step}
+use Rattle.steps.specs.declared.step.Step.TheVariants.{Packet, Hop, Lose, Deliver, Forget, Expire, Update, LinkDown, LinkUp, Crash, Restart, Confirm, Resend}
+use Rattle.update_machine.specs.Adverts.{held_adverts}
+use Rattle.update_machine.specs.Boots.{is_up}
+use Rattle.update_machine.specs.Causes.{HaveCauses}
+use Rattle.update_machine.specs.Deliveries.{advert_to, after_hello, controller_items, is_new_boot, link_changes, passed_on, switch_items, switches_in}
+use Rattle.update_machine.specs.LinkMasks.{near}
+use Rattle.update_machine.specs.Marks.{current_mark, has_acked, hello_boot, is_joining, is_member, is_over, known_boot, members, retired_mark, said_to_controller}
+use Rattle.update_machine.specs.Messages.{sends, sent_from}
+use Rattle.update_machine.specs.Moves.{put}
+use Rattle.update_machine.specs.Packets.{next_packet}
+use Rattle.update_machine.specs.Pieces.{confirm_items, deliver_items, hello_of, piece, resend_items, resent_by_switch, restart_items, step_items, update_items}
+use Rattle.update_machine.specs.Setting.{Setting, switches_of}
+use Rattle.update_machine.specs.Settling.{collect_for, current_items, install_for, installs_to, installs_to_all, open_for, open_items, opening, resent_by_controller, resent_to_member, retired_items, settling, stamp_for, submitted_items, to_switch, versions_from_current}
+use Rattle.update_machine.specs.Versions.{is_version, version_count}
+use Rattle.update_machine.specs.Links.{message_of}
+use Rattle.update_machine.proofs.CallerLemmas.{have_first, have_in_turn}
+use Rattle.version_laws.proofs.Boots.{known_rises}
+use Rattle.version_laws.proofs.Crashes.{crash_has, link_traffic}
+use Rattle.version_laws.proofs.Delivered.{controller_has, deliver_has, delivery_has}
+use Rattle.version_laws.proofs.Facts.{AreKept, fact_on, have_weaker}
+use Rattle.version_laws.proofs.Grown.{known_more, message_more, raised}
+use Rattle.version_laws.proofs.Reached.{NamesOwn, OwnPiecesHave}
+use Rattle.version_laws.proofs.Resent.{each_by_controller, each_to_member, later_versions, resent_has}
+use Rattle.version_laws.proofs.Sends.{each_kept, each_map, sends_kept}
+use Rattle.version_laws.proofs.SwitchBlocks.{hello_said, said_parts}
+use Rattle.version_laws.proofs.Traffic.{IsAdvert, IsAdvertTo, IsBetween, IsIngress, IsTraffic, Traffic, adverts_to, each_told, expire_traffic, forget_traffic, hop_traffic, links_traffic, lose_traffic, masked_there, packet_has, passed_traffic, switches_there}
+use Rattle.version_laws.proofs.Greatest.{known_first}
+use Rattle.version_laws.proofs.Told.{each_weaker}
+
+-- ---- what a message names
+
+-- the switch is of the network, or the controller heard of another boot than its first
+abbrev pub IsKnownSwitch : Setting → List Item → ℕ → Type 0
+IsKnownSwitch setting before s =
+    (s < length setting.net.switches) ⊎ (1 < known_boot before s)
+
+-- what the controller says to switches, what these say of themselves, and adverts
+abbrev pub SaysOwn : Setting → List Item → Receiver → Body → Type 0
+SaysOwn setting before (receiver.Switch s) (Install boot tables) = IsKnownSwitch setting before s
+SaysOwn setting before (receiver.Switch s) (OpenAt boot version) = IsKnownSwitch setting before s
+SaysOwn setting before (receiver.Switch s) (Stamp boot version) = IsKnownSwitch setting before s
+SaysOwn setting before (receiver.Switch s) (Collect boot version) =
+    (1 ≤ version) × IsKnownSwitch setting before s
+SaysOwn setting before (receiver.Switch s) (Advertise advert) = s < length setting.net.switches
+SaysOwn setting before receiver.Controller (Hello s boot) = s < length setting.net.switches
+SaysOwn setting before to body = ⊥
+
+-- the switch answers a message that was sent to it
+pub record AnswersTo (before : List Item) (s : ℕ) (body : Body) : Type 0 where
+  pub number : ℕ
+  pub sent : message_of before number ≡ Some (to_switch s body)
+
+pub record AnswersTables (before : List Item) (s boot version : ℕ) : Type 0 where
+  pub tables : Tables
+  pub own : tables.version ≡ version
+  pub answers : AnswersTo before s (Install boot tables)
+
+abbrev pub SaysThere : Setting → List Item → Receiver → Body → Type 0
+SaysThere setting before (receiver.Switch s) (CacheRule version word rule action) =
+    IsTrue (is_version before version) × IsIngress before s
+SaysThere setting before receiver.Controller (Installed s boot version) =
+    AnswersTables before s boot version
+SaysThere setting before receiver.Controller (Stamped s boot version) =
+    AnswersTo before s (Stamp boot version)
+SaysThere setting before to body = SaysOwn setting before to body
+
+abbrev pub NamesRightly : Setting → List Item → Item → Type 0
+NamesRightly setting before (item.Sent number message) =
+    SaysThere setting before message.to message.body
+NamesRightly setting before (item.Entered packet s header) = s < length setting.net.switches
+NamesRightly setting before _ = ⊤
+
+abbrev Name : Setting → List Item → List Item → Type 0
+Name setting journal items = HaveCauses (NamesRightly setting) journal items
+
+-- ---- traffic
+
+between_names : (setting : Setting) (before : List Item) (to : Receiver) (body : Body)
+    → IsBetween setting before to body → SaysThere setting before to body
+between_names setting before (receiver.Switch s) (CacheRule version word rule action) is = is
+between_names setting before (receiver.Switch s) (Advertise advert) is = is
+between_names setting before to body is = absurd is
+
+traffic_names : (setting : Setting) (before : List Item) (next : Item)
+    → IsTraffic setting before next → NamesRightly setting before next
+traffic_names setting before (item.Sent number message) is =
+    between_names setting before message.to message.body is
+traffic_names setting before (item.Entered packet s header) is = absurd is
+traffic_names setting before next is = tt
+
+traffic_name : (setting : Setting) (journal items : List Item) → Traffic setting journal items
+    → Name setting journal items
+traffic_name setting =
+    have_weaker (IsTraffic setting) (NamesRightly setting) (traffic_names setting)
+
+links_name : (setting : Setting) (before journal : List Item)
+    → Name setting journal (link_changes setting before journal)
+links_name setting before journal =
+    traffic_name setting journal _ (links_traffic setting before journal)
+
+passed_name : (setting : Setting) (journal : List Item) (s : ℕ) (advert : Advert)
+    → Name setting journal (sends journal (passed_on setting journal s advert))
+passed_name setting journal s advert =
+    traffic_name setting journal _ (passed_traffic setting journal s advert)
+
+-- ---- messages one after another
+
+abbrev IsOwn : Setting → List Item → Message → Type 0
+IsOwn setting before message = SaysOwn setting before message.to message.body
+
+known_sent : (setting : Setting) (before : List Item) (n s : ℕ) (message : Message)
+    → IsKnownSwitch setting before s
+    → IsKnownSwitch setting (before ++ item.Sent n message ∷ []) s
+known_sent setting before n s message known = elim known [
+  | inl there ↦ inl there
+  | inr heard ↦ inr (omega (arith, heard, known_more before (item.Sent n message) s))
+]
+
+own_sent : (setting : Setting) (before : List Item) (n : ℕ) (message : Message) (to : Receiver)
+    (body : Body) → SaysOwn setting before to body
+    → SaysOwn setting (before ++ item.Sent n message ∷ []) to body
+own_sent setting before n message (receiver.Switch s) (Install boot tables) own =
+    known_sent setting before n s message own
+own_sent setting before n message (receiver.Switch s) (OpenAt boot version) own =
+    known_sent setting before n s message own
+own_sent setting before n message (receiver.Switch s) (Stamp boot version) own =
+    known_sent setting before n s message own
+own_sent setting before n message (receiver.Switch s) (Collect boot version) own =
+    (own.0, known_sent setting before n s message own.1)
+own_sent setting before n message (receiver.Switch s) (Advertise advert) own = own
+own_sent setting before n message receiver.Controller (Hello s boot) own = own
+own_sent setting before n message to body own = absurd own
+
+own_names : (setting : Setting) (before : List Item) (to : Receiver) (body : Body)
+    → SaysOwn setting before to body → SaysThere setting before to body
+own_names setting before (receiver.Switch s) (CacheRule version word rule action) own = absurd own
+own_names setting before receiver.Controller (Installed s boot version) own = absurd own
+own_names setting before receiver.Controller (Stamped s boot version) own = absurd own
+own_names setting before to body own = own
+
+sends_name : (setting : Setting) (journal : List Item) (messages : List Message)
+    → AllByRecursion (IsOwn setting journal) messages
+    → Name setting journal (sends journal messages)
+sends_name setting =
+    sends_kept (NamesRightly setting) (IsOwn setting)
+    (λ before n message own. own_names setting before message.to message.body own)
+    (λ before n message other new own. own_sent setting before n message other.to other.body own)
+
+-- ---- messages to switches of the network
+
+-- those of a list, or those that pass a test
+known_all : (setting : Setting) (journal : List Item) (switches : List ℕ)
+    → AllByRecursion (λ s. s < length setting.net.switches) switches
+    → AllByRecursion (IsKnownSwitch setting journal) switches
+known_all setting journal switches there =
+    each_weaker (λ s. s < length setting.net.switches) (IsKnownSwitch setting journal)
+    (λ s there. inl there) switches there
+
+known_passing : (setting : Setting) (journal : List Item) (test : ℕ → Bool)
+    → AllByRecursion (IsKnownSwitch setting journal) (filter test (switches_of setting))
+known_passing setting journal test =
+    known_all setting journal (filter test (switches_of setting))
+    (each_kept (λ s. s < length setting.net.switches) test (switches_of setting)
+    (switches_there setting))
+
+installs_own : (setting : Setting) (journal : List Item) (s : ℕ) (versions : List ℕ)
+    → IsKnownSwitch setting journal s → AllByRecursion (IsOwn setting journal)
+    (map (λ version. install_for setting journal version s) versions)
+installs_own setting journal s [] known = tt
+installs_own setting journal s (version ∷ versions) known =
+    (known, installs_own setting journal s versions known)
+
+-- ---- settling
+
+raise_name : (setting : Setting) (journal : List Item) (version : ℕ) → Name setting journal
+    (put (item.Current version ∷ [])
+    (λ raised. sends raised (map (stamp_for journal version) (members setting journal))) journal)
+raise_name setting journal version =
+    let raised : List Item = journal ++ item.Current version ∷ [] in
+    have_first (NamesRightly setting) (item.Current version)
+    (λ raised. sends raised (map (stamp_for journal version) (members setting journal))) journal tt
+    (sends_name setting raised (map (stamp_for journal version) (members setting journal))
+    (each_map (IsOwn setting raised) (stamp_for journal version) (members setting journal)
+    (known_passing setting raised (is_member journal))))
+
+current_name : (setting : Setting) (journal : List Item)
+    → Name setting journal (current_items setting journal)
+unfolding current_items
+current_name setting journal = grind (arith, raise_name)
+
+open_name : (setting : Setting) (journal : List Item)
+    → Name setting journal (open_items setting journal)
+unfolding open_items
+open_name setting journal =
+    sends_name setting journal
+    (map (open_for journal (current_mark journal)) (opening setting journal))
+    (each_map (IsOwn setting journal) (open_for journal (current_mark journal))
+    (opening setting journal)
+    (known_passing setting journal
+    (λ s. is_joining journal s && has_acked journal s (current_mark journal))))
+
+collects_own : (setting : Setting) (base journal : List Item) (version : ℕ) (switches : List ℕ)
+    → 1 ≤ version → AllByRecursion (IsKnownSwitch setting journal) switches
+    → AllByRecursion (IsOwn setting journal) (map (collect_for base version) switches)
+collects_own setting base journal version [] above known = tt
+collects_own setting base journal version (s ∷ switches) above known =
+    ((above, known.0), collects_own setting base journal version switches above known.1)
+
+retire_name : (setting : Setting) (journal : List Item) (version : ℕ)
+    → retired_mark journal < version → Name setting journal
+    (put (item.Retired version ∷ [])
+    (λ raised. sends raised (map (collect_for journal version) (members setting journal))) journal)
+retire_name setting journal version rises =
+    let raised : List Item = journal ++ item.Retired version ∷ [] in
+    have_first (NamesRightly setting) (item.Retired version)
+    (λ raised. sends raised (map (collect_for journal version) (members setting journal))) journal
+    tt
+    (sends_name setting raised (map (collect_for journal version) (members setting journal))
+    (collects_own setting journal raised version (members setting journal) (omega (arith, rises))
+    (known_passing setting raised (is_member journal))))
+
+retired_name : (setting : Setting) (journal : List Item)
+    → Name setting journal (retired_items setting journal)
+unfolding retired_items
+retired_name setting journal = grind (arith, nat_tests, retire_name)
+
+settling_name : (setting : Setting) (journal : List Item)
+    → Name setting journal (settling setting journal)
+unfolding settling
+settling_name setting journal =
+    have_in_turn (NamesRightly setting)
+    (current_items setting ∷ open_items setting ∷ retired_items setting ∷ [])
+    (current_name setting, (open_name setting, (retired_name setting, tt))) journal
+
+-- ---- tables
+
+installs_name : (setting : Setting) (s : ℕ) (journal : List Item)
+    → IsKnownSwitch setting journal s → Name setting journal (installs_to setting s journal)
+unfolding installs_to
+installs_name setting s journal known =
+    sends_name setting journal _
+    (installs_own setting journal s (versions_from_current journal) known)
+
+all_installs_name : (setting : Setting) (journal : List Item)
+    → Name setting journal (installs_to_all setting journal)
+unfolding installs_to_all
+all_installs_name setting journal =
+    sends_name setting journal _
+    (each_map (IsOwn setting journal) (install_for setting journal (version_count journal))
+    (filter (λ s. not (is_over journal s)) (switches_of setting))
+    (known_passing setting journal (λ s. not (is_over journal s))))
+
+submitted_name : (setting : Setting) (journal : List Item)
+    → Name setting journal (submitted_items setting journal)
+submitted_name setting journal =
+    have_in_turn (NamesRightly setting) (installs_to_all setting ∷ settling setting ∷ [])
+    (all_installs_name setting, (settling_name setting, tt)) journal
+
+-- ---- at a switch
+
+switch_name : (setting : Setting) (before now : List Item) (s : ℕ) (body : Body)
+    → AnswersTo now s body → Name setting now (switch_items setting before s body now)
+unfolding switch_items sent_from
+switch_name setting before now s (Install boot tables) answers =
+    (record { tables = tables; own = refl; answers = answers }, tt)
+switch_name setting before now s (Stamp boot version) answers = (answers, tt)
+switch_name setting before now s (OpenAt boot version) answers = grind (arith, links_name)
+switch_name setting before now s (Advertise advert) answers = grind (arith, passed_name)
+switch_name setting before now s _ answers = tt
+
+-- ---- at the controller
+
+-- a hello that raised the known boot made it another one than the first
+abbrev HelloIsKnown : List Item → List Item → Body → Type 0
+HelloIsKnown before now (Hello s boot) =
+    IsTrue (is_new_boot before s boot) → 1 < known_boot now s
+HelloIsKnown before now _ = ⊤
+
+hello_name : (setting : Setting) (before now : List Item) (body : Body)
+    → HelloIsKnown before now body → (settled : List Item)
+    → ((s : ℕ) → 1 < known_boot now s → 1 < known_boot settled s)
+    → Name setting settled (after_hello setting before body settled)
+hello_name setting before now (Hello s boot) known settled stays =
+    let begun : IsTrue (is_new_boot before s boot)
+    → Name setting settled (installs_to setting s settled) =
+    λ new. installs_name setting s settled (inr (stays s (known new))) in
+    grind arith
+hello_name setting before now _ known settled stays = tt
+
+-- the known boot never falls
+known_stays : (s : ℕ) → AreKept (λ before next. ⊤) (λ journal. 1 < known_boot journal s)
+known_stays s before next any above = omega (arith, above, known_rises before next s)
+
+all_any : (before items : List Item) → HaveCauses (λ before next. ⊤) before items
+all_any before [] = tt
+all_any before (next ∷ items) = (tt, all_any (before ++ next ∷ []) items)
+
+controller_name : (setting : Setting) (before now : List Item) (body : Body)
+    → HelloIsKnown before now body → Name setting now (controller_items setting before body now)
+controller_name setting before now body known =
+    controller_has (NamesRightly setting) setting before now body (settling_name setting now)
+    (hello_name setting before now body known (now ++ settling setting now)
+    (λ s above. fact_on (λ before next. ⊤) (λ journal. 1 < known_boot journal s) (known_stays s) now
+    (settling setting now) (all_any now (settling setting now)) above))
+
+-- ---- a delivery
+
+hello_known : (before : List Item) (row number : ℕ) (step : Step) (body : Body)
+    → message_of before number ≡ Some (to_controller body)
+    → HelloIsKnown before ((before ++ item.Row row step ∷ []) ++ item.Delivered number ∷ []) body
+hello_known before row number step (Hello s boot) sent =
+    λ new.
+    let here = before ++ item.Row row step ∷ [] in
+    let hello : option_and_then (hello_boot s) (said_to_controller here number) ≡ Some boot =
+    hello_said before row number s boot step sent in
+    let knows : known_boot (here ++ item.Delivered number ∷ []) s
+    ≡ raised (known_boot here s) (Some boot) =
+    known_more here (item.Delivered number) s ∙ ap (raised (known_boot here s)) hello in
+    let rises : known_boot before s < boot = grind (arith, nat_tests) in
+    omega (arith, knows, rises, known_first before s)
+hello_known before row number step _ sent = tt
+
+deliver_name : (setting : Setting) (before : List Item) (row number : ℕ) (step : Step)
+    → let here = before ++ item.Row row step ∷ [] in
+    Name setting here (deliver_items setting before number here)
+deliver_name setting before row number step =
+    let here : List Item = before ++ item.Row row step ∷ [] in
+    let now : List Item = here ++ item.Delivered number ∷ [] in
+    deliver_has (NamesRightly setting) setting before number here tt tt
+    (delivery_has (Name setting now) setting before number now tt
+    (λ body sent. controller_name setting before now body
+    (hello_known before row number step body sent))
+    (λ s body said. switch_name setting before now s body (record {
+      number = number;
+      sent = message_more here (item.Delivered number) number
+          ∙ message_more before (item.Row row step) number
+          ∙ (said_parts before s number body said).sent;
+    })))
+
+-- ---- links and switches
+
+update_name : (setting : Setting) (file : ℕ) (journal : List Item)
+    → Name setting journal (update_items setting file journal)
+unfolding update_items
+update_name setting file journal = grind (arith, submitted_name)
+
+restart_name : (setting : Setting) (s : ℕ) (journal : List Item)
+    → s < length setting.net.switches → Name setting journal (restart_items s journal)
+unfolding restart_items sent_from
+restart_name setting s journal there = grind arith
+
+confirm_name : (setting : Setting) (s : ℕ) (journal : List Item)
+    → Name setting journal (confirm_items setting s journal)
+unfolding confirm_items
+confirm_name setting s journal = grind (arith, settling_name)
+
+-- ---- what is sent again
+
+advert_own : (setting : Setting) (before : List Item) (to : Receiver) (body : Body)
+    → IsAdvertTo setting to body → SaysOwn setting before to body
+advert_own setting before (receiver.Switch s) (Advertise advert) is = is
+advert_own setting before to body is = absurd is
+
+switch_own : (setting : Setting) (journal : List Item) (s : ℕ)
+    → s < length setting.net.switches
+    → AllByRecursion (IsOwn setting journal) (resent_by_switch setting journal s)
+switch_own setting journal s there = by_up (is_up journal s)
+  where
+    adverts : List Message
+    adverts = flat_map (λ neighbour. map (advert_to neighbour) (held_adverts setting journal s))
+        (switches_in setting (near setting journal s))
+
+    by_up : (up : Bool) → AllByRecursion (IsOwn setting journal) (elim up [
+      | false ↦ []
+      | true ↦ hello_of journal s ∷ adverts
+    ])
+    by_up false = tt
+    by_up true = (
+      there,
+      each_weaker (IsAdvert setting) (IsOwn setting journal)
+          (λ message is. advert_own setting journal message.to message.body is) adverts
+          (each_told setting
+          (λ neighbour. map (advert_to neighbour) (held_adverts setting journal s))
+          (λ neighbour within. adverts_to setting neighbour within (held_adverts setting journal s))
+          (switches_in setting (near setting journal s))
+          (masked_there setting (near setting journal s))),
+    )
+
+member_own : (setting : Setting) (journal : List Item) (s : ℕ)
+    → IsKnownSwitch setting journal s
+    → AllByRecursion (IsOwn setting journal) (resent_to_member setting journal s)
+member_own setting journal s known =
+    each_to_member (IsOwn setting journal) setting journal s known
+    (installs_own setting journal s
+    (filter (λ version. not (has_acked journal s version)) (later_versions journal)) known)
+    known (λ some. (grind (arith, nat_tests), known))
+
+controller_own : (setting : Setting) (journal : List Item) (s : ℕ)
+    → IsKnownSwitch setting journal s
+    → AllByRecursion (IsOwn setting journal) (resent_by_controller setting journal s)
+controller_own setting journal s known =
+    each_by_controller (IsOwn setting journal) setting journal s
+    (λ none member. member_own setting journal s known)
+    (λ none. installs_own setting journal s
+    (filter (λ version. not (has_acked journal s version)) (versions_from_current journal)) known)
+
+resend_name : (setting : Setting) (s : ℕ) (journal : List Item)
+    → s < length setting.net.switches → Name setting journal (resend_items setting s journal)
+resend_name setting s journal there =
+    resent_has (NamesRightly setting) (IsOwn setting journal) setting s journal tt
+    (sends_name setting journal) (switch_own setting journal s there)
+    (controller_own setting journal s (inl there))
+
+-- ---- steps of the network
+
+step_name : (setting : Setting) (before : List Item) (row : ℕ) (step : Step)
+    → NamesOwn setting step
+    → let here = before ++ item.Row row step ∷ [] in
+    Name setting here (step_items setting before step here)
+step_name setting before row (Packet s header) own =
+    packet_has setting (NamesRightly setting) (traffic_names setting) (next_packet before) s header
+    _ own.0
+step_name setting before row (Hop packet) own =
+    traffic_name setting _ _ (hop_traffic setting packet _)
+step_name setting before row (Lose packet) own =
+    traffic_name setting _ _ (lose_traffic setting packet _)
+step_name setting before row (Deliver message) own =
+    deliver_name setting before row message (Deliver message)
+step_name setting before row (Forget message) own =
+    traffic_name setting _ _ (forget_traffic setting message _)
+step_name setting before row (Expire s at) own =
+    traffic_name setting _ _ (expire_traffic setting s at _)
+step_name setting before row (Update file) own = update_name setting file _
+step_name setting before row (LinkDown one two) own =
+    traffic_name setting _ _ (link_traffic setting before one two false _)
+step_name setting before row (LinkUp one two) own =
+    traffic_name setting _ _ (link_traffic setting before one two true _)
+step_name setting before row (Crash s) own =
+    crash_has setting (NamesRightly setting) (traffic_names setting) before s _ (λ up. tt)
+step_name setting before row (Restart s) own = restart_name setting s _ own
+step_name setting before row (Confirm s) own = confirm_name setting s _
+step_name setting before row (Resend s) own = resend_name setting s _ own
+
+pub pieces_name : (setting : Setting) → OwnPiecesHave (NamesRightly setting) setting
+unfolding piece
+pieces_name setting journal row step own =
+    have_first (NamesRightly setting) (item.Row row step) (step_items setting journal step) journal
+    tt (step_name setting journal row step own)

@@ -1,0 +1,145 @@
+-- Each piece has its causes, whatever its step, and so has the journal of any steps.
+use Rattle.std.proofs.Common.{sym, subst, ℕ, ◌≡◌, ◌+◌, ◌==◌, true, false, Option, Some, None, List, [], ◌∷◌, ◌++◌, refl, arith, ◌∙◌}
+use Rattle.std.specs.Prelude.{Result, Ok, Err}
+use Rattle.std.proofs.lemmas.Bool.{eq-eqb}
+use Rattle.std.proofs.lemmas.Bool.Decides.{nat_tests}
+use Rattle.partition.specs.Plan.{Placed}
+use Rattle.policy_rules.specs.declared.policy.Row.{Row}
+use Rattle.policy_rules.specs.Placed.{NoPlan, TooManyLeaves}
+use Rattle.journal.specs.declared.item.Item.{Item}
+use Rattle.journal.specs.declared.item.Item.TheVariants as item
+use Rattle.steps.specs.declared.step.Step.{Step}
+use Rattle.steps.specs.declared.step.Step.TheVariants.{Packet, Hop, Lose, Deliver, Forget, Expire, Update, LinkDown, LinkUp, Crash, Restart, Confirm, Resend}
+use Rattle.update_machine.specs.Answers.{StepOfRow, after_steps}
+use Rattle.update_machine.specs.Boots.{is_up}
+use Rattle.update_machine.specs.Causes.{HaveCauses}
+use Rattle.update_machine.specs.Messages.{sends}
+use Rattle.update_machine.specs.Packets.{next_packet}
+use Rattle.update_machine.specs.Pieces.{confirm_items, deliver_items, hello_of, marks_code, piece, plan_code, restart_items, step_items, update_code, update_items}
+use Rattle.update_machine.specs.Setting.{Setting, plan_of_file, policy_of_file}
+use Rattle.update_machine.specs.Versions.{version_count}
+use Rattle.update_machine.proofs.CallerLemmas.{PiecesHave, begun_has, have_first}
+use Rattle.version_laws.specs.Always.{HoldsAlways}
+use Rattle.version_laws.specs.ItemCauses.{HasItemCause, SubmitsRightly}
+use Rattle.version_laws.proofs.ControllerBlocks.{settling_have, submitted_have}
+use Rattle.version_laws.proofs.Delivered.{deliver_has}
+use Rattle.version_laws.proofs.Facts.{Has, steps_have}
+use Rattle.version_laws.proofs.Grown.{up_more}
+use Rattle.version_laws.proofs.Sends.{sends_have}
+use Rattle.version_laws.proofs.SwitchBlocks.{delivery_have}
+use Rattle.version_laws.proofs.Traffic.{expire_traffic, forget_traffic, hop_traffic, lose_traffic, packet_has, traffic_has, traffic_right}
+use Rattle.version_laws.proofs.Resends.{resend_have}
+use Rattle.version_laws.proofs.Crashes.{crash_has, link_traffic}
+
+deliver_have : (setting : Setting) (before : List Item) (row number : ℕ) (step : Step)
+    → let here = before ++ item.Row row step ∷ [] in
+    Has setting here (deliver_items setting before number here)
+deliver_have setting before row number step =
+    deliver_has (HasItemCause setting) setting before number (before ++ item.Row row step ∷ []) tt
+    tt (delivery_have setting before row number step)
+
+-- a policy that isn't refused is there and has a plan, and neither limit is met
+may_submit : (setting : Setting) (file : ℕ) (journal : List Item)
+    → update_code setting journal file ≡ None
+    → SubmitsRightly setting journal file (version_count journal + 1)
+may_submit setting file journal allowed = by (policy_of_file setting file) refl
+  where
+    by : (o : Option (List Row)) → policy_of_file setting file ≡ o
+        → SubmitsRightly setting journal file (version_count journal + 1)
+    by None none =
+        let refused : Some (plan_code TooManyLeaves) ≡ None =
+        rw (none, update_code) at allowed in absurd cc
+    by (Some rows) there = by_plan (setting.plan rows) refl
+      where
+        by_plan : (plan : Result (List Placed) NoPlan) → setting.plan rows ≡ plan
+            → SubmitsRightly setting journal file (version_count journal + 1)
+        by_plan (Err why) none =
+            let refused : Some (plan_code why) ≡ None =
+            rw (there, none, update_code) at allowed in absurd cc
+        by_plan (Ok plan) planned =
+            let free : marks_code journal ≡ None = rw (there, planned, update_code) at allowed in
+            record {
+              next = refl;
+              there = rw there refl;
+              planned = rw (there, planned, plan_of_file) refl;
+              live = λ met. grind (arith, nat_tests);
+              few = λ met. grind (arith, nat_tests);
+            }
+
+update_have : (setting : Setting) (file : ℕ) (journal : List Item)
+    → Has setting journal (update_items setting file journal)
+unfolding update_items
+update_have setting file journal = grind (arith, submitted_have, may_submit)
+
+-- a switch that began a boot is up, and says hello of it
+says_hello : (setting : Setting) (s boot : ℕ) (journal : List Item)
+    → let booted = journal ++ item.Booted s boot ∷ [] in
+    Has setting booted (sends booted (hello_of booted s ∷ []))
+says_hello setting s boot journal =
+    let own : (s == s) ≡ true = eq-eqb s s refl in
+    let booted : List Item = journal ++ item.Booted s boot ∷ [] in
+    let up : is_up booted s ≡ true = rw (up_more journal (item.Booted s boot) s, own) refl in
+    sends_have setting booted (hello_of booted s ∷ []) (record { up = up; own = refl }, tt)
+
+restart_have : (setting : Setting) (s : ℕ) (journal : List Item)
+    → Has setting journal (restart_items s journal)
+unfolding restart_items
+restart_have setting s journal = grind (arith, says_hello)
+
+confirm_have : (setting : Setting) (s : ℕ) (journal : List Item)
+    → Has setting journal (confirm_items setting s journal)
+unfolding confirm_items
+confirm_have setting s journal = grind (arith, settling_have)
+
+step_have : (setting : Setting) (before : List Item) (row : ℕ) (step : Step)
+    → let here = before ++ item.Row row step ∷ [] in
+    Has setting here (step_items setting before step here)
+step_have setting before row (Packet s header) =
+    packet_has setting (HasItemCause setting) (traffic_right setting) (next_packet before) s
+    header _ tt
+step_have setting before row (Hop packet) =
+    traffic_has setting _ _ (hop_traffic setting packet _)
+step_have setting before row (Lose packet) = traffic_has setting _ _ (lose_traffic setting packet _)
+step_have setting before row (Deliver message) =
+    deliver_have setting before row message (Deliver message)
+step_have setting before row (Forget message) =
+    traffic_has setting _ _ (forget_traffic setting message _)
+step_have setting before row (Expire s at) =
+    traffic_has setting _ _ (expire_traffic setting s at _)
+step_have setting before row (Update file) = update_have setting file _
+step_have setting before row (LinkDown one two) =
+    traffic_has setting _ _ (link_traffic setting before one two false _)
+step_have setting before row (LinkUp one two) =
+    traffic_has setting _ _ (link_traffic setting before one two true _)
+step_have setting before row (Crash s) =
+    crash_has setting (HasItemCause setting) (traffic_right setting) before s _
+    (λ up. up_more before (item.Row row (Crash s)) s ∙ up)
+step_have setting before row (Restart s) = restart_have setting s _
+step_have setting before row (Confirm s) = confirm_have setting s _
+step_have setting before row (Resend s) = resend_have setting s _
+
+pub pieces_have : (setting : Setting) → PiecesHave (HasItemCause setting) setting
+unfolding piece
+pieces_have setting journal row step =
+    have_first (HasItemCause setting) (item.Row row step) (step_items setting journal step) journal
+    tt (step_have setting journal row step)
+
+-- so a fact that holds where items have their causes always holds
+pub always : (Holds : Setting → List Item → Type 0) →
+    ((setting : Setting) (journal : List Item) → HaveCauses (HasItemCause setting) [] journal
+    → Holds setting journal) →
+    HoldsAlways Holds
+always Holds caused = record {
+  caused = caused;
+  stepped = λ setting steps. caused setting (after_steps setting [] steps) (stepped setting steps);
+  answered = λ setting events journal answers. caused setting journal
+      (subst (HaveCauses (HasItemCause setting) []) (sym answers.written)
+      (stepped setting answers.steps));
+  begun = λ setting events journal begins. caused setting journal
+      (begun_has (HasItemCause setting) setting (pieces_have setting) events journal begins);
+}
+  where
+    stepped : (setting : Setting) (steps : List StepOfRow)
+        → HaveCauses (HasItemCause setting) [] (after_steps setting [] steps)
+    stepped setting steps =
+        steps_have (HasItemCause setting) setting (pieces_have setting) [] steps tt

@@ -1,0 +1,383 @@
+-- Each item leaves the routes of each packet few: one induction by items.
+use Rattle.std.proofs.Common.{ℕ, ◌≡◌, ◌+◌, ◌<◌, ◌≤◌, Bool, true, false, if◌then◌else◌, Option, Some, None, List, [], ◌∷◌, ◌++◌, length, refl, ap, sym, subst, ◌∙◌, arith, inl, inr}
+use Rattle.std.specs.Option.{option_or}
+use Rattle.std.proofs.lemmas.Bool.{eqb-true}
+use Rattle.failover.specs.DownSet.{IsLinkSet}
+use Rattle.failover.specs.Links.{no_links}
+use Rattle.failover.proofs.LinkSets.{none_is_link_set}
+use Rattle.policy_rules.specs.declared.packet.Leg.TheVariants.{Seek}
+use Rattle.journal.specs.declared.item.Item.{Item}
+use Rattle.journal.specs.declared.item.Item.TheVariants as item
+use Rattle.update_machine.specs.Causes.{HaveCauses}
+use Rattle.update_machine.specs.Marks.{current_mark, most_versions, retired_mark}
+use Rattle.update_machine.specs.Packets.{Decision, decision_of}
+use Rattle.update_machine.specs.Setting.{Setting, IsSetting}
+use Rattle.update_machine.specs.Travels.{leg_of}
+use Rattle.update_machine.specs.Ways.{found_down}
+use Rattle.version_laws.specs.ItemCauses.{HasItemCause}
+use Rattle.version_laws.proofs.Facts.{Behind, Both, fact_on, have_both}
+use Rattle.version_laws.proofs.Marks.{bounded}
+use Rattle.version_laws.proofs.Bounded.{current_rises}
+use Rattle.version_laws.proofs.Planned.{versions_planned}
+use Rattle.way_laws.specs.OnWay.{IsOnWay, IsSeeking}
+use Rattle.way_laws.specs.Facts.{PacketFacts, is_of_packet, facts_after, what_is_known}
+use Rattle.way_laws.proofs.PacketFacts.{facts_grow}
+use Rattle.way_laws.specs.Hops.{detours, exits, routes_taken, searches}
+use Rattle.way_laws.specs.Kept.{AllKept}
+use Rattle.way_laws.specs.Stages.{Blocked, Judged, Stage, stage_of, tells_stage}
+use Rattle.way_laws.specs.StrongCauses.{StrongCause}
+use Rattle.way_laws.specs.WayCauses.{IsLookedUp, MeetsDown, TakesRoute, WayCause}
+use Rattle.way_laws.proofs.AllKept.{Before, kept_before, known_before, knows}
+use Rattle.way_laws.proofs.Here.{IsHere, decision_in, here_of, leg_in, next_in, seeking_of, some_same}
+use Rattle.way_laws.proofs.Kept.{Knows, seeking_after}
+use Rattle.way_laws.proofs.Rests.{IsWayItem, Past, switches_of_all}
+use Rattle.way_laws.proofs.Strong.{strongly_caused}
+use Rattle.way_laws.proofs.Served.{stage_next}
+use Rattle.way_laws.specs.Routes.{finding_count, most_routes}
+use Rattle.way_laws.proofs.Links.{FindsOne, few_unfound, finds_one, unfound}
+use Rattle.way_laws.proofs.Tally.{Tally, tallied, tally_more, tally_of}
+
+-- what is kept of a packet's routes: it searched at most as often as the version that it seeks
+-- says, and left by no port before it was decided; the links that it didn't find down leave room
+-- for as many routes, and for one more where it just found one; each was found down once
+pub record IsFew (setting : Setting) (current : ℕ) (held : PacketFacts) (stage : Option Stage)
+    (tally : Tally) : Type 0 where
+  pub none : held.leg ≡ None → tally.searches ≡ 0
+  pub sought : (version partition : ℕ) → held.leg ≡ Some (Seek version partition)
+      → tally.searches ≤ version
+  pub searched : tally.searches ≤ current
+  pub undecided : held.decision ≡ None → tally.exits ≡ 0
+  pub judged : stage ≡ Some Judged → tally.exits ≡ 0
+  pub exited : tally.exits ≤ 1
+  pub set : IsLinkSet held.found
+  pub detoured : tally.detours + unfound setting.net.links held.found
+      ≤ length setting.net.links
+  pub blocked : stage ≡ Some Blocked
+      → tally.detours + unfound setting.net.links held.found < length setting.net.links
+  pub finds : tally.finds + unfound setting.net.links held.found ≤ length setting.net.links
+
+abbrev pub IsFewOf : Setting → List Item → ℕ → Type 0
+IsFewOf setting journal i =
+    IsFew setting (current_mark journal) (what_is_known journal i) (stage_of journal i)
+    (tally_of journal i)
+
+-- ---- lookups
+
+-- the version of a lookup is one that the packet didn't seek yet
+record IsRaised (setting : Setting) (before : List Item) (i version : ℕ) : Type 0 where
+  raised : searches before i + 1 ≤ version
+  current : version ≤ current_mark before
+
+is_raised : (setting : Setting) (before : List Item) (i version partition : ℕ) (route : List ℕ)
+    → Before setting before → IsFewOf setting before i
+    → TakesRoute setting before i (Seek version partition) route
+    → ((earlier part : ℕ) → leg_of before i ≡ Some (Seek earlier part) → earlier < version)
+    → IsRaised setting before i version
+is_raised setting before i version partition route known few takes raises =
+    let knows_it : Knows setting before i (stage_of before i) = knows setting before i known in
+    let here : IsHere setting before i takes.switch =
+    here_of setting before i takes.switch (stage_of before i) knows_it.is knows_it.have
+    knows_it.kept takes.at in
+    let after : PacketFacts =
+    facts_after 0 (item.Seeking i version partition route) (what_is_known before i) in
+    let way : IsOnWay setting before after =
+    (seeking_after setting before i 0 version partition route knows_it takes).on_way
+    here.travelling (inl refl) in
+    let on : IsSeeking setting before after here.under.header version partition =
+    seeking_of setting before after here.under.header version partition way here.under.entered
+    refl in
+    record {
+      raised = by_lookup here (omega (arith, on.not_retired)) takes.takes.looked_up;
+      current = on.current;
+    }
+  where
+    by_lookup : IsHere setting before i takes.switch → 1 ≤ version
+        → IsLookedUp before i takes.switch → searches before i + 1 ≤ version
+    by_lookup here first (inl came) =
+        let none : (what_is_known before i).leg ≡ None =
+        ((known.kept.packets i).came_in here.travelling came).1 in
+        omega (arith, few.none none, first)
+    by_lookup here first (inr misses) = omega (
+      arith,
+      few.sought misses.version misses.partition
+          (leg_in before i (Some (Seek misses.version misses.partition)) misses.seeks),
+      raises misses.version misses.partition misses.seeks,
+    )
+
+-- ---- links found down
+
+-- a link that is found down is one of the network, which the packet didn't find yet
+finds : (setting : Setting) (before : List Item) (i one two : ℕ) → Before setting before
+    → IsFewOf setting before i → MeetsDown setting before i one two
+    → StrongCause setting before (item.FoundDown i one two)
+    → FindsOne setting.net (what_is_known before i).found one two
+finds setting before i one two known few meets strong =
+    let knows_it : Knows setting before i (stage_of before i) = knows setting before i known in
+    let held : PacketFacts = what_is_known before i in
+    let here : IsHere setting before i one =
+    here_of setting before i one (stage_of before i) knows_it.is knows_it.have knows_it.kept
+    meets.at in
+    let way : IsOnWay setting before held =
+    knows_it.kept.on_way here.travelling (inl meets.moving) in
+    let there : way.under_way.switch ≡ one =
+    some_same held.stands way.under_way.switch here.under.switch way.under_way.stands
+    here.under.stands ∙ sym here.at in
+    finds_one setting.net held.found one two known.is.net few.set strong.linked
+    (knows_it.kept.avoids here.travelling meets.moving held.hops one two
+    (way.stands ∙ ap Some there) (sym (next_in before i) ∙ meets.goes_on))
+
+-- ---- items
+
+-- what stands before the item, of the packet that it names
+record Premises (setting : Setting) (before : List Item) (next : Item) : Type 0 where
+  known : Before setting before
+  way : WayCause setting before next
+  strong : StrongCause setting before next
+
+-- facts that leave the leg, the decision and the links found as they were, at this stage
+kept_few : (setting : Setting) (before : List Item) (i current : ℕ) (held : PacketFacts)
+    (stage : Option Stage) → current_mark before ≤ current → IsFewOf setting before i
+    → held.leg ≡ (what_is_known before i).leg → held.decision ≡ (what_is_known before i).decision
+    → held.found ≡ (what_is_known before i).found → (stage ≡ Some Judged → exits before i ≡ 0)
+    → (stage ≡ Some Blocked → detours before i + unfound setting.net.links (what_is_known before i).found
+    < length setting.net.links)
+    → IsFew setting current held stage (tally_of before i)
+kept_few setting before i current held stage more few leg decision found judged blocked = record {
+  none = λ is. few.none (sym leg ∙ is);
+  sought = λ version partition is. few.sought version partition (sym leg ∙ is);
+  searched = omega (arith, few.searched, more);
+  undecided = λ is. few.undecided (sym decision ∙ is);
+  judged = judged;
+  exited = few.exited;
+  set = subst IsLinkSet (sym found) few.set;
+  detoured = rw found few.detoured;
+  blocked = λ is. rw found (blocked is);
+  finds = rw found few.finds;
+}
+
+-- and the stage too
+still_few : (setting : Setting) (before : List Item) (i current : ℕ) (held : PacketFacts)
+    → current_mark before ≤ current → IsFewOf setting before i
+    → held.leg ≡ (what_is_known before i).leg → held.decision ≡ (what_is_known before i).decision
+    → held.found ≡ (what_is_known before i).found
+    → IsFew setting current held (stage_of before i) (tally_of before i)
+still_few setting before i current held more few leg decision found =
+    kept_few setting before i current held (stage_of before i) more few leg decision found
+    few.judged few.blocked
+
+named_few : (setting : Setting) (before : List Item) (next : Item) (i current : ℕ)
+    → Premises setting before next → current_mark before ≤ current → (b : Bool)
+    → is_of_packet i next ≡ b → IsFewOf setting before i
+    → IsFew setting current
+    (if b then facts_after (retired_mark before) next (what_is_known before i) else what_is_known before i)
+    (option_or (tells_stage i next) (stage_of before i)) (tallied i next (tally_of before i))
+named_few setting before (item.Entered packet s header) i current facts more true e few =
+    rw e (kept_few setting before i current _ _ more few refl refl refl (λ is. absurd cc)
+    (λ is. absurd cc))
+named_few setting before (item.Seeking packet v p route) i current facts more true e few =
+    let same : packet ≡ i = eqb-true packet i e in
+    let raised : IsRaised setting before packet v =
+    is_raised setting before packet v p route facts.known
+    (subst (IsFewOf setting before) (sym same) few) facts.way facts.strong.0 in
+    let above : searches before i + 1 ≤ v =
+    subst (λ k. searches before k + 1 ≤ v) same raised.raised in
+    rw e (record {
+      none = λ is. absurd cc;
+      sought = λ w q is. subst (λ n. searches before i + 1 ≤ n) (cc) above;
+      searched = omega (arith, above, raised.current, more);
+      undecided = few.undecided;
+      judged = λ is. absurd cc;
+      exited = few.exited;
+      set = few.set;
+      detoured = few.detoured;
+      blocked = λ is. absurd cc;
+      finds = few.finds;
+    })
+named_few setting before (item.Exiting packet route) i current facts more true e few =
+    let same : packet ≡ i = eqb-true packet i e in
+    let judged : stage_of before i ≡ Some Judged =
+    subst (λ k. stage_of before k ≡ Some Judged) same facts.way.by.takes.judged in
+    let first : exits before i ≡ 0 = few.judged judged in
+    let decision : Decision = facts.way.by.takes.decision in
+    let decided : (what_is_known before i).decision ≡ Some decision =
+    decision_in before i (Some decision)
+    (subst (λ k. decision_of before k ≡ Some decision) same facts.way.by.takes.decided) in
+    rw e (record {
+      none = λ is. absurd cc;
+      sought = λ v p is. absurd cc;
+      searched = omega (arith, few.searched, more);
+      undecided = λ is. absurd cc;
+      judged = λ is. absurd cc;
+      exited = omega (arith, first);
+      set = few.set;
+      detoured = few.detoured;
+      blocked = λ is. absurd cc;
+      finds = few.finds;
+    })
+named_few setting before (item.Rerouted packet route) i current facts more true e few =
+    let same : packet ≡ i = eqb-true packet i e in
+    let blocked : stage_of before i ≡ Some Blocked =
+    subst (λ k. stage_of before k ≡ Some Blocked) same facts.way.blocked.blocked in
+    let room = few.blocked blocked in
+    rw e (record {
+      none = few.none;
+      sought = few.sought;
+      searched = omega (arith, few.searched, more);
+      undecided = few.undecided;
+      judged = λ is. absurd cc;
+      exited = few.exited;
+      set = few.set;
+      detoured = omega (arith, room);
+      blocked = λ is. absurd cc;
+      finds = few.finds;
+    })
+named_few setting before (item.Hopped packet s) i current facts more true e few =
+    rw e (kept_few setting before i current _ _ more few refl refl refl (λ is. absurd cc)
+    (λ is. absurd cc))
+named_few setting before (item.FoundDown packet one two) i current facts more true e few =
+    let same : packet ≡ i = eqb-true packet i e in
+    let one_less : FindsOne setting.net (what_is_known before i).found one two =
+    subst (λ k. FindsOne setting.net (what_is_known before k).found one two) same
+    (finds setting before packet one two facts.known
+    (subst (IsFewOf setting before) (sym same) few) facts.way facts.strong) in
+    rw e (record {
+      none = few.none;
+      sought = few.sought;
+      searched = omega (arith, few.searched, more);
+      undecided = few.undecided;
+      judged = λ is. absurd cc;
+      exited = few.exited;
+      set = one_less.set;
+      detoured = omega (arith, few.detoured, one_less.fewer);
+      blocked = λ is. omega (arith, few.detoured, one_less.fewer);
+      finds = omega (arith, few.finds, one_less.fewer);
+    })
+named_few setting before (item.Decided packet v rule act by) i current facts more true e few =
+    let same : packet ≡ i = eqb-true packet i e in
+    let undecided : (what_is_known before i).decision ≡ None =
+    decision_in before i None
+    (subst (λ k. decision_of before k ≡ None) same facts.strong.undecided) in
+    rw e (record {
+      none = few.none;
+      sought = few.sought;
+      searched = omega (arith, few.searched, more);
+      undecided = λ is. absurd cc;
+      judged = λ is. few.undecided undecided;
+      exited = few.exited;
+      set = few.set;
+      detoured = few.detoured;
+      blocked = λ is. absurd cc;
+      finds = few.finds;
+    })
+named_few setting before (item.Left packet port leaving) i current facts more true e few =
+    still_few setting before i current _ more few refl refl refl
+named_few setting before (item.Dropped packet) i current facts more true e few =
+    still_few setting before i current _ more few refl refl refl
+named_few setting before (item.Lost packet) i current facts more true e few =
+    still_few setting before i current _ more few refl refl refl
+named_few setting before (item.Stuck packet s cause leg down) i current facts more true e few =
+    still_few setting before i current _ more few refl refl refl
+named_few setting before (item.Entered packet s header) i current facts more false e few =
+    rw e (still_few setting before i current _ more few refl refl refl)
+named_few setting before (item.Seeking packet v p route) i current facts more false e few =
+    rw e (still_few setting before i current _ more few refl refl refl)
+named_few setting before (item.Exiting packet route) i current facts more false e few =
+    rw e (still_few setting before i current _ more few refl refl refl)
+named_few setting before (item.Rerouted packet route) i current facts more false e few =
+    rw e (still_few setting before i current _ more few refl refl refl)
+named_few setting before (item.Hopped packet s) i current facts more false e few =
+    rw e (still_few setting before i current _ more few refl refl refl)
+named_few setting before (item.FoundDown packet one two) i current facts more false e few =
+    rw e (still_few setting before i current _ more few refl refl refl)
+named_few setting before (item.Decided packet v rule act by) i current facts more false e few =
+    rw e (still_few setting before i current _ more few refl refl refl)
+named_few setting before next i current facts more true e few = absurd cc
+named_few setting before next i current facts more false e few =
+    still_few setting before i current _ more few refl refl refl
+
+-- ---- all items
+
+few_more : (setting : Setting) (before : List Item) (next : Item) (i : ℕ)
+    → Premises setting before next → HasItemCause setting before next
+    → IsFewOf setting before i → IsFewOf setting (before ++ next ∷ []) i
+few_more setting before next i facts cause few =
+    rw (facts_grow i before next, stage_next before next i, tally_more i before next)
+    (named_few setting before next i (current_mark (before ++ next ∷ [])) facts
+    (current_rises setting before next cause) (is_of_packet i next) refl few)
+
+abbrev pub RoutesAreFew : Setting → List Item → Type 0
+RoutesAreFew setting journal = (i : ℕ) → IsFewOf setting journal i
+
+-- what is known before an item, and its causes
+abbrev IsKnown : Setting → List Item → Item → Type 0
+IsKnown setting before next =
+    Both (Behind (Past (IsWayItem setting)) (AllKept setting)) (StrongCause setting) before next
+
+premises_of : (setting : Setting) (before : List Item) (next : Item) → IsSetting setting
+    → IsKnown setting before next → Premises setting before next
+premises_of setting before next is both = record {
+  known = known_before setting is before next both.first;
+  way = both.first.caused.caused.way;
+  strong = both.second;
+}
+
+few_at_first : (setting : Setting) → RoutesAreFew setting []
+unfolding what_is_known stage_of leg_of decision_of found_down searches exits detours finding_count
+few_at_first setting i = record {
+  none = λ is. refl;
+  sought = λ version partition is. absurd cc;
+  searched = omega arith;
+  undecided = λ is. refl;
+  judged = λ is. absurd cc;
+  exited = omega arith;
+  set = none_is_link_set;
+  detoured = omega (arith, few_unfound setting.net no_links);
+  blocked = λ is. absurd cc;
+  finds = omega (arith, few_unfound setting.net no_links);
+}
+
+pub routes_few : (setting : Setting) (journal : List Item) → IsSetting setting
+    → HaveCauses (IsWayItem setting) [] journal → RoutesAreFew setting journal
+routes_few setting journal is have =
+    fact_on (IsKnown setting) (RoutesAreFew setting)
+    (λ before next both few i. few_more setting before next i
+    (premises_of setting before next is both) both.first.caused.caused.switches (few i)) [] journal
+    (have_both _ _ [] journal (kept_before setting journal is have)
+    (strongly_caused setting journal is have)) (few_at_first setting)
+
+-- ---- laws
+
+pub searched_few : (setting : Setting) (journal : List Item) → IsSetting setting
+    → HaveCauses (IsWayItem setting) [] journal → (i : ℕ) → searches journal i ≤ most_versions
+searched_few setting journal is have i =
+    let switches : HaveCauses (HasItemCause setting) [] journal =
+    switches_of_all setting [] journal have in
+    omega (
+      arith,
+      (routes_few setting journal is have i).searched,
+      (bounded setting journal switches).there,
+      (versions_planned setting journal switches).few,
+    )
+
+pub detoured_few : (setting : Setting) (journal : List Item) → IsSetting setting
+    → HaveCauses (IsWayItem setting) [] journal → (i : ℕ)
+    → detours journal i ≤ length setting.net.links
+detoured_few setting journal is have i =
+    omega (arith, (routes_few setting journal is have i).detoured)
+
+pub finds_few : (setting : Setting) (journal : List Item) → IsSetting setting
+    → HaveCauses (IsWayItem setting) [] journal → (i : ℕ)
+    → finding_count journal i ≤ length setting.net.links
+finds_few setting journal is have i =
+    omega (arith, (routes_few setting journal is have i).finds)
+
+pub taken_few : (setting : Setting) (journal : List Item) → IsSetting setting
+    → HaveCauses (IsWayItem setting) [] journal → (i : ℕ)
+    → routes_taken journal i ≤ most_routes
+taken_few setting journal is have i = omega (
+  arith,
+  searched_few setting journal is have i,
+  (routes_few setting journal is have i).exited,
+  detoured_few setting journal is have i,
+  is.net.few_links,
+)

@@ -1,0 +1,5 @@
+use Rattle.way_laws.proofs.Waiting.{numbers_rise}
+use Rattle.way_laws.proofs.laws.deliveries_rise.Goals as goal
+
+pub returns : goal.returns
+returns c = numbers_rise

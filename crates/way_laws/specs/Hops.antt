@@ -1,0 +1,56 @@
+-- How many routes a packet takes, and how many hops while it travels.
+use Rattle.std.specs.Prelude.{ℕ, ◌+◌, Bool, false, ◌&&◌, ◌==◌, if◌then◌else◌, List}
+use Rattle.journal.specs.declared.item.Item.{Item}
+use Rattle.journal.specs.declared.item.Item.TheVariants as item
+use Rattle.steps.specs.declared.step.Step.TheVariants.{Hop}
+use Rattle.update_machine.specs.Folds.{count_of, folded}
+use Rattle.update_machine.specs.Travels.{travels}
+
+-- ---- hops
+
+abbrev pub changes_taken : ℕ → List Item → ℕ → Item → ℕ
+changes_taken i before taken (item.Row row (Hop packet)) =
+    if packet == i && travels before i then taken + 1 else taken
+changes_taken i before taken _ = taken
+
+-- the steps that asked the packet to hop while it travelled: each moved it on, or it arrived
+unfoldable pub hops_taken : List Item → ℕ → ℕ
+hops_taken journal i = folded (changes_taken i) 0 journal
+
+-- ---- routes
+
+abbrev pub is_search : ℕ → Item → Bool
+is_search i (item.Seeking packet version partition route) = packet == i
+is_search i _ = false
+
+-- its routes to an authority switch, one for each lookup that found none of its own
+unfoldable pub searches : List Item → ℕ → ℕ
+searches journal i = count_of (is_search i) journal
+
+abbrev pub is_exit : ℕ → Item → Bool
+is_exit i (item.Exiting packet route) = packet == i
+is_exit i _ = false
+
+-- its routes to the switch of its port
+unfoldable pub exits : List Item → ℕ → ℕ
+exits journal i = count_of (is_exit i) journal
+
+abbrev pub is_detour : ℕ → Item → Bool
+is_detour i (item.Rerouted packet route) = packet == i
+is_detour i _ = false
+
+-- its routes around links that it found down
+unfoldable pub detours : List Item → ℕ → ℕ
+detours journal i = count_of (is_detour i) journal
+
+abbrev pub routes_taken : List Item → ℕ → ℕ
+routes_taken journal i = searches journal i + exits journal i + detours journal i
+
+-- the switches of a route at most, and so the hops on it, its arrival included
+abbrev pub most_switches : ℕ
+most_switches = 64
+
+-- the hops of a packet at most: those of the routes of 64 versions, of one to its port and of one
+-- around each of 256 links
+abbrev pub most_hops : ℕ
+most_hops = 20544

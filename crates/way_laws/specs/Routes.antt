@@ -1,0 +1,37 @@
+-- How many routes a packet takes at most, how many hops on its last one, and how often it finds a
+-- link down. The bounds are our own.
+use Rattle.std.specs.Prelude.{ℕ, ◌+◌, Bool, false, ◌&&◌, ◌==◌, if◌then◌else◌, List}
+use Rattle.journal.specs.declared.item.Item.{Item}
+use Rattle.journal.specs.declared.item.Item.TheVariants as item
+use Rattle.steps.specs.declared.step.Step.TheVariants.{Hop}
+use Rattle.update_machine.specs.Folds.{count_of, folded}
+use Rattle.update_machine.specs.Travels.{travels}
+
+-- one for each of 64 versions, one to its port, and one around each of 256 links
+abbrev pub most_routes : ℕ
+most_routes = 64 + 1 + 256
+
+-- ---- hops on one route
+
+abbrev pub changes_on_route : ℕ → List Item → ℕ → Item → ℕ
+changes_on_route i before hops (item.Row row (Hop packet)) =
+    if packet == i && travels before i then hops + 1 else hops
+changes_on_route i before hops (item.Seeking packet version partition route) =
+    if packet == i then 0 else hops
+changes_on_route i before hops (item.Exiting packet route) = if packet == i then 0 else hops
+changes_on_route i before hops (item.Rerouted packet route) = if packet == i then 0 else hops
+changes_on_route i before hops _ = hops
+
+-- the hops that the packet was asked for, while it travelled, since it took its last route
+unfoldable pub hops_on_route : List Item → ℕ → ℕ
+hops_on_route journal i = folded (changes_on_route i) 0 journal
+
+-- ---- links found down
+
+abbrev pub is_finding : ℕ → Item → Bool
+is_finding i (item.FoundDown packet one two) = packet == i
+is_finding i _ = false
+
+-- how often it found a link down
+unfoldable pub finding_count : List Item → ℕ → ℕ
+finding_count journal i = count_of (is_finding i) journal
