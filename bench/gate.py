@@ -2,8 +2,8 @@
 """Writes the table of docs/GATE.md: `bench/gate.py [--measure]`.
 
 For each crate it counts the lines of code (without tests), of definitions and of proofs, and the must-fail edits. The seconds of the
-table stay as they are, unless `--measure` is given: then it runs the whole gate once from nothing, `rt ci --anew`, at the top of this
-repository, and writes the processor seconds that the prover took for each crate's proof, for its tests (a crate with tests is proved
+table stay as they are, unless `--measure` is given: then it runs the whole gate once, `rt ci`, at the top of this repository, where
+nothing may be kept yet, and writes the processor seconds that the prover took for each crate's proof, for its tests (a crate with tests is proved
 once more together with them) and for its edits. It looks five times a second at each process of the prover that `rt ci` has begun, and
 takes the last figure that it saw of each. A sentence below the table tells what the whole run took as the system counts it, and what of
 that went beside the table: to link and run what was proved, and to `rt` itself. Nothing is written where `rt ci` fails.
