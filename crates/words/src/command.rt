@@ -18,7 +18,7 @@ pub struct ReplayWords<'a> {
     pub policies: Vec<&'a str>,
     /// The name of the network's file; without it the network is that of one switch.
     pub net: Option<&'a str>,
-    /// Whether the replay is to say what the network came to, once it is quiet.
+    /// Whether the replay is to say, behind all else, if the network is quiet.
     pub quiet: bool,
 }
 
